@@ -30,7 +30,7 @@ from play_random import Player, event_of                                        
 
 HERE = os.path.dirname(os.path.abspath(__file__))
 FOUND = re.search(r"--stage (\d+)", os.environ.get("CATSYNC_ORACLE_FLAGS", ""))
-STAGE = staged.Stage(int(FOUND.group(1)) if FOUND else 7)
+STAGE = staged.Stage(int(FOUND.group(1)) if FOUND else 8)
 MODES = ("as", "rs", "rx", "su", "sh", "sr", "ex", "ax")
 PURPOSES = ("reloid", "attlist", "class", "attribute", "attrdef", "constraint", "index", "trigger", "indexrow")
 fuzz_scripts.SIZES["least"] = (1, 3, 1, 3)
@@ -230,6 +230,8 @@ class Asker:
             for mode in MODES:
                 holder = self.history.conflicting(b, rel, mode)
                 found.append(("lock", (rel, mode) if holder is None else (rel, mode, holder.backend, holder.mode)))
+                if self.history.holds(b, rel, mode):
+                    found.append(("unlock", (rel, mode)))
         return found
 
     def writes(self, b, session):
@@ -327,6 +329,8 @@ def changed_event(draw, entry):
     event, args = entry.event, list(entry.args)
     if event == "look":
         return entry._replace(args=(not args[0],))
+    if event == "lock" and len(args) == 2 and draw.random() < 0.3:
+        return entry._replace(event="unlock")
     if event == "lock":
         args[1] = draw.choice(MODES)
     elif event == "scan":

@@ -580,7 +580,7 @@ class Explorer(unittest.TestCase):
             script = file.read()
         one, other = (self.explore(script, "--jobs", jobs) for jobs in ("1", "3"))
         self.assertEqual(one, other)
-        self.assertRegex(one[1], "^all 233 orders: ")
+        self.assertRegex(one[1], "^all 316 orders: ")
         self.assertEqual(self.merged(script, 3), one[1])
 
     def test_jobs_of_a_search_for_a_text(self):

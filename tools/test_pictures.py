@@ -383,8 +383,8 @@ class Stories(unittest.TestCase):
             (1, 31, 41, None, 43, "the stop", [])],
         "rolled_back": [
             (1, 5, 5, None, 20, "an own write taken back", []), (1, 9, 19, None, 20, "an own write taken back", []),
-            (2, 24, 24, 33, 39, "a message", []), (1, 29, 29, None, 32, "an own write", []), (2, 41, 41, None, 57, "the stop", []),
-            (2, 45, 55, None, 57, "the stop", [])],
+            (2, 24, 24, 35, 41, "a message", []), (1, 30, 30, None, 34, "an own write", []), (2, 43, 43, None, 59, "the stop", []),
+            (2, 47, 57, None, 59, "the stop", [])],
         "reset_inside_build": [
             (2, 11, 11, None, 27, "a reset", []), (2, 15, None, None, 27, "a reset", []), (2, 29, 39, None, 41, "the stop", [])],
         "build_starts_over": [
@@ -393,7 +393,7 @@ class Stories(unittest.TestCase):
             (2, 47, 57, None, 59, "the stop", [])],
         "early_end": [(2, 12, 12, None, None, "", []), (2, 16, None, None, None, "", [])],
         "negative_entry": [
-            (1, 4, 4, 11, 19, "a message", [10, 13]), (1, 21, 21, None, 37, "the stop", []), (1, 25, 35, None, 37, "the stop", [])],
+            (1, 4, 4, 13, 22, "a message", [12, 16]), (1, 24, 24, None, 40, "the stop", []), (1, 28, 38, None, 40, "the stop", [])],
         "one_hash": [
             (2, 18, 18, None, 61, "a message", []), (2, 22, 32, None, 71, "the stop", [65]), (2, 36, 36, None, 71, "the stop", [68]),
             (2, 40, 50, None, 71, "the stop", [69]), (2, 63, 63, None, 71, "the stop", [])],
@@ -468,12 +468,17 @@ class Sentences(unittest.TestCase):
                                    "at 16 to 26, is stale since 55.",
         ("sleepers", 103): "Backend 3 looks the name t up in pg_class: it is relation 16384. The name t, read at 30, is stale "
                            "since 100. It asks for no lock on that, as it holds AccessShare since 31, clear.",
-        ("negative_entry", 12): "Backend 1 looks for messages at the start of a transaction, and none waits. The absence of the "
-                                "name orders, read at 4, is out of date since 11: transaction 1 has yet to send its messages.",
-        ("negative_entry", 13): "Backend 1 ends its transaction, which wrote nothing; it has no lock to release. The absence of "
-                                "the name orders, read at 4, serves command 3 without a scan, out of date as it is since 11.",
-        ("negative_entry", 21): "Backend 1 looks the name orders up in pg_class: it is relation 16384. The absence of the name "
-                                "orders, read at 4, is stale since 19.",
+        ("negative_entry", 5): "Backend 1 looks for messages before it answers that no relation has the name orders, and none "
+                               "waits.",
+        ("negative_entry", 14): "Backend 1 looks for messages at the start of a transaction, and none waits. The absence of the "
+                                "name orders, read at 4, is out of date since 13: transaction 1 has yet to send its messages.",
+        ("negative_entry", 15): "Backend 1 looks for messages before it answers that no relation has the name orders, and none "
+                                "waits. The absence of the name orders, read at 4, is out of date since 13: transaction 1 has "
+                                "yet to send its messages.",
+        ("negative_entry", 16): "Backend 1 ends its transaction, which wrote nothing; it has no lock to release. The absence of "
+                                "the name orders, read at 4, serves command 3 without a scan, out of date as it is since 13.",
+        ("negative_entry", 24): "Backend 1 looks the name orders up in pg_class: it is relation 16384. The absence of the name "
+                                "orders, read at 4, is stale since 22.",
         ("list_of_columns", 57): "Backend 2 scans pg_attribute for all columns of t by name: 2 rows. The list of columns of t, "
                                  "read at 15, is stale since 53.",
         ("regclass", 28): "Backend 1 ends its transaction, which wrote nothing; it has no lock to release. The oid 16384, read "
@@ -484,7 +489,7 @@ class Sentences(unittest.TestCase):
         ("two_creators", 6): "Backend 2 is refused its write: transaction 1 of backend 1, which still runs, has the name t in "
                              "use since 3.",
         ("two_creators", 19): "Backend 1 is refused its write: t (16385) has the name t, since 11.",
-        ("absent_name", 13): "Backend 3 looks the name orders up in pg_class: no relation has it, as what backend 1 wrote at 9 "
+        ("absent_name", 14): "Backend 3 looks the name orders up in pg_class: no relation has it, as what backend 1 wrote at 10 "
                              "isn't visible yet.",
         ("reset_inside_build", 27): "Backend 2 has lost messages: of the 70 that waited the queue keeps only the last ones. So it "
                                     "resets: it drops all that it keeps, and is past all messages. The name t, read at 11, is "

@@ -94,7 +94,8 @@ class Statements(unittest.TestCase):
                 ("alter table t rename column a to b", 'alter table "t" rename column "a" to "b"'),
                 ("alter table t alter column a set statistics -1", 'alter table "t" alter column "a" set statistics -1'),
                 ("alter table t set (fillfactor=70)", 'alter table "t" set (fillfactor = 70)'),
-                ("drop table t", None), ("show", None), ("create table t (a)", None)):
+                ("drop table t;", 'drop table "t"'), ("alter table t rename to order", 'alter table "t" rename to "order"'),
+                ("drop index i", None), ("show", None), ("create table t (a)", None)):
             self.assertEqual(statement_of(command), statement)
 
     def test_differences(self):

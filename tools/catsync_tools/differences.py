@@ -17,13 +17,12 @@ SYSTEM_COLUMNS = "ctid|xmin|xmax|cmin|cmax|tableoid"
 
 class Known(NamedTuple):
     """A difference that is meant: which part of an answer differs, what the command, the answer here and that of the server
-    are like, by which words docs/PROFILE.md says so, and whether it is one only in a block."""
+    are like, and by which words docs/PROFILE.md says so."""
     part: str
     command: str
     here: str
     server: str
     words: str
-    is_in_block: bool = False
 
 
 KNOWN = (
@@ -31,8 +30,6 @@ KNOWN = (
     Known("warning", ".* set statistics .*", ".*", "22023 lowering .*", "lowered to 10,000"),
     Known("answer", r".*\b(%s)\b.*" % SYSTEM_COLUMNS, "ok", "error (42701|0A000) .*", "names of system columns"),
     Known("error", r".*\b(%s)\b.*" % SYSTEM_COLUMNS, "error 42.*", "error (0A000|42701) .*", "names of system columns"),
-    Known("answer", ".*", "error 42P01 .*", "(?!error ).*", "a name cached as absent is told as absent", True),
-    Known("error", ".*", "error 42P01 .*", "error .*", "a name cached as absent is told as absent", True),
 )
 
 
@@ -54,11 +51,11 @@ def profile():
     return " ".join(read_file(PROFILE).decode("utf-8", "replace").lower().split())
 
 
-def words_of(compared: Compared, part, text, is_in_block):
-    """The words in a text that name a difference of a command in a block, or outside one, or None."""
+def words_of(compared: Compared, part, text):
+    """The words in a text that name a difference, or None."""
     for known in KNOWN:
         servers = compared.server.warnings if part == "warning" else [compared.server.text]
-        if (known.part == part and is_in_block >= known.is_in_block and re.fullmatch(known.command, tokens_of(compared.text))
+        if (known.part == part and re.fullmatch(known.command, tokens_of(compared.text))
                 and re.fullmatch(known.here, compared.here) and known.words.lower() in text
                 and all(re.fullmatch(known.server, server) for server in servers)):
             return known.words
@@ -123,8 +120,7 @@ def all_differences(all_compared: List[Compared], text) -> List[List[Difference]
     """The differences of each command, and what each may follow from."""
     found, effects = [], Effects()
     for compared in all_compared:
-        is_in_block = compared.command[0] in effects.open
-        found.append([Difference(part, words_of(compared, part, text, is_in_block), effects.cause(compared, part))
+        found.append([Difference(part, words_of(compared, part, text), effects.cause(compared, part))
                       for part in compared.differences])
         effects.take(compared)
     return found

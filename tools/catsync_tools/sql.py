@@ -16,6 +16,8 @@ _MODE = "(access share|row share|row exclusive|share update exclusive|share|shar
 FORMS = [(re.compile(pattern), sql) for pattern, sql in (
     ("(begin|commit|rollback)", r"\1"),
     ("lock table %s in %s mode" % (_NAME, _MODE), r'lock table "\1" in \2 mode'),
+    ("drop table %s" % _NAME, r'drop table "\1"'),
+    ("alter table %s rename to %s" % (_NAME, _NAME), r'alter table "\1" rename to "\2"'),
     ("alter table %s add column %s ([a-z0-9]+)" % (_NAME, _NAME), r'alter table "\1" add column "\2" \3'),
     ("alter table %s drop column %s" % (_NAME, _NAME), r'alter table "\1" drop column "\2"'),
     ("alter table %s rename column %s to %s" % (_NAME, _NAME, _NAME), r'alter table "\1" rename column "\2" to "\3"'),

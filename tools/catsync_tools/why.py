@@ -4,7 +4,7 @@ a lock is refused for, what is out of date and who doesn't know it yet.
 A number of an entry stands in braces, `{55}`: a page makes a link of it, and `plain` takes the braces away.
 """
 import re
-from typing import Callable, Dict, List
+from typing import Callable, Dict, List, Tuple
 
 from .caches import Kept
 from .locks import FULL_FETCH, Lock
@@ -15,6 +15,7 @@ from .transactions import COMMITTED, TAKEN_BACK
 
 TABLE_SCANS, INDEX_SCANS = BUILD_SCANS[:-1], ("class", "indexrow")
 MOST_COLUMNS = 3        # that are named one by one
+ABSENT = re.compile(r"error 42P01 relation (\S+) does not exist")
 VERBS = {"+": ("adds", "to"), "=": ("replaces", "of"), "-": ("deletes", "of")}
 
 
@@ -51,6 +52,11 @@ class Why:
         self.outdated: Dict[int, List[Kept]] = {}
         self.latest: Dict[tuple, Kept] = {}
         self.earlier: Dict[Kept, Kept] = {}
+        self.absent: Dict[Tuple[int, int], str] = {}    # the name that a command of a backend didn't find
+        for answer in (answer for placed in story.answers.values() for answer in placed):
+            found = ABSENT.match(answer.text)
+            if found:
+                self.absent[answer.backend, answer.command] = found.group(1)
         for kept in story.kept:
             place = (kept.backend, kept.rel, kept.datum)
             if place in self.latest:
@@ -177,9 +183,15 @@ class Why:
         elif following and following.event.kind == "scan":
             reason = " before its scan at " + at(following.number)
         if parts["answer"] == "no":
+            reason = reason or self.reason_to_accept(facts)
             return ["looks for messages%s, and none waits" % reason] + self.unsent(facts)
         return ["looks for messages%s: %s" % (reason, counted(facts.left, "message") + " " + verb(
             [0] * facts.left, "waits", "wait") + ", of " + all_at(batch.publish for batch in facts.batches))]
+
+    def reason_to_accept(self, facts):
+        """That its command is about to answer that no relation has a name, which it may only once no message waits."""
+        name = self.absent.get((facts.entry.backend, facts.entry.command))
+        return " before it answers that no relation has the name " + name if name else ""
 
     def fetch(self, facts, parts):
         """Whose messages it takes, and what is stale by them."""

@@ -4,3 +4,4 @@ pub mod Nexting
 pub mod NextActs
 pub mod Chosen
 pub mod ActsRun
+pub mod Sound

@@ -11,5 +11,6 @@ pub mod Alike
 pub mod Scanning
 pub mod Failing
 pub mod Locking
+pub mod Unlocking
 pub mod Writing
 pub mod Leaving

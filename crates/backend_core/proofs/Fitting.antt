@@ -4,3 +4,4 @@ pub mod NextTransaction
 pub mod FitsOn
 pub mod FitsEntries
 pub mod FitsEnds
+pub mod Sought

@@ -44,7 +44,7 @@ awaits-other scenario seen e s other waits = record {
     };
     still = waits.rests.still;
   };
-  fits = subst (λ f. Fits f (command_at s) (waiting waits) s.looked s.looked_to_build) (sym (facts_of-other seen e s.progress.id other)) waits.fits;
+  fits = subst (λ f. Fits f (command_at s) (waiting waits) s.looked s.looked_to_build s.told) (sym (facts_of-other seen e s.progress.id other)) waits.fits;
   lines = waits.lines ∙ ap (lines_from scenario seen s.progress.id 1 (waiting waits).finished) waits.rests.holds.commands ∙ sym (finished_lines-more scenario seen e s.progress.id (waiting waits) (waiting_is scenario seen s waits))
       ∙ ap (lines_from scenario (seen ++ e ∷ []) s.progress.id 1 (waiting waits).finished) (sym waits.rests.holds.commands);
   tells = record {

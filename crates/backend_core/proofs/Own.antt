@@ -24,7 +24,7 @@ use Rattle.cacheless.specs.State.{session_at}
 use Rattle.cacheless.specs.Telling.{AnswerFits, IsJudgedHere}
 use Rattle.cacheless.proofs.Allowed.Economical.{plays_needed}
 use Rattle.cacheless.proofs.Answers.JudgedLines.{session_placed, finished_lines-more, judged_here, judged_still, line_stays}
-use Rattle.cacheless.proofs.Allowed.NextKeeps.{next_keeps}
+use Rattle.cacheless.proofs.Allowed.NextKeeps.{KeepsAllBy, next_keeps}
 use Rattle.cacheless.proofs.Allowed.NextOnCourse.{counted_tally, entered_noted, noted_finished, enters_on_course, with_entry}
 use Rattle.cacheless.proofs.Allowed.OwnEntries.{IsNoted}
 use Rattle.cacheless.proofs.Resting.{settled_at_rest}
@@ -105,7 +105,8 @@ pub own_makes : (scenario : Scenario) (old new : List Entry) (had has : ℕ → 
 own_makes scenario old new had has was event waits played courses own appends = appended_makes scenario old new had has e next (record {
   needed = plays_needed scenario old e next;
   truly = own.truly;
-  tables = (next_keeps scenario old e played courses next).1;
+  columns = keeps.columns;
+  names = keeps.names;
   queue = own.queue;
 }) appends
   where
@@ -114,6 +115,9 @@ own_makes scenario old new had has was event waits played courses own appends = 
 
     next : IsNext scenario old e
     next = own_next scenario old was event waits own.plays
+
+    keeps : KeepsAllBy old was.progress.id event
+    keeps = next_keeps scenario old e played courses next
 
 -- what becomes of the answer: an entry of an end keeps that of the command, if one runs, any other is made where there is none
 pub data KeepsAnswer (was now : Progress) (event : Event) : Type 0 where
@@ -143,7 +147,7 @@ entered_last facts left at c event s = ap (λ x. x.last) (counted_tally facts ev
 -- a backend's own entry
 pub own_enters : (scenario : Scenario) (old new : List Entry) (had has : ℕ → ℕ) (was now : Backend) (event : Event) (waits : AwaitsEntry scenario old was) → IsPlayed scenario old → AllOnCourse scenario old → OwnEntry scenario old was event waits
     → (goes : HasEntered scenario old was.progress event waits.rests now.progress) → Keeps (with_own old was.progress event) now
-    → Fits (facts_of (with_own old was.progress event) now.progress.id) (command_at now) (session_at now.progress goes.holds.rest) now.looked now.looked_to_build
+    → Fits (facts_of (with_own old was.progress event) now.progress.id) (command_at now) (session_at now.progress goes.holds.rest) now.looked now.looked_to_build now.told
     → now.lines ≡ was.lines → KeepsAnswer was.progress now.progress event → (ends_command event ≡ false → (noted event (waiting waits)).ended ≡ (waiting waits).ended)
     → Appends old new had has (entry_of was.progress.id (was.progress.finished + 1) event) → Enters scenario old new had has was now
 unfolding own_makes
@@ -160,7 +164,7 @@ own_enters scenario old new had has was now event waits played courses own goes 
       tells = record { answer = answers answer; out = comes_out answer };
       here = λ command at none. judged answer command at none;
       last = omega (arith, length_push old e, ap (λ (x : Session). x.last) goes.session, entered_last facts left (length old + 1) (was.progress.finished + 1) event s);
-      back = λ from command gone at. gone_on (facts_of (with_own old was.progress event) now.progress.id) (command_at now) later now.looked now.looked_to_build command from at fits gone;
+      back = λ from command gone at. gone_on (facts_of (with_own old was.progress event) now.progress.id) (command_at now) later now.looked now.looked_to_build now.told command from at fits gone;
     };
     lines = lines_are;
   });
@@ -191,7 +195,7 @@ own_enters scenario old new had has was now event waits played courses own goes 
     makes = own_makes scenario old new had has was event waits played courses own appends
 
     may : MayCome old e
-    may = record { sound = played.sound; tables = played.tables; comes = appends.comes; keeps = makes.may.suits.tables }
+    may = record { sound = played.sound; comes = appends.comes; columns = played.columns; keeps = makes.may.suits.columns }
 
     at_command_is : slice_get (commands_of scenario b) (length s.finished) ≡ command_at was
     at_command_is = at_session scenario old was waits

@@ -4,7 +4,7 @@ use Rattle.history_model.specs.Orderly.{MayComeNext}
 use Rattle.history_model.specs.Prefixes.{EachEntry}
 use Rattle.history_model.proofs.Prefixes.{EachEntry-more, EachEntry-weaker}
 use Rattle.cacheless.specs.Plays.{IsNext}
-use Rattle.cacheless.specs.TableWrites.{WritesTables}
+use Rattle.cacheless.specs.TableWrites.{WritesColumns, WritesNamesApart}
 use Rattle.cacheless.specs.MayEnter.{MayEnter}
 use Rattle.backend_core.specs.Types.{Scenario, Entry}
 use Rattle.backend_core.specs.Agrees.{AreSpelled, IsPlayed}
@@ -14,7 +14,8 @@ pub IsPlayed-more : (scenario : Scenario) (history : List Entry) (e : Entry) →
 IsPlayed-more scenario history e played may = record {
   sound = EachEntry-more MayComeNext history e played.sound may.comes;
   plays = EachEntry-more (IsNext scenario) history e played.plays may.next;
-  tables = EachEntry-more WritesTables history e played.tables may.suits.tables;
+  columns = EachEntry-more WritesColumns history e played.columns may.suits.columns;
+  names = EachEntry-more WritesNamesApart history e played.names may.suits.names;
   spelled = played.spelled;
 }
 
@@ -23,6 +24,7 @@ pub entered_played : (scenario : Scenario) (history : List Entry) → AreSpelled
 entered_played scenario history spelled entered = record {
   sound = EachEntry-weaker (MayEnter scenario) MayComeNext (λ before e may. may.comes) history entered;
   plays = EachEntry-weaker (MayEnter scenario) (IsNext scenario) (λ before e may. may.next) history entered;
-  tables = EachEntry-weaker (MayEnter scenario) WritesTables (λ before e may. may.suits.tables) history entered;
+  columns = EachEntry-weaker (MayEnter scenario) WritesColumns (λ before e may. may.suits.columns) history entered;
+  names = EachEntry-weaker (MayEnter scenario) WritesNamesApart (λ before e may. may.suits.names) history entered;
   spelled = spelled;
 }

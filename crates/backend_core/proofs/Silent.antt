@@ -10,12 +10,16 @@ use Rattle.cacheless.specs.Runs.{runs}
 use Rattle.cacheless.specs.Answering.{IsToldText}
 use Rattle.cacheless.specs.Session.{Session, outcome_of, is_settled}
 use Rattle.cacheless.specs.Silently.{is_to_answer, IsSettled, Answers, HasAnswered, IsLineOf}
-use Rattle.cacheless.specs.State.{kept_at, session_at}
+use Rattle.cacheless.specs.State.{kept_at, session_at, is_absent}
 use Rattle.cacheless.proofs.Answers.Telling.{act_places, act_tells, act_lines, with_answer, answer_holds, answer_tells, answer_places, pass_places, pass_tells, pass_lines}
 use Rattle.backend_core.specs.Types.{Command, Scenario, Entry, Line, Progress, Backend}
 use Rattle.backend_core.specs.Agrees.{command_at, AgreesNow, GoesOn, AwaitsEntry}
 use Rattle.backend_core.specs.Fits.{Fits}
 use Rattle.backend_core.proofs.Fitting.FitsOn.{fits_act, fits_pass}
+use Rattle.ddl_effect.specs.Plans.{Do, Lookup}
+use Rattle.cacheless.specs.Types.{Mode}
+use Rattle.cacheless.specs.Settled.{class_oid}
+use Rattle.cacheless.proofs.Plans.SilentActs.{is_done_here, lookup_says}
 
 -- a command whose next act is done without an entry hasn't made its release
 acts_going : (scenario : Scenario) (seen : List Entry) (b : ℕ) (s : Session) (command : Command) → EntersCourse scenario seen b s → slice_get (commands_of scenario b) (length s.finished) ≡ Some command → is_settled (outcome_of s.left) ≡ false → s.ended ≡ false
@@ -35,10 +39,10 @@ act_agrees scenario seen was p now acted kept same = record {
     places = act_places scenario seen was.progress p now.holds now.tells.course acted kept now.keeps.places;
   };
   holds = acted.holds;
-  fits = subst (λ f. Fits f (slice_get p.commands p.finished) (session_at p acted.holds.rest) was.looked was.looked_to_build) (sym (ap (facts_of seen) acted.moves.id))
-      (subst (λ o. Fits (facts_of seen was.progress.id) o (session_at p acted.holds.rest) was.looked was.looked_to_build) (sym same_command)
-      (subst (λ x. Fits (facts_of seen was.progress.id) (command_at was) x was.looked was.looked_to_build) (sym acted.session)
-      (fits_act (facts_of seen was.progress.id) (command_at was) s was.looked was.looked_to_build acted.command acted.act acted.further acted.given acted.at acted.left going now.fits)));
+  fits = subst (λ f. Fits f (slice_get p.commands p.finished) (session_at p acted.holds.rest) was.looked was.looked_to_build was.told) (sym (ap (facts_of seen) acted.moves.id))
+      (subst (λ o. Fits (facts_of seen was.progress.id) o (session_at p acted.holds.rest) was.looked was.looked_to_build was.told) (sym same_command)
+      (subst (λ x. Fits (facts_of seen was.progress.id) (command_at was) x was.looked was.looked_to_build was.told) (sym acted.session)
+      (fits_act (facts_of seen was.progress.id) (command_at was) s was.looked was.looked_to_build was.told acted.command acted.act acted.further acted.given acted.at acted.left going (is_done_here (facts_of seen was.progress.id) s acted.act acted.further acted.given acted.gives) says now.fits)));
   tells = act_tells scenario seen was.progress p now.holds now.tells acted same;
   lines = act_lines scenario seen was.progress p now.holds acted was.lines now.lines;
 }
@@ -48,6 +52,12 @@ act_agrees scenario seen was p now acted kept same = record {
 
     same_command : slice_get p.commands p.finished ≡ command_at was
     same_command = ap (λ l. slice_get l p.finished) acted.moves.commands ∙ ap (slice_get was.progress.commands) acted.moves.finished
+
+    at_now : slice_get (commands_of scenario was.progress.id) (length s.finished) ≡ Some acted.command
+    at_now = ap (slice_get (commands_of scenario was.progress.id)) now.holds.count ∙ ap (λ l. slice_get l was.progress.finished) (sym now.holds.commands) ∙ acted.at
+
+    says : (name : List ℕ) (mode : Mode) → acted.act ≡ Lookup name mode → class_oid acted.given ≡ None → is_absent (acted.further acted.given) ≡ true
+    says name mode is none = lookup_says seen was.progress.id s acted.command name mode acted.further acted.given (now.tells.course.follows acted.command at_now) (acted.left ∙ ap (λ a. Do a acted.further) is) none
 
     going : s.ended ≡ false
     going = acts_going scenario seen was.progress.id s acted.command now.tells.course
@@ -77,7 +87,7 @@ answer_goes was p (Err e) asked has = tt
 
 -- it passes to its next command
 pass_agrees : (scenario : Scenario) (seen : List Entry) (was : Backend) (p : Progress) (lines : List Line) (line : Line) (now : AgreesNow scenario seen was) → HasPassed scenario seen was.progress now.holds p → kept_at p ≡ kept_at was.progress → p.answer ≡ None
-    → IsLineOf was.progress line → lines ≡ was.lines ++ line ∷ [] → AgreesNow scenario seen (record was { progress = p; lines = lines; looked = false; looked_to_build = false })
+    → IsLineOf was.progress line → lines ≡ was.lines ++ line ∷ [] → AgreesNow scenario seen (record was { progress = p; lines = lines; looked = false; looked_to_build = false; told = false })
 pass_agrees scenario seen was p lines line now passed kept none says pushed = record {
   keeps = record {
     alive = now.keeps.alive;
@@ -86,10 +96,10 @@ pass_agrees scenario seen was p lines line now passed kept none says pushed = re
     places = pass_places scenario seen was.progress p now.holds passed kept now.keeps.places;
   };
   holds = passed.holds;
-  fits = subst (λ f. Fits f (slice_get p.commands p.finished) (session_at p passed.holds.rest) false false) (sym (ap (facts_of seen) passed.id))
-      (subst (λ o. Fits (facts_of seen was.progress.id) o (session_at p passed.holds.rest) false false) (sym next_command)
-      (subst (λ x. Fits (facts_of seen was.progress.id) next x false false) (sym passed.session)
-      (fits_pass (facts_of seen was.progress.id) (command_at was) (session_at was.progress now.holds.rest) was.looked was.looked_to_build passed.command next passed.at passed.over now.fits)));
+  fits = subst (λ f. Fits f (slice_get p.commands p.finished) (session_at p passed.holds.rest) false false false) (sym (ap (facts_of seen) passed.id))
+      (subst (λ o. Fits (facts_of seen was.progress.id) o (session_at p passed.holds.rest) false false false) (sym next_command)
+      (subst (λ x. Fits (facts_of seen was.progress.id) next x false false false) (sym passed.session)
+      (fits_pass (facts_of seen was.progress.id) (command_at was) (session_at was.progress now.holds.rest) was.looked was.looked_to_build was.told passed.command next passed.at passed.over now.fits)));
   tells = pass_tells scenario seen was.progress p now.holds now.tells passed none;
   lines = pushed ∙ pass_lines scenario seen was.progress p now.holds now.tells passed was.lines line says now.lines;
 }
@@ -101,7 +111,7 @@ pass_agrees scenario seen was p lines line now passed kept none says pushed = re
     next_command = ap (λ l. slice_get l p.finished) passed.commands ∙ ap (slice_get was.progress.commands) passed.finished
 
 pub pass_goes : (was : Backend) (p : Progress) (lines : List Line) (line : Line) → ((scenario : Scenario) (seen : List Entry) (held : Holds scenario seen was.progress) → HasPassed scenario seen was.progress held p) → kept_at p ≡ kept_at was.progress → p.answer ≡ None → IsLineOf was.progress line → lines ≡ was.lines ++ line ∷ []
-    → (scenario : Scenario) (seen : List Entry) → AgreesNow scenario seen was → GoesOn scenario seen was (record was { progress = p; lines = lines; looked = false; looked_to_build = false })
+    → (scenario : Scenario) (seen : List Entry) → AgreesNow scenario seen was → GoesOn scenario seen was (record was { progress = p; lines = lines; looked = false; looked_to_build = false; told = false })
 pass_goes was p lines line passes kept none says pushed scenario seen now = record { agrees = pass_agrees scenario seen was p lines line now (passes scenario seen now.holds) kept none says pushed; id = (passes scenario seen now.holds).id }
 
 -- where nothing is left to be done without an entry it waits for one

@@ -1,19 +1,23 @@
 -- What the program's choice keeps of a session, by the facts of the backend's entries, the running command and the looks for the next scans.
-use Rattle.std.specs.Prelude.{◌≡◌, ◌≤◌, ◌+◌, ◌*◌, ◌⊎◌, ℕ, Bool, true, false, Option, Some, None, List, [], ◌∷◌, is_some, not}
+use Rattle.std.specs.Prelude.{◌≡◌, ◌≤◌, ◌+◌, ◌*◌, ◌==◌, ◌&&◌, ◌⊎◌, ⊤, ℕ, Bool, true, false, Option, Some, None, List, [], ◌∷◌, is_none, is_some, slice_get, not}
 use Rattle.std.specs.Option.{option_map_or}
+use Rattle.std.specs.List.{list_any}
+use Rattle.base_types.specs.declared.scan.Purpose.TheVariants as scans
 use Rattle.event_kinds.specs.declared.entry.Event.TheVariants as events
 use Rattle.inval_messages.specs.Lists.{has_write_from}
+use Rattle.lock_modes.specs.Own.{is_own}
+use Rattle.ddl_effect.specs.Plans.{Plan, Done, Absent, Do, Lookup, Search, told_rests_on}
 use Rattle.txn_blocks.specs.Blocks.{Block, Level, Blocks, Outside, Inside, Failed, is_open}
 use Rattle.history_model.specs.Transactions.{is_visible}
 use Rattle.history_model.specs.Writes.{is_empty}
 use Rattle.cacheless.specs.Facts.{Facts}
 use Rattle.cacheless.specs.Session.{Session, number_of, outcome_of, is_settled, plan_first, refused_first}
-use Rattle.cacheless.specs.Owed.{Owes, OwesLook, owed_after, owed_of, begins}
+use Rattle.cacheless.specs.Owed.{Owes, OwesLook, owed_after, owed_of, begins, started_in}
 use Rattle.cacheless.specs.Ends.{Commits, TakesBack, end_of, end_of_all}
-use Rattle.cacheless.specs.Plays.{started_in}
 use Rattle.cacheless.specs.Settled.{blocks_after}
-use Rattle.cacheless.specs.State.{one_if}
-use Rattle.backend_core.specs.Types.{Command}
+use Rattle.cacheless.specs.State.{one_if, is_absent}
+use Rattle.backend_core.specs.Types.{Oid, Command, Event, OwnLock}
+use Rattle.backend_core.specs.Words.{relation_named}
 
 -- 1 if a look is owed in an accept of messages
 abbrev pub looks_due : List Owes → ℕ
@@ -24,10 +28,10 @@ looks_due owed = 0
 abbrev pub looks_owed : Facts → Session → Bool → Bool → ℕ
 looks_owed facts s looked to_build = s.tally.scans + s.tally.grants + started_in (number_of s) facts + one_if looked + one_if to_build
 
--- its looks are as many as these and its full fetches that ask for one, and no more than these and two for each fetch
-pub record LooksFit (facts : Facts) (s : Session) (looked to_build : Bool) : Type 0 where
+-- its looks are as many as these and its full fetches that ask for one, and no more than these and two for each fetch; where messages came since a lookup began, one more may be made
+pub record LooksFit (facts : Facts) (s : Session) (looked to_build told : Bool) : Type 0 where
   pub enough : s.tally.full + looks_owed facts s looked to_build ≤ s.tally.looks + looks_due (owed_after facts.last)
-  pub within : s.tally.looks + looks_due (owed_after facts.last) ≤ 2 * s.tally.fetches + looks_owed facts s looked to_build
+  pub within : s.tally.looks + looks_due (owed_after facts.last) + one_if told ≤ 2 * s.tally.fetches + looks_owed facts s looked to_build
 
 -- the first command of the running transaction, or 0
 abbrev pub first_at : Facts → ℕ
@@ -109,9 +113,38 @@ pub record IsPast (facts : Facts) (s : Session) : Type 0 where
   pub opened : s.opened ≡ []
   pub free : owed_after facts.last ≡ []
 
+-- the lock that a lookup took is held by a grant of its command; one that found no relation took none
+abbrev pub TakesFit : ℕ → List OwnLock → Option Oid → Plan → Type 0
+TakesFit number locks (Some rel) (Do (Lookup name mode) rest) = list_any (λ lock. is_own rel mode lock && (lock.command == number)) locks ≡ true
+TakesFit number locks (Some rel) (Absent name) = ⊥
+TakesFit number locks taken plan = ⊤
+
+-- the next act, or the answer, lacks a scan of a catalog cache
+abbrev pub lacks_name : Facts → Plan → Bool
+lacks_name facts (Do (Lookup name mode) rest) = not (facts.usable (scans.RelName name))
+lacks_name facts (Do (Search scan) rest) = not (facts.usable scan)
+lacks_name facts (Done told) = option_map_or (λ scan. not (facts.usable scan)) (told_rests_on told) false
+lacks_name facts plan = false
+
+-- the next act is a lookup that has found no relation, by a scan that is usable, and holds no lock that it took
+abbrev pub finds_no_name : Facts → Option Oid → Plan → Bool
+finds_no_name facts taken (Do (Lookup name mode) rest) = is_none taken && facts.usable (scans.RelName name) && is_none (relation_named (slice_get (facts.rows (scans.RelName name)) 0))
+finds_no_name facts taken plan = false
+
+-- the last entry was a look
+abbrev pub is_look : Option Event → Bool
+is_look (Some (events.Look some_wait)) = true
+is_look last = false
+
+-- what a look was made for: a scan of a catalog cache that is lacked, a lookup that has found no relation, after which nothing else came, or one that says so
+pub data IsLookedFor (facts : Facts) (taken : Option Oid) (plan : Plan) : Type 0 where
+  Lacks : lacks_name facts plan ≡ true → IsLookedFor facts taken plan
+  Unfound : finds_no_name facts taken plan ≡ true → is_look facts.last ≡ true → IsLookedFor facts taken plan
+  Said : is_absent plan ≡ true → IsLookedFor facts taken plan
+
 -- what the choice keeps
-pub record Fits (facts : Facts) (o : Option Command) (s : Session) (looked to_build : Bool) : Type 0 where
-  pub looks : s.ended ≡ false → LooksFit facts s looked to_build
+pub record Fits (facts : Facts) (o : Option Command) (s : Session) (looked to_build told : Bool) : Type 0 where
+  pub looks : s.ended ≡ false → LooksFit facts s looked to_build told
   pub transaction : TransactionFits facts o s s.ended
   pub first : first_at facts ≤ number_of s
   pub opens : is_open s.blocks ≡ not (is_empty s.blocks.levels)
@@ -123,3 +156,5 @@ pub record Fits (facts : Facts) (o : Option Command) (s : Session) (looked to_bu
   pub taken : (from : ℕ) → facts.last ≡ Some (events.Gone from) → OnTakingBack facts o s from
   pub accepts : is_empty (owed_after facts.last) ≡ false → is_some facts.running ≡ true
   pub past : o ≡ None → IsPast facts s
+  pub sought : looked ≡ true → IsLookedFor facts s.taken s.left
+  pub takes : TakesFit (number_of s) s.locks s.taken s.left

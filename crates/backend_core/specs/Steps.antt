@@ -7,14 +7,16 @@ use Rattle.ddl_effect.specs.Stages.{plan_at, want_of}
 use Rattle.ddl_effect.specs.declared.want.Want.TheVariants as wants
 use Rattle.seg_calls.specs.Calls.{IsUnchanged}
 use Rattle.cacheless.specs.declared.progress.Due.TheVariants as dues
-use Rattle.cacheless.specs.May.{is_next_at, lacks_any, owes_nothing, may_lock_at, may_end_at, is_next_of_end, is_next_of_commit, is_next_of_back}
+use Rattle.cacheless.specs.May.{is_next_at, lacks_any, owes_nothing, may_lock_at, may_unlock_at, may_end_at, is_next_of_end, is_next_of_commit, is_next_of_back}
 use Rattle.cacheless.specs.MayEnter.{MayEnter}
-use Rattle.cacheless.specs.State.{kept_at, owed_first, unsent_at, is_out, end_of_running}
+use Rattle.cacheless.specs.Silently.{has_accepted_at}
+use Rattle.cacheless.specs.State.{owed_at, is_quiet, is_absent, kept_at, owed_first, unsent_at, is_out, end_of_running}
 use Rattle.backend_core.specs.Types.{Oid, Mode, Purpose, Command, Scenario, Entry, Event, Next, Progress, Backend}
 use Rattle.backend_core.specs.declared.next.Next.TheVariants as nexts
 use Rattle.backend_core.specs.Agrees.{AgreesNow, Stands}
 use Rattle.backend_core.specs.Coherent.{IsCoherent}
-use Rattle.backend_core.specs.Words.{build_first, is_looked_for}
+use Rattle.backend_core.specs.Fits.{TakesFit}
+use Rattle.backend_core.specs.Words.{is_unfound, build_first, is_looked_for}
 
 -- one entry of the backend is appended, which the history and the script allow; of the places that are promised it takes at most one, of its own, and none is promised
 pub record MakesEntry (scenario : Scenario) (old new : List Entry) (had has : ℕ → ℕ) (b : ℕ) : Type 0 where
@@ -47,14 +49,14 @@ pub record Enters (scenario : Scenario) (old new : List Entry) (had has : ℕ �
 -- in a command whose transaction's first look is made, where the last entry asks for nothing
 pub record IsFree (s : Progress) (command : Command) : Type 0 where
   pub at : slice_get s.commands s.finished ≡ Some command
-  pub due : s.due ≡ dues.Nothing
+  pub due : owed_at s.due ≡ []
   pub first : owed_first s command ≡ []
 
 -- a look is owed: in an accept of messages, or at the start of a transaction
 pub record OwesLookNow (s : Progress) : Type 0 where
   pub command : Command
   pub at : slice_get s.commands s.finished ≡ Some command
-  pub owes : (s.due ≡ dues.Look) ⊎ ((s.due ≡ dues.Nothing) × (owed_first s command ≢ []))
+  pub owes : (s.due ≡ dues.Look) ⊎ ((owed_at s.due ≡ []) × (owed_first s command ≢ []))
 
 -- this scan comes next, one for a descriptor, or one of a catalog cache: what the opened descriptors lack comes before what the act lacks, and of several the first
 pub record IsScanNext (s : Progress) (scan : Purpose) (builds : Bool) : Type 0 where
@@ -70,6 +72,24 @@ pub record IsLockNext (s : Progress) (rel : Oid) (mode : Mode) : Type 0 where
   pub command : Command
   pub free : IsFree s command
   pub may : may_lock_at command rel mode s ≡ true
+
+-- giving this lock back comes next
+pub record IsUnlockNext (s : Progress) (rel : Oid) (mode : Mode) : Type 0 where
+  pub command : Command
+  pub free : IsFree s command
+  pub may : may_unlock_at command rel mode s ≡ true
+
+-- a lookup has found no relation, and looks before it says so; where it says so already, its last entry was a look
+pub data FindsNone (s : Progress) (command : Command) : Type 0 where
+  Looks : is_unfound s (plan_at s.exec) ≡ true → owes_nothing command s ≡ true → FindsNone s command
+  Says : is_absent (plan_at s.exec) ≡ true → is_quiet s.due ≡ true → FindsNone s command
+
+-- such a look comes next: it wasn't made, or messages came since the lookup began
+pub record IsAcceptNext (s : Backend) : Type 0 where
+  pub command : Command
+  pub free : IsFree s.progress command
+  pub finds : FindsNone s.progress command
+  pub unlooked : (s.looked ≡ false) ⊎ (s.told ≡ true)
 
 -- a write comes next
 pub record IsWriteNext (s : Progress) : Type 0 where
@@ -89,6 +109,11 @@ pub record IsLookNext (builds : Bool) (s : Backend) : Type 0 where
   pub next : IsScanNext s.progress scan builds
   pub unlooked : is_looked_for builds s ≡ false
 
+-- what the choice rests on: a lock that the running lookup took is held by a grant of its command, and where a look was made for a lookup that has found no relation, the lookup ends
+pub record IsChoiceSound (s : Backend) : Type 0 where
+  pub takes : TakesFit (s.progress.finished + 1) s.progress.locks.items s.progress.taken (plan_at s.progress.exec)
+  pub accepts : s.looked ≡ true → is_unfound s.progress (plan_at s.progress.exec) ≡ true → owed_at s.progress.due ≡ [] → has_accepted_at s.progress ≡ true
+
 -- the event, where it is one of an end
 abbrev pub end_event : Progress → Next → Option Event
 end_event s (nexts.Commit xid) = Some (events.Visible xid)
@@ -101,9 +126,11 @@ end_event s next = None
 abbrev pub IsNextOf : Backend → Next → Type 0
 IsNextOf s nexts.Look = OwesLookNow s.progress
 IsNextOf s (nexts.LookBeforeScan builds) = IsLookNext builds s
+IsNextOf s nexts.LookBeforeAbsent = IsAcceptNext s
 IsNextOf s nexts.Fetch = s.progress.due ≡ dues.Fetch
 IsNextOf s (nexts.Scan scan builds) = IsScanNext s.progress scan builds × (is_looked_for builds s ≡ true)
 IsNextOf s (nexts.Lock rel mode) = IsLockNext s.progress rel mode
+IsNextOf s (nexts.Unlock rel mode) = IsUnlockNext s.progress rel mode
 IsNextOf s nexts.Write = IsWriteNext s.progress
 IsNextOf s nexts.Leave = (slice_get s.progress.commands s.progress.finished ≡ None) × (s.progress.running ≡ None)
 IsNextOf s next = IsSomeAnd (end_event s.progress next) (EndsNext s.progress)

@@ -1,16 +1,15 @@
 -- What the program's choice says of a backend, beside how far it is.
-use Rattle.std.specs.Prelude.{Bool, true, false, Option, Some, None, List, ◌&&◌, not, is_some}
+use Rattle.std.specs.Prelude.{Bool, true, false, Option, Some, None, List, ◌&&◌, ◌||◌, not, is_none, is_some}
 use Rattle.std.specs.Option.{option_map_or}
 use Rattle.std.specs.List.{find, list_any}
 use Rattle.base_types.specs.Scans.{build_scans}
 use Rattle.base_types.specs.declared.row.Row.TheVariants as rows
 use Rattle.base_types.specs.declared.scan.Purpose.TheVariants as scans
-use Rattle.lock_modes.specs.Own.{has_lock}
 use Rattle.inval_messages.specs.Messages.{covers}
-use Rattle.ddl_effect.specs.Plans.{Plan, Do, Open}
+use Rattle.ddl_effect.specs.Plans.{Plan, Do, Lookup, Open}
 use Rattle.ddl_effect.specs.Stages.{plan_at}
-use Rattle.cacheless.specs.State.{kept_at, is_kept}
-use Rattle.backend_core.specs.Types.{Oid, Mode, Message, Purpose, Row, Opening, OwnLock, Kept, Life, Progress, Backend}
+use Rattle.cacheless.specs.State.{kept_at, is_kept, is_absent, row_sought}
+use Rattle.backend_core.specs.Types.{Oid, Message, Purpose, Row, Opening, Kept, Life, Progress, Backend}
 use Rattle.backend_core.specs.declared.life.Life.TheVariants as lives
 
 -- the backend has left
@@ -23,10 +22,19 @@ abbrev pub is_looked_for : Bool → Backend → Bool
 is_looked_for true s = s.looked_to_build
 is_looked_for false s = s.looked
 
--- the relation of the row that a lookup found, if it isn't locked in the mode
-abbrev pub unlocked_of : List OwnLock → Mode → Option Row → Option Oid
-unlocked_of locks mode (Some (rows.Class oid name kind fill)) = elim (has_lock locks oid mode) [ true ↦ None | false ↦ Some oid ]
-unlocked_of locks mode given = None
+-- the relation of a row, if there is one and it is a relation's
+abbrev pub relation_named : Option Row → Option Oid
+relation_named (Some (rows.Class oid name kind fill)) = Some oid
+relation_named given = None
+
+-- the next act is a lookup that has found no relation, by a scan that serves, and holds no lock that it took
+abbrev pub is_unfound : Progress → Plan → Bool
+is_unfound s (Do (Lookup name mode) rest) = is_none s.taken && is_kept (kept_at s) (scans.RelName name) && is_none (relation_named (row_sought s name))
+is_unfound s plan = false
+
+-- so it has, or the command says so already
+abbrev pub finds_none : Progress → Bool
+finds_none s = is_absent (plan_at s.exec) || is_unfound s (plan_at s.exec)
 
 -- the relation of the descriptor that is to be opened
 abbrev pub relation_to_open : Plan → Option Oid
@@ -52,3 +60,7 @@ has_begun s = option_map_or (λ rel. is_kept (kept_at s) (scans.Class rel)) (bui
 -- messages mark the descriptor that is being built: its first scan is made, and one of them is for its relation, so that the build starts over, with another look
 abbrev pub marks_build : Progress → List Message → Bool
 marks_build s messages = option_map_or (λ rel. is_kept (kept_at s) (scans.Class rel) && list_any (covers (scans.Class rel)) messages) (built_relation s) false
+
+-- messages came since the lookup began, after a fetch: one that had found no relation begins again; to one that looked before its scan they came, unless they mark a descriptor
+abbrev pub told_after : Backend → Bool → Bool → Bool
+told_after s unfound marked = (s.told || (s.looked && not marked)) && not unfound

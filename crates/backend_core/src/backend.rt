@@ -11,10 +11,13 @@ use std::alloc::Global;
 pub struct Backend {
     pub(crate) progress: Progress,
     pub(crate) life: Life,
-    // a look was made for the next scan of a catalog cache, and one for the next for a descriptor:
-    // where a reset takes an opened descriptor away before a column is looked up, both may be
+    // a look was made for the next scan of a catalog cache, or before a name is told as absent, and one for
+    // the next scan for a descriptor: where a reset takes an opened descriptor away before a column is
+    // looked up, both may be
     pub(crate) looked: bool,
     pub(crate) looked_to_build: bool,
+    // messages came since the lookup of a relation by its name began
+    pub(crate) told: bool,
     pub(crate) lines: Listed<Line>,
 }
 
@@ -37,6 +40,7 @@ impl Backend {
             life: Life::Unstarted,
             looked: false,
             looked_to_build: false,
+            told: false,
             lines: Listed::new(alloc),
         })
     }

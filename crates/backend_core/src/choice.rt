@@ -1,14 +1,15 @@
 // Which entry comes next: the program's choice among those that may come. Where something is owed, a look,
 // a fetch or a scan, it comes first; then the act of the plan, or the next entry of the command's end.
 
-ghost use Rattle.std.specs.Prelude.{◌≡◌, ◌≤◌, None, Some, true, false, slice_get};
+ghost use Rattle.std.specs.Prelude.{◌≡◌, ◌≤◌, ◌&&◌, ◌||◌, [], None, Some, true, false, not, slice_get};
 ghost use Rattle.ddl_effect.specs.Stages.{plan_at, want_of};
 ghost use Rattle.cacheless.specs.OpenedReads.{ReadsOpened};
 ghost use Rattle.cacheless.specs.Silently.{IsAtRest};
-ghost use Rattle.cacheless.specs.State.{is_out, row_sought};
-ghost use Rattle.cacheless.specs.May.{has_failed, lacks_opened, lacks_any};
-ghost use Rattle.backend_core.specs.Words.{build_first, unlocked_of};
-ghost use Rattle.backend_core.specs.Steps.{IsNextOf, IsFree, IsScanNext, ComesOfBack, ComesOfCommit};
+ghost use Rattle.cacheless.specs.OnCourse.{is_absent};
+ghost use Rattle.cacheless.specs.State.{owed_at, is_quiet, is_out, row_sought};
+ghost use Rattle.cacheless.specs.May.{has_failed, lacks_opened, lacks_any, owes_nothing};
+ghost use Rattle.backend_core.specs.Words.{relation_named, build_first};
+ghost use Rattle.backend_core.specs.Steps.{IsNextOf, IsChoiceSound, IsFree, IsScanNext, ComesOfBack, ComesOfCommit};
 
 use crate::{Backend, Next};
 use base_types::{Command, Mode, Name, Oid, Purpose, Row, Xid};
@@ -23,6 +24,7 @@ impl Backend {
     pub(crate) fn next(&self) -> Next
         requires few { self.now.progress.finished ≤ 20000 }
         requires still { IsAtRest self.now.progress }
+        requires chosen { IsChoiceSound self.now }
         requires reads { ReadsOpened self.now.progress.opened (plan_at self.now.progress.exec) }
         ensures { IsNextOf self.now result }
     {
@@ -52,6 +54,7 @@ impl Backend {
     fn next_of_command(&self, command: &Command) -> Next
         requires few { self.now.progress.finished ≤ 20000 }
         requires still { IsAtRest self.now.progress }
+        requires chosen { IsChoiceSound self.now }
         requires reads { ReadsOpened self.now.progress.opened (plan_at self.now.progress.exec) }
         requires at { slice_get self.now.progress.commands self.now.progress.finished ≡ Some command.now }
         ensures { IsNextOf self.now result }
@@ -59,7 +62,7 @@ impl Backend {
         match self.progress.due {
             Due::Look => Next::Look,
             Due::Fetch => Next::Fetch,
-            Due::Nothing => self.next_of_free(command),
+            Due::Nothing | Due::Quiet => self.next_of_free(command),
         }
     }
 
@@ -67,13 +70,17 @@ impl Backend {
     fn next_of_free(&self, command: &Command) -> Next
         requires few { self.now.progress.finished ≤ 20000 }
         requires still { IsAtRest self.now.progress }
+        requires chosen { IsChoiceSound self.now }
         requires reads { ReadsOpened self.now.progress.opened (plan_at self.now.progress.exec) }
         requires at { slice_get self.now.progress.commands self.now.progress.finished ≡ Some command.now }
-        requires due { self.now.progress.due ≡ Due.Nothing }
+        requires due { owed_at self.now.progress.due ≡ [] }
         ensures { IsNextOf self.now result }
     {
         if self.progress.owes_first_look(command) {
             return Next::Look;
+        }
+        if self.accepts_again() {
+            return Next::LookBeforeAbsent;
         }
         if self.progress.has_failed() {
             return self.next_of_end(command);
@@ -81,10 +88,21 @@ impl Backend {
         self.next_of_going(command, &self.progress.exec.next())
     }
 
+    // Whether its lookup has found no relation, but messages came since it began, or since it looked
+    // whether some wait: it looks once more before it says so.
+    fn accepts_again(&self) -> bool
+        ensures { result ≡ (is_absent (plan_at self.now.progress.exec) && is_quiet self.now.progress.due && (not self.now.looked || self.now.told)) }
+    {
+        matches!(self.progress.exec.next(), Want::Absent(_))
+            && matches!(self.progress.due, Due::Quiet)
+            && (!self.looked || self.told)
+    }
+
     // In a command that hasn't failed: first what its opened descriptors lack.
     fn next_of_going(&self, command: &Command, want: &Want) -> Next
         requires few { self.now.progress.finished ≤ 20000 }
         requires still { IsAtRest self.now.progress }
+        requires chosen { IsChoiceSound self.now }
         requires reads { ReadsOpened self.now.progress.opened (plan_at self.now.progress.exec) }
         requires free { IsFree self.now.progress command.now }
         requires want { want_of (plan_at self.now.progress.exec) ≡ want.now }
@@ -112,6 +130,7 @@ impl Backend {
     fn next_of_want(&self, command: &Command, want: &Want) -> Next
         requires few { self.now.progress.finished ≤ 20000 }
         requires still { IsAtRest self.now.progress }
+        requires chosen { IsChoiceSound self.now }
         requires reads { ReadsOpened self.now.progress.opened (plan_at self.now.progress.exec) }
         requires free { IsFree self.now.progress command.now }
         requires want { want_of (plan_at self.now.progress.exec) ≡ want.now }
@@ -166,9 +185,10 @@ impl Backend {
         }
     }
 
-    // Where a relation is to be found by its name: its scan, or the lock of the relation that it names.
+    // Where a relation is to be found by its name: its scan, or what locks the relation that it names.
     fn next_of_lookup(&self, command: &Command, name: Name, mode: Mode) -> Next
         requires still { IsAtRest self.now.progress }
+        requires chosen { IsChoiceSound self.now }
         requires free { IsFree self.now.progress command.now }
         requires want { want_of (plan_at self.now.progress.exec) ≡ Want.Lookup name mode }
         requires whole { lacks_opened (kept_at self.now.progress) self.now.progress.opened ≡ false }
@@ -177,21 +197,51 @@ impl Backend {
         if !self.progress.owes_nothing(command) {
             return self.next_of_name(Purpose::RelName(name));
         }
-        match self.unlocked(name, mode) {
-            Some(rel) => Next::Lock { rel, mode },
-            None => unreachable!(),
+        match relation_of(&self.progress.row_sought(name)) {
+            Some(rel) => self.next_of_found(command, name, rel, mode),
+            None => self.next_of_unfound(command, name, mode),
         }
     }
 
-    // The relation that a lookup of the name finds, if it isn't locked in the mode.
-    fn unlocked(&self, name: Name, mode: Mode) -> Option<Oid>
-        ensures { result ≡ unlocked_of self.now.progress.locks.items mode (row_sought self.now.progress name) }
+    // A relation has the name: its lock, after the lookup has unlocked the other one that it took.
+    fn next_of_found(&self, command: &Command, name: Name, rel: Oid, mode: Mode) -> Next
+        requires still { IsAtRest self.now.progress }
+        requires chosen { IsChoiceSound self.now }
+        requires free { IsFree self.now.progress command.now }
+        requires want { want_of (plan_at self.now.progress.exec) ≡ Want.Lookup name mode }
+        requires owes { owes_nothing command.now self.now.progress ≡ true }
+        requires found { relation_named (row_sought self.now.progress name) ≡ Some rel }
+        ensures { IsNextOf self.now result }
     {
-        match self.progress.row_sought(name) {
-            Some(Row::Class { oid, .. }) if self.progress.locks.state(oid, mode).is_none() => {
-                Some(oid)
+        match self.progress.taken {
+            None => Next::Lock { rel, mode },
+            Some(taken) => {
+                if taken.0 == rel.0 {
+                    unreachable!();
+                }
+                Next::Unlock { rel: taken, mode }
             }
-            _ => None,
+        }
+    }
+
+    // None has it: it unlocks what the lookup took, and looks before it says so.
+    fn next_of_unfound(&self, command: &Command, name: Name, mode: Mode) -> Next
+        requires still { IsAtRest self.now.progress }
+        requires chosen { IsChoiceSound self.now }
+        requires free { IsFree self.now.progress command.now }
+        requires want { want_of (plan_at self.now.progress.exec) ≡ Want.Lookup name mode }
+        requires owes { owes_nothing command.now self.now.progress ≡ true }
+        requires unfound { relation_named (row_sought self.now.progress name) ≡ None }
+        ensures { IsNextOf self.now result }
+    {
+        match self.progress.taken {
+            Some(taken) => Next::Unlock { rel: taken, mode },
+            None => {
+                if self.looked {
+                    unreachable!();
+                }
+                Next::LookBeforeAbsent
+            }
         }
     }
 
@@ -239,5 +289,15 @@ impl Backend {
         } else {
             Next::Release { from }
         }
+    }
+}
+
+// The relation of a row, if there is one and it is a relation's.
+pub(crate) fn relation_of(row: &Option<Row>) -> Option<Oid>
+    ensures { result ≡ relation_named row.now }
+{
+    match row {
+        Some(Row::Class { oid, .. }) => Some(*oid),
+        _ => None,
     }
 }

@@ -27,9 +27,11 @@
 //! The promise: a backend *stands* in the history of its segment (`specs/Agrees.antt`): its progress holds
 //! its session there, its transcript is its part of the lines. A step keeps that, and its entry is one that
 //! the history allows and that the script's commands make next (`specs/Steps.antt`). An entry of another
-//! backend changes nothing that a backend holds. Its next step rests on a law of histories whose writes
-//! keep tables: a relation that it has found still exists (cacheless, `TableWrites` and `StillSeen`). What a backend shows of a field under locks that protect it is the field's text as it
-//! is now by another law (cacheless, `ProtectedFields`); any other field is shown as it was read.
+//! backend changes nothing that a backend holds. Its next step rests on laws of histories whose writes
+//! keep columns and names (cacheless, `TableWrites`): a relation that it has found and locked is there
+//! (`FoundKept`), and its columns are whole (`WholeColumns`). What a backend shows of a field under locks that
+//! protect it is the field's text as it is now by another law (cacheless, `ProtectedFields`); any other field is
+//! shown as it was read.
 //!
 //! ```text
 //! let mut backend = Backend::new(alloc, 1, commands)?;

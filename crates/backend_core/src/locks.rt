@@ -5,7 +5,7 @@ use base_types::{Mode, NoMemory, Oid};
 use seg_calls::{LockRefusal, Seg};
 
 impl Backend {
-    ghost use Rattle.std.specs.Prelude.{◌≡◌, OnOk, OnErr};
+    ghost use Rattle.std.specs.Prelude.{◌≡◌, ◌<◌, OnOk, OnErr};
     ghost use Rattle.backend_core.specs.Agrees.{IsReady};
     ghost use Rattle.backend_core.specs.declared.next.Next.TheVariants as nexts;
     ghost use Rattle.backend_core.specs.Steps.{Enters, IsRefused, IsNextOf};
@@ -22,6 +22,7 @@ impl Backend {
         match seg.lock(self.progress.id, self.progress.finished + 1, rel, mode) {
             Ok(()) => {
                 self.progress.enter_lock(rel, mode);
+                self.told = false;
                 Ok(())
             }
             Err(LockRefusal::Conflict { holder, mode: held }) => {
@@ -30,5 +31,17 @@ impl Backend {
             }
             Err(LockRefusal::NoMemory) => Err(NoMemory),
         }
+    }
+
+    // It unlocks a relation.
+    pub(crate) fn unlock<L: Seg>(&mut self, seg: &mut L, rel: Oid, mode: Mode)
+        requires ready { IsReady (L.script seg.old) (L.history seg.old) self.old }
+        requires place { 0 < L.promised seg.old self.old.progress.id }
+        requires next { IsNextOf self.old (nexts.Unlock rel mode) }
+        ensures script { L.script seg.new ≡ L.script seg.old }
+        ensures enters { Enters (L.script seg.old) (L.history seg.old) (L.history seg.new) (L.promised seg.old) (L.promised seg.new) self.old self.new }
+    {
+        seg.unlock(self.progress.id, self.progress.finished + 1, rel, mode);
+        self.progress.enter_unlock(rel, mode);
     }
 }

@@ -9,12 +9,16 @@ pub enum Next {
     Look,
     /// The look before a scan: one for a descriptor, or one of a catalog cache.
     LookBeforeScan { builds: bool },
+    /// The look of a lookup that found no relation, before it says so.
+    LookBeforeAbsent,
     /// It fetches the messages that wait.
     Fetch,
     /// A scan, for a descriptor, or of a catalog cache.
     Scan { scan: Purpose, builds: bool },
     /// It asks for a lock.
     Lock { rel: Oid, mode: Mode },
+    /// It unlocks a relation that its lookup no longer finds.
+    Unlock { rel: Oid, mode: Mode },
     /// It writes its draft.
     Write,
     /// It commits.

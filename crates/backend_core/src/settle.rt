@@ -62,6 +62,7 @@ impl Backend {
         self.lines.push(line)?;
         self.looked = false;
         self.looked_to_build = false;
+        self.told = false;
         Ok(())
     }
 }

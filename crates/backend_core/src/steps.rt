@@ -41,9 +41,11 @@ impl Backend {
         match next {
             Next::Look => self.look(seg),
             Next::LookBeforeScan { builds } => self.look_before_scan(seg, *builds),
+            Next::LookBeforeAbsent => self.look_before_absent(seg),
             Next::Fetch => self.fetch(seg),
             Next::Scan { scan, builds } => self.scan(seg, scan, *builds)?,
             Next::Lock { rel, mode } => self.lock(seg, *rel, *mode)?,
+            Next::Unlock { rel, mode } => self.unlock(seg, *rel, *mode),
             Next::Write => self.write(alloc, seg)?,
             Next::Commit { xid } => self.commit(seg, *xid),
             Next::Publish => self.publish(seg),

@@ -1,10 +1,11 @@
-//! What `bench/caches.sh` measures of a backend's caches that have 10,000 absent names, and no name with a row: so many
-//! lookups of these names in turn (`lookups`), or so many messages that take out nothing (`messages`), of each kind in turn.
-//! Its exit status is 0, or 1 where an argument or memory fails or a name has a row. No lookup reads the pool, in which rows
-//! stand.
+//! What `bench/caches.sh` measures of a backend's caches that have 10,000 names: so many lookups of these names in turn where
+//! no name has a row (`absent`) or each has one (`present`), or so many messages that take out none of 10,000 absent names
+//! (`messages`), of each kind in turn. Its exit status is 0, or 1 where an argument or memory fails or a lookup is wrong.
 #![tactic(auto)]
 
-use base_types::{CacheId, Name, Oid, Purpose};
+ghost use Rattle.std.specs.Prelude.{◌≤◌, length, IfSome};
+
+use base_types::{CacheId, Kind, Name, Oid, Purpose, Row};
 use inval_messages::Message;
 use local_caches::LocalCaches;
 use std::alloc::Global;
@@ -44,9 +45,10 @@ fn run<R: Env + AllocGlobal>(rt: &R, alloc: Global) -> Option<()> {
     let word = arguments.next()?;
     let count = arguments.next()?.parse::<u64>().ok()?;
     let scans = all_scans(alloc)?;
-    let mut caches = filled(alloc, scans.as_slice());
+    let present = word.as_str() == "present";
+    let mut caches = filled(alloc, scans.as_slice(), present);
     let done = match word.as_str() {
-        "lookups" => look_up(&caches, scans.as_slice(), count),
+        "absent" | "present" => look_up(&caches, scans.as_slice(), present, count),
         "messages" => execute(&mut caches, count),
         _ => None,
     };
@@ -81,27 +83,52 @@ fn digit(number: u32) -> u8 {
     b'0' + (number % 10) as u8
 }
 
-// The caches with what each of these scans gave: nothing. Where memory is refused some are left out.
-fn filled(alloc: Global, scans: &[Purpose]) -> LocalCaches {
+// The caches with what each of these scans gave: a row, or nothing. Where memory is refused some are left out.
+fn filled(alloc: Global, scans: &[Purpose], present: bool) -> LocalCaches {
     let mut caches = LocalCaches::new(alloc);
     for scan in scans {
-        put_none(alloc, &mut caches, scan);
+        if let Some(rows) = rows_of(alloc, scan, present) {
+            put(&mut caches, scan, rows);
+        }
     }
     caches
 }
 
-// Keeps that a scan gave no row.
-fn put_none(alloc: Global, caches: &mut LocalCaches, scan: &Purpose) {
+// What a scan for a name gives: its row, if it is present. (Rattle cannot prove a function that has both a row and caches
+// of rows, so another one puts it there.)
+fn rows_of(alloc: Global, scan: &Purpose, present: bool) -> Option<Vec<Row>>
+    ensures { IfSome result (λ rows. length rows.items ≤ 1) }
+{
+    match scan {
+        Purpose::RelName(name) if present => Vec::from_slice(alloc, &[row_of(*name)]).ok(),
+        _ => Some(Vec::new(alloc)),
+    }
+}
+
+// A row of this name.
+fn row_of(name: Name) -> Row {
+    Row::Class {
+        oid: Oid(16384),
+        name,
+        kind: Kind::Table,
+        fill: None,
+    }
+}
+
+// Keeps what a scan gave.
+fn put(caches: &mut LocalCaches, scan: &Purpose, rows: Vec<Row>)
+    requires { length rows.items ≤ 1 }
+{
     if !caches.has(scan) {
-        let _ = caches.put(scan, Vec::new(alloc), 1);
+        let _ = caches.put(scan, rows, 1);
     }
 }
 
 // Looks so many names up, all of them in turn.
-fn look_up(caches: &LocalCaches, scans: &[Purpose], count: u64) -> Option<()> {
+fn look_up(caches: &LocalCaches, scans: &[Purpose], present: bool, count: u64) -> Option<()> {
     for _ in 0..count / NAMES as u64 {
         for scan in scans {
-            if !caches.rows(scan)?.is_empty() {
+            if caches.rows(scan)?.is_empty() == present {
                 return None;
             }
         }

@@ -5,6 +5,7 @@ pub mod SettledCourse
 pub mod OwnEntries
 pub mod Releases
 pub mod NextOnCourse
+pub mod NamesRead
 pub mod NextKeeps
 pub mod Economical
 pub mod AllowedHistories

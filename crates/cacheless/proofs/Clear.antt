@@ -13,7 +13,7 @@ use Rattle.event_kinds.specs.declared.entry.Event.{Event}
 use Rattle.event_kinds.specs.declared.entry.Event.TheVariants as events
 use Rattle.lock_modes.specs.declared.grant.Grant.{Grant}
 use Rattle.lock_modes.specs.declared.own_lock.OwnLock.{OwnLock}
-use Rattle.lock_modes.specs.Grants.{stays}
+use Rattle.lock_modes.specs.Grants.{is_lock, stays}
 use Rattle.lock_modes.specs.Own.{cleared}
 use Rattle.history_model.specs.Reached.{reached_of}
 use Rattle.history_model.specs.Lives.{life_of, is_alive, last_event_of}
@@ -25,7 +25,7 @@ use Rattle.history_model.specs.Orderly.{MayComeNext, IsSound}
 use Rattle.history_model.specs.Writes.{is_empty}
 use Rattle.history_model.proofs.Prefixes.{EachEntry-more, EachEntry-weaker, EachFrom-both, each-keeps}
 use Rattle.history_model.proofs.Reading.{held_of-more, life_of-own, last_event_of-own, last_event_of-other, running_transaction_of-own, log_of-more, position_of-own}
-use Rattle.history_model.proofs.Every.{every-weaker, every, every-append, every-filter, every-both}
+use Rattle.history_model.proofs.Every.{every-weaker, every, every-append, every-filter, every-kept, every-both}
 use Rattle.history_model.proofs.Waiting.{waited_of-own, waited_of-other}
 use Rattle.history_model.proofs.Exclude.{Agree}
 use Rattle.history_model.proofs.Touched.{entry_of}
@@ -135,6 +135,9 @@ comes_by history b c (events.Write xid items) sound comes patient' known =
   where
     after : List Entry
     after = history ++ entry_of b c (events.Write xid items) ∷ []
+comes_by history b c (events.Unlock rel mode) sound comes patient' known =
+    every-kept (KnowsOf (history ++ entry_of b c (events.Unlock rel mode) ∷ []) b [] (is_waiting (history ++ entry_of b c (events.Unlock rel mode) ∷ []) b)) (λ g. not (is_lock b rel mode g)) (held_of history)
+    (kept_own history b c (events.Unlock rel mode) (held_of history) (is_waiting (history ++ entry_of b c (events.Unlock rel mode) ∷ []) b) sound (λ from release. absurd (cc)) patient' known)
 comes_by history b c (events.Release from) sound comes patient' known = by_visible (is_visible (running_transaction_of history b)) refl comes.follows.event.1
   where
     e : Entry
@@ -204,6 +207,7 @@ comes_other history e b other sound known =
     of (events.LockOk rel mode) = every-append On (held_of history) (record { backend = e.backend; command = e.command; rel = rel; mode = mode } ∷ []) old (theirs (record { backend = e.backend; command = e.command; rel = rel; mode = mode }) refl, tt)
     of (events.Write xid items) = every-append On (held_of history) (flat_map (granted_by e.backend e.command) items) old
         (every-weaker (λ g. (g.backend ≡ e.backend) × (g.command ≡ e.command)) On (λ g at. theirs g at.0) (flat_map (granted_by e.backend e.command) items) (granted_to e.backend e.command items))
+    of (events.Unlock rel mode) = every-kept On (λ g. not (is_lock e.backend rel mode g)) (held_of history) old
     of (events.Release from) = every-filter On (stays e.backend from) (held_of history) (every-weaker On (λ g. stays e.backend from g ≡ true → On g) (λ g on stays'. on) (held_of history) old)
     of event = old
 

@@ -17,17 +17,17 @@ use Rattle.history_model.specs.Orderly.{IsSound}
 use Rattle.history_model.specs.Prefixes.{EachEntry}
 use Rattle.history_model.specs.Versions.{versions_of, sees, rows_of, answer_of}
 use Rattle.history_model.proofs.Asking.{bytes_same, oid_eq}
-use Rattle.history_model.proofs.ColumnsKept.{IsOfColumns, column_asks, column_fixes, AreAmong, columns_among, by_number}
 use Rattle.history_model.proofs.Every.{every-weaker, every, every-map, every-filter, every-both, SomeOf, some-weaker, some-map, some-unmap, some-filter, from_some}
 use Rattle.history_model.proofs.FixedRows.{fixed}
+use Rattle.history_model.proofs.ColumnsKept.{IsOfColumns, column_asks, column_fixes, AreAmong, columns_among, by_number}
 use Rattle.history_model.proofs.GivenRows.{given_asked}
 use Rattle.history_model.proofs.InOrder.{IsIn, Differ, every_given, some_given, pair_given}
 use Rattle.history_model.proofs.Ordered.{one_version, one_seen}
 use Rattle.history_model.proofs.Seen.{Pairwise, pair-weaker, pair-map, pair-filter}
 use Rattle.history_model.proofs.WeakChanges.{column_apart, every_self}
 use Rattle.cacheless.specs.Types.{Oid, Row, Purpose, Entry}
-use Rattle.cacheless.specs.TableWrites.{AreNamesakes, WritesTables}
-use Rattle.cacheless.proofs.NamedColumns.{seen_apart}
+use Rattle.cacheless.specs.TableWrites.{AreNamesakes, WritesColumns}
+use Rattle.cacheless.proofs.WholeColumns.{whole_apart}
 
 name_fixed : (row : Row) → row_name (fixed row) ≡ row_name row
 name_fixed (rows.Class own called kind fill) = refl
@@ -119,12 +119,12 @@ pair-both R S (x ∷ xs) one two = (joined xs one.0 two.0, pair-both R S xs one.
     joined [] r s = tt
     joined (y ∷ ys) r s = ((r.0, s.0), joined ys r.1 s.1)
 
-given_named : (history : List Entry) (b : ℕ) (rel : Oid) (scan : Purpose) → IsOfColumns rel scan → IsSound history → EachEntry WritesTables history → Pairwise NamesDiffer (answer_of history b scan)
-given_named history b rel scan of sound tables = pair_given NamesDiffer (λ row other differ same. differ (sym same)) scan (filter (selects scan) (rows_of history b))
+given_named : (history : List Entry) (b : ℕ) (rel : Oid) (scan : Purpose) → IsOfColumns rel scan → IsSound history → EachEntry WritesColumns history → Pairwise NamesDiffer (answer_of history b scan)
+given_named history b rel scan of sound writes = pair_given NamesDiffer (λ row other differ same. differ (sym same)) scan (filter (selects scan) (rows_of history b))
     (pair-filter NamesDiffer (selects scan) (rows_of history b) (pair-weaker (λ row. ⊤) (λ row other. (selects (scans.Attribute rel) row ≡ true → selects (scans.Attribute rel) other ≡ true → Differ row other) × (AreNamesakes row other → ⊥))
     (λ row other. selects scan row ≡ true → selects scan other ≡ true → NamesDiffer row other)
     (λ row other _ _ h asks also. let first = column_asks rel scan of row asks in let second = column_asks rel scan of other also in names_of_columns rel row other first second (h.0 first second) h.1) (rows_of history b) (every (λ row. ⊤) (λ row. tt) (rows_of history b))
-    (pair-both (λ row other. selects (scans.Attribute rel) row ≡ true → selects (scans.Attribute rel) other ≡ true → Differ row other) (λ row other. AreNamesakes row other → ⊥) (rows_of history b) (numbers_differ history b rel sound) (seen_apart history b sound tables))))
+    (pair-both (λ row other. selects (scans.Attribute rel) row ≡ true → selects (scans.Attribute rel) other ≡ true → Differ row other) (λ row other. AreNamesakes row other → ⊥) (rows_of history b) (numbers_differ history b rel sound) (whole_apart history b sound writes))))
 
 -- in the order of the columns' names
 in_order : (history : List Entry) (b : ℕ) (rel : Oid) (scan : Purpose) → IsOfColumns rel scan → IsInOrder (goes_before scan) (map fixed (answer_of history b scan))
@@ -138,16 +138,16 @@ in_order history b rel scan of = mapped (answer_of history b scan) (scan_of-answ
     )
 
 -- two histories' answers of such a scan that have the same columns are one, but for what a weak mode may change
-among_same : (history later : List Entry) (b : ℕ) (rel : Oid) (scan : Purpose) → IsOfColumns rel scan → IsSound history → EachEntry WritesTables history → IsSound later → EachEntry WritesTables later
+among_same : (history later : List Entry) (b : ℕ) (rel : Oid) (scan : Purpose) → IsOfColumns rel scan → IsSound history → EachEntry WritesColumns history → IsSound later → EachEntry WritesColumns later
     → AreAmong (answer_of later b scan) (answer_of history b scan) → AreAmong (answer_of history b scan) (answer_of later b scan) → map fixed (answer_of later b scan) ≡ map fixed (answer_of history b scan)
-among_same history later b rel scan of sound tables sound' tables' among also =
+among_same history later b rel scan of sound writes sound' writes' among also =
     one_order (goes_before scan) (λ row. selects scan row ≡ true) (rows_tie rel scan of) (map fixed (answer_of later b scan)) (map fixed (answer_of history b scan)) (asked later) (asked history) (in_order later b rel scan of) (in_order history b rel scan of)
-    (named later sound' tables') (named history sound tables) (in_other (answer_of later b scan) (answer_of history b scan) among) (in_other (answer_of history b scan) (answer_of later b scan) also)
+    (named later sound' writes') (named history sound writes) (in_other (answer_of later b scan) (answer_of history b scan) among) (in_other (answer_of history b scan) (answer_of later b scan) also)
   where
     asked : (h : List Entry) → AllByRecursion (λ row. selects scan row ≡ true) (map fixed (answer_of h b scan))
     asked h = every-map (λ row. selects scan row ≡ true) fixed (answer_of h b scan) (every-weaker (λ row. selects scan row ≡ true) (λ row. selects scan (fixed row) ≡ true) (λ row is. column_fixes rel scan of row ∙ is) (answer_of h b scan) (given_asked h b scan))
 
-    named : (h : List Entry) → IsSound h → EachEntry WritesTables h → Pairwise NamesDiffer (map fixed (answer_of h b scan))
+    named : (h : List Entry) → IsSound h → EachEntry WritesColumns h → Pairwise NamesDiffer (map fixed (answer_of h b scan))
     named h well keeps = pair-map NamesDiffer fixed (answer_of h b scan) (pair-weaker (λ row. ⊤) NamesDiffer (λ row other. NamesDiffer (fixed row) (fixed other))
         (λ row other _ _ differ same. differ (sym (name_fixed row) ∙ same ∙ name_fixed other)) (answer_of h b scan) (every (λ row. ⊤) (λ row. tt) (answer_of h b scan)) (given_named h b rel scan of well keeps))
 
@@ -155,16 +155,16 @@ among_same history later b rel scan of sound tables sound' tables' among also =
     in_other given others all = every-map (λ row. IsIn row (map fixed others)) fixed given (every-weaker (λ row. SomeOf (λ other. fixed row ≡ fixed other) others) (λ row. IsIn (fixed row) (map fixed others)) (λ row is. some-map (λ other. fixed row ≡ other) fixed others is) given all)
 
 -- where the columns of a relation stay, but for what a weak mode may change, so does what a scan of them by their names gives
-pub columns_stay : (history later : List Entry) (b : ℕ) (rel : Oid) (scan : Purpose) → IsOfColumns rel scan → IsSound history → EachEntry WritesTables history → IsSound later → EachEntry WritesTables later
+pub columns_stay : (history later : List Entry) (b : ℕ) (rel : Oid) (scan : Purpose) → IsOfColumns rel scan → IsSound history → EachEntry WritesColumns history → IsSound later → EachEntry WritesColumns later
     → map fixed (answer_of later b (scans.Attribute rel)) ≡ map fixed (answer_of history b (scans.Attribute rel)) → map fixed (answer_of later b scan) ≡ map fixed (answer_of history b scan)
-columns_stay history later b rel scan of sound tables sound' tables' same =
-    among_same history later b rel scan of sound tables sound' tables' (columns_among history later b rel scan of same) (columns_among later history b rel scan of (sym same))
+columns_stay history later b rel scan of sound writes sound' writes' same =
+    among_same history later b rel scan of sound writes sound' writes' (columns_among history later b rel scan of same) (columns_among later history b rel scan of (sym same))
 
--- and if they are the same in order of number, they are so in the scan's own
-pub numbered_same : (history later : List Entry) (b : ℕ) (rel : Oid) (scan : Purpose) → IsOfColumns rel scan → IsSound history → EachEntry WritesTables history → IsSound later → EachEntry WritesTables later
+-- and where they are the same in order of number, they are so in the scan's own
+pub numbered_same : (history later : List Entry) (b : ℕ) (rel : Oid) (scan : Purpose) → IsOfColumns rel scan → IsSound history → EachEntry WritesColumns history → IsSound later → EachEntry WritesColumns later
     → by_number rel (answer_of later b scan) ≡ by_number rel (answer_of history b scan) → map fixed (answer_of later b scan) ≡ map fixed (answer_of history b scan)
-numbered_same history later b rel scan of sound tables sound' tables' same =
-    among_same history later b rel scan of sound tables sound' tables' (among later (answer_of history b scan) same) (among history (answer_of later b scan) (sym same))
+numbered_same history later b rel scan of sound writes sound' writes' same =
+    among_same history later b rel scan of sound writes sound' writes' (among later (answer_of history b scan) same) (among history (answer_of later b scan) (sym same))
   where
     d : Purpose
     d = scans.Attribute rel

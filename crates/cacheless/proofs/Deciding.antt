@@ -32,16 +32,16 @@ use Rattle.cacheless.specs.Facts.{Facts, facts_of}
 use Rattle.cacheless.specs.Session.{Badly, outcome_of}
 use Rattle.cacheless.specs.Owed.{Owes, owed_after, owed_of}
 use Rattle.cacheless.specs.Ends.{End, Ends, Commits, TakesBack, xid_of, next_sent, next_of_commit, next_of_taking_back, next_of_end}
-use Rattle.cacheless.specs.Plays.{IsLock, drafted, IsWrite, names_of, IsClash, IsEnd, IsLastEnd, MayPlay, MayPlayLast, MayPlayIn}
+use Rattle.cacheless.specs.Plays.{IsLock, IsUnlock, drafted, IsWrite, names_of, IsClash, IsEnd, IsLastEnd, MayPlay, MayPlayLast, MayPlayIn}
 use Rattle.cacheless.specs.Puts.{is_opened, PutOpened, PutsOpened}
-use Rattle.cacheless.specs.Settled.{class_oid}
+use Rattle.cacheless.specs.Settled.{class_oid, finds}
 use Rattle.cacheless.specs.State.{owed_at, owed_first, running_of, is_visible_at, published_at, xid_at, unsent_at, has_write_since, Kept, kept_at, is_kept, row_sought, missing, builds_missing, act_missing, scans_missing, end_of_running, end_at, Rest, session_at}
-use Rattle.cacheless.specs.May.{may_look_at, is_next_at, has_looked_at, lacks_any, owes_nothing, names_relation, is_lock_at, is_write_at, names_by, is_clash_at, releases, shows, publishes, takes_back, is_next_sent, is_next_of_commit, is_next_of_back, is_next_of_end, owes_no_end, may_end_at, may_play_at, may_end_last, may_last_at, may_play_now}
+use Rattle.cacheless.specs.May.{may_look_at, is_next_at, has_looked_at, lacks_any, owes_nothing, names_relation, is_lock_at, is_unlock_at, is_write_at, names_by, is_clash_at, releases, shows, publishes, takes_back, is_next_sent, is_next_of_commit, is_next_of_back, is_next_of_end, owes_no_end, may_end_at, may_play_at, may_end_last, may_last_at, may_play_now}
 use Rattle.cacheless.specs.Holds.{FactsFit, Holds}
 use Rattle.cacheless.proofs.Tests.{and_true, empty_is, right_none}
 use Rattle.cacheless.proofs.Same.{look_same, looked_same, next_same, lacks_any_is, owes_nothing_is}
 use Rattle.cacheless.proofs.CommandEnds.{end_same, end_of_all-same}
-use Rattle.cacheless.proofs.Resting.{kept_rows, sought_same, lacks_none}
+use Rattle.cacheless.proofs.Resting.{kept_rows, named_same, lacks_none}
 use Rattle.cacheless.proofs.SameRows.{both_decide, decided_by, oid_decides, items_decide}
 
 by_path : {a b : Bool} → a ≡ b → Decides b (a ≡ true)
@@ -79,15 +79,45 @@ named_decides rel [] = never (λ is. absurd (cc))
 named_decides rel (rows.Class oid name kind fill ∷ more) = decided_by (same_oid rel oid) (oid_decides rel oid) (λ is. ap Some (sym is)) (λ is. sym (ap (λ o. unwrap_or o rel) is))
 named_decides rel (row ∷ more) = never (λ is. absurd (cc))
 
--- a lock
-lock_decides : (facts : Facts) (s : Progress) (p : Plan) (rel : Oid) (mode : Mode) → FactsFit facts s → plan_at s.exec ≡ p → scans_missing s ≡ [] → Decides (is_lock_at s p rel mode) (IsLock facts p rel mode)
-lock_decides facts s (Do (Lookup name wanted) rest) rel mode fits at none =
-    both_decide (names_relation rel (row_sought s name)) (same_mode mode wanted) (subst (λ o. Decides (names_relation rel o) (class_oid (facts.rows (scans.RelName name)) ≡ Some rel)) found (named_decides rel (facts.rows (scans.RelName name)))) (mode_decides mode wanted)
+-- the row that the next act finds, where it lacks no scan
+named_found : (facts : Facts) (s : Progress) (name : List ℕ) (mode : Mode) (rest : List Row → Plan) → FactsFit facts s → plan_at s.exec ≡ Do (Lookup name mode) rest → scans_missing s ≡ [] → slice_get (facts.rows (scans.RelName name)) 0 ≡ row_sought s name
+named_found facts s name mode rest fits at none = ap (λ l. slice_get l 0) (named_same facts s name mode rest fits (right_none (builds_missing (kept_at s) s.opened) (act_missing s (Do (Lookup name mode) rest)) (lacks_none s (Lookup name mode) rest at none)))
+
+free_decides : {P : Type 0} (taken : Option Oid) (t : Bool) → Decides t P → Decides (is_none taken && t) ((taken ≡ None) × P)
+free_decides None t d = both_decide true t (always refl) d
+free_decides (Some oid) t d = never (λ is. absurd (some_is is.0))
   where
-    found : slice_get (facts.rows (scans.RelName name)) 0 ≡ row_sought s name
-    found = sought_same facts s name wanted rest fits at (right_none (builds_missing (kept_at s) s.opened) (act_missing s (Do (Lookup name wanted) rest)) (lacks_none s (Lookup name wanted) rest at none))
-lock_decides facts s (Do (Lock other wanted) rest) rel mode fits at none = both_decide (same_oid rel other) (same_mode mode wanted) (oid_decides rel other) (mode_decides mode wanted)
-lock_decides facts s p rel mode fits at none = never (λ is. is)
+    some_is : Some oid ≡ None → ⊥
+    some_is is = absurd (cc is)
+
+lock_decides : (facts : Facts) (s : Progress) (p : Plan) (rel : Oid) (mode : Mode) → FactsFit facts s → plan_at s.exec ≡ p → scans_missing s ≡ [] → Decides (is_none s.taken && is_lock_at s p rel mode) ((s.taken ≡ None) × IsLock facts p rel mode)
+lock_decides facts s (Do (Lookup name wanted) rest) rel mode fits at none =
+    free_decides s.taken (names_relation rel (row_sought s name) && same_mode mode wanted)
+    (both_decide (names_relation rel (row_sought s name)) (same_mode mode wanted) (subst (λ o. Decides (names_relation rel o) (class_oid (facts.rows (scans.RelName name)) ≡ Some rel)) (named_found facts s name wanted rest fits at none) (named_decides rel (facts.rows (scans.RelName name)))) (mode_decides mode wanted))
+lock_decides facts s (Do (Lock other wanted) rest) rel mode fits at none = free_decides s.taken (same_oid rel other && same_mode mode wanted) (both_decide (same_oid rel other) (same_mode mode wanted) (oid_decides rel other) (mode_decides mode wanted))
+lock_decides facts s p rel mode fits at none = free_decides s.taken false (never (λ is. is))
+
+-- giving one back
+finds_is : (rel : Oid) (given : List Row) → names_relation rel (slice_get given 0) ≡ finds rel given
+finds_is rel [] = refl
+finds_is rel (rows.Class oid name kind fill ∷ more) = refl
+finds_is rel (row ∷ more) = refl
+
+not_decides : (t u : Bool) → t ≡ u → Decides (not t) (u ≡ false)
+not_decides true u same = never (λ is. absurd (let both : true ≡ false = same ∙ is in cc both))
+not_decides false u same = always (sym same)
+
+taken_decides : (taken : Option Oid) (rel : Oid) → Decides (option_map_or (same_oid rel) taken false) (taken ≡ Some rel)
+taken_decides None rel = never (λ is. absurd (cc))
+taken_decides (Some oid) rel = decided_by (same_oid rel oid) (oid_decides rel oid) (λ is. ap Some (sym is)) (λ is. sym (ap (λ o. unwrap_or o rel) is))
+
+unlock_decides : (facts : Facts) (s : Progress) (p : Plan) (rel : Oid) (mode : Mode) → FactsFit facts s → plan_at s.exec ≡ p → scans_missing s ≡ [] → Decides (is_unlock_at s p rel mode) (IsUnlock facts s.taken p rel mode)
+unlock_decides facts s (Do (Lookup name wanted) rest) rel mode fits at none = decided_by _
+    (both_decide (option_map_or (same_oid rel) s.taken false && same_mode mode wanted) (not (names_relation rel (row_sought s name)))
+    (both_decide (option_map_or (same_oid rel) s.taken false) (same_mode mode wanted) (taken_decides s.taken rel) (mode_decides mode wanted))
+    (not_decides (names_relation rel (row_sought s name)) (finds rel (facts.rows (scans.RelName name))) (ap (names_relation rel) (sym (named_found facts s name wanted rest fits at none)) ∙ finds_is rel (facts.rows (scans.RelName name)))))
+    (λ is. (is.0.0, is.0.1, is.1)) (λ is. ((is.0, is.1), is.2))
+unlock_decides facts s p rel mode fits at none = never (λ is. is)
 
 -- what waits until nothing is owed
 owed_decides : (P : Type 0) (facts : Facts) (command : Command) (s : Progress) (rest : Rest) (t : Bool) → FactsFit facts s → (scans_missing s ≡ [] → Decides t P) → Decides (owes_nothing command s && t) ((owed_of facts command (session_at s rest) ≡ []) × P)
@@ -99,6 +129,15 @@ owed_decides P facts command s rest t fits decides = by_owed (owes_nothing comma
     by_owed : (u : Bool) → owes_nothing command s ≡ u → Decides (u && t) ((owed_of facts command (session_at s rest) ≡ []) × P)
     by_owed true is = both_decide true t (none_decide (owed_of facts command (session_at s rest)) true (same ∙ is)) (decides (empty_is (scans_missing s) (sym (lacks_any_is s) ∙ (and_true (is_empty (owed_first s command) && is_empty (owed_at s.due)) (not (lacks_any s)) is).1)))
     by_owed false is = never (λ may. absurd (let both : true ≡ false = ap is_empty (sym may.0) ∙ same ∙ is in cc))
+
+-- a lock, granted or refused
+held_decides : (facts : Facts) (command : Command) (s : Progress) (rest : Rest) (rel : Oid) (mode : Mode) → FactsFit facts s → Decides (owes_nothing command s && is_none s.taken && is_lock_at s (plan_at s.exec) rel mode) ((owed_of facts command (session_at s rest) ≡ []) × (s.taken ≡ None) × IsLock facts (plan_at s.exec) rel mode)
+held_decides facts command s rest rel mode fits = decided_by _ (regrouped (owes_nothing command s) (is_none s.taken) (is_lock_at s (plan_at s.exec) rel mode) (owed_decides ((s.taken ≡ None) × IsLock facts (plan_at s.exec) rel mode) facts command s rest (is_none s.taken && is_lock_at s (plan_at s.exec) rel mode) fits (lock_decides facts s (plan_at s.exec) rel mode fits refl)))
+    (λ is. (is.0, is.1.0, is.1.1)) (λ is. (is.0, (is.1, is.2)))
+  where
+    regrouped : {P : Type 0} (a b c : Bool) → Decides (a && (b && c)) P → Decides (a && b && c) P
+    regrouped true b c d = d
+    regrouped false b c d = d
 
 -- a write
 write_decides : (next : ℕ) (written : List Item) (p : Plan) → Decides (is_write_at next written p) (IsWrite next p written)
@@ -267,8 +306,9 @@ may_decides next facts command s rest events.FetchReset fits puts count = always
 may_decides next facts command s rest (events.Scan scan n) fits puts count = decided_by _
     (both_decide (is_empty (owed_at s.due) && is_next_at scan s) (has_looked_at s) (both_decide (is_empty (owed_at s.due)) (is_next_at scan s) (none_decide (owed_after facts.last) (is_empty (owed_at s.due)) (ap is_empty fits.owed)) (by_path (next_same facts s rest scan fits))) (by_path (looked_same facts s rest fits count)))
     (λ is. (is.0.0, is.0.1, is.1)) (λ is. ((is.0, is.1), is.2))
-may_decides next facts command s rest (events.LockOk rel mode) fits puts count = owed_decides (IsLock facts (plan_at s.exec) rel mode) facts command s rest (is_lock_at s (plan_at s.exec) rel mode) fits (lock_decides facts s (plan_at s.exec) rel mode fits refl)
-may_decides next facts command s rest (events.LockHeld rel mode holder held) fits puts count = owed_decides (IsLock facts (plan_at s.exec) rel mode) facts command s rest (is_lock_at s (plan_at s.exec) rel mode) fits (lock_decides facts s (plan_at s.exec) rel mode fits refl)
+may_decides next facts command s rest (events.LockOk rel mode) fits puts count = held_decides facts command s rest rel mode fits
+may_decides next facts command s rest (events.LockHeld rel mode holder held) fits puts count = held_decides facts command s rest rel mode fits
+may_decides next facts command s rest (events.Unlock rel mode) fits puts count = owed_decides (IsUnlock facts s.taken (plan_at s.exec) rel mode) facts command s rest (is_unlock_at s (plan_at s.exec) rel mode) fits (unlock_decides facts s (plan_at s.exec) rel mode fits refl)
 may_decides next facts command s rest (events.Write xid written) fits puts count = owed_decides (IsWrite next (plan_at s.exec) written) facts command s rest (is_write_at next written (plan_at s.exec)) fits (λ none. write_decides next written (plan_at s.exec))
 may_decides next facts command s rest (events.ClashRow name rel) fits puts count = owed_decides (IsClash facts next (plan_at s.exec) name) facts command s rest (is_clash_at (kept_at s) name (plan_at s.exec)) fits (λ none. clash_decides facts s next name (plan_at s.exec) fits refl none puts)
 may_decides next facts command s rest (events.ClashRunning name xid) fits puts count = owed_decides (IsClash facts next (plan_at s.exec) name) facts command s rest (is_clash_at (kept_at s) name (plan_at s.exec)) fits (λ none. clash_decides facts s next name (plan_at s.exec) fits refl none puts)

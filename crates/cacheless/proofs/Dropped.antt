@@ -30,10 +30,10 @@ use Rattle.history_model.proofs.Ordered.{Ordered, all_kept, lawful_of}
 use Rattle.history_model.proofs.Reached.{next_rises}
 use Rattle.history_model.proofs.Runs.{Runs}
 use Rattle.cacheless.specs.Types.{Oid, Row, Entry, Event, Item}
-use Rattle.cacheless.specs.WholeTables.{takes_relation}
+use Rattle.cacheless.specs.TableWrites.{takes_relation}
 use Rattle.cacheless.proofs.EndedFirst.{EndedFirst, ended_on, ended_back, ended_hidden, EndsIt, ends_unended, AllCount, ended_or_seen, guarded_counts}
 use Rattle.cacheless.proofs.NumberedColumns.{Lasts, any_some, row_there}
-use Rattle.cacheless.proofs.StillSeen.{IsSpared}
+use Rattle.cacheless.proofs.VersionsStay.{IsSpared}
 
 -- each version of the relation's own row is ended first
 abbrev pub AreEnded : List Entry → Oid → Stamp → List Version → Type 0

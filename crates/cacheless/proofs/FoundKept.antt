@@ -1,5 +1,5 @@
 -- A relation with which a lookup ends is seen, with the name and the kind that the name's scan gave: where that scan still serves, the relation is locked in any mode and all locks are clear.
-use Rattle.std.proofs.Common.{◌≡◌, ◌<◌, ◌∙◌, ℕ, Bool, true, false, Option, Some, List, [], ◌∷◌, refl, subst, map}
+use Rattle.std.proofs.Common.{◌≡◌, ◌<◌, ◌∙◌, ◌&&◌, ℕ, Bool, true, false, Option, Some, List, [], ◌∷◌, refl, ap, sym, subst, map}
 use Rattle.std.specs.List.{AllByRecursion}
 use Rattle.base_types.specs.declared.row.Row.TheVariants as rows
 use Rattle.base_types.specs.declared.scan.Purpose.TheVariants as scans
@@ -15,13 +15,14 @@ use Rattle.history_model.proofs.Asking.{bytes_same}
 use Rattle.history_model.proofs.FoundByName.{named_rows, named_leaves, named_seen}
 use Rattle.history_model.proofs.Locked.{IsSeenAs}
 use Rattle.history_model.proofs.ReadRows.{read_asked, read_drawn}
+use Rattle.cacheless.specs.Facts.{Facts}
 use Rattle.cacheless.specs.Types.{Oid, Mode, AccessExclusive, Kind, Row, Entry, Scenario}
 use Rattle.cacheless.specs.OnCourse.{GaveNow}
 use Rattle.cacheless.specs.Plays.{Plays}
 use Rattle.cacheless.specs.Session.{Session}
 use Rattle.cacheless.specs.Sessions.{session_of}
-use Rattle.cacheless.specs.Settled.{if_locked, looked_up}
-use Rattle.cacheless.specs.WholeTables.{WritesNamesApart}
+use Rattle.cacheless.specs.Settled.{if_locked, has_taken_no_other, has_accepted, looked_up}
+use Rattle.cacheless.specs.TableWrites.{WritesNamesApart}
 use Rattle.cacheless.proofs.OneName.{seen_by_name}
 use Rattle.cacheless.proofs.Plans.AloneLocks.{lock_keeps_out, session_holds}
 use Rattle.cacheless.proofs.ProtectedFields.{AreKeptOut, kept_out_read}
@@ -45,26 +46,31 @@ name_kept scenario history b name rel own kind fill more sound apart plays out u
     let seen = found_kept_out scenario history b name rel own kind fill more sound plays out usable gave in (seen.0, seen_by_name history b rel name kind sound apart seen ∙ seen.1)
 
 -- a lookup ends: its scan still serves, the relation that this gave is locked, if it gave one, and all locks are clear
-pub lookup_ends : (scenario : Scenario) (history : List Entry) (b : ℕ) (s : Session) (name : List ℕ) (mode : Mode) (rest : List Row → Plan) (given : List Row) → IsSound history → Plays scenario history → session_of scenario history b ≡ Some s → map cleared s.locks ≡ s.locks
-    → is_usable history b (scans.RelName name) ≡ true → looked_up s.locks mode (rows_read history b (scans.RelName name)) ≡ Some given → GaveNow history b (Lookup name mode) rest given
-lookup_ends scenario history b s name mode rest given sound plays is clear usable gives = of (rows_read history b (scans.RelName name)) refl gives
+pub lookup_ends : (scenario : Scenario) (history : List Entry) (b : ℕ) (s t : Session) (facts : Facts) (name : List ℕ) (mode : Mode) (rest : List Row → Plan) (given : List Row) → IsSound history → Plays scenario history → session_of scenario history b ≡ Some s → s.locks ≡ t.locks → map cleared t.locks ≡ t.locks
+    → is_usable history b (scans.RelName name) ≡ true → looked_up facts t mode (rows_read history b (scans.RelName name)) ≡ Some given → GaveNow history b (Lookup name mode) rest given
+lookup_ends scenario history b s t facts name mode rest given sound plays is same clear usable gives = of (rows_read history b (scans.RelName name)) refl gives
   where
     Gave : List Row → Type 0
     Gave = GaveNow history b (Lookup name mode) rest
 
-    of : (read : List Row) → rows_read history b (scans.RelName name) ≡ read → looked_up s.locks mode read ≡ Some given → Gave given
-    of [] gave gives' = subst Gave (let same : [] ≡ given = cc gives' in same) (record { locked = tt; still = tt })
-    of (rows.Class rel own kind fill ∷ more) gave gives' = by_lock (has_lock s.locks rel mode) refl gives'
+    if_ends : (u : Bool) (read : List Row) → if_locked u read ≡ Some given → Gave read → Gave given
+    if_ends true read gives' gave = subst Gave (let same : read ≡ given = cc gives' in same) gave
+    if_ends false read gives' gave = absurd (cc gives')
+
+    of : (read : List Row) → rows_read history b (scans.RelName name) ≡ read → looked_up facts t mode read ≡ Some given → Gave given
+    of [] gave gives' = if_ends (has_accepted facts t) [] gives' (record { locked = tt; still = tt })
+    of (rows.Class rel own kind fill ∷ more) gave gives' = by_lock (has_lock t.locks rel mode) refl gives'
       where
-        by_lock : (t : Bool) → has_lock s.locks rel mode ≡ t → if_locked t (rows.Class rel own kind fill ∷ []) ≡ Some given → Gave given
+        by_lock : (u : Bool) → has_lock t.locks rel mode ≡ u → if_locked (u && has_taken_no_other t.taken rel) (rows.Class rel own kind fill ∷ []) ≡ Some given → Gave given
         by_lock true has gives'' =
-            let seen = found_kept_out scenario history b name rel own kind fill more sound plays (lock_keeps_out scenario history b s rel mode is clear has) usable gave in
-            subst Gave (let same : rows.Class rel own kind fill ∷ [] ≡ given = cc gives'' in same) (record {
-              locked = (session_holds scenario history b s sound is rel mode ∙ has, tt);
+            let holds = ap (λ l. has_lock l rel mode) same ∙ has in
+            let seen = found_kept_out scenario history b name rel own kind fill more sound plays (lock_keeps_out scenario history b s rel mode is (subst (λ l. map cleared l ≡ l) (sym same) clear) holds) usable gave in
+            if_ends (has_taken_no_other t.taken rel) (rows.Class rel own kind fill ∷ []) gives'' (record {
+              locked = (session_holds scenario history b s sound is rel mode ∙ holds, tt);
               still = record { name = name; fill = seen.0; more = []; are = seen.1 };
             })
         by_lock false has gives'' = absurd (cc gives'')
-    of (row ∷ more) gave gives' = subst Gave (let same : row ∷ [] ≡ given = cc gives' in same) (record { locked = tt; still = tt })
+    of (row ∷ more) gave gives' = if_ends (has_accepted facts t) (row ∷ []) gives' (record { locked = tt; still = tt })
 
 -- the relation that a lookup asks to lock has a drawn oid, whether it is seen or not
 pub asked_drawn : (history : List Entry) (b : ℕ) (name : List ℕ) (rel : Oid) (own : List ℕ) (kind : Kind) (fill : Option ℕ) (more : List Row) → IsSound history → rows_read history b (scans.RelName name) ≡ rows.Class rel own kind fill ∷ more → rel.0 < next_oid history

@@ -3,7 +3,7 @@ use Rattle.std.proofs.Common.{◌≡◌, ◌+◌, ◌∙◌, ℕ, Bool, true, fa
 use Rattle.std.specs.Prelude.{nat_le, nat_lt}
 use Rattle.std.specs.List.{flat_map, list_any, list_all}
 use Rattle.std.specs.Option.{option_map_or}
-use Rattle.std.proofs.lemmas.Bool.{eqb-true, eq-eqb, both_ways, leb-true, leb-false, lt-ltb, ltb-true, false_from_ne_true}
+use Rattle.std.proofs.lemmas.Bool.{eqb-true, eq-eqb, and_parts, both_ways, leb-true, leb-false, lt-ltb, ltb-true, false_from_ne_true}
 use Rattle.base_types.specs.Scans.{same_oid}
 use Rattle.base_types.specs.Modes.{same_mode, conflicts}
 use Rattle.base_types.specs.Scenario.{Scenario}
@@ -19,15 +19,16 @@ use Rattle.event_kinds.specs.declared.entry.Event.TheVariants as events
 use Rattle.event_kinds.specs.declared.entry.Item.{Item}
 use Rattle.event_kinds.specs.declared.entry.Item.TheVariants.{Add}
 use Rattle.lock_modes.specs.declared.grant.Grant.{Grant}
-use Rattle.lock_modes.specs.Grants.{holds, stays}
+use Rattle.lock_modes.specs.Grants.{is_lock, holds, stays}
 use Rattle.lock_modes.specs.declared.own_lock.OwnLock.{OwnLock}
-use Rattle.lock_modes.specs.Own.{has_lock, cleared}
+use Rattle.lock_modes.specs.Own.{is_own, has_lock, cleared}
 use Rattle.ddl_effect.specs.Plans.{Plan, Done, Fails, Absent, NotBuilt, Do}
 use Rattle.ddl_effect.specs.Commands.{commands_of}
 use Rattle.txn_blocks.specs.Blocks.{no_block}
 use Rattle.history_model.specs.Prefixes.{EachEntry}
 use Rattle.history_model.specs.Lives.{Life, Unstarted, Alive, Stopped, life_by, life_of, FollowsLife}
 use Rattle.history_model.specs.Held.{granted_by, held_by, held_of}
+use Rattle.history_model.specs.Legal.{is_lock_of}
 use Rattle.history_model.specs.Orderly.{MayComeNext, IsSound}
 use Rattle.history_model.proofs.Prefixes.{EachEntry-weaker, each-keeps}
 use Rattle.history_model.proofs.Reading.{held_of-more, life_of-own, life_of-other}
@@ -87,16 +88,39 @@ own_granted b c (item ∷ items) =
     one (Add (Class oid name kind fill)) = ap (λ t. cond t (record { backend = b; command = c; rel = oid; mode = AccessExclusive } ∷ []) []) (eq-eqb b b refl)
     one item = refl
 
--- what another releases, and what is released here
-others_release : (a b from : ℕ) (gs : List Grant) → (a == b) ≡ false → own_grants b (filter (stays a from) gs) ≡ own_grants b gs
-others_release a b from [] other = refl
-others_release a b from (g ∷ gs) other = by_tests (g.backend == a) refl (nat_le from g.command) (g.backend == b) refl (others_release a b from gs other)
+-- what another releases or gives back
+spared_others : (b : ℕ) (drops : Grant → Bool) (gs : List Grant) → ((g : Grant) → drops g ≡ true → (g.backend == b) ≡ false) → own_grants b (filter (λ g. not (drops g)) gs) ≡ own_grants b gs
+spared_others b drops [] only = refl
+spared_others b drops (g ∷ gs) only = by_test (drops g) refl (spared_others b drops gs only)
   where
-    by_tests : (s : Bool) → (g.backend == a) ≡ s → (u t : Bool) → (g.backend == b) ≡ t → own_grants b (filter (stays a from) gs) ≡ own_grants b gs → own_grants b (cond (not (s && u)) (g ∷ filter (stays a from) gs) (filter (stays a from) gs)) ≡ cond t (g ∷ own_grants b gs) (own_grants b gs)
-    by_tests true theirs u true mine rest = absurd (both_ways _ other (eq-eqb a b (sym (eqb-true g.backend a theirs) ∙ eqb-true g.backend b mine)))
-    by_tests true theirs true false mine rest = rest
-    by_tests true theirs false false mine rest = ap (λ t. cond t (g ∷ own_grants b (filter (stays a from) gs)) (own_grants b (filter (stays a from) gs))) mine ∙ rest
-    by_tests false theirs u t mine rest = ap (λ t. cond t (g ∷ own_grants b (filter (stays a from) gs)) (own_grants b (filter (stays a from) gs))) mine ∙ ap (λ gs. cond t (g ∷ gs) gs) rest
+    by_test : (t : Bool) → drops g ≡ t → own_grants b (filter (λ h. not (drops h)) gs) ≡ own_grants b gs → own_grants b (cond (not t) (g ∷ filter (λ h. not (drops h)) gs) (filter (λ h. not (drops h)) gs)) ≡ cond (g.backend == b) (g ∷ own_grants b gs) (own_grants b gs)
+    by_test true is rest = rest ∙ sym (ap (λ t. cond t (g ∷ own_grants b gs) (own_grants b gs)) (only g is))
+    by_test false is rest = ap (λ hs. cond (g.backend == b) (g ∷ hs) hs) rest
+
+of_another : (a b : ℕ) (g : Grant) → (a == b) ≡ false → (g.backend == a) ≡ true → (g.backend == b) ≡ false
+of_another a b g other theirs = ap (λ n. n == b) (eqb-true g.backend a theirs) ∙ other
+
+-- what is given back here
+own_spared : (b : ℕ) (keep : Grant → Bool) (gs : List Grant) → own_grants b (filter keep gs) ≡ filter keep (own_grants b gs)
+own_spared b keep [] = refl
+own_spared b keep (g ∷ gs) = by_tests (keep g) refl (g.backend == b) refl (own_spared b keep gs)
+  where
+    by_tests : (k : Bool) → keep g ≡ k → (t : Bool) → (g.backend == b) ≡ t → own_grants b (filter keep gs) ≡ filter keep (own_grants b gs) → own_grants b (cond k (g ∷ filter keep gs) (filter keep gs)) ≡ filter keep (cond t (g ∷ own_grants b gs) (own_grants b gs))
+    by_tests true kept true mine rest = ap (λ t. cond t (g ∷ own_grants b (filter keep gs)) (own_grants b (filter keep gs))) mine ∙ ap (λ hs. g ∷ hs) rest ∙ sym (ap (λ k. cond k (g ∷ filter keep (own_grants b gs)) (filter keep (own_grants b gs))) kept)
+    by_tests true kept false theirs rest = ap (λ t. cond t (g ∷ own_grants b (filter keep gs)) (own_grants b (filter keep gs))) theirs ∙ rest
+    by_tests false gone true mine rest = rest ∙ sym (ap (λ k. cond k (g ∷ filter keep (own_grants b gs)) (filter keep (own_grants b gs))) gone)
+    by_tests false gone false theirs rest = rest
+
+unlocked_grants : (b : ℕ) (rel : Oid) (mode : Mode) (locks : List OwnLock) → filter (λ g. not (is_lock b rel mode g)) (map (grant_of b) locks) ≡ map (grant_of b) (filter (λ lock. not (is_own rel mode lock)) locks)
+unlocked_grants b rel mode [] = refl
+unlocked_grants b rel mode (lock ∷ locks) = ap (λ t. cond (not (t && same_oid lock.rel rel && same_mode lock.mode mode)) (grant_of b lock ∷ rest) rest) (eq-eqb b b refl) ∙ by_test (is_own rel mode lock) (unlocked_grants b rel mode locks)
+  where
+    rest : List Grant
+    rest = filter (λ g. not (is_lock b rel mode g)) (map (grant_of b) locks)
+
+    by_test : (t : Bool) → rest ≡ map (grant_of b) (filter (λ l. not (is_own rel mode l)) locks) → cond (not t) (grant_of b lock ∷ rest) rest ≡ map (grant_of b) (cond (not t) (lock ∷ filter (λ l. not (is_own rel mode l)) locks) (filter (λ l. not (is_own rel mode l)) locks))
+    by_test true same = same
+    by_test false same = ap (λ gs. grant_of b lock ∷ gs) same
 
 lt_not_le : (from n : ℕ) → nat_lt n from ≡ not (nat_le from n)
 lt_not_le from n = by_test (nat_le from n) refl
@@ -144,7 +168,8 @@ own_held-other a b c (events.Write xid items) gs other = own-append b gs (flat_m
     nothing : (xs : List Grant) → xs ++ [] ≡ xs
     nothing [] = refl
     nothing (x ∷ xs) = ap (λ ys. x ∷ ys) (nothing xs)
-own_held-other a b c (events.Release from) gs other = others_release a b from gs other
+own_held-other a b c (events.Unlock rel mode) gs other = spared_others b (is_lock a rel mode) gs (λ g is. of_another a b g other (and_parts (g.backend == a) (same_oid g.rel rel) (and_parts ((g.backend == a) && same_oid g.rel rel) (same_mode g.mode mode) is).0).0)
+own_held-other a b c (events.Release from) gs other = spared_others b (λ g. (g.backend == a) && nat_le from g.command) gs (λ g is. of_another a b g other (and_parts (g.backend == a) (nat_le from g.command) is).0)
 own_held-other a b c event gs other = refl
 
 -- and after the backend's own
@@ -157,6 +182,7 @@ own_held-own b c (events.LockOk rel mode) gs locks same =
     new = record { backend = b; command = c; rel = rel; mode = mode }
 own_held-own b c (events.Write xid items) gs locks same =
     own-append b gs (flat_map (granted_by b c) items) ∙ ap (λ xs. xs ++ own_grants b (flat_map (granted_by b c) items)) same ∙ ap (λ xs. map (grant_of b) locks ++ xs) (own_granted b c items) ∙ sym (map-append b locks (flat_map (locked_by c) items))
+own_held-own b c (events.Unlock rel mode) gs locks same = own_spared b (λ g. not (is_lock b rel mode g)) gs ∙ ap (filter (λ g. not (is_lock b rel mode g))) same ∙ unlocked_grants b rel mode locks
 own_held-own b c (events.Release from) gs locks same = own_release b from gs ∙ ap (filter (λ g. nat_lt g.command from)) same ∙ early_grants b from locks
 own_held-own b c event gs locks same = same
 
@@ -290,6 +316,26 @@ lock_is_held b rel mode gs locks same = sym (of_own gs) ∙ ap (list_any (λ g. 
         by_test : (t : Bool) → list_any (λ g. same_oid g.rel rel && same_mode g.mode mode) (own_grants b hs) ≡ holds hs b rel mode
             → list_any (λ g. same_oid g.rel rel && same_mode g.mode mode) (cond t (h ∷ own_grants b hs) (own_grants b hs)) ≡ ((t && same_oid h.rel rel && same_mode h.mode mode) || holds hs b rel mode)
         by_test true rest = ap (λ t. (same_oid h.rel rel && same_mode h.mode mode) || t) rest
+        by_test false rest = rest
+
+-- a lock of the session that was granted in a command is such a grant
+pub lock_of_command : (b c : ℕ) (rel : Oid) (mode : Mode) (gs : List Grant) (locks : List OwnLock) → filter (λ g. g.backend == b) gs ≡ map (grant_of b) locks → list_any (λ lock. is_own rel mode lock && (lock.command == c)) locks ≡ true → list_any (is_lock_of b c rel mode) gs ≡ true
+lock_of_command b c rel mode gs locks same has = sym (of_own gs) ∙ ap (list_any is_it) same ∙ of_locks locks ∙ has
+  where
+    is_it : Grant → Bool
+    is_it = λ g. same_oid g.rel rel && same_mode g.mode mode && (g.command == c)
+
+    of_locks : (ls : List OwnLock) → list_any is_it (map (grant_of b) ls) ≡ list_any (λ lock. is_own rel mode lock && (lock.command == c)) ls
+    of_locks [] = refl
+    of_locks (l ∷ ls) = ap (λ t. (same_oid l.rel rel && same_mode l.mode mode && (l.command == c)) || t) (of_locks ls)
+
+    of_own : (hs : List Grant) → list_any is_it (own_grants b hs) ≡ list_any (is_lock_of b c rel mode) hs
+    of_own [] = refl
+    of_own (h ∷ hs) = by_test (h.backend == b) (of_own hs)
+      where
+        by_test : (t : Bool) → list_any is_it (own_grants b hs) ≡ list_any (is_lock_of b c rel mode) hs
+            → list_any is_it (cond t (h ∷ own_grants b hs) (own_grants b hs)) ≡ ((t && same_oid h.rel rel && same_mode h.mode mode && (h.command == c)) || list_any (is_lock_of b c rel mode) hs)
+        by_test true rest = ap (λ t. (same_oid h.rel rel && same_mode h.mode mode && (h.command == c)) || t) rest
         by_test false rest = rest
 
 -- a mode that the session holds keeps others from holding those that it conflicts with

@@ -16,6 +16,8 @@ pub mod WeakTargets
 pub mod LockedColumns
 pub mod AlteredTable
 pub mod DroppedTable
+pub mod TableMadeAgain
+pub mod TableRenamed
 pub mod ProtectedColumns
 pub mod CatalogCaches
 pub mod WrongEntries

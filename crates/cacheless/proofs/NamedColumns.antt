@@ -12,7 +12,6 @@ use Rattle.history_model.specs.Prefixes.{EachEntry}
 use Rattle.history_model.specs.Versions.{versions_of, versions_by, end_back, added_row, is_back, sees, rows_of}
 use Rattle.history_model.specs.Held.{held_by, held_of}
 use Rattle.history_model.specs.Orderly.{main_rel, MayComeNext, IsSound}
-use Rattle.history_model.proofs.Prefixes.{EachEntry-weaker}
 use Rattle.history_model.proofs.Reading.{versions_of-more as versions-more}
 use Rattle.history_model.proofs.Every.{every-weaker, every-map, every-filter, every-both}
 use Rattle.history_model.proofs.Touched.{entry_of}
@@ -21,7 +20,7 @@ use Rattle.history_model.proofs.Seen.{Pairwise}
 use Rattle.history_model.proofs.InOrder.{IsIn}
 use Rattle.history_model.proofs.Ordered.{Ordered, if_some, guards_lawful, early_at, sound_ordered}
 use Rattle.cacheless.specs.Types.{Row, Entry, Event, Item}
-use Rattle.cacheless.specs.TableWrites.{AreNamesakes, IsCalledWell, IsCalledApart, CallsApart, AreCalledApart, KeepsTablesBy, WritesTables}
+use Rattle.cacheless.specs.TableWrites.{AreNamesakes, IsCalledWell, IsCalledApart, CallsApart, AreCalledApart}
 use Rattle.cacheless.proofs.AlongSound.{along_sound}
 use Rattle.cacheless.proofs.EndedFirst.{EndsIt}
 use Rattle.cacheless.proofs.NumberedColumns.{every_written}
@@ -99,18 +98,6 @@ called_well history b sound calls = every-map IsCalledWell (λ v. v.row) (filter
     all : AllByRecursion (λ v. IsCalledWell v.row) (versions_of history)
     all = along_sound WritesCalled (λ h. AllByRecursion (λ v. IsCalledWell v.row) (versions_of h)) tt
         (λ before e sound comes calls called. subst (AllByRecursion (λ v. IsCalledWell v.row)) (sym (versions-more before e)) (called_by before e.backend e.command e.event calls called)) history sound calls
-
-tables_called : (before : List Entry) (b : ℕ) (event : Event) → KeepsTablesBy before b event → CallsBy before b event
-tables_called before b (events.Write xid items) keeps = (keeps.called, keeps.apart)
-tables_called before b event keeps = tt
-
--- so it is where writes keep tables
-pub seen_apart : (history : List Entry) (b : ℕ) → IsSound history → EachEntry WritesTables history → Pairwise (λ row other. AreNamesakes row other → ⊥) (rows_of history b)
-seen_apart history b sound tables = called_apart history b sound (EachEntry-weaker WritesTables WritesCalled (λ before e keeps. tables_called before e.backend e.event keeps) history tables)
-
--- and so it is with their names
-pub seen_called : (history : List Entry) (b : ℕ) → IsSound history → EachEntry WritesTables history → AllByRecursion IsCalledWell (rows_of history b)
-seen_called history b sound tables = called_well history b sound (EachEntry-weaker WritesTables WritesCalled (λ before e keeps. tables_called before e.backend e.event keeps) history tables)
 
 eq_sym : (n m : ℕ) → (n == m) ≡ false → (m == n) ≡ false
 eq_sym n m differ = false_from_ne_true (m == n) (λ is. both_ways _ differ (eq-eqb n m (sym (eqb-true m n is))))

@@ -27,7 +27,7 @@ use Rattle.history_model.specs.Held.{held_of}
 use Rattle.history_model.specs.Sent.{lists_of}
 use Rattle.history_model.specs.Writes.{has_row}
 use Rattle.history_model.specs.Orderly.{has_key, main_rel, MayComeNext, IsSound}
-use Rattle.history_model.proofs.Prefixes.{EachEntry-weaker, each-keeps}
+use Rattle.history_model.proofs.Prefixes.{each-keeps}
 use Rattle.history_model.proofs.Reading.{is_committed-kept, running_transaction_of-own as running-own, versions_of-more as versions-more}
 use Rattle.history_model.proofs.Every.{every-weaker, every, every-append, every-map, every-filter, every-both, SomeOf, some-weaker, some_with, from_some, some-right}
 use Rattle.history_model.proofs.Asking.{oid_eq}
@@ -35,6 +35,7 @@ use Rattle.history_model.proofs.Lawful.{IsLawful}
 use Rattle.history_model.proofs.Runs.{Runs, one_xid}
 use Rattle.history_model.proofs.Exclude.{Agree, AllAgree}
 use Rattle.history_model.proofs.Touched.{entry_of, OfStamps, stamps-both, stamps-write, stamps-gone, is_of, Touch}
+use Rattle.history_model.proofs.GivenRows.{given_seen, row_given}
 use Rattle.history_model.proofs.Guards.{key_eq, key_refl, is_changing, guards, IsGuarded, Guard, any_with}
 use Rattle.history_model.proofs.Seen.{runs-after}
 use Rattle.history_model.proofs.InOrder.{IsIn, Rises, given_rises}
@@ -43,12 +44,11 @@ use Rattle.history_model.proofs.Ordered.{Ordered, Ordered-start, Ordered-more, a
 use Rattle.history_model.proofs.Steady.{find_some}
 use Rattle.history_model.proofs.WeakChanges.{column_apart, asked_differ}
 use Rattle.history_model.proofs.Locked.{changing_modes, bars, IsBarred, AreBarred}
-use Rattle.history_model.proofs.GivenRows.{given_seen, row_given}
 use Rattle.cacheless.specs.Types.{Oid, Row, Purpose, Entry, Event, Item}
-use Rattle.cacheless.specs.TableWrites.{is_table_key, gives_key, is_next_column, KeepsTablesBy, WritesTables}
+use Rattle.cacheless.specs.TableWrites.{gives_key, is_next_column}
 use Rattle.cacheless.proofs.AlongSound.{along_sound}
-use Rattle.cacheless.proofs.Successors.{IsKept, by_kept, counted_seen}
-use Rattle.cacheless.proofs.StillSeen.{IsSpared, some_written, some_stays, version_seen, row_seen}
+use Rattle.cacheless.proofs.Successors.{by_kept}
+use Rattle.cacheless.proofs.VersionsStay.{IsSpared, some_written, some_stays, version_seen, row_seen}
 
 -- the transaction of a stamp is committed, or a backend runs it
 abbrev pub Lasts : List Entry → Stamp → Row → Type 0
@@ -100,7 +100,7 @@ barred_mode held b rel AccessExclusive barred is = barred.1.1.0
 barred_mode held b rel mode barred is = absurd (cc)
 
 -- nobody else guards rows of a relation on which each mode under which rows are changed is barred
-barred_alone : (held : List Grant) (a b c : ℕ) (rel : Oid) → AllAgree held held → AreBarred held b rel changing_modes → IsGuarded held a c rel → a ≡ b
+pub barred_alone : (held : List Grant) (a b c : ℕ) (rel : Oid) → AllAgree held held → AreBarred held b rel changing_modes → IsGuarded held a c rel → a ≡ b
 barred_alone held a b c rel agree barred guard = any_with (guards a c rel) (λ g. AllByRecursion (Agree g) held) (a ≡ b) by_guard held guard agree
   where
     by_guard : (g : Grant) → guards a c rel g ≡ true → AllByRecursion (Agree g) held → a ≡ b
@@ -139,9 +139,6 @@ barred_counts history b rel sound barred =
 abbrev pub IsColumn : Oid → ℕ → Row → Type 0
 IsColumn rel num row = key_of row ≡ keys.Att rel num
 
-pub column_kept : (rel : Oid) (num : ℕ) → IsKept (IsColumn rel num)
-column_kept rel num = record { table = λ row is. ap is_table_key is; replaced = λ old row key one is. sym key ∙ is }
-
 -- a stamp goes first: its transaction is committed, or is that of the other stamp, at the same command or an earlier one
 abbrev pub GoesFirst : List Entry → Stamp → Stamp → Type 0
 GoesFirst history s t = (is_committed history s.xid.0 ≡ true) ⊎ ((s.xid.0 ≡ t.xid.0) × (s.command ≤ t.command))
@@ -155,9 +152,14 @@ pub first_on : (history : List Entry) (e : Entry) (s t : Stamp) → GoesFirst hi
 first_on history e s t (inl was) = inl (is_committed-kept history e s.xid.0 was)
 first_on history e s t (inr same) = inr same
 
+-- what is committed isn't taken back
+pub committed_spared : (history : List Entry) (a c : ℕ) (event : Event) (s : Stamp) → Runs history → IsLawful history (entry_of a c event) → is_committed history s.xid.0 ≡ true → IsSpared history a event s
+committed_spared history a c (events.Gone from) s r hidden was = ap (λ u. u && nat_le from s.command) (false_from_ne_true (runs_as history a s.xid.0) (λ runs. both_ways _ (r.hidden a s.xid.0 runs hidden) was))
+committed_spared history a c event s r lawful was = tt
+
 -- what goes first isn't taken back alone
 pub first_spared : (history : List Entry) (b c : ℕ) (event : Event) (s t : Stamp) → Runs history → IsLawful history (entry_of b c event) → GoesFirst history s t → IsSpared history b event t → IsSpared history b event s
-first_spared history b c (events.Gone from) s t r hidden (inl was) spared = ap (λ u. u && nat_le from s.command) (false_from_ne_true (runs_as history b s.xid.0) (λ runs. both_ways _ (r.hidden b s.xid.0 runs hidden) was))
+first_spared history b c (events.Gone from) s t r hidden (inl was) spared = committed_spared history b c (events.Gone from) s r hidden was
 first_spared history b c (events.Gone from) s t r hidden (inr same) spared = false_from_ne_true (is_back history b from s) (λ back.
     let p = and_parts (runs_as history b s.xid.0) (nat_le from s.command) back in
     both_ways _ spared (and_from (runs_as history b t.xid.0) (nat_le from t.command) (subst (λ x. runs_as history b x ≡ true) same.0 p.0) (le-leb from t.command (omega (arith, leb-true from s.command p.1, same.1)))))
@@ -481,13 +483,3 @@ numbered_where history b rel sound numbers seen barred = record {
         (λ row h is. let last : row_number row ≡ n = omega (arith, is) in some_found (λ r. same_key (key_of r) (keys.Att rel n)) (rows_of history b)
         (some-weaker (λ r. row ≡ r) (λ r. same_key (key_of r) (keys.Att rel n) ≡ true)
         (λ r same. subst (λ key. same_key key (keys.Att rel n) ≡ true) (sym (ap key_of (sym same) ∙ column row h.1 ∙ ap (keys.Att rel) last)) (key_refl (keys.Att rel n))) (rows_of history b) h.0)) given (given_seen history b d)) some)
-
-tables_numbered : (before : List Entry) (b : ℕ) (event : Event) → KeepsTablesBy before b event → NumbersBy before b event
-tables_numbered before b (events.Write xid items) keeps = keeps.columns
-tables_numbered before b event keeps = tt
-
--- and so it is where writes keep tables
-pub numbered_columns : (history : List Entry) (b : ℕ) (rel : Oid) → IsSound history → EachEntry WritesTables history → AreBarred (held_of history) b rel changing_modes → AreNumbered history b rel
-numbered_columns history b rel sound tables barred =
-    numbered_where history b rel sound (EachEntry-weaker WritesTables WritesNumbered (λ before e keeps. tables_numbered before e.backend e.event keeps) history tables)
-    (λ num. counted_seen (IsColumn rel num) (column_kept rel num) history b sound tables) barred

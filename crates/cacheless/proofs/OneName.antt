@@ -30,12 +30,11 @@ use Rattle.history_model.proofs.Seen.{Pairwise, pair-weaker, pair-filter}
 use Rattle.history_model.proofs.Touched.{entry_of}
 use Rattle.history_model.proofs.WeakChanges.{every_self}
 use Rattle.cacheless.specs.Types.{Oid, Kind, Row, Purpose, Entry, Event, Item}
-use Rattle.cacheless.specs.TableWrites.{ShareName, AreNamedApart}
-use Rattle.cacheless.specs.WholeTables.{NamesApartBy, WritesNamesApart}
+use Rattle.cacheless.specs.TableWrites.{ShareName, AreNamedApart, NamesApartBy, WritesNamesApart}
 use Rattle.cacheless.proofs.Dropped.{ended_there}
 use Rattle.cacheless.proofs.EndedFirst.{EndsIt, AllCount}
 use Rattle.cacheless.proofs.OneOfAKind.{IsFreeRow, Inherits, GiveApart, KeepsApartBy, gives_way, none_clash}
-use Rattle.cacheless.proofs.StillSeen.{row_seen}
+use Rattle.cacheless.proofs.VersionsStay.{row_seen}
 
 none_of : {X : Type 0} (xs : List X) → is_empty xs ≡ true → xs ≡ []
 none_of [] is = refl

@@ -9,47 +9,38 @@ use Rattle.base_types.specs.declared.row.Row.TheVariants as rows
 use Rattle.base_types.specs.declared.row_key.RowKey.TheVariants as keys
 use Rattle.base_types.specs.declared.scan.Purpose.TheVariants as scans
 use Rattle.row_visibility.specs.declared.version.Version.{Version}
-use Rattle.event_kinds.specs.declared.entry.Event.TheVariants as events
 use Rattle.history_model.specs.Orderly.{IsSound}
 use Rattle.history_model.specs.Prefixes.{EachEntry}
 use Rattle.history_model.specs.Versions.{versions_of, sees, rows_of, answer_of}
 use Rattle.history_model.proofs.Asking.{bytes_same, oid_eq}
 use Rattle.history_model.proofs.Every.{every}
 use Rattle.history_model.proofs.Ordered.{one_version, one_seen}
-use Rattle.history_model.proofs.Prefixes.{EachEntry-weaker}
 use Rattle.history_model.proofs.Seen.{Pairwise, pair-weaker, pair-map, pair-filter}
 use Rattle.local_caches.specs.Kept.{is_keyed}
-use Rattle.cacheless.specs.Types.{Row, Purpose, Entry, Event}
-use Rattle.cacheless.specs.TableWrites.{AreNamesakes, ShareName, KeepsTablesBy, WritesTables}
-use Rattle.cacheless.specs.WholeTables.{NamesApartBy, WritesNamesApart}
+use Rattle.cacheless.specs.Types.{Row, Purpose, Entry}
+use Rattle.cacheless.specs.TableWrites.{AreNamesakes, WritesColumns, ShareName, WritesNamesApart}
 use Rattle.cacheless.proofs.ColumnAnswers.{pair-both}
-use Rattle.cacheless.proofs.NamedColumns.{seen_apart}
 use Rattle.cacheless.proofs.OneName.{names_apart}
+use Rattle.cacheless.proofs.WholeColumns.{whole_apart}
 
 -- two rows have different keys, and are neither two relations with one name nor two columns of a relation with one name
-abbrev AreTwo : Row → Row → Type 0
+abbrev pub AreTwo : Row → Row → Type 0
 AreTwo row other = (key_of row ≡ key_of other → ⊥) × ((ShareName row other → ⊥) × (AreNamesakes row other → ⊥))
 
--- a write that keeps tables gives no name to two relations
-named_by : (before : List Entry) (b : ℕ) (event : Event) → KeepsTablesBy before b event → NamesApartBy event
-named_by before b (events.Write xid items) keeps = keeps.named
-named_by before b event keeps = tt
-
 -- so it is with each two rows that a backend sees
-seen_two : (history : List Entry) (b : ℕ) → IsSound history → EachEntry WritesTables history → Pairwise AreTwo (rows_of history b)
-seen_two history b sound tables =
-    pair-both HaveKeys (λ row other. (ShareName row other → ⊥) × (AreNamesakes row other → ⊥)) (rows_of history b)
-    (pair-map HaveKeys (λ v. v.row) (filter (sees history b) vs) (pair-filter (λ v w. HaveKeys v.row w.row) (sees history b) vs
-    (pair-weaker (λ v. ⊤) OneSeen (λ v w. sees history b v ≡ true → sees history b w ≡ true → HaveKeys v.row w.row) (λ v w _ _ one first second same. one same first second) vs (every (λ v. ⊤) (λ v. tt) vs)
+pub seen_two : (history : List Entry) (b : ℕ) → IsSound history → EachEntry WritesColumns history → EachEntry WritesNamesApart history → Pairwise AreTwo (rows_of history b)
+seen_two history b sound columns names =
+    pair-both TwoKeys (λ row other. (ShareName row other → ⊥) × (AreNamesakes row other → ⊥)) (rows_of history b)
+    (pair-map TwoKeys (λ v. v.row) (filter (sees history b) vs) (pair-filter (λ v w. TwoKeys v.row w.row) (sees history b) vs
+    (pair-weaker (λ v. ⊤) OneSeen (λ v w. sees history b v ≡ true → sees history b w ≡ true → TwoKeys v.row w.row) (λ v w _ _ one first second same. one same first second) vs (every (λ v. ⊤) (λ v. tt) vs)
     (one_seen history b vs (one_version history sound)))))
-    (pair-both (λ row other. ShareName row other → ⊥) (λ row other. AreNamesakes row other → ⊥) (rows_of history b)
-    (names_apart history b sound (EachEntry-weaker WritesTables WritesNamesApart (λ before e keeps. named_by before e.backend e.event keeps) history tables)) (seen_apart history b sound tables))
+    (pair-both (λ row other. ShareName row other → ⊥) (λ row other. AreNamesakes row other → ⊥) (rows_of history b) (names_apart history b sound names) (whole_apart history b sound columns))
   where
+    TwoKeys : Row → Row → Type 0
+    TwoKeys row other = key_of row ≡ key_of other → ⊥
+
     vs : List Version
     vs = versions_of history
-
-    HaveKeys : Row → Row → Type 0
-    HaveKeys row other = key_of row ≡ key_of other → ⊥
 
     OneSeen : Version → Version → Type 0
     OneSeen v w = key_of v.row ≡ key_of w.row → sees history b v ≡ true → sees history b w ≡ true → ⊥
@@ -80,8 +71,8 @@ at_most_one scan [] pairs = omega arith
 at_most_one scan (row ∷ []) pairs = omega arith
 at_most_one scan (row ∷ other ∷ found) pairs = absurd pairs.0.0
 
--- where writes keep tables a scan by a key gives one row at most
-pub one_of_key : (history : List Entry) (b : ℕ) (scan : Purpose) → IsSound history → EachEntry WritesTables history → is_keyed scan ≡ true → length (answer_of history b scan) ≤ 1
-one_of_key history b scan sound tables keyed = at_most_one scan (filter (selects scan) (rows_of history b))
+-- where writes keep the columns of tables and give no name to two relations, a scan by a key gives one row at most
+pub one_of_key : (history : List Entry) (b : ℕ) (scan : Purpose) → IsSound history → EachEntry WritesColumns history → EachEntry WritesNamesApart history → is_keyed scan ≡ true → length (answer_of history b scan) ≤ 1
+one_of_key history b scan sound columns names keyed = at_most_one scan (filter (selects scan) (rows_of history b))
     (pair-filter (λ row other. ⊥) (selects scan) (rows_of history b) (pair-weaker (λ row. ⊤) AreTwo (λ row other. selects scan row ≡ true → selects scan other ≡ true → ⊥)
-    (λ row other _ _ two asks also. asks_one scan keyed row other two asks also) (rows_of history b) (every (λ row. ⊤) (λ row. tt) (rows_of history b)) (seen_two history b sound tables)))
+    (λ row other _ _ two asks also. asks_one scan keyed row other two asks also) (rows_of history b) (every (λ row. ⊤) (λ row. tt) (rows_of history b)) (seen_two history b sound columns names)))

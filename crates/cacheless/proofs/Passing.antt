@@ -25,11 +25,11 @@ use Rattle.cacheless.specs.declared.progress.Counts.{Counts}
 use Rattle.cacheless.specs.declared.progress.Progress.{Progress}
 use Rattle.cacheless.specs.Facts.{Facts, facts_of}
 use Rattle.cacheless.specs.Session.{Session, first_of, plan_first, refused_first}
-use Rattle.cacheless.specs.Settled.{next_session, blocks_after, finished_as, looked_up, if_locked, opened_by, sought_by, act_done, settled}
+use Rattle.cacheless.specs.Settled.{next_session, blocks_after, finished_as, if_locked, has_taken_no_other, opened_by, sought_by, act_done, settled}
 use Rattle.cacheless.specs.Puts.{AreGivenBy, PutsOpened}
 use Rattle.cacheless.specs.State.{blocks_passed, lists_at, no_counts, kept_at, is_kept, rows_kept, builds_missing, act_missing, row_sought, row_next, is_absent, is_out, end_at, rest_of, session_at}
 use Rattle.cacheless.specs.May.{owes_nothing}
-use Rattle.cacheless.specs.Silently.{gives_at, gives_next, is_ends, is_finished_at, rows_for, rows_given, opened_for, Acts, Finishes}
+use Rattle.cacheless.specs.Silently.{has_accepted_at, looks_up_at, gives_at, gives_next, is_ends, is_finished_at, rows_for, rows_given, opened_for, Acts, Finishes}
 use Rattle.cacheless.specs.Holds.{AreRight, FactsFit, Holds, HasActed, HasPassed}
 use Rattle.cacheless.proofs.Settling.{settled-act, settled-finish, acted-out}
 use Rattle.cacheless.proofs.Plans.SilentActs.{some_is}
@@ -88,7 +88,7 @@ out_of command s is = (and_true (is_out s) (s.ended || is_ends (end_at s command
 -- an act that needs no entry, whichever it is
 pub act_keeps : (scenario : Scenario) (seen : List Entry) (was : Progress) (exec : Exec) (opened : List Opening) (caches : LocalCaches) (command : Command) (act : Act) (plan : List Row → Plan) (gave : List Row) → Holds scenario seen was → slice_get was.commands was.finished ≡ Some command
     → owes_nothing command was ≡ true → plan_at was.exec ≡ Do act plan → gives_at was act ≡ Some gave → plan_at exec ≡ plan gave → ((name : List ℕ) → plan_at exec ≡ Absent name → plan_again exec ≡ plan_at was.exec) → opened ≡ was.opened ++ opened_by act → kept_of caches ≡ kept_at was
-    → Holds scenario seen (record was { exec = exec; opened = opened; caches = caches; granted = false })
+    → Holds scenario seen (record was { exec = exec; opened = opened; caches = caches; taken = None })
 act_keeps scenario seen was exec opened caches command act plan gave holds has owes at gives_it on again opens keeps = record {
   number = holds.number;
   commands = holds.commands;
@@ -98,7 +98,7 @@ act_keeps scenario seen was exec opened caches command act plan gave holds has o
   count = holds.count;
   is = holds.is ∙ ap Some (
       ap (λ l. settled facts l (session_at was holds.rest)) left
-      ∙ settled-act facts command (drop (was.finished + 1) was.commands) (session_at was holds.rest) act plan gave at free.first (here facts was holds.rest act plan holds.facts at free.scans ∙ gives_it)
+      ∙ settled-act facts command (drop (was.finished + 1) was.commands) (session_at was holds.rest) act plan gave at free.first (here facts was holds.rest act plan holds.facts holds.count at free.scans ∙ gives_it)
       ∙ ap (λ l. settled facts l (act_done act gave (plan gave) (session_at was holds.rest))) (sym left)
       ∙ ap (settled facts (drop was.finished was.commands)) (λ i. record (act_done act gave (plan gave) (session_at was holds.rest)) { left = sym on i; opened = sym opens i })
       );
@@ -106,9 +106,9 @@ act_keeps scenario seen was exec opened caches command act plan gave holds has o
     running = f.running;
     lists = f.lists;
     owed = f.owed;
+    quiet = f.quiet;
     usable = λ scan. f.usable scan ∙ ap (λ k. is_kept k scan) (sym keeps);
     kept = subst (AreRight facts.rows) (sym keeps) f.kept;
-    given = λ is. absurd (cc is);
   };
   counts = holds.counts;
   order = holds.order;
@@ -134,7 +134,7 @@ act_keeps scenario seen was exec opened caches command act plan gave holds has o
 -- and its session is that after the act
 pub act_acts : (scenario : Scenario) (seen : List Entry) (was : Progress) (exec : Exec) (opened : List Opening) (caches : LocalCaches) (command : Command) (act : Act) (plan : List Row → Plan) (gave : List Row) (held : Holds scenario seen was) → slice_get was.commands was.finished ≡ Some command
     → owes_nothing command was ≡ true → plan_at was.exec ≡ Do act plan → gives_at was act ≡ Some gave → plan_at exec ≡ plan gave → ((name : List ℕ) → plan_at exec ≡ Absent name → plan_again exec ≡ plan_at was.exec) → opened ≡ was.opened ++ opened_by act → kept_of caches ≡ kept_at was
-    → HasActed scenario seen was held (record was { exec = exec; opened = opened; caches = caches; granted = false })
+    → HasActed scenario seen was held (record was { exec = exec; opened = opened; caches = caches; taken = None })
 unfolding act_keeps
 act_acts scenario seen was exec opened caches command act plan gave held has owes at gives_it on again opens keeps = record {
   holds = act_keeps scenario seen was exec opened caches command act plan gave held has owes at gives_it on again opens keeps;
@@ -145,7 +145,7 @@ act_acts scenario seen was exec opened caches command act plan gave held has owe
   further = plan;
   left = at;
   given = gave;
-  gives = here (facts_of seen was.id) was held.rest act plan held.facts at free.scans ∙ gives_it;
+  gives = here (facts_of seen was.id) was held.rest act plan held.facts held.count at free.scans ∙ gives_it;
   session = λ i. record (act_done act gave (plan gave) (session_at was held.rest)) { left = on i; opened = opens i };
   moves = record { id = refl; commands = refl; finished = refl };
 }
@@ -155,7 +155,7 @@ act_acts scenario seen was exec opened caches command act plan gave held has owe
 
 -- the state at the next command
 abbrev pub at_next : Progress → Exec → Bool → Blocks → List Opening → LocalCaches → Progress
-at_next was exec blocked blocks opened caches = record was { finished = was.finished + 1; exec = exec; blocked = blocked; ended = false; blocks = blocks; granted = false; opened = opened; caches = caches; tally = no_counts; answer = None }
+at_next was exec blocked blocks opened caches = record was { finished = was.finished + 1; exec = exec; blocked = blocked; ended = false; blocks = blocks; taken = None; opened = opened; caches = caches; tally = no_counts; answer = None }
 
 -- a finished command is passed over
 pub finish_keeps : (scenario : Scenario) (seen : List Entry) (was : Progress) (exec : Exec) (blocked : Bool) (blocks : Blocks) (opened : List Opening) (caches : LocalCaches) (command : Command) → Holds scenario seen was → slice_get was.commands was.finished ≡ Some command → is_finished_at command was ≡ true
@@ -178,9 +178,9 @@ finish_keeps scenario seen was exec blocked blocks opened caches command holds h
     running = f.running;
     lists = f.lists;
     owed = f.owed;
+    quiet = f.quiet;
     usable = λ scan. f.usable scan ∙ ap (λ k. is_kept k scan) (sym keeps);
     kept = subst (AreRight facts.rows) (sym keeps) f.kept;
-    given = λ is. absurd (cc is);
   };
   counts = record { looks = omega arith; scans = omega arith; grants = omega arith; fetches = omega arith; full = omega arith };
   order = every-weaker (λ (list : Written). list.command ≤ was.finished + 1) (λ (list : Written). list.command ≤ was.finished + 1 + 1) (λ list low. omega (arith, low)) (lists_at was) holds.order;
@@ -238,25 +238,21 @@ finish_passes scenario seen was exec blocked blocks opened caches command held h
     blocks_are = ap (λ n. blocks_passed (plan_at was.exec) (n + 1) command was.blocks) held.count ∙ sym passes
 
 -- what an act gives is what the code gives it
-given_rows : (locks : List OwnLock) (mode : Mode) (o : Option Row) → is_some (looked_up locks mode (cons_option o [])) ≡ true → looked_up locks mode (cons_option o []) ≡ Some (cons_option o [])
-given_rows locks mode None is = refl
-given_rows locks mode (Some (rows.Class oid own kind fill)) is = by_lock (has_lock locks oid mode) is
-  where
-    by_lock : (t : Bool) → is_some (if_locked t (rows.Class oid own kind fill ∷ [])) ≡ true → if_locked t (rows.Class oid own kind fill ∷ []) ≡ Some (rows.Class oid own kind fill ∷ [])
-    by_lock true some = refl
-    by_lock false some = absurd (cc)
-given_rows locks mode (Some row) is = refl
+lock_rows : (t : Bool) (given : List Row) → is_some (if_locked t given) ≡ true → if_locked t given ≡ Some given
+lock_rows true given some = refl
+lock_rows false given some = absurd (cc)
 
-lock_rows : (t : Bool) → is_some (if_locked t []) ≡ true → if_locked t [] ≡ Some []
-lock_rows true some = refl
-lock_rows false some = absurd (cc)
+given_rows : (s : Progress) (mode : Mode) (o : Option Row) → is_some (looks_up_at s mode o) ≡ true → looks_up_at s mode o ≡ Some (cons_option o [])
+given_rows s mode None is = lock_rows (has_accepted_at s) [] is
+given_rows s mode (Some (rows.Class oid own kind fill)) is = lock_rows (has_lock s.locks.items oid mode && has_taken_no_other s.taken oid) (rows.Class oid own kind fill ∷ []) is
+given_rows s mode (Some row) is = lock_rows (has_accepted_at s) (row ∷ []) is
 
 gave_is : (s : Progress) (act : Act) (rest : List Row → Plan) → is_some (gives_at s act) ≡ true → gives_at s act ≡ Some (rows_given s (want_of (Do act rest)))
-gave_is s (Lookup name mode) rest is = given_rows s.locks.items mode (row_sought s name) is
+gave_is s (Lookup name mode) rest is = given_rows s mode (row_sought s name) is
 gave_is s (Open rel kind) rest is = refl
 gave_is s (Search scan) rest is = refl
 gave_is s (Read scan) rest is = refl
-gave_is s (Lock rel mode) rest is = lock_rows (has_lock s.locks.items rel mode) is
+gave_is s (Lock rel mode) rest is = lock_rows (has_lock s.locks.items rel mode) [] is
 gave_is s (Write draft) rest is = absurd (cc)
 
 opened_is : (act : Act) (rest : List Row → Plan) → opened_for (want_of (Do act rest)) ≡ opened_by act
@@ -306,10 +302,10 @@ act_is_left s acts = by_plan (plan_at s.exec) refl (and_true (owes_nothing acts.
 -- the act that is done without an entry
 pub acted_keeps : (was : Progress) (exec : Exec) (opened : List Opening) (caches : LocalCaches) (want : Want) (acts : Acts was) → want ≡ want_of (plan_at was.exec)
     → plan_at exec ≡ after_act (rows_given was want) (plan_at was.exec) → ((name : List ℕ) → 0 < acts_left was.exec → plan_at exec ≡ Absent name → plan_again exec ≡ plan_at was.exec) → opened ≡ was.opened ++ opened_for want → kept_of caches ≡ kept_at was
-    → (scenario : Scenario) (seen : List Entry) (held : Holds scenario seen was) → HasActed scenario seen was held (record was { exec = exec; opened = opened; caches = caches; granted = false })
+    → (scenario : Scenario) (seen : List Entry) (held : Holds scenario seen was) → HasActed scenario seen was held (record was { exec = exec; opened = opened; caches = caches; taken = None })
 acted_keeps was exec opened caches want acts wants on again opens keeps scenario seen held = by_plan (plan_at was.exec) refl (and_true (owes_nothing acts.command was) (gives_next was (plan_at was.exec)) acts.acts)
   where
-    by_plan : (p : Plan) → plan_at was.exec ≡ p → (owes_nothing acts.command was ≡ true) × (gives_next was (plan_at was.exec) ≡ true) → HasActed scenario seen was held (record was { exec = exec; opened = opened; caches = caches; granted = false })
+    by_plan : (p : Plan) → plan_at was.exec ≡ p → (owes_nothing acts.command was ≡ true) × (gives_next was (plan_at was.exec) ≡ true) → HasActed scenario seen was held (record was { exec = exec; opened = opened; caches = caches; taken = None })
     by_plan (Do act plan) at parts =
         let want_is : want ≡ want_of (Do act plan) = wants ∙ ap want_of at in
         act_acts scenario seen was exec opened caches acts.command act plan (rows_given was (want_of (Do act plan))) held acts.at parts.0 at
@@ -327,7 +323,7 @@ acted_keeps was exec opened caches want acts wants on again opens keeps scenario
 pub finish_code : (was : Progress) (exec : Exec) (blocked : Bool) (blocks : Blocks) (tally : Counts) (opened : List Opening) (caches : LocalCaches) (answer : Option (List ℕ)) (commands : List Command) (command : Command) → Finishes was → slice_get was.commands was.finished ≡ Some command
     → blocks ≡ blocks_passed (plan_at was.exec) (was.finished + 1) command was.blocks → commands ≡ was.commands → plan_at exec ≡ plan_first blocks (slice_get commands (was.finished + 1)) → blocked ≡ is_some (refused_first blocks (slice_get commands (was.finished + 1))) → tally ≡ no_counts → opened ≡ [] → kept_of caches ≡ kept_at was → answer ≡ None
     → (scenario : Scenario) (seen : List Entry) (held : Holds scenario seen was)
-    → HasPassed scenario seen was held (record was { finished = was.finished + 1; exec = exec; blocked = blocked; ended = false; tally = tally; blocks = blocks; granted = false; opened = opened; caches = caches; answer = answer })
+    → HasPassed scenario seen was held (record was { finished = was.finished + 1; exec = exec; blocked = blocked; ended = false; tally = tally; blocks = blocks; taken = None; opened = opened; caches = caches; answer = answer })
 finish_code was exec blocked blocks tally opened caches answer commands command finishes at passes same on refuses fresh none keeps taken scenario seen held =
     subst (HasPassed scenario seen was held) (λ i. record (at_next was exec blocked blocks opened caches) { tally = sym fresh i; answer = sym taken i })
     (finish_passes scenario seen was exec blocked blocks opened caches command held at (subst (λ c. is_finished_at c was ≡ true) one finishes.finished) passes none keeps

@@ -16,6 +16,7 @@ ReadsBuilds (Do (Search scan) rest) = is_build_scan scan ≡ false
 ReadsBuilds plan = ⊤
 
 alters_reads : (altering : Altering) → ReadsBuilds (altering_at altering)
+alters_reads (alters.RenamingTable rel to) = refl
 alters_reads (alters.NumberingColumn rel column col_type) = refl
 alters_reads (alters.DroppingDefault rel row) = refl
 alters_reads (alters.SettingFillfactor rel fill) = refl
@@ -28,6 +29,7 @@ alters_reads stage = tt
 
 pub stage_reads : (exec : Exec) → ReadsBuilds (plan_at exec)
 stage_reads (stages.Altering altering) = alters_reads altering
+stage_reads (stages.DroppingTable rel) = refl
 stage_reads (stages.ListingColumns rel) = refl
 stage_reads (stages.FindingColumn rel column) = refl
 stage_reads (stages.FindingOid oid) = refl

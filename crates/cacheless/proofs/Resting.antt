@@ -14,16 +14,16 @@ use Rattle.cacheless.specs.Types.{Mode, Row, Purpose, Command, OwnLock, Scenario
 use Rattle.cacheless.specs.declared.progress.Progress.{Progress}
 use Rattle.cacheless.specs.Facts.{Facts, facts_of}
 use Rattle.cacheless.specs.Session.{Session, Badly, outcome_of, is_settled, first_of}
-use Rattle.cacheless.specs.Owed.{owed_at_start, owed_after, builds_owed, act_owed, owed_of}
+use Rattle.cacheless.specs.Owed.{owed_at_start, owed_after, builds_owed, act_owed, owed_of, has_looked}
 use Rattle.cacheless.specs.Ends.{End, Ends, Commits, TakesBack, end_left, end_of, next_of_end}
-use Rattle.cacheless.specs.Settled.{gives, looked_up, act_done, done_here, acted_on, is_finished, settled}
-use Rattle.cacheless.specs.State.{owed_at, owed_first, running_of, Kept, kept_at, rows_kept, row_sought, is_kept, missing, builds_missing, act_missing, scans_missing, end_at, Rest, session_at}
+use Rattle.cacheless.specs.Settled.{if_locked, has_accepted, gives, looked_up, act_done, done_here, acted_on, is_finished, settled}
+use Rattle.cacheless.specs.State.{owed_at, is_quiet, owed_first, running_of, Kept, kept_at, rows_kept, row_sought, is_kept, missing, builds_missing, act_missing, scans_missing, end_at, Rest, session_at}
 use Rattle.cacheless.specs.May.{lacks_any, owes_nothing}
-use Rattle.cacheless.specs.Silently.{gives_at, gives_next, acts_on, is_ends, is_finished_at}
-use Rattle.cacheless.specs.Holds.{AreRight, GivenFits, FactsFit, Holds, Rests}
+use Rattle.cacheless.specs.Silently.{has_accepted_at, looks_up_at, gives_at, gives_next, acts_on, is_ends, is_finished_at}
+use Rattle.cacheless.specs.Holds.{AreRight, FactsFit, Holds, Rests}
 use Rattle.cacheless.proofs.Settling.{settled-waits}
 use Rattle.cacheless.proofs.Tests.{and_true, empty_is, right_none}
-use Rattle.cacheless.proofs.Same.{start_owed, builds_same, act_same, scans_same, lacks_any_is, owes_nothing_is, empty_append}
+use Rattle.cacheless.proofs.Same.{start_owed, looked_same, builds_same, act_same, scans_same, lacks_any_is, owes_nothing_is, empty_append}
 use Rattle.cacheless.proofs.CommandEnds.{end_same, left_none}
 
 -- the first command that is left is the running one
@@ -49,28 +49,28 @@ pub cond_none : (t : Bool) (scan : Purpose) → cond (not t) (scan ∷ []) [] �
 cond_none true scan none = refl
 cond_none false scan none = absurd (cc)
 
--- a lookup gives what it finds first
-first_only : (locks : List OwnLock) (mode : Mode) (given : List Row) → looked_up locks mode given ≡ looked_up locks mode (cons_option (slice_get given 0) [])
-first_only locks mode [] = refl
-first_only locks mode (rows.Class oid name kind fill ∷ more) = refl
-first_only locks mode (row ∷ more) = refl
+-- the rows by which a lookup goes on that lacks no scan are those that the last scan of its name gave
+pub named_same : (facts : Facts) (s : Progress) (name : List ℕ) (mode : Mode) (rest : List Row → Plan) → FactsFit facts s → act_missing s (Do (Lookup name mode) rest) ≡ [] → facts.rows (scans.RelName name) ≡ rows_kept (kept_at s) (scans.RelName name)
+named_same facts s name mode rest fits none = kept_rows facts.rows (kept_at s) (scans.RelName name) fits.kept (cond_none (is_kept (kept_at s) (scans.RelName name)) (scans.RelName name) none)
 
--- the row by which a lookup goes on that lacks no scan is the first that the last scan of its name gave
-pub sought_same : (facts : Facts) (s : Progress) (name : List ℕ) (mode : Mode) (rest : List Row → Plan) → FactsFit facts s → plan_at s.exec ≡ Do (Lookup name mode) rest → act_missing s (Do (Lookup name mode) rest) ≡ [] → slice_get (facts.rows (scans.RelName name)) 0 ≡ row_sought s name
-sought_same facts s name mode rest fits at none = by_granted s.granted refl none
-  where
-    by_granted : (t : Bool) → s.granted ≡ t → (if t then [] else missing (kept_at s) (scans.RelName name ∷ [])) ≡ [] → slice_get (facts.rows (scans.RelName name)) 0 ≡ (if t then s.given else slice_get (rows_kept (kept_at s) (scans.RelName name)) 0)
-    by_granted true is lacks = (subst (λ p. GivenFits facts p s.given) at (fits.given is)).0
-    by_granted false is lacks = ap (λ l. slice_get l 0) (kept_rows facts.rows (kept_at s) (scans.RelName name) fits.kept (cond_none (is_kept (kept_at s) (scans.RelName name)) (scans.RelName name) lacks))
+-- a lookup that found no relation ends by what the code holds
+accepted_same : (facts : Facts) (s : Progress) (r : Rest) → FactsFit facts s → length r.finished ≡ s.finished → has_accepted facts (session_at s r) ≡ has_accepted_at s
+accepted_same facts s r fits count = ap (λ t. is_none s.taken && t && has_looked facts (session_at s r)) fits.quiet ∙ ap (λ t. is_none s.taken && is_quiet s.due && t) (looked_same facts s r fits count)
+
+-- a lookup gives what it finds first
+looks_up_same : (facts : Facts) (s : Progress) (r : Rest) (mode : Mode) (given : List Row) → FactsFit facts s → length r.finished ≡ s.finished → looked_up facts (session_at s r) mode given ≡ looks_up_at s mode (slice_get given 0)
+looks_up_same facts s r mode [] fits count = ap (λ t. if_locked t []) (accepted_same facts s r fits count)
+looks_up_same facts s r mode (rows.Class oid name kind fill ∷ more) fits count = refl
+looks_up_same facts s r mode (row ∷ more) fits count = ap (λ t. if_locked t (row ∷ [])) (accepted_same facts s r fits count)
 
 -- an act that lacks no scan gives what the code works out
-pub gives_same : (facts : Facts) (s : Progress) (act : Act) (rest : List Row → Plan) → FactsFit facts s → plan_at s.exec ≡ Do act rest → act_missing s (Do act rest) ≡ [] → gives facts s.locks.items act ≡ gives_at s act
-gives_same facts s (Lookup name mode) rest fits at none = first_only s.locks.items mode (facts.rows (scans.RelName name)) ∙ ap (λ o. looked_up s.locks.items mode (cons_option o [])) (sought_same facts s name mode rest fits at none)
-gives_same facts s (Open rel kind) rest fits at none = refl
-gives_same facts s (Search scan) rest fits at none = ap Some (kept_rows facts.rows (kept_at s) scan fits.kept (cond_none (is_kept (kept_at s) scan) scan none))
-gives_same facts s (Read scan) rest fits at none = ap Some (kept_rows facts.rows (kept_at s) scan fits.kept (cond_none (is_kept (kept_at s) scan) scan none))
-gives_same facts s (Lock rel mode) rest fits at none = refl
-gives_same facts s (Write draft) rest fits at none = refl
+pub gives_same : (facts : Facts) (s : Progress) (r : Rest) (act : Act) (rest : List Row → Plan) → FactsFit facts s → length r.finished ≡ s.finished → act_missing s (Do act rest) ≡ [] → gives facts (session_at s r) act ≡ gives_at s act
+gives_same facts s r (Lookup name mode) rest fits count none = looks_up_same facts s r mode (facts.rows (scans.RelName name)) fits count ∙ ap (λ l. looks_up_at s mode (slice_get l 0)) (named_same facts s name mode rest fits none)
+gives_same facts s r (Open rel kind) rest fits count none = refl
+gives_same facts s r (Search scan) rest fits count none = ap Some (kept_rows facts.rows (kept_at s) scan fits.kept (cond_none (is_kept (kept_at s) scan) scan none))
+gives_same facts s r (Read scan) rest fits count none = ap Some (kept_rows facts.rows (kept_at s) scan fits.kept (cond_none (is_kept (kept_at s) scan) scan none))
+gives_same facts s r (Lock rel mode) rest fits count none = refl
+gives_same facts s r (Write draft) rest fits count none = refl
 
 -- nothing has to come first
 pub record Free (facts : Facts) (command : Command) (s : Progress) (rest : Rest) : Type 0 where
@@ -91,17 +91,17 @@ pub lacks_none : (s : Progress) (act : Act) (plan : List Row → Plan) → plan_
 lacks_none s act plan at none = ap (λ p. elim (outcome_of p) as (λ x. List Purpose) [ Badly ↦ [] | other ↦ builds_missing (kept_at s) s.opened ++ act_missing s p ]) (sym at) ∙ none
 
 -- then what it gives decides
-pub here : (facts : Facts) (s : Progress) (rest : Rest) (act : Act) (plan : List Row → Plan) → FactsFit facts s → plan_at s.exec ≡ Do act plan → scans_missing s ≡ [] → done_here facts (session_at s rest) act (Do act plan) ≡ gives_at s act
-here facts s rest act plan fits at none =
-    ap (λ l. elim (is_empty l) [ true ↦ gives facts s.locks.items act | false ↦ None ]) same
-    ∙ gives_same facts s act plan fits at (right_none (builds_missing (kept_at s) s.opened) (act_missing s (Do act plan)) lacks)
+pub here : (facts : Facts) (s : Progress) (rest : Rest) (act : Act) (plan : List Row → Plan) → FactsFit facts s → length rest.finished ≡ s.finished → plan_at s.exec ≡ Do act plan → scans_missing s ≡ [] → done_here facts (session_at s rest) act (Do act plan) ≡ gives_at s act
+here facts s rest act plan fits count at none =
+    ap (λ l. elim (is_empty l) [ true ↦ gives facts (session_at s rest) act | false ↦ None ]) same
+    ∙ gives_same facts s rest act plan fits count (right_none (builds_missing (kept_at s) s.opened) (act_missing s (Do act plan)) lacks)
   where
     lacks : builds_missing (kept_at s) s.opened ++ act_missing s (Do act plan) ≡ []
     lacks = lacks_none s act plan at none
 
-    same : builds_owed facts s.opened ++ act_owed facts s.granted (Do act plan) ≡ []
-    same = ap (λ l. l ++ act_owed facts s.granted (Do act plan)) (builds_same facts s fits)
-        ∙ ap (λ l. builds_missing (kept_at s) s.opened ++ l) (ap (act_owed facts s.granted) (sym at) ∙ act_same facts s fits ∙ ap (act_missing s) at) ∙ lacks
+    same : builds_owed facts s.opened ++ act_owed facts (Do act plan) ≡ []
+    same = ap (λ l. l ++ act_owed facts (Do act plan)) (builds_same facts s fits)
+        ∙ ap (λ l. builds_missing (kept_at s) s.opened ++ l) (ap (act_owed facts) (sym at) ∙ act_same facts s fits ∙ ap (act_missing s) at) ∙ lacks
 
 -- the tests of a finished command
 over_same : (facts : Facts) (command : Command) (s : Progress) (r : Rest) → facts.running ≡ running_of s.running → length r.finished ≡ s.finished → is_none (end_left facts command (session_at s r)) ≡ (s.ended || is_ends (end_at s command))
@@ -126,23 +126,23 @@ none_of None is = refl
 none_of (Some x) is = absurd (cc)
 
 -- where the next act gives nothing yet, none is done
-stays_act : (facts : Facts) (command : Command) (s : Progress) (r : Rest) → FactsFit facts s → acts_on command s ≡ false → (p : Plan) → plan_at s.exec ≡ p → is_empty (owed_first s command) && is_empty (owed_at s.due) ≡ true → acted_on facts p (session_at s r) ≡ session_at s r
-stays_act facts command s r fits stays (Done told) at free = refl
-stays_act facts command s r fits stays (Fails error) at free = refl
-stays_act facts command s r fits stays (Absent name) at free = refl
-stays_act facts command s r fits stays NotBuilt at free = refl
-stays_act facts command s r fits stays (Do act plan) at free = ap (λ o. elim o [ None ↦ session_at s r | Some given ↦ acted_on facts (plan given) (act_done act given (plan given) (session_at s r)) ]) (by_lacks (lacks_any s) refl)
+stays_act : (facts : Facts) (command : Command) (s : Progress) (r : Rest) → FactsFit facts s → length r.finished ≡ s.finished → acts_on command s ≡ false → (p : Plan) → plan_at s.exec ≡ p → is_empty (owed_first s command) && is_empty (owed_at s.due) ≡ true → acted_on facts p (session_at s r) ≡ session_at s r
+stays_act facts command s r fits count stays (Done told) at free = refl
+stays_act facts command s r fits count stays (Fails error) at free = refl
+stays_act facts command s r fits count stays (Absent name) at free = refl
+stays_act facts command s r fits count stays NotBuilt at free = refl
+stays_act facts command s r fits count stays (Do act plan) at free = ap (λ o. elim o [ None ↦ session_at s r | Some given ↦ acted_on facts (plan given) (act_done act given (plan given) (session_at s r)) ]) (by_lacks (lacks_any s) refl)
   where
     owed : List Purpose
-    owed = builds_owed facts s.opened ++ act_owed facts s.granted (Do act plan)
+    owed = builds_owed facts s.opened ++ act_owed facts (Do act plan)
 
     -- the scans that are owed before the act
     owed_is : owed ≡ scans_missing s
-    owed_is = ap (λ p. elim (outcome_of p) as (λ x. List Purpose) [ Badly ↦ [] | other ↦ builds_owed facts s.opened ++ act_owed facts s.granted p ]) (sym at) ∙ scans_same facts s r fits
+    owed_is = ap (λ p. elim (outcome_of p) as (λ x. List Purpose) [ Badly ↦ [] | other ↦ builds_owed facts s.opened ++ act_owed facts p ]) (sym at) ∙ scans_same facts s r fits
 
     by_lacks : (t : Bool) → lacks_any s ≡ t → done_here facts (session_at s r) act (Do act plan) ≡ None
-    by_lacks true is = ap (λ t. elim t as (λ x. Option (List Row)) [ true ↦ gives facts s.locks.items act | false ↦ None ]) (ap is_empty owed_is ∙ sym (lacks_any_is s) ∙ ap not is)
-    by_lacks false is = here facts s r act plan fits at (empty_is (scans_missing s) (sym (lacks_any_is s) ∙ ap not is))
+    by_lacks true is = ap (λ t. elim t as (λ x. Option (List Row)) [ true ↦ gives facts (session_at s r) act | false ↦ None ]) (ap is_empty owed_is ∙ sym (lacks_any_is s) ∙ ap not is)
+    by_lacks false is = here facts s r act plan fits count at (empty_is (scans_missing s) (sym (lacks_any_is s) ∙ ap not is))
         ∙ none_of (gives_at s act) (sym (ap (λ p. gives_next s p) at) ∙ sym (ap (λ t. t && gives_next s (plan_at s.exec)) (ap (λ t. t && not (lacks_any s)) free ∙ ap not is)) ∙ stays)
 
 -- where no act is done here and the command isn't finished, nothing is left to settle
@@ -159,7 +159,7 @@ rests_here scenario seen s command holds has stays unfinished =
     r = holds.rest
 
     by_first : (t : Bool) → is_empty (owed_at_start facts command (session_at s r) ++ owed_after facts.last) ≡ t → elim t as (λ x. Session) [ true ↦ acted_on facts (plan_at s.exec) (session_at s r) | false ↦ session_at s r ] ≡ session_at s r
-    by_first true is = stays_act facts command s r holds.facts stays (plan_at s.exec) refl (sym (first_same facts command s r holds.facts) ∙ is)
+    by_first true is = stays_act facts command s r holds.facts holds.count stays (plan_at s.exec) refl (sym (first_same facts command s r holds.facts) ∙ is)
     by_first false is = refl
 
 -- after the last command nothing is done without an entry

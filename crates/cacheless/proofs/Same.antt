@@ -14,8 +14,8 @@ use Rattle.ddl_effect.specs.Stages.{plan_at}
 use Rattle.history_model.specs.Writes.{is_empty}
 use Rattle.cacheless.specs.Facts.{Facts}
 use Rattle.cacheless.specs.Session.{Outcome, Unsettled, Well, Badly, outcome_of}
-use Rattle.cacheless.specs.Owed.{OwesLook, OwesFetch, OwesScan, owed_at_start, owed_after, unusable, builds_owed, act_owed, scans_owed, owed_of, act_next, is_next_scan, owes_build, owes_build_scan, owes_accept}
-use Rattle.cacheless.specs.Plays.{has_looked, may_look}
+use Rattle.cacheless.specs.Owed.{OwesLook, OwesFetch, OwesScan, owed_at_start, owed_after, unusable, builds_owed, act_owed, scans_owed, owed_of, act_next, has_looked, is_next_scan, owes_build, owes_build_scan, owes_accept}
+use Rattle.cacheless.specs.Plays.{may_look}
 use Rattle.cacheless.specs.Types.{Kind, Oid, Command, Purpose, Opening}
 use Rattle.txn_blocks.specs.declared.transaction.RunningTransaction.{RunningTransaction}
 use Rattle.cacheless.specs.declared.progress.Progress.{Progress}
@@ -47,8 +47,8 @@ pub builds_same : (facts : Facts) (s : Progress) → FactsFit facts s → builds
 builds_same facts s fits = builds-missing facts (kept_at s) fits.usable s.opened
 
 -- the scans that the next act or the answer lacks
-act-missing : (facts : Facts) (s : Progress) (p : Plan) → FactsFit facts s → act_owed facts s.granted p ≡ act_missing s p
-act-missing facts s (Do (Lookup name mode) rest) fits = ap (λ l. if s.granted then [] else l) (unusable-missing facts (kept_at s) fits.usable (scans.RelName name ∷ []))
+act-missing : (facts : Facts) (s : Progress) (p : Plan) → FactsFit facts s → act_owed facts p ≡ act_missing s p
+act-missing facts s (Do (Lookup name mode) rest) fits = unusable-missing facts (kept_at s) fits.usable (scans.RelName name ∷ [])
 act-missing facts s (Do (Open rel kind) rest) fits = unusable-missing facts (kept_at s) fits.usable (build_scans kind rel)
 act-missing facts s (Do (Search scan) rest) fits = unusable-missing facts (kept_at s) fits.usable (scan ∷ [])
 act-missing facts s (Do (Read scan) rest) fits = unusable-missing facts (kept_at s) fits.usable (scan ∷ [])
@@ -56,12 +56,12 @@ act-missing facts s (Do (Lock rel mode) rest) fits = refl
 act-missing facts s (Do (Write draft) rest) fits = refl
 act-missing facts s p fits = unusable-missing facts (kept_at s) fits.usable (left_rests_on p)
 
-pub act_same : (facts : Facts) (s : Progress) → FactsFit facts s → act_owed facts s.granted (plan_at s.exec) ≡ act_missing s (plan_at s.exec)
+pub act_same : (facts : Facts) (s : Progress) → FactsFit facts s → act_owed facts (plan_at s.exec) ≡ act_missing s (plan_at s.exec)
 act_same facts s fits = act-missing facts s (plan_at s.exec) fits
 
 pub scans_same : (facts : Facts) (s : Progress) (rest : Rest) → FactsFit facts s → scans_owed facts (session_at s rest) ≡ scans_missing s
 scans_same facts s rest fits = ap (λ l. elim (outcome_of (plan_at s.exec)) as (λ x. List Purpose) [ Badly ↦ [] | other ↦ l ])
-    (ap (λ l. l ++ act_owed facts s.granted (plan_at s.exec)) (builds_same facts s fits) ∙ ap (λ l. builds_missing (kept_at s) s.opened ++ l) (act_same facts s fits))
+    (ap (λ l. l ++ act_owed facts (plan_at s.exec)) (builds_same facts s fits) ∙ ap (λ l. builds_missing (kept_at s) s.opened ++ l) (act_same facts s fits))
 
 -- its opened descriptors lack scans
 pub lacks_same : (facts : Facts) (s : Progress) (rest : Rest) → FactsFit facts s → owes_build facts (session_at s rest) ≡ lacks_builds s
@@ -114,12 +114,8 @@ one_first facts kept scan wanted usable = first_same facts kept scan usable (wan
     by_test true = refl
     by_test false = refl
 
-act_first : (facts : Facts) (s : Progress) (scan : Purpose) (p : Plan) → FactsFit facts s → list_any (same_scan scan) (act_next facts s.granted p) ≡ is_next_of_act scan s p
-act_first facts s scan (Do (Lookup name mode) rest) fits = by_granted s.granted
-  where
-    by_granted : (t : Bool) → list_any (same_scan scan) (take 1 (if t then [] else unusable facts (scans.RelName name ∷ []))) ≡ (not t && is_missing scan (kept_at s) (scans.RelName name))
-    by_granted true = refl
-    by_granted false = one_first facts (kept_at s) scan (scans.RelName name) fits.usable
+act_first : (facts : Facts) (s : Progress) (scan : Purpose) (p : Plan) → FactsFit facts s → list_any (same_scan scan) (act_next facts p) ≡ is_next_of_act scan s p
+act_first facts s scan (Do (Lookup name mode) rest) fits = one_first facts (kept_at s) scan (scans.RelName name) fits.usable
 act_first facts s scan (Do (Search wanted) rest) fits = one_first facts (kept_at s) scan wanted fits.usable
 act_first facts s scan (Do (Open rel kind) rest) fits = first_same facts (kept_at s) scan fits.usable (build_scans kind rel)
 act_first facts s scan (Do (Read d) rest) fits = refl
@@ -136,7 +132,7 @@ next_same facts s rest scan fits = by_outcome (outcome_of (plan_at s.exec))
     builds = flat_map (λ o. take 1 (unusable facts (build_scans o.kind o.rel))) s.opened
 
     acts : List Purpose
-    acts = act_next facts s.granted (plan_at s.exec)
+    acts = act_next facts (plan_at s.exec)
 
     both : list_any (same_scan scan) (builds ++ acts) ≡ (list_any (λ o. is_first_missing scan (kept_at s) o.kind o.rel) s.opened || is_next_of_act scan s (plan_at s.exec))
     both = list_any-append (same_scan scan) builds acts ∙ ap (λ t. t || list_any (same_scan scan) acts) (opened_first facts (kept_at s) scan fits.usable s.opened)
@@ -277,11 +273,7 @@ no_build kept scan other = by_test (is_kept kept scan)
     by_test false = ap (λ t. t || false) other
 
 act_any : (s : Progress) (p : Plan) → ReadsBuilds p → list_any is_build_scan (act_missing s p) ≡ lacks_to_build s p
-act_any s (Do (Lookup name mode) rest) reads = by_granted s.granted
-  where
-    by_granted : (t : Bool) → list_any is_build_scan (if t then [] else missing (kept_at s) (scans.RelName name ∷ [])) ≡ false
-    by_granted true = refl
-    by_granted false = no_build (kept_at s) (scans.RelName name) refl
+act_any s (Do (Lookup name mode) rest) reads = no_build (kept_at s) (scans.RelName name) refl
 act_any s (Do (Search scan) rest) reads = no_build (kept_at s) scan reads
 act_any s (Do (Open rel kind) rest) reads = any_found (λ scan. not (is_kept (kept_at s) scan)) (build_scans kind rel) (builds_of kind rel)
 act_any s (Do (Read scan) rest) reads = by_test (is_kept (kept_at s) scan)

@@ -93,12 +93,12 @@ is_empty-map : {X Y : Type 0} (f : X → Y) (xs : List X) → is_empty (map f xs
 is_empty-map f [] = refl
 is_empty-map f (x ∷ xs) = refl
 
-acted_on-owed : (facts : Facts) (p : Plan) (s : Session) → is_empty (elim (outcome_of p) [ Badly ↦ [] | other ↦ builds_owed facts s.opened ++ act_owed facts s.granted p ]) ≡ false → acted_on facts p s ≡ s
+acted_on-owed : (facts : Facts) (p : Plan) (s : Session) → is_empty (elim (outcome_of p) [ Badly ↦ [] | other ↦ builds_owed facts s.opened ++ act_owed facts p ]) ≡ false → acted_on facts p s ≡ s
 acted_on-owed facts (Done told) s owed = refl
 acted_on-owed facts (Fails error) s owed = refl
 acted_on-owed facts (Absent name) s owed = refl
 acted_on-owed facts NotBuilt s owed = refl
-acted_on-owed facts (Do act rest) s owed = ap (λ o. elim o [ None ↦ s | Some given ↦ acted_on facts (rest given) (act_done act given (rest given) s) ]) (ap (λ t. elim t [ true ↦ gives facts s.locks act | false ↦ None ]) owed)
+acted_on-owed facts (Do act rest) s owed = ap (λ o. elim o [ None ↦ s | Some given ↦ acted_on facts (rest given) (act_done act given (rest given) s) ]) (ap (λ t. elim t [ true ↦ gives facts s act | false ↦ None ]) owed)
 
 -- a scan is owed
 pub waits-scans : (facts : Facts) (command : Command) (rest : List Command) (s : Session) → is_empty (scans_owed facts s) ≡ false → settled facts (command ∷ rest) s ≡ s
@@ -128,7 +128,7 @@ next_build facts s scan more unsettled is = by_outcome (outcome_of s.left) unset
     builds = flat_map (λ o. take 1 (unusable facts (build_scans o.kind o.rel))) s.opened
 
     acts : List Purpose
-    acts = act_next facts s.granted s.left
+    acts = act_next facts s.left
 
     by_outcome : (o : Outcome) → is_settled o ≡ false → list_any (same_scan scan) (elim o [ Badly ↦ [] | other ↦ builds ++ acts ]) ≡ true
     by_outcome Unsettled un = list_any-append (same_scan scan) builds acts ∙ ap (λ t. t || list_any (same_scan scan) acts) (first_of_each facts s.opened scan more is)

@@ -1,35 +1,20 @@
--- Rows that have successors: a version that is ended has a later one, by the stamp that ended it, or something else is known of that stamp. So where one counts, one is seen. Those of relations and columns always have, where writes keep tables.
+-- Rows that have successors: a version that is ended has a later one, by the stamp that ended it, or something else is known of that stamp. So where one counts, one is seen, or a stamp of which that is known counts.
 use Rattle.std.proofs.Common.{◌≡◌, ◌∙◌, ◌⊎◌, inl, inr, ℕ, Bool, true, false, not, Option, Some, None, List, [], ◌∷◌, ◌++◌, cond, refl, sym, ap, subst, map, filter, fold}
 use Rattle.std.specs.Prelude.{⊤}
 use Rattle.std.specs.List.{AllByRecursion, list_any, flat_map}
 use Rattle.std.specs.Option.{option_map_or, IfSome}
-use Rattle.std.proofs.lemmas.Bool.{both_ways, and_parts, and_from, not-true}
+use Rattle.std.proofs.lemmas.Bool.{and_parts, and_from}
 use Rattle.base_types.specs.RowKeys.{key_of, same_key, are_distinct_keys}
 use Rattle.row_visibility.specs.declared.version.Version.{Version}
 use Rattle.row_visibility.specs.declared.version.Stamp.{Stamp}
 use Rattle.row_visibility.specs.Seen.{seen_by}
-use Rattle.event_kinds.specs.declared.entry.Event.TheVariants as events
-use Rattle.event_kinds.specs.declared.entry.Item.TheVariants as forms
-use Rattle.history_model.specs.Prefixes.{EachEntry}
-use Rattle.history_model.specs.Versions.{versions_of, versions_by, change_by, end_by, ends, version_of, ended_key, added_row, is_back, end_back, counts, sees}
+use Rattle.history_model.specs.Versions.{change_by, end_by, ends, version_of, ended_key, added_row, end_back, sees}
 use Rattle.history_model.specs.Writes.{changed_key}
-use Rattle.history_model.specs.Orderly.{IsSound}
-use Rattle.history_model.specs.Legal.{AllowsEvent}
-use Rattle.history_model.proofs.Reading.{versions_of-more as versions-more}
-use Rattle.history_model.proofs.Every.{every-weaker, every, every-append, every-map, every-both, every-swap, SomeOf, some-weaker, some-left, some-right, some-map, some-filter}
-use Rattle.history_model.proofs.Guards.{key_eq}
-use Rattle.history_model.proofs.Seen.{OneVersion}
+use Rattle.history_model.proofs.Every.{every-weaker, every-append, every-map, SomeOf, some-weaker, some-left, some-right, some-map, some-filter}
 use Rattle.history_model.proofs.OneVersion.{distinct_split, differ_from, added_key}
-use Rattle.history_model.proofs.Ordered.{all_each, if_some, ended_named, one_version}
+use Rattle.history_model.proofs.Ordered.{if_some}
 use Rattle.history_model.proofs.Steady.{not_ended}
-use Rattle.cacheless.specs.Types.{Row, Entry, Event, Item}
-use Rattle.cacheless.specs.TableWrites.{is_table_key, takes_no_table, HaveOneName, KeepsName, KeepsTablesBy, WritesTables}
-use Rattle.cacheless.proofs.AlongSound.{along_sound}
-
--- rows of a relation or of a column, such that what replaces one is one
-pub record IsKept (C : Row → Type 0) : Type 0 where
-  pub table : (row : Row) → C row → is_table_key (key_of row) ≡ true
-  pub replaced : (old row : Row) → key_of old ≡ key_of row → HaveOneName old row → C old → C row
+use Rattle.cacheless.specs.Types.{Row, Entry, Item}
 
 -- a version of one of these rows, by this stamp
 abbrev pub IsBy : (Row → Type 0) → Stamp → Version → Type 0
@@ -189,42 +174,3 @@ next_gone C D E back stays (v ∷ vs) next = by_test (back v.by) (next_gone C D 
     by_test : (t : Bool) → HaveNext C E (map (end_back back) kept) → HaveNext C E (map (end_back back) (cond (not t) (v ∷ kept) kept))
     by_test true rest = rest
     by_test false rest = ((λ c. of v.ended (next.0 c)), rest)
-
--- where nothing is taken away
-abbrev Never : Stamp → Type 0
-Never s = ⊥
-
-given_by : (C : Row → Type 0) → IsKept C → (before : List Entry) (b : ℕ) → OneVersion before → (item : Item) → takes_no_table item ≡ true → KeepsName before b item
-    → AllByRecursion (λ v. ends before b item v ≡ true → C v.row → Gives C item ⊎ ⊥) (versions_of before)
-given_by C kept before b one (forms.Put row) stays name =
-    every-weaker (λ v. ends before b (forms.Put row) v ≡ true → HaveOneName v.row row) (λ v. ends before b (forms.Put row) v ≡ true → C v.row → Gives C (forms.Put row) ⊎ ⊥)
-    (λ v like is c. inl (row, (refl, kept.replaced v.row row (key_eq (key_of v.row) (key_of row) (and_parts (same_key (key_of v.row) (key_of row)) (sees before b v) is).0) (like is) c))) (versions_of before)
-    (ended_named before b (λ old. HaveOneName old row) (forms.Put row) one name)
-given_by C kept before b one (forms.Remove key) stays name =
-    every (λ v. ends before b (forms.Remove key) v ≡ true → C v.row → Gives C (forms.Remove key) ⊎ ⊥)
-    (λ v is c. absurd (both_ways _ (not-true (is_table_key key) stays) (subst (λ k. is_table_key k ≡ true) (key_eq (key_of v.row) key (and_parts (same_key (key_of v.row) key) (sees before b v) is).0) (kept.table v.row c)))) (versions_of before)
-given_by C kept before b one item stays name = every (λ v. ends before b item v ≡ true → C v.row → Gives C item ⊎ ⊥) (λ v is. absurd (cc)) (versions_of before)
-
-next_by : (C : Row → Type 0) → IsKept C → (before : List Entry) (b c : ℕ) (event : Event) → OneVersion before → AllowsEvent before b c event → KeepsTablesBy before b event → HaveNext C Never (versions_of before)
-    → HaveNext C Never (versions_by before b c event (versions_of before))
-next_by C kept before b c (events.Write xid items) one allows keeps next =
-    next_written C Never before b (record { xid = xid; command = c }) items (versions_of before) allows.keys
-    (every-swap (λ item v. ends before b item v ≡ true → C v.row → Gives C item ⊎ ⊥) items (versions_of before)
-    (every-weaker (λ item. (takes_no_table item ≡ true) × KeepsName before b item) (λ item. AllByRecursion (λ v. ends before b item v ≡ true → C v.row → Gives C item ⊎ ⊥) (versions_of before)) (λ item h. given_by C kept before b one item h.0 h.1) items
-    (every-both (λ item. takes_no_table item ≡ true) (KeepsName before b) items (all_each takes_no_table items keeps.stay) keeps.names))) next
-next_by C kept before b c (events.Gone from) one allows keeps next = next_gone C Never Never (is_back before b from) (λ s kept none. none) (versions_of before) next
-next_by C kept before b c event one allows keeps next = next
-
--- rows that the writes of tables keep have successors
-have_next : (C : Row → Type 0) → IsKept C → (history : List Entry) → IsSound history → EachEntry WritesTables history → HaveNext C Never (versions_of history)
-have_next C kept = along_sound WritesTables (λ h. HaveNext C Never (versions_of h)) tt
-    (λ before e sound comes keeps next. subst (HaveNext C Never) (sym (versions-more before e)) (next_by C kept before e.backend e.command e.event (one_version before sound) comes.follows.event keeps next))
-
--- and where a version of one counts for a backend, it sees one
-pub counted_seen : (C : Row → Type 0) → IsKept C → (history : List Entry) (b : ℕ) → IsSound history → EachEntry WritesTables history → SomeOf (λ v. C v.row × (counts history b v.by ≡ true)) (versions_of history)
-    → SomeOf (λ v. C v.row × (sees history b v ≡ true)) (versions_of history)
-counted_seen C kept history b sound tables some = of (one_is_seen C Never (counts history b) (versions_of history) (have_next C kept history sound tables) some)
-  where
-    of : SomeOf (λ v. C v.row × (sees history b v ≡ true)) (versions_of history) ⊎ IsCounted Never (counts history b) → SomeOf (λ v. C v.row × (sees history b v ≡ true)) (versions_of history)
-    of (inl seen) = seen
-    of (inr none) = absurd none.1.1

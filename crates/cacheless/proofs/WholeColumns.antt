@@ -33,14 +33,12 @@ use Rattle.history_model.proofs.Locked.{changing_modes, AreBarred, IsSeenAs}
 use Rattle.history_model.proofs.Seen.{Pairwise}
 use Rattle.history_model.proofs.Touched.{entry_of, OfStamps}
 use Rattle.cacheless.specs.Types.{Oid, Row, Entry, Event, Item}
-use Rattle.cacheless.specs.TableWrites.{takes_no_table, AreNamesakes, IsCalledWell, KeepsTablesBy, WritesTables}
-use Rattle.cacheless.specs.WholeTables.{takes_relation, takes_whole, KeepsColumnsBy, WritesColumns}
+use Rattle.cacheless.specs.TableWrites.{AreNamesakes, IsCalledWell, takes_relation, takes_whole, KeepsColumnsBy, WritesColumns}
 use Rattle.cacheless.proofs.AlongSound.{along_sound}
 use Rattle.cacheless.proofs.Dropped.{IsDropped, SeesClass, dropped_more, dropped_new, dropped_unseen}
 use Rattle.cacheless.proofs.NamedColumns.{CallsBy, WritesCalled, called_apart, called_well}
 use Rattle.cacheless.proofs.NumberedColumns.{Lasts, lasting, IsColumn, NumbersBy, WritesNumbered, AreNumbered, numbered_where}
-use Rattle.cacheless.proofs.StillSeen.{version_seen}
-use Rattle.cacheless.proofs.Written.FitToWrite.{all_pass}
+use Rattle.cacheless.proofs.VersionsStay.{version_seen}
 use Rattle.cacheless.proofs.Successors.{HaveNext, IsCounted, Gives, one_is_seen, next-weaker, next_written, next_gone}
 
 -- a change that ends a column's version gives the column a row, or the write drops its relation
@@ -160,26 +158,3 @@ whole_apart history b sound writes = called_apart history b sound (EachEntry-wea
 -- and each that it sees has a name that a command may give, or is dropped
 pub whole_called : (history : List Entry) (b : ℕ) → IsSound history → EachEntry WritesColumns history → AllByRecursion IsCalledWell (rows_of history b)
 whole_called history b sound writes = called_well history b sound (EachEntry-weaker WritesColumns WritesCalled (λ before e keeps. columns_called before e.backend e.event keeps) history writes)
-
--- a write that keeps tables keeps their columns
-tables_whole : (before : List Entry) (b : ℕ) (event : Event) → KeepsTablesBy before b event → KeepsColumnsBy before b event
-tables_whole before b (events.Write xid items) keeps = record {
-  whole = all_pass (takes_whole items) items (every-weaker (λ item. takes_no_table item ≡ true) (λ item. takes_whole items item ≡ true) stays items (all_each takes_no_table items keeps.stay));
-  columns = keeps.columns;
-  called = keeps.called;
-  apart = keeps.apart;
-}
-  where
-    stays : (item : Item) → takes_no_table item ≡ true → takes_whole items item ≡ true
-    stays (forms.Remove (keys.Att rel num)) is = absurd (cc is)
-    stays (forms.Remove (keys.Class rel)) is = refl
-    stays (forms.Remove (keys.Def oid)) is = refl
-    stays (forms.Remove (keys.Ind index)) is = refl
-    stays (forms.Remove (keys.Con oid)) is = refl
-    stays (forms.Remove (keys.Trg oid)) is = refl
-    stays item is = refl
-tables_whole before b event keeps = tt
-
--- so all this holds where each write keeps tables
-pub each_whole : (history : List Entry) → EachEntry WritesTables history → EachEntry WritesColumns history
-each_whole history tables = EachEntry-weaker WritesTables WritesColumns (λ before e keeps. tables_whole before e.backend e.event keeps) history tables

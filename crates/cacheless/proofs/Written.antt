@@ -9,6 +9,7 @@ pub mod NewTableItems
 pub mod NewNames
 pub mod AlteringLocks
 pub mod NewTable
+pub mod NamesGiven
 pub mod WriteFits
 pub mod WritesChange
 pub mod Putting

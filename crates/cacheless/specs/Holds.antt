@@ -1,11 +1,9 @@
 -- What the code holds is the session of its backend in a history.
-use Rattle.std.specs.Prelude.{◌≡◌, ◌≤◌, ◌+◌, ◌++◌, ◌∷◌, [], ℕ, Bool, true, false, Option, List, length, drop, Some, IfSome, slice_get, ⊤}
+use Rattle.std.specs.Prelude.{◌≡◌, ◌≤◌, ◌+◌, ◌++◌, ◌∷◌, [], ℕ, true, Option, List, length, drop, Some, IfSome, slice_get}
 use Rattle.std.specs.List.{AllByRecursion}
 use Rattle.base_types.specs.Scenario.{IsBackend}
-use Rattle.base_types.specs.declared.row.Row.TheVariants as rows
-use Rattle.base_types.specs.declared.scan.Purpose.TheVariants as scans
 use Rattle.event_kinds.specs.declared.entry.Event.TheVariants as events
-use Rattle.ddl_effect.specs.Plans.{Plan, Act, Absent, Do, Lookup}
+use Rattle.ddl_effect.specs.Plans.{Plan, Act, Do}
 use Rattle.txn_blocks.specs.Blocks.{no_block}
 use Rattle.ddl_effect.specs.Commands.{commands_of}
 use Rattle.ddl_effect.specs.Stages.{plan_at, plan_again}
@@ -16,35 +14,24 @@ use Rattle.cacheless.specs.declared.progress.Progress.{Progress}
 use Rattle.cacheless.specs.Facts.{Facts, facts_of}
 use Rattle.cacheless.specs.Session.{at_command}
 use Rattle.cacheless.specs.Owed.{owed_at_start, owed_after}
-use Rattle.cacheless.specs.Settled.{done_here, act_done, is_finished, next_session, settled}
+use Rattle.cacheless.specs.Settled.{nothing_waits, done_here, act_done, is_finished, next_session, settled}
 use Rattle.cacheless.specs.Sessions.{entered, session_of}
 use Rattle.cacheless.specs.Puts.{PutsOpened}
-use Rattle.cacheless.specs.State.{owed_at, running_of, lists_at, Kept, kept_at, is_kept, is_absent, IsNew, Rest, session_at}
+use Rattle.cacheless.specs.State.{owed_at, is_quiet, running_of, lists_at, Kept, kept_at, is_kept, is_absent, IsNew, Rest, session_at}
 use Rattle.cacheless.specs.Silently.{IsAtRest}
 
 -- what is kept of a scan is what the last such scan gave
 abbrev pub AreRight : (Purpose → List Row) → Kept → Type 0
 AreRight rows kept = (scan : Purpose) → IfSome (kept scan) (λ read. read.rows ≡ rows scan)
 
--- there is a row, and it is that of a relation
-abbrev pub is_class : Option Row → Bool
-is_class (Some (rows.Class oid name kind fill)) = true
-is_class given = false
-
--- the row that a lookup found is that of a relation, and the first that the last scan of its name gave; one that found no relation was granted no lock
-abbrev pub GivenFits : Facts → Plan → Option Row → Type 0
-GivenFits facts (Absent name) given = ⊥
-GivenFits facts (Do (Lookup name mode) rest) given = (slice_get (facts.rows (scans.RelName name)) 0 ≡ given) × (is_class given ≡ true)
-GivenFits facts plan given = ⊤
-
 -- the facts of the backend's entries are what the code holds
 pub record FactsFit (facts : Facts) (s : Progress) : Type 0 where
   pub running : facts.running ≡ running_of s.running
   pub lists : facts.lists ≡ lists_at s
   pub owed : owed_after facts.last ≡ owed_at s.due
+  pub quiet : nothing_waits facts.last ≡ is_quiet s.due
   pub usable : (scan : Purpose) → facts.usable scan ≡ is_kept (kept_at s) scan
   pub kept : AreRight facts.rows (kept_at s)
-  pub given : s.granted ≡ true → GivenFits facts (plan_at s.exec) s.given
 
 -- the running command has made so many entries at most
 pub record CountsFit (c : Counts) (entries : ℕ) : Type 0 where

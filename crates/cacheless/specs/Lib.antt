@@ -11,7 +11,6 @@ pub mod Sessions
 pub mod Plays
 pub mod MayEnter
 pub mod TableWrites
-pub mod WholeTables
 pub mod Protected
 pub mod Lines
 pub mod Schedule

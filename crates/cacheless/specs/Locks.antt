@@ -1,10 +1,10 @@
 -- The locks that a backend holds, and whether each is clear.
-use Rattle.std.specs.Prelude.{ℕ, true, false, List, [], ◌∷◌, ◌++◌, nat_lt, filter}
+use Rattle.std.specs.Prelude.{ℕ, true, false, not, List, [], ◌∷◌, ◌++◌, nat_lt, filter}
 use Rattle.std.specs.List.{flat_map}
 use Rattle.base_types.specs.declared.row.Row.TheVariants.{Class}
-use Rattle.event_kinds.specs.declared.entry.Event.TheVariants.{LockOk, Write, Release}
+use Rattle.event_kinds.specs.declared.entry.Event.TheVariants.{LockOk, Unlock, Write, Release}
 use Rattle.event_kinds.specs.declared.entry.Item.TheVariants.{Add}
-use Rattle.lock_modes.specs.Own.{new_lock}
+use Rattle.lock_modes.specs.Own.{is_own, new_lock}
 use Rattle.cacheless.specs.Types.{Oid, OwnLock, Item, Event}
 
 -- the lock on a new relation, which is clear at once
@@ -16,6 +16,7 @@ locked_by command item = []
 abbrev pub locks_by : ℕ → Event → List OwnLock → List OwnLock
 locks_by command (LockOk rel mode) old = old ++ record { rel = rel; mode = mode; command = command; clear = false } ∷ []
 locks_by command (Write xid items) old = old ++ flat_map (locked_by command) items
+locks_by command (Unlock rel mode) old = filter (λ lock. not (is_own rel mode lock)) old
 locks_by command (Release from) old = filter (λ lock. nat_lt lock.command from) old
 locks_by command event old = old
 

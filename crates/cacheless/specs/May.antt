@@ -49,7 +49,7 @@ is_missing scan kept wanted = not (is_kept kept wanted) && same_scan scan wanted
 
 -- the scan is the first that the next act or the answer lacks
 abbrev pub is_next_of_act : Purpose → Progress → Plan → Bool
-is_next_of_act scan s (Do (Lookup name mode) rest) = not s.granted && is_missing scan (kept_at s) (scans.RelName name)
+is_next_of_act scan s (Do (Lookup name mode) rest) = is_missing scan (kept_at s) (scans.RelName name)
 is_next_of_act scan s (Do (Search wanted) rest) = is_missing scan (kept_at s) wanted
 is_next_of_act scan s (Done told) = option_map_or (is_missing scan (kept_at s)) (told_rests_on told) false
 is_next_of_act scan s (Do (Open rel kind) rest) = is_first_missing scan (kept_at s) kind rel
@@ -112,9 +112,18 @@ is_clash_at kept name plan = false
 abbrev pub may_scan_at : Purpose → Progress → Bool
 may_scan_at scan s = is_empty (owed_at s.due) && is_next_at scan s && has_looked_at s
 
+-- the next act gives this lock back: its lookup has newly taken it, and finds no relation or another one
+abbrev pub is_unlock_at : Progress → Plan → Oid → Mode → Bool
+is_unlock_at s (Do (Lookup name wanted) rest) rel mode = option_map_or (same_oid rel) s.taken false && same_mode mode wanted && not (names_relation rel (row_sought s name))
+is_unlock_at s plan rel mode = false
+
 -- the lock, granted or refused, may come next
 abbrev pub may_lock_at : Command → Oid → Mode → Progress → Bool
-may_lock_at command rel mode s = owes_nothing command s && is_lock_at s (plan_at s.exec) rel mode
+may_lock_at command rel mode s = owes_nothing command s && is_none s.taken && is_lock_at s (plan_at s.exec) rel mode
+
+-- the lock may be given back next
+abbrev pub may_unlock_at : Command → Oid → Mode → Progress → Bool
+may_unlock_at command rel mode s = owes_nothing command s && is_unlock_at s (plan_at s.exec) rel mode
 
 -- the write may come next
 abbrev pub may_write_at : ℕ → Command → List Item → Progress → Bool
@@ -180,6 +189,7 @@ may_play_at next command s events.FetchReset = true
 may_play_at next command s (events.Scan scan count) = may_scan_at scan s
 may_play_at next command s (events.LockOk rel mode) = may_lock_at command rel mode s
 may_play_at next command s (events.LockHeld rel mode holder held) = may_lock_at command rel mode s
+may_play_at next command s (events.Unlock rel mode) = may_unlock_at command rel mode s
 may_play_at next command s (events.Write xid written) = may_write_at next command written s
 may_play_at next command s (events.ClashRow name rel) = may_clash_at command name s
 may_play_at next command s (events.ClashRunning name xid) = may_clash_at command name s

@@ -71,22 +71,10 @@ pub record GaveNow (seen : List Entry) (b : ℕ) (act : Act) (rest : List Row �
   pub locked : AllByRecursion (IsHeld seen b) (locked_relation_by act gave)
   pub still : IsStill (answer_of seen b) act rest gave
 
--- a lookup by its oid shows the backend one relation, of this kind
-pub record SeesRelation (seen : List Entry) (b : ℕ) (rel : Oid) (kind : Kind) : Type 0 where
-  pub name : List ℕ
-  pub fill : Option ℕ
-  pub row : answer_of seen b (scans.Class rel) ≡ rows.Class rel name kind fill ∷ []
-
--- the relation that the first row names is seen
-abbrev pub IsFirstSeen : List Entry → ℕ → List Row → Type 0
-IsFirstSeen seen b (rows.Class rel own kind fill ∷ more) = SeesRelation seen b rel kind
-IsFirstSeen seen b given = ⊤
-
--- what the last scan of a name gave: the relation is seen, where a lookup of it has its lock, and there is none, where the command failed to find one
-abbrev pub NamedFits : List Entry → ℕ → Plan → Bool → Type 0
-NamedFits seen b (Do (Lookup name mode) rest) true = IsFirstSeen seen b (rows_read seen b (scans.RelName name))
-NamedFits seen b (Absent name) granted = class_oid (rows_read seen b (scans.RelName name)) ≡ None
-NamedFits seen b plan granted = ⊤
+-- where the command failed to find a relation, the last scan of its name gave none
+abbrev pub NamedFits : List Entry → ℕ → Plan → Type 0
+NamedFits seen b (Absent name) = class_oid (rows_read seen b (scans.RelName name)) ≡ None
+NamedFits seen b plan = ⊤
 
 -- a command that found no relation has done only its lookup, which a fetch repeats
 pub record WasSought (seen : List Entry) (b : ℕ) (s : Session) (command : Command) (name : List ℕ) : Type 0 where
@@ -108,19 +96,20 @@ pub record DoesNoAct (s : Session) (told : Told) : Type 0 where
 pub record FollowsPlan (seen : List Entry) (b : ℕ) (s : Session) (command : Command) : Type 0 where
   pub refused : (error : CommandError) → s.refused ≡ Some error → s.left ≡ Fails error
   pub way : s.refused ≡ None → Way seen b s command
-  pub named : NamedFits seen b s.left s.granted
+  pub named : NamedFits seen b s.left
   pub sought : (name : List ℕ) → s.left ≡ Absent name → WasSought seen b s command name
   pub plain : (told : Told) → plan_of none_open command ≡ Done told → DoesNoAct s told
-
--- a session is on its course: the running command, if there is one, does what its plan says and hasn't made its release, and no later one has written
-pub record IsOnCourse (scenario : Scenario) (seen : List Entry) (b : ℕ) (s : Session) : Type 0 where
-  pub follows : (command : Command) → slice_get (commands_of scenario b) (length s.finished) ≡ Some command → FollowsPlan seen b s command
-  pub going : (command : Command) → slice_get (commands_of scenario b) (length s.finished) ≡ Some command → s.ended ≡ false
-  pub later : (c : ℕ) → number_of s < c → has_written seen b c ≡ false
 
 -- the locks of a session are clear, unless its accept of messages isn't over
 abbrev pub ClearUnlessOwed : Facts → Option Command → Session → Type 0
 ClearUnlessOwed facts command s = owes_accept facts command s ≡ false → map cleared s.locks ≡ s.locks
+
+-- a session is on its course: the running command, if there is one, does what its plan says and hasn't made its release, no later one has written, and its locks are clear unless its accept of messages isn't over
+pub record IsOnCourse (scenario : Scenario) (seen : List Entry) (b : ℕ) (s : Session) : Type 0 where
+  pub follows : (command : Command) → slice_get (commands_of scenario b) (length s.finished) ≡ Some command → FollowsPlan seen b s command
+  pub going : (command : Command) → slice_get (commands_of scenario b) (length s.finished) ≡ Some command → s.ended ≡ false
+  pub later : (c : ℕ) → number_of s < c → has_written seen b c ≡ false
+  pub clear : ClearUnlessOwed (facts_of seen b) (slice_get (commands_of scenario b) (length s.finished)) s
 
 -- the same before it has gone on without entries: where the running command has made its release, it is finished
 pub record EntersCourse (scenario : Scenario) (seen : List Entry) (b : ℕ) (s : Session) : Type 0 where

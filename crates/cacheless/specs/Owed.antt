@@ -1,15 +1,15 @@
 -- What a backend has to do before its next act.
-use Rattle.std.specs.Prelude.{Bool, true, false, not, Option, Some, None, List, [], ◌∷◌, ◌++◌, ◌==◌, ◌&&◌, ◌||◌, if◌then◌else◌, map, filter, take, is_none}
+use Rattle.std.specs.Prelude.{ℕ, Bool, true, false, not, Option, Some, None, List, [], ◌∷◌, ◌++◌, ◌+◌, ◌==◌, ◌&&◌, ◌||◌, map, filter, take, is_none, nat_lt}
+use Rattle.std.specs.Option.{option_map_or}
 use Rattle.std.specs.List.{flat_map, list_any}
 use Rattle.base_types.specs.Scans.{same_scan, is_build_scan, build_scans}
-use Rattle.base_types.specs.declared.scan.Purpose.TheVariants as scans
 use Rattle.event_kinds.specs.declared.entry.Event.TheVariants as events
-use Rattle.ddl_effect.specs.Plans.{Plan, Do, Lookup, Read, left_rests_on}
+use Rattle.ddl_effect.specs.Plans.{Plan, Do, Read, left_rests_on}
 use Rattle.txn_blocks.specs.Blocks.{Outside, no_block, ends_block, refused_by}
 use Rattle.history_model.specs.Writes.{is_empty}
 use Rattle.cacheless.specs.Types.{Purpose, Command, Event, Opening}
 use Rattle.cacheless.specs.Facts.{Facts}
-use Rattle.cacheless.specs.Session.{Session, Badly, outcome_of}
+use Rattle.cacheless.specs.Session.{Session, Badly, number_of, outcome_of}
 
 -- a look at the has-messages word, a fetch, or a scan
 pub data Owes : Type 0 where
@@ -40,27 +40,26 @@ unusable facts wanted = filter (λ scan. not (facts.usable scan)) wanted
 abbrev pub builds_owed : Facts → List Opening → List Purpose
 builds_owed facts opened = flat_map (λ o. unusable facts (build_scans o.kind o.rel)) opened
 
--- the scans that the next act or the answer lacks: a lookup isn't repeated once its lock is granted
-abbrev pub act_owed : Facts → Bool → Plan → List Purpose
-act_owed facts granted (Do (Lookup name mode) rest) = if granted then [] else unusable facts (scans.RelName name ∷ [])
-act_owed facts granted plan = unusable facts (left_rests_on plan)
+-- the scans that the next act or the answer lacks
+abbrev pub act_owed : Facts → Plan → List Purpose
+act_owed facts plan = unusable facts (left_rests_on plan)
 
 -- the scans that are owed: none once the command has failed
 abbrev pub scans_owed : Facts → Session → List Purpose
-scans_owed facts s = elim (outcome_of s.left) [ Badly ↦ [] | other ↦ builds_owed facts s.opened ++ act_owed facts s.granted s.left ]
+scans_owed facts s = elim (outcome_of s.left) [ Badly ↦ [] | other ↦ builds_owed facts s.opened ++ act_owed facts s.left ]
 
 -- all that has to come before the next act, or before the end
 abbrev pub owed_of : Facts → Command → Session → List Owes
 owed_of facts command s = owed_at_start facts command s ++ owed_after facts.last ++ map OwesScan (scans_owed facts s)
 
 -- the first scan that the next act lacks; what it reads of an opened descriptor is scanned in the order of that descriptor
-abbrev pub act_next : Facts → Bool → Plan → List Purpose
-act_next facts granted (Do (Read scan) rest) = []
-act_next facts granted plan = take 1 (act_owed facts granted plan)
+abbrev pub act_next : Facts → Plan → List Purpose
+act_next facts (Do (Read scan) rest) = []
+act_next facts plan = take 1 (act_owed facts plan)
 
 -- of each descriptor the first scan that it lacks, and the first that the next act lacks
 abbrev pub scans_next : Facts → Session → List Purpose
-scans_next facts s = elim (outcome_of s.left) [ Badly ↦ [] | other ↦ flat_map (λ o. take 1 (unusable facts (build_scans o.kind o.rel))) s.opened ++ act_next facts s.granted s.left ]
+scans_next facts s = elim (outcome_of s.left) [ Badly ↦ [] | other ↦ flat_map (λ o. take 1 (unusable facts (build_scans o.kind o.rel))) s.opened ++ act_next facts s.left ]
 
 -- a scan may be made now
 abbrev pub is_next_scan : Purpose → Facts → Session → Bool
@@ -78,3 +77,11 @@ owes_accept facts (Some command) s = not (is_empty (owed_at_start facts command 
 -- a scan for a descriptor is owed: of one that is opened, or of the one that is opened next; none once the command has failed
 abbrev pub owes_build_scan : Facts → Session → Bool
 owes_build_scan facts s = list_any is_build_scan (scans_owed facts s)
+
+-- 1 if the running transaction started in this command
+abbrev pub started_in : ℕ → Facts → ℕ
+started_in number facts = option_map_or (λ t. elim (t.first == number) [ true ↦ 1 | false ↦ 0 ]) facts.running 0
+
+-- there was a look for each scan and grant of the command, for the start of its transaction and for each full fetch that asks for one, and one more
+abbrev pub has_looked : Facts → Session → Bool
+has_looked facts s = nat_lt (s.tally.scans + s.tally.grants + started_in (number_of s) facts + s.tally.full) s.tally.looks

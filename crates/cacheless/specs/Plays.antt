@@ -1,6 +1,5 @@
 -- The order in which backends do what their commands say.
-use Rattle.std.specs.Prelude.{ℕ, Bool, true, false, Option, Some, None, List, [], ◌∷◌, ◌≡◌, ◌+◌, ◌*◌, ◌==◌, nat_lt, nat_le, ⊤, length, is_some, slice_get, if◌then◌else◌}
-use Rattle.std.specs.Option.{option_map_or}
+use Rattle.std.specs.Prelude.{ℕ, Bool, true, false, Option, Some, None, List, [], ◌∷◌, ◌≡◌, ◌+◌, ◌*◌, nat_le, ⊤, length, is_some, slice_get, if◌then◌else◌}
 use Rattle.std.specs.List.{list_any, flat_map}
 use Rattle.std.specs.Str.{bytes_eq}
 use Rattle.base_types.specs.Scenario.{IsBackend}
@@ -18,18 +17,10 @@ use Rattle.history_model.specs.Names.{has_name}
 use Rattle.cacheless.specs.Types.{Oid, Mode, Draft, Command, Scenario, Entry, Event, Item}
 use Rattle.cacheless.specs.Facts.{Facts, facts_of}
 use Rattle.cacheless.specs.Session.{Session, number_of}
-use Rattle.cacheless.specs.Owed.{Owes, OwesFetch, owed_after, owed_of, is_next_scan}
+use Rattle.cacheless.specs.Owed.{Owes, OwesFetch, owed_after, owed_of, has_looked, is_next_scan}
 use Rattle.cacheless.specs.Ends.{TakesBack, end_of, end_left, end_of_all, next_of_end}
-use Rattle.cacheless.specs.Settled.{class_oid}
+use Rattle.cacheless.specs.Settled.{class_oid, finds}
 use Rattle.cacheless.specs.Sessions.{session_of}
-
--- 1 if the running transaction started in this command
-abbrev pub started_in : ℕ → Facts → ℕ
-started_in number facts = option_map_or (λ t. elim (t.first == number) [ true ↦ 1 | false ↦ 0 ]) facts.running 0
-
--- there was a look for each scan and grant of the command, for the start of its transaction and for each full fetch that asks for one, and one more
-abbrev pub has_looked : Facts → Session → Bool
-has_looked facts s = nat_lt (s.tally.scans + s.tally.grants + started_in (number_of s) facts + s.tally.full) s.tally.looks
 
 -- no fetch has to come first, and the looks of the command stay within their bound
 abbrev pub may_look : Facts → Session → Bool
@@ -40,6 +31,11 @@ abbrev pub IsLock : Facts → Plan → Oid → Mode → Type 0
 IsLock facts (Do (Lookup name wanted) rest) rel mode = (class_oid (facts.rows (scans.RelName name)) ≡ Some rel) × (mode ≡ wanted)
 IsLock facts (Do (Lock wanted_rel wanted) rest) rel mode = (rel ≡ wanted_rel) × (mode ≡ wanted)
 IsLock facts plan rel mode = ⊥
+
+-- the next act gives this lock back: its lookup has newly taken it, and finds no relation or another one
+abbrev pub IsUnlock : Facts → Option Oid → Plan → Oid → Mode → Type 0
+IsUnlock facts taken (Do (Lookup name wanted) rest) rel mode = (taken ≡ Some rel) × (mode ≡ wanted) × (finds rel (facts.rows (scans.RelName name)) ≡ false)
+IsUnlock facts taken plan rel mode = ⊥
 
 -- the items of a draft, where the first new oid is this one
 abbrev pub drafted : ℕ → Draft → List Item
@@ -75,8 +71,9 @@ MayPlay next facts command s (events.Look some_wait) = may_look facts s ≡ true
 MayPlay next facts command s (events.Fetch count) = ⊤
 MayPlay next facts command s events.FetchReset = ⊤
 MayPlay next facts command s (events.Scan scan count) = (owed_after facts.last ≡ []) × (is_next_scan scan facts s ≡ true) × (has_looked facts s ≡ true)
-MayPlay next facts command s (events.LockOk rel mode) = (owed_of facts command s ≡ []) × IsLock facts s.left rel mode
-MayPlay next facts command s (events.LockHeld rel mode holder held) = (owed_of facts command s ≡ []) × IsLock facts s.left rel mode
+MayPlay next facts command s (events.LockOk rel mode) = (owed_of facts command s ≡ []) × (s.taken ≡ None) × IsLock facts s.left rel mode
+MayPlay next facts command s (events.LockHeld rel mode holder held) = (owed_of facts command s ≡ []) × (s.taken ≡ None) × IsLock facts s.left rel mode
+MayPlay next facts command s (events.Unlock rel mode) = (owed_of facts command s ≡ []) × IsUnlock facts s.taken s.left rel mode
 MayPlay next facts command s (events.Write xid items) = (owed_of facts command s ≡ []) × IsWrite next s.left items
 MayPlay next facts command s (events.ClashRow name rel) = (owed_of facts command s ≡ []) × IsClash facts next s.left name
 MayPlay next facts command s (events.ClashRunning name xid) = (owed_of facts command s ≡ []) × IsClash facts next s.left name

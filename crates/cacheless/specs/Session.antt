@@ -28,7 +28,7 @@ pub record Tally : Type 0 where
 --   refused    the error that the blocks or an entry showed
 --   blocked    that error is the blocks'
 --   opened     the descriptors that the command has opened, until its write
---   granted    a lock was granted since the next act became next
+--   taken      the relation that the running lookup has newly locked, and hasn't given back
 --   found      the relations with which its lookups ended
 --   sought     what was left of it before its last lookup
 --   ended      its release is made
@@ -43,7 +43,7 @@ pub record Session : Type 0 where
   pub refused : Option CommandError
   pub blocked : Bool
   pub opened : List Opening
-  pub granted : Bool
+  pub taken : Option Oid
   pub found : List (Option Oid)
   pub sought : Plan
   pub ended : Bool
@@ -89,7 +89,7 @@ at_command blocks finished locks last command = record {
   refused = refused_first blocks command;
   blocked = is_some (refused_first blocks command);
   opened = [];
-  granted = false;
+  taken = None;
   found = [];
   sought = Done tells.Ok;
   ended = false;

@@ -21,7 +21,7 @@ refused_with error s = record s { left = Fails error; refused = Some error }
 
 -- the write of the command is made, and its descriptors are closed
 abbrev pub written : Plan → Session → Session
-written (Do (Write draft) rest) s = record s { left = rest []; opened = []; granted = false }
+written (Do (Write draft) rest) s = record s { left = rest []; opened = []; taken = None }
 written plan s = s
 
 -- a lookup that ended without a relation goes on
@@ -40,7 +40,8 @@ tally_by event old = old
 
 -- what an event changes of the running command
 abbrev pub noted : Event → Session → Session
-noted (events.LockOk rel mode) s = record s { granted = true }
+noted (events.LockOk rel mode) s = record s { taken = Some rel }
+noted (events.Unlock rel mode) s = record s { taken = None }
 noted (events.LockHeld rel mode holder held) s = refused_with (errors.Locked rel holder held) s
 noted (events.ClashRow name rel) s = refused_with (errors.RelationExists name) s
 noted (events.ClashRunning name xid) s = refused_with (errors.NameInUse name xid) s

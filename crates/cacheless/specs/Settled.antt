@@ -1,15 +1,18 @@
 -- Acts and commands that need no entry are passed over at once.
 use Rattle.std.specs.Prelude.{Bool, true, false, Option, Some, None, List, [], ◌∷◌, ◌++◌, ◌&&◌, take, is_none}
+use Rattle.std.specs.Option.{option_map_or}
+use Rattle.base_types.specs.Scans.{same_oid}
 use Rattle.base_types.specs.declared.row.Row.TheVariants as rows
 use Rattle.base_types.specs.declared.scan.Purpose.TheVariants as scans
+use Rattle.event_kinds.specs.declared.entry.Event.TheVariants as events
 use Rattle.lock_modes.specs.Own.{has_lock}
 use Rattle.ddl_effect.specs.Plans.{Act, Lookup, Open, Search, Read, Lock, Write, Plan, Do}
 use Rattle.txn_blocks.specs.Blocks.{Blocks, blocks_well, blocks_badly}
 use Rattle.history_model.specs.Writes.{is_empty}
-use Rattle.cacheless.specs.Types.{Oid, Mode, Row, Command, Opening, OwnLock}
+use Rattle.cacheless.specs.Types.{Oid, Mode, Row, Command, Event, Opening}
 use Rattle.cacheless.specs.Facts.{Facts}
 use Rattle.cacheless.specs.Session.{Session, Finished, number_of, first_of, at_command, Well, outcome_of, is_settled}
-use Rattle.cacheless.specs.Owed.{owed_at_start, owed_after, builds_owed, act_owed, owed_of}
+use Rattle.cacheless.specs.Owed.{owed_at_start, owed_after, builds_owed, act_owed, owed_of, has_looked}
 use Rattle.cacheless.specs.Ends.{end_left}
 
 -- the relation that a lookup found
@@ -22,19 +25,36 @@ abbrev pub if_locked : Bool → List Row → Option (List Row)
 if_locked true given = Some given
 if_locked false given = None
 
--- what a lookup gives: its first row, once the relation that it names is locked
-abbrev pub looked_up : List OwnLock → Mode → List Row → Option (List Row)
-looked_up locks mode (rows.Class oid name kind fill ∷ more) = if_locked (has_lock locks oid mode) (rows.Class oid name kind fill ∷ [])
-looked_up locks mode given = Some (take 1 given)
+-- a lookup that was given these rows found the relation
+abbrev pub finds : Oid → List Row → Bool
+finds rel given = option_map_or (same_oid rel) (class_oid given) false
+
+-- a lookup has newly locked no relation but this one
+abbrev pub has_taken_no_other : Option Oid → Oid → Bool
+has_taken_no_other taken rel = option_map_or (same_oid rel) taken true
+
+-- a look was the last event, and told that no message waits
+abbrev pub nothing_waits : Option Event → Bool
+nothing_waits (Some (events.Look false)) = true
+nothing_waits last = false
+
+-- a lookup that found no relation ends: it has locked none, and accepted messages since, and none came
+abbrev pub has_accepted : Facts → Session → Bool
+has_accepted facts s = is_none s.taken && nothing_waits facts.last && has_looked facts s
+
+-- what a lookup gives: its first row, once the relation that it names is locked and no other is, or none
+abbrev pub looked_up : Facts → Session → Mode → List Row → Option (List Row)
+looked_up facts s mode (rows.Class oid name kind fill ∷ more) = if_locked (has_lock s.locks oid mode && has_taken_no_other s.taken oid) (rows.Class oid name kind fill ∷ [])
+looked_up facts s mode given = if_locked (has_accepted facts s) (take 1 given)
 
 -- what an act gives that is done here and leaves no entry
-abbrev pub gives : Facts → List OwnLock → Act → Option (List Row)
-gives facts locks (Lookup name mode) = looked_up locks mode (facts.rows (scans.RelName name))
-gives facts locks (Open rel kind) = Some []
-gives facts locks (Search scan) = Some (facts.rows scan)
-gives facts locks (Read scan) = Some (facts.rows scan)
-gives facts locks (Lock rel mode) = if_locked (has_lock locks rel mode) []
-gives facts locks (Write draft) = None
+abbrev pub gives : Facts → Session → Act → Option (List Row)
+gives facts s (Lookup name mode) = looked_up facts s mode (facts.rows (scans.RelName name))
+gives facts s (Open rel kind) = Some []
+gives facts s (Search scan) = Some (facts.rows scan)
+gives facts s (Read scan) = Some (facts.rows scan)
+gives facts s (Lock rel mode) = if_locked (has_lock s.locks rel mode) []
+gives facts s (Write draft) = None
 
 -- the descriptor that an act opens
 abbrev pub opened_by : Act → List Opening
@@ -53,11 +73,11 @@ sought_by act s = s.sought
 
 -- the session after an act that gave these rows
 abbrev pub act_done : Act → List Row → Plan → Session → Session
-act_done act given rest s = record s { left = rest; opened = s.opened ++ opened_by act; granted = false; found = s.found ++ found_by act given; sought = sought_by act s }
+act_done act given rest s = record s { left = rest; opened = s.opened ++ opened_by act; taken = None; found = s.found ++ found_by act given; sought = sought_by act s }
 
 -- what the next act gives, if no scan is owed and it needs no entry
 abbrev pub done_here : Facts → Session → Act → Plan → Option (List Row)
-done_here facts s act plan = elim (is_empty (builds_owed facts s.opened ++ act_owed facts s.granted plan)) [ true ↦ gives facts s.locks act | false ↦ None ]
+done_here facts s act plan = elim (is_empty (builds_owed facts s.opened ++ act_owed facts plan)) [ true ↦ gives facts s act | false ↦ None ]
 
 -- the session after the acts of a plan that need no entry
 abbrev pub acted_on : Facts → Plan → Session → Session

@@ -1,25 +1,35 @@
 -- What a backend does without an entry, by what the code holds.
-use Rattle.std.specs.Prelude.{◌≡◌, ℕ, Bool, true, false, Option, Some, None, List, [], ◌∷◌, ◌&&◌, ◌||◌, ◌+◌, ◌-◌, ◌*◌, is_some, slice_get, length}
+use Rattle.std.specs.Prelude.{◌≡◌, ℕ, Bool, true, false, Option, Some, None, List, [], ◌∷◌, ◌&&◌, ◌||◌, ◌+◌, ◌-◌, ◌*◌, is_none, is_some, slice_get, length}
 use Rattle.std.specs.List.{cons_option}
 use Rattle.std.specs.Option.{option_map, option_map_or}
+use Rattle.base_types.specs.declared.row.Row.TheVariants as rows
 use Rattle.lock_modes.specs.Own.{has_lock}
 use Rattle.ddl_effect.specs.Plans.{Plan, Act, Do, Lookup, Open, Search, Read, Lock, Write}
 use Rattle.ddl_effect.specs.Stages.{plan_at, acts_left}
 use Rattle.ddl_effect.specs.declared.want.Want.{Want}
 use Rattle.ddl_effect.specs.declared.want.Want.TheVariants as wants
-use Rattle.cacheless.specs.Types.{Row, Command, Line, Opening}
+use Rattle.cacheless.specs.Types.{Mode, Row, Command, Line, Opening}
 use Rattle.cacheless.specs.declared.progress.Progress.{Progress}
 use Rattle.cacheless.specs.declared.silent.Silent.{Silent}
 use Rattle.cacheless.specs.declared.silent.Silent.TheVariants as silents
 use Rattle.cacheless.specs.Ends.{End, Ends}
-use Rattle.cacheless.specs.Settled.{if_locked, looked_up}
-use Rattle.cacheless.specs.State.{Kept, kept_at, rows_kept, row_sought, is_out, end_at}
-use Rattle.cacheless.specs.May.{has_failed, owes_nothing}
+use Rattle.cacheless.specs.Settled.{if_locked, has_taken_no_other}
+use Rattle.cacheless.specs.State.{Kept, kept_at, rows_kept, row_sought, is_quiet, is_out, end_at}
+use Rattle.cacheless.specs.May.{has_looked_at, has_failed, owes_nothing}
 use Rattle.cacheless.specs.Answering.{IsToldText}
+
+-- a lookup that found no relation ends: it has locked none, and accepted messages since, and none came
+abbrev pub has_accepted_at : Progress → Bool
+has_accepted_at s = is_none s.taken && is_quiet s.due && has_looked_at s
+
+-- what a lookup gives that found this row, or none
+abbrev pub looks_up_at : Progress → Mode → Option Row → Option (List Row)
+looks_up_at s mode (Some (rows.Class oid name kind fill)) = if_locked (has_lock s.locks.items oid mode && has_taken_no_other s.taken oid) (rows.Class oid name kind fill ∷ [])
+looks_up_at s mode given = if_locked (has_accepted_at s) (cons_option given [])
 
 -- what an act gives that needs no entry
 abbrev pub gives_at : Progress → Act → Option (List Row)
-gives_at s (Lookup name mode) = looked_up s.locks.items mode (cons_option (row_sought s name) [])
+gives_at s (Lookup name mode) = looks_up_at s mode (row_sought s name)
 gives_at s (Open rel kind) = Some []
 gives_at s (Search scan) = Some (rows_kept (kept_at s) scan)
 gives_at s (Read scan) = Some (rows_kept (kept_at s) scan)

@@ -35,13 +35,19 @@ use Rattle.cacheless.specs.declared.progress.Progress.{Progress}
 -- what has to come right after the last entry
 abbrev pub owed_at : Due → List Owes
 owed_at dues.Nothing = []
+owed_at dues.Quiet = []
 owed_at dues.Look = OwesLook ∷ []
 owed_at dues.Fetch = OwesFetch ∷ []
+
+-- the last entry was a look, which told that no message waits
+abbrev pub is_quiet : Due → Bool
+is_quiet dues.Quiet = true
+is_quiet due = false
 
 -- what is due after a look
 abbrev pub due_looked : Bool → Due
 due_looked true = dues.Fetch
-due_looked false = dues.Nothing
+due_looked false = dues.Quiet
 
 -- what is due after a fetch: where it gave the most messages that one gives, more may wait
 abbrev pub due_fetched : ℕ → Due
@@ -92,9 +98,9 @@ has_write_since from s = has_write_from from (lists_at s)
 abbrev pub kept_at : Progress → Kept
 kept_at s = kept_of s.caches
 
--- the row by which a lookup of the name goes on: once its lock is granted the one that it had found by then, else the first of those that are kept
+-- the row by which a lookup of the name goes on: the first of those that are kept
 abbrev pub row_sought : Progress → List ℕ → Option Row
-row_sought s name = if s.granted then s.given else slice_get (rows_kept (kept_at s) (scans.RelName name)) 0
+row_sought s name = slice_get (rows_kept (kept_at s) (scans.RelName name)) 0
 
 -- that of the next act, if it is a lookup
 abbrev pub row_next : Progress → Plan → Option Row
@@ -109,9 +115,8 @@ missing kept wanted = filter (λ scan. not (is_kept kept scan)) wanted
 abbrev pub builds_missing : Kept → List Opening → List Purpose
 builds_missing kept opened = flat_map (λ o. missing kept (build_scans o.kind o.rel)) opened
 
--- the scans that the next act or the answer lacks: a lookup isn't repeated once its lock is granted
+-- the scans that the next act or the answer lacks
 abbrev pub act_missing : Progress → Plan → List Purpose
-act_missing s (Do (Lookup name mode) rest) = if s.granted then [] else missing (kept_at s) (scans.RelName name ∷ [])
 act_missing s plan = missing (kept_at s) (left_rests_on plan)
 
 -- the scans that come before the next act: none once the command has failed
@@ -231,7 +236,7 @@ pub record IsNew (id : ℕ) (all : List Command) (s : Progress) : Type 0 where
   pub blocks : s.blocks ≡ no_block
   pub running : s.running ≡ None
   pub lists : s.lists.lists ≡ no_lists
-  pub granted : s.granted ≡ false
+  pub taken : s.taken ≡ None
   pub opened : s.opened ≡ []
   pub locks : s.locks.items ≡ []
   pub kept : kept_at s ≡ nothing_kept
@@ -263,7 +268,7 @@ session_at s rest = record {
   refused = rest.refused;
   blocked = s.blocked;
   opened = s.opened;
-  granted = s.granted;
+  taken = s.taken;
   found = rest.found;
   sought = rest.sought;
   ended = s.ended;

@@ -1,38 +1,28 @@
--- What the writes of commands keep of tables: relations and columns that were written stay, a relation keeps its name and kind, columns are numbered from 1, no two columns of a relation have one name, and a write gives no name to two relations.
-use Rattle.std.specs.Prelude.{◌≡◌, ⊤, ◌⊎◌, ℕ, Bool, true, false, not, List, [], ◌∷◌, ◌==◌, ◌-◌, ◌||◌, ◌&&◌, nat_lt}
+-- What the writes of commands keep of tables: a column is taken away only with its relation, columns are numbered from 1, no two columns of a relation have one name, and a write gives no name to two relations.
+use Rattle.std.specs.Prelude.{◌≡◌, ⊤, ◌⊎◌, ℕ, Bool, true, false, List, [], ◌∷◌, ◌==◌, ◌-◌, ◌||◌, ◌&&◌, nat_lt}
 use Rattle.std.specs.List.{AllByRecursion, list_any, list_all}
 use Rattle.std.specs.Option.{IfSome, option_map_or}
 use Rattle.base_types.specs.Names.{IsName, IsDropped}
 use Rattle.base_types.specs.RowKeys.{key_of, same_key}
+use Rattle.base_types.specs.Scans.{same_oid}
 use Rattle.base_types.specs.declared.row.Row.TheVariants as rows
 use Rattle.base_types.specs.declared.row_key.RowKey.{RowKey}
 use Rattle.base_types.specs.declared.row_key.RowKey.TheVariants as keys
 use Rattle.event_kinds.specs.declared.entry.Event.TheVariants as events
 use Rattle.event_kinds.specs.declared.entry.Item.TheVariants as forms
-use Rattle.history_model.specs.Versions.{added_row, rows_of, old_row}
+use Rattle.history_model.specs.Versions.{added_row, rows_of}
 use Rattle.history_model.specs.Writes.{has_row}
-use Rattle.cacheless.specs.Types.{Row, Entry, Event, Item}
+use Rattle.cacheless.specs.Types.{Oid, Row, Entry, Event, Item}
 
--- the key is that of a relation or of a column
-abbrev pub is_table_key : RowKey → Bool
-is_table_key (keys.Class rel) = true
-is_table_key (keys.Att rel num) = true
-is_table_key key = false
+-- a change takes the relation away
+abbrev pub takes_relation : Oid → Item → Bool
+takes_relation rel (forms.Remove (keys.Class of)) = same_oid of rel
+takes_relation rel item = false
 
--- a change takes away no relation and no column
-abbrev pub takes_no_table : Item → Bool
-takes_no_table (forms.Remove key) = not (is_table_key key)
-takes_no_table item = true
-
--- of two rows of one relation the name and the kind are the same
-abbrev pub HaveOneName : Row → Row → Type 0
-HaveOneName (rows.Class oid own kind fill) (rows.Class to name kind' fill') = (own ≡ name) × (kind ≡ kind')
-HaveOneName old row = ⊤
-
--- a change leaves the name and the kind of a relation
-abbrev pub KeepsName : List Entry → ℕ → Item → Type 0
-KeepsName before b (forms.Put row) = IfSome (old_row before b (forms.Put row)) (λ old. HaveOneName old row)
-KeepsName before b item = ⊤
+-- a change that takes a column away is of a write that takes its relation away
+abbrev pub takes_whole : List Item → Item → Bool
+takes_whole items (forms.Remove (keys.Att rel num)) = list_any (takes_relation rel) items
+takes_whole items item = true
 
 -- a change gives a row with the key
 abbrev pub gives_key : RowKey → Item → Bool
@@ -67,6 +57,22 @@ abbrev pub AreCalledApart : List Item → Type 0
 AreCalledApart [] = ⊤
 AreCalledApart (item ∷ items) = AllByRecursion (λ later. IfSome (added_row item) (λ row. IfSome (added_row later) (λ other. AreNamesakes row other → ⊥))) items × AreCalledApart items
 
+-- a write keeps the columns of tables
+pub record KeepsColumns (before : List Entry) (b : ℕ) (items : List Item) : Type 0 where
+  pub whole : list_all (takes_whole items) items ≡ true
+  pub columns : list_all (is_next_column before b items) items ≡ true
+  pub called : AllByRecursion (CallsApart before b) items
+  pub apart : AreCalledApart items
+
+-- if the event is a write, it keeps the columns of tables
+abbrev pub KeepsColumnsBy : List Entry → ℕ → Event → Type 0
+KeepsColumnsBy before b (events.Write xid items) = KeepsColumns before b items
+KeepsColumnsBy before b event = ⊤
+
+-- the entry keeps the columns of tables
+abbrev pub WritesColumns : List Entry → Entry → Type 0
+WritesColumns before e = KeepsColumnsBy before e.backend e.event
+
 -- two rows are of relations that have one name
 abbrev pub ShareName : Row → Row → Type 0
 ShareName (rows.Class oid own kind fill) (rows.Class to name kind' fill') = own ≡ name
@@ -77,20 +83,11 @@ abbrev pub AreNamedApart : List Item → Type 0
 AreNamedApart [] = ⊤
 AreNamedApart (item ∷ items) = AllByRecursion (λ later. IfSome (added_row item) (λ row. IfSome (added_row later) (λ other. ShareName row other → ⊥))) items × AreNamedApart items
 
--- a write keeps tables
-pub record KeepsTables (before : List Entry) (b : ℕ) (items : List Item) : Type 0 where
-  pub stay : list_all takes_no_table items ≡ true
-  pub names : AllByRecursion (KeepsName before b) items
-  pub columns : list_all (is_next_column before b items) items ≡ true
-  pub called : AllByRecursion (CallsApart before b) items
-  pub apart : AreCalledApart items
-  pub named : AreNamedApart items
+-- if the event is a write, its changes give no name to two relations
+abbrev pub NamesApartBy : Event → Type 0
+NamesApartBy (events.Write xid items) = AreNamedApart items
+NamesApartBy event = ⊤
 
--- if the event is a write, it keeps tables
-abbrev pub KeepsTablesBy : List Entry → ℕ → Event → Type 0
-KeepsTablesBy before b (events.Write xid items) = KeepsTables before b items
-KeepsTablesBy before b event = ⊤
-
--- the entry keeps tables
-abbrev pub WritesTables : List Entry → Entry → Type 0
-WritesTables before e = KeepsTablesBy before e.backend e.event
+-- the entry gives no name to two relations
+abbrev pub WritesNamesApart : List Entry → Entry → Type 0
+WritesNamesApart before e = NamesApartBy e.event

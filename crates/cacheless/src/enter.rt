@@ -146,7 +146,7 @@ impl Progress {
 fn after_look(some_wait: bool) -> Due
     ensures { result ≡ due_looked some_wait }
 {
-    if some_wait { Due::Fetch } else { Due::Nothing }
+    if some_wait { Due::Fetch } else { Due::Quiet }
 }
 
 // What comes after a fetch of so many messages.

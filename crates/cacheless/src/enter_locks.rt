@@ -5,6 +5,7 @@ ghost use Rattle.base_types.specs.Scenario.{Scenario};
 ghost use Rattle.event_kinds.specs.declared.entry.Entry.{Entry};
 ghost use Rattle.lock_modes.specs.Own.{has_lock};
 
+use crate::enter::accept;
 use crate::{Due, Progress};
 use base_types::{Mode, NoMemory, Oid};
 use command_answers::CommandError;
@@ -14,9 +15,8 @@ use txn_blocks::RunningTransaction;
 
 impl Progress {
     ghost use Rattle.std.specs.Prelude.{List};
-    ghost use Rattle.ddl_effect.specs.Stages.{plan_at};
     ghost use Rattle.cacheless.specs.State.{kept_at, FailsWith, IsLockedIn};
-    ghost use Rattle.cacheless.specs.May.{HasRoom, lacks_any, is_lock_at};
+    ghost use Rattle.cacheless.specs.May.{HasRoom};
     ghost use Rattle.cacheless.specs.Holds.{Rests, HasEntered};
 
     /// Makes room for one more lock. Out of memory, nothing changes.
@@ -28,13 +28,11 @@ impl Progress {
         self.locks.reserve()
     }
 
-    /// It was granted a lock. Conditions: its next act asks for it and lacks no scan, there is room for it, it
-    /// doesn't hold it, and its counts are small enough to be summed.
+    /// It was granted a lock. Conditions: there is room for it, it doesn't hold it, and its counts are small
+    /// enough to be summed.
     pub fn enter_lock(&mut self, rel: Oid, mode: Mode)
         requires few { self.old.finished ≤ 20000 }
         requires room { HasRoom self.old }
-        requires next { is_lock_at self.old (plan_at self.old.exec) rel mode ≡ true }
-        requires whole { lacks_any self.old ≡ false }
         requires place { 0 < self.old.locks.room }
         requires new { has_lock self.old.locks.items rel mode ≡ false }
         ensures kept { kept_at self.new ≡ kept_at self.old }
@@ -44,9 +42,25 @@ impl Progress {
         self.running = Some(RunningTransaction::begun(self.finished + 1, self.running));
         self.due = Due::Look;
         self.tally.grants += 1;
-        self.given = self.row_next();
-        self.granted = true;
+        self.taken = Some(rel);
         self.locks.add(rel, mode, self.finished + 1);
+        self.answer = None;
+    }
+
+    /// It gave a lock back (`UnlockRelationOid` in `src/backend/storage/lmgr/lmgr.c`). Condition: it holds it.
+    pub fn enter_unlock(&mut self, rel: Oid, mode: Mode)
+        requires few { self.old.finished ≤ 20000 }
+        requires held { has_lock self.old.locks.items rel mode ≡ true }
+        ensures kept { kept_at self.new ≡ kept_at self.old }
+        ensures answer { self.new.answer ≡ None }
+        ensures holds { (scenario : Scenario) (seen : List Entry) → (rests : Rests scenario seen self.old) → HasEntered scenario seen self.old (Event.Unlock rel mode) rests self.new }
+    {
+        self.running = Some(RunningTransaction::begun(self.finished + 1, self.running));
+        self.due = Due::Nothing;
+        self.taken = None;
+        self.locks.remove(rel, mode);
+        let accepting = self.is_in_acceptance();
+        accept(&mut self.locks, accepting);
         self.answer = None;
     }
 

@@ -61,7 +61,7 @@ impl Progress {
         self.exec.give(alloc, &[])?;
         self.opened = Listed::new(alloc);
         self.caches.unpin_all();
-        self.granted = false;
+        self.taken = None;
         let accepting = self.is_in_acceptance();
         accept(&mut self.locks, accepting);
         self.answer = None;

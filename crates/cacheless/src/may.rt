@@ -1,9 +1,10 @@
 // What may come next.
 
-ghost use Rattle.std.specs.Prelude.{◌≡◌, ◌&&◌, ◌||◌, ◌≤◌, not, slice_get};
+ghost use Rattle.std.specs.Prelude.{◌≡◌, ◌&&◌, ◌||◌, ◌≤◌, false, not, slice_get};
 ghost use Rattle.std.specs.List.{list_any};
 ghost use Rattle.base_types.specs.Modes.{same_mode as modes_match};
-ghost use Rattle.base_types.specs.Scans.{is_build_scan};
+ghost use Rattle.std.specs.Option.{option_map_or};
+ghost use Rattle.base_types.specs.Scans.{is_build_scan, same_oid as is_same_oid};
 ghost use Rattle.ddl_effect.specs.Stages.{plan_at, want_of};
 ghost use Rattle.txn_blocks.specs.Blocks.{ends_block as does_end_block};
 ghost use Rattle.cacheless.specs.May.{is_first_missing as is_first, is_missing as lacks, names_relation as names};
@@ -26,7 +27,7 @@ impl Progress {
     ghost use Rattle.cacheless.specs.Plays.{MayPlayIn};
     ghost use Rattle.cacheless.specs.State.{kept_at, owed_at, owed_first, act_missing, scans_missing, lacks_builds, session_at};
     ghost use Rattle.cacheless.specs.Holds.{Holds};
-    ghost use Rattle.cacheless.specs.May.{HasRoom, may_look_at, started_at, has_looked_at, has_failed as failed, lacks_opened, lacks_any, lacks_to_build, is_next_of_act, is_next_at, owes_nothing as nothing_owed, is_lock_at, may_scan_at, may_lock_at, may_write_at, may_clash_at, may_play_at, may_last_at, may_play_now};
+    ghost use Rattle.cacheless.specs.May.{HasRoom, may_look_at, started_at, has_looked_at, has_failed as failed, lacks_opened, lacks_any, lacks_to_build, is_next_of_act, is_next_at, owes_nothing as nothing_owed, is_lock_at, may_scan_at, may_lock_at, is_unlock_at, may_unlock_at, may_write_at, may_clash_at, may_play_at, may_last_at, may_play_now};
     ghost use Rattle.std.specs.Bool.{Decides};
 
     /// Whether the event may come next, where the next new oid is this one: exactly where the
@@ -74,7 +75,8 @@ impl Progress {
             | Event::Publish { .. }
             | Event::Gone { .. }
             | Event::Release { .. } => self.may_end(command, event),
-            Event::Start | Event::Unlock { .. } | Event::Fail | Event::Stop => false,
+            Event::Unlock { rel, mode } => self.may_unlock(command, *rel, *mode),
+            Event::Start | Event::Fail | Event::Stop => false,
         }
     }
 
@@ -107,12 +109,15 @@ impl Progress {
     }
 
     // Whether there was a look for one more scan.
-    fn has_looked(&self) -> bool
+    pub(crate) fn has_looked(&self) -> bool
         requires few { self.now.finished ≤ 20000 }
-        requires room { HasRoom self.now }
         ensures { result ≡ has_looked_at self.now }
     {
-        self.tally.scans + self.tally.grants + self.started() + self.tally.full < self.tally.looks
+        let counted = (self.tally.scans as u128)
+            + (self.tally.grants as u128)
+            + (self.started() as u128)
+            + (self.tally.full as u128);
+        counted < (self.tally.looks as u128)
     }
 
     // 1 if the running transaction started in the running command.
@@ -130,7 +135,6 @@ impl Progress {
     // Whether the scan may come next.
     fn may_scan(&self, scan: &Purpose) -> bool
         requires few { self.now.finished ≤ 20000 }
-        requires room { HasRoom self.now }
         ensures { result ≡ may_scan_at scan.now self.now }
     {
         self.is_past_accept() && self.is_next(scan) && self.has_looked()
@@ -140,7 +144,7 @@ impl Progress {
     pub(crate) fn is_past_accept(&self) -> bool
         ensures { result ≡ none_in (owed_at self.now.due) }
     {
-        matches!(self.due, Due::Nothing)
+        matches!(self.due, Due::Nothing | Due::Quiet)
     }
 
     // Whether the scan is the first that an opened descriptor or the next act lacks.
@@ -167,7 +171,7 @@ impl Progress {
     {
         match want {
             Want::Lookup { name, .. } => {
-                !self.granted && is_missing(scan, &self.caches, &Purpose::RelName(*name))
+                is_missing(scan, &self.caches, &Purpose::RelName(*name))
             }
             Want::Search(wanted) | Want::Done(Some(wanted)) => {
                 is_missing(scan, &self.caches, wanted)
@@ -181,7 +185,38 @@ impl Progress {
     fn may_lock(&self, command: &Command, rel: Oid, mode: Mode) -> bool
         ensures { result ≡ may_lock_at command.now rel mode self.now }
     {
-        self.owes_nothing(command) && self.is_lock(rel, mode)
+        self.owes_nothing(command) && self.taken.is_none() && self.is_lock(rel, mode)
+    }
+
+    // Whether the lock may be given back next.
+    fn may_unlock(&self, command: &Command, rel: Oid, mode: Mode) -> bool
+        ensures { result ≡ may_unlock_at command.now rel mode self.now }
+    {
+        self.owes_nothing(command) && self.is_unlock(rel, mode)
+    }
+
+    // Whether the next act gives this lock back.
+    fn is_unlock(&self, rel: Oid, mode: Mode) -> bool
+        ensures { result ≡ is_unlock_at self.now (plan_at self.now.exec) rel mode }
+    {
+        match self.exec.next() {
+            Want::Lookup { name, mode: wanted } => {
+                self.has_taken(rel)
+                    && same_mode(mode, wanted)
+                    && !names_relation(rel, self.row_sought(name))
+            }
+            _ => false,
+        }
+    }
+
+    // Whether the running lookup has newly locked the relation.
+    fn has_taken(&self, rel: Oid) -> bool
+        ensures { result ≡ option_map_or (is_same_oid rel) self.now.taken false }
+    {
+        match self.taken {
+            Some(taken) => rel.0 == taken.0,
+            None => false,
+        }
     }
 
     // Whether the next act asks for this lock.
@@ -299,9 +334,7 @@ impl Progress {
         ensures { not result ≡ none_in (act_missing self.now (plan_at self.now.exec)) }
     {
         match want {
-            Want::Lookup { name, .. } => {
-                !self.granted && !self.caches.has(&Purpose::RelName(*name))
-            }
+            Want::Lookup { name, .. } => { !self.caches.has(&Purpose::RelName(*name)) }
             Want::Search(scan) | Want::Read(scan) | Want::Done(Some(scan)) => {
                 !self.caches.has(scan)
             }

@@ -7,7 +7,7 @@ ghost use Rattle.cacheless.specs.Holds.{HasNotStarted};
 
 use crate::Opening;
 use crate::begun::begun;
-use base_types::{Command, Listed, NoMemory, Row};
+use base_types::{Command, Listed, NoMemory, Oid};
 use command_lists::InvalLists;
 use ddl_effect::Exec;
 use event_kinds::LineText;
@@ -20,6 +20,8 @@ use txn_blocks::{RunningTransaction, TxnBlocks};
 #[derive(Clone, Copy)]
 pub enum Due {
     Nothing,
+    /// Nothing: its look said that no message waits.
+    Quiet,
     /// It was granted a lock, or fetched as many messages as one fetch gives.
     Look,
     /// Its look said that messages wait.
@@ -73,10 +75,8 @@ pub struct Progress {
     pub blocks: TxnBlocks,
     pub running: Option<RunningTransaction>,
     pub lists: InvalLists,
-    // whether a lock was granted since the next act became next, and the row that a lookup had found by
-    // then: a message may have taken its scan away since
-    pub granted: bool,
-    pub given: Option<Row>,
+    // the relation that the running lookup has newly locked, and hasn't given back
+    pub taken: Option<Oid>,
     // the descriptors that it has opened
     pub opened: Listed<Opening>,
     pub locks: OwnLocks,
@@ -107,8 +107,7 @@ impl Progress {
             blocks,
             running: None,
             lists: InvalLists::new(alloc),
-            granted: false,
-            given: None,
+            taken: None,
             opened: Listed::new(alloc),
             locks: OwnLocks::new(alloc),
             caches: LocalCaches::new(alloc),

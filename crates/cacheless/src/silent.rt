@@ -8,8 +8,8 @@ ghost use Rattle.cacheless.specs.Silently.{rows_for as gives_rows};
 ghost use Rattle.local_caches.specs.Caches.{kept_of};
 
 use crate::begun::begun;
-use crate::{Counts, Opening, Progress};
-use base_types::{Command, Kind, Listed, Name, NoMemory, Oid, Purpose, Row};
+use crate::{Counts, Due, Opening, Progress};
+use base_types::{Command, Kind, Listed, Mode, Name, NoMemory, Oid, Purpose, Row};
 use ddl_effect::{Exec, Want};
 use event_kinds::Line;
 use local_caches::LocalCaches;
@@ -31,7 +31,8 @@ impl Progress {
     ghost use Rattle.base_types.specs.Scenario.{Scenario};
     ghost use Rattle.event_kinds.specs.declared.entry.Entry.{Entry};
     ghost use Rattle.cacheless.specs.State.{kept_at, is_out as has_come_out, row_sought as sought_row, row_next as next_row, end_at};
-    ghost use Rattle.cacheless.specs.Silently.{opened_for, gives_next, acts_on, is_to_answer, is_to_answer_at, is_finished_at, Acts, Answers, Finishes, IsSilentOf, HasAnswered, IsLineOf, left_of};
+    ghost use Rattle.cacheless.specs.Settled.{has_taken_no_other as no_other};
+    ghost use Rattle.cacheless.specs.Silently.{opened_for, has_accepted_at, looks_up_at, gives_next, acts_on, is_to_answer, is_to_answer_at, is_finished_at, Acts, Answers, Finishes, IsSilentOf, HasAnswered, IsLineOf, left_of};
     ghost use Rattle.cacheless.specs.Holds.{Holds, Rests, HasActed, HasPassed};
     ghost use Rattle.cacheless.specs.Answering.{PlacesFit};
     ghost use Rattle.cacheless.specs.Telling.{TellsNow, HasGoneOn};
@@ -79,6 +80,7 @@ impl Progress {
 
     // Whether its next act is done without an entry.
     fn acts(&self, command: &Command) -> bool
+        requires few { self.now.finished ≤ 20000 }
         ensures { result ≡ acts_on command.now self.now }
     {
         self.owes_nothing(command) && self.gives()
@@ -86,31 +88,57 @@ impl Progress {
 
     // Whether its next act gives rows, if nothing has to come before it.
     fn gives(&self) -> bool
+        requires few { self.now.finished ≤ 20000 }
         ensures { result ≡ gives_next self.now (plan_at self.now.exec) }
     {
         match self.exec.next() {
-            Want::Lookup { name, mode } => match self.row_sought(name) {
-                Some(Row::Class { oid, .. }) => self.locks.state(oid, mode).is_some(),
-                _ => true,
-            },
+            Want::Lookup { name, mode } => self.looks_up(mode, &self.row_sought(name)),
             Want::Lock { rel, mode } => self.locks.state(rel, mode).is_some(),
             Want::Open { .. } | Want::Search(_) | Want::Read(_) => true,
             _ => false,
         }
     }
 
-    /// The row by which a lookup of the name goes on: once its lock is granted the one that it had found by
-    /// then, else the first of those that are kept.
+    // Whether a lookup that found this row, or none, goes on: it holds the lock on the relation, and has
+    // newly taken no other; or there is none, it has accepted messages since it found that, and none came
+    // (`RangeVarGetRelidExtended` in `src/backend/catalog/namespace.c`).
+    fn looks_up(&self, mode: Mode, row: &Option<Row>) -> bool
+        requires few { self.now.finished ≤ 20000 }
+        ensures { result ≡ is_some (looks_up_at self.now mode row.now) }
+    {
+        match row {
+            Some(Row::Class { oid, .. }) => {
+                self.locks.state(*oid, mode).is_some() && self.has_taken_no_other(*oid)
+            }
+            _ => self.has_accepted(),
+        }
+    }
+
+    // Whether the running lookup has newly locked no relation but this one.
+    fn has_taken_no_other(&self, rel: Oid) -> bool
+        ensures { result ≡ no_other self.now.taken rel }
+    {
+        match self.taken {
+            Some(taken) => rel.0 == taken.0,
+            None => true,
+        }
+    }
+
+    // Whether a lookup that found no relation ends.
+    fn has_accepted(&self) -> bool
+        requires few { self.now.finished ≤ 20000 }
+        ensures { result ≡ has_accepted_at self.now }
+    {
+        self.taken.is_none() && matches!(self.due, Due::Quiet) && self.has_looked()
+    }
+
+    /// The row by which a lookup of the name goes on: the first of those that are kept.
     pub fn row_sought(&self, name: Name) -> Option<Row>
         ensures { result ≡ sought_row self.now name }
     {
-        if self.granted {
-            self.given
-        } else {
-            rows_kept(&self.caches, Purpose::RelName(name))
-                .first()
-                .copied()
-        }
+        rows_kept(&self.caches, Purpose::RelName(name))
+            .first()
+            .copied()
     }
 
     // That of its next act, if it is a lookup.
@@ -176,7 +204,7 @@ impl Progress {
         self.opened.push(Opening { rel, kind })?;
         self.caches.pin(rel)?;
         self.exec.give(alloc, &[])?;
-        self.granted = false;
+        self.taken = None;
         Ok(())
     }
 
@@ -193,7 +221,7 @@ impl Progress {
         let want = self.exec.next();
         let row = self.row_next();
         self.exec.give(alloc, rows_for(&want, &row, &self.caches))?;
-        self.granted = false;
+        self.taken = None;
         Ok(())
     }
 
@@ -236,7 +264,7 @@ impl Progress {
         self.blocked = next.blocked;
         self.ended = false;
         self.tally = Counts::none();
-        self.granted = false;
+        self.taken = None;
         self.opened = Listed::new(alloc);
         self.caches.unpin_all();
         Ok(Line {

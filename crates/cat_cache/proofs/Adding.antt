@@ -1,10 +1,10 @@
 -- A link more: of something new in the pool, or of an absence.
-use Rattle.std.proofs.Common.{◌≡◌, ◌∙◌, ◌==◌, ◌++◌, ℕ, Bool, true, Some, None, [], ◌∷◌, cond, sym, ap}
+use Rattle.std.proofs.Common.{◌≡◌, ◌∙◌, ◌==◌, ◌++◌, ℕ, Bool, true, Some, None, [], ◌∷◌, cond, List, sym, ap, subst}
 use Rattle.std.specs.Option.{option_map, option_and_then}
 use Rattle.base_types.specs.CacheKeys.{key_hash}
 use Rattle.pin_pool.specs.Entries.{new_entry}
 use Rattle.pin_pool.specs.Pools.{entry_of as pooled, Changes, IsSame}
-use Rattle.cat_cache.specs.Types.{CacheId, Pool, Ref, Cached, Held, Absent, Link, Chains}
+use Rattle.cat_cache.specs.Types.{CacheId, KeyPart, Pool, Ref, Cached, Held, Absent, Link, Chains}
 use Rattle.cat_cache.specs.Keys.{known_in}
 use Rattle.cat_cache.specs.Chains.{links_at}
 use Rattle.cat_cache.specs.Entries.{live_of}
@@ -27,6 +27,16 @@ module _ (id : CacheId) (rows : Bool) (before middle after : Chains) (link : Lin
     pub own : hash ≡ key_hash id link.key
     pub room : (other : ℕ) → links_at middle other ≡ links_at before other
     pub more : (other : ℕ) → links_at after other ≡ links_at middle other ++ cond (hash == other) (link ∷ []) []
+
+  -- so it is with a link of the parts of a key that wasn't known
+  pub is_added : (key : List KeyPart) → link.key ≡ key → known_in key (links_at before (key_hash id key)) ≡ None → hash ≡ key_hash id key
+      → ((other : ℕ) → links_at middle other ≡ links_at before other) → ((other : ℕ) → links_at after other ≡ links_at middle other ++ cond (hash == other) (link ∷ []) []) → IsAdded
+  is_added key same unknown own room more = record {
+    unknown = subst (λ k. known_in k (links_at before (key_hash id k)) ≡ None) (sym same) unknown;
+    own = own ∙ ap (key_hash id) (sym same);
+    room = room;
+    more = more;
+  }
 
   links_more : IsAdded → (other : ℕ) → links_at after other ≡ links_at before other ++ cond (key_hash id link.key == other) (link ∷ []) []
   links_more is other = is.more other ∙ ap (λ ls. ls ++ cond (hash == other) (link ∷ []) []) (is.room other) ∙ ap (λ h. links_at before other ++ cond (h == other) (link ∷ []) []) is.own

@@ -5,10 +5,11 @@ ghost use Rattle.cat_cache.specs.Standing.{Stands};
 
 use crate::cached::Cached;
 use crate::chains::Chains;
+use crate::hash::parts_hash;
 use crate::link::{Known, Link};
 use crate::taking_out::{take_all_out, take_out};
 use crate::{Found, FoundList};
-use base_types::{CacheId, Key, Listed, NoMemory, Row, key_hash};
+use base_types::{CacheId, Key, KeyPart, Listed, NoMemory, Row, key_hash};
 use pin_pool::{Pool, Ref};
 use std::alloc::Global;
 
@@ -57,7 +58,7 @@ impl CatCache {
         ensures same { HasSame self.old self.new }
         ensures shown { MatchOption (option_and_then under (entry_of self.old key.now)) (ShowsSame self.old self.new) (λ r. ChangesShown self.old self.new r (option_map pinned (shown self.old r))) }
     {
-        match self.keys.find(key_hash(self.id, key), key) {
+        match self.keys.find(key_hash(self.id, key), key.as_slice()) {
             Some(Known::Held(r)) => {
                 self.pool.pin(&r);
                 Found::Row(r)
@@ -67,26 +68,26 @@ impl CatCache {
         }
     }
 
-    /// What `find` answers, without a pin: it serves until a call changes the cache. `Unknown`: exactly where
-    /// there is no entry.
-    pub fn peek(&self, key: &Key) -> Found
+    /// What `find` answers of the key of these parts, without a pin: it serves until a call changes the cache.
+    /// `Unknown`: exactly where there is no entry.
+    pub fn peek(&self, key: &[KeyPart]) -> Found
         ensures result { result ≡ found (entry_of self.now key.now) }
         ensures shows { IfSome (entry_of self.now key.now) (ShowsEntry self.now) }
     {
-        match self.keys.find(key_hash(self.id, key), key) {
+        match self.keys.find(parts_hash(self.id, key), key) {
             Some(Known::Held(r)) => Found::Row(r),
             Some(Known::Absent { at }) => Found::Absent { at },
             None => Found::Unknown,
         }
     }
 
-    /// What `find_list` answers, without a pin: it serves until a call changes the cache. `Unknown`: exactly
-    /// where there is none.
-    pub fn peek_list(&self, prefix: &Key) -> FoundList
+    /// What `find_list` answers of the prefix of these parts, without a pin: it serves until a call changes the
+    /// cache. `Unknown`: exactly where there is none.
+    pub fn peek_list(&self, prefix: &[KeyPart]) -> FoundList
         ensures result { result ≡ found_list (list_of self.now prefix.now) }
         ensures shows { IfSome (list_of self.now prefix.now) (ShowsList self.now) }
     {
-        match self.prefixes.find(key_hash(self.id, prefix), prefix) {
+        match self.prefixes.find(parts_hash(self.id, prefix), prefix) {
             Some(Known::Held(r)) => FoundList::List(r),
             _ => FoundList::Unknown,
         }
@@ -102,7 +103,10 @@ impl CatCache {
         ensures same { HasSame self.old self.new }
         ensures shown { MatchOption (list_of self.old prefix.now) (ShowsSame self.old self.new) (λ list. ChangesShown self.old self.new list.under (option_map pinned (shown self.old list.under))) }
     {
-        match self.prefixes.find(key_hash(self.id, prefix), prefix) {
+        match self
+            .prefixes
+            .find(key_hash(self.id, prefix), prefix.as_slice())
+        {
             Some(Known::Held(r)) => {
                 self.pool.pin(&r);
                 FoundList::List(r)
@@ -123,12 +127,13 @@ impl CatCache {
         ensures shown_same { OnErr result (ShowsSame self.old self.new) }
     {
         let hash = key_hash(self.id, key);
+        let parts = self.keys.parts_of(key)?;
         self.keys.reserve(hash)?;
         let Ok(r) = self.pool.add(Cached::Row { row, at }) else {
             return Err(NoMemory);
         };
         let known = Known::Held(r);
-        self.keys.push(hash, Link { key: *key, known });
+        self.keys.push(hash, Link { key: parts, known });
         Ok(r)
     }
 
@@ -142,9 +147,10 @@ impl CatCache {
         ensures shown { ShowsSame self.old self.new }
     {
         let hash = key_hash(self.id, key);
+        let parts = self.keys.parts_of(key)?;
         self.keys.reserve(hash)?;
         let known = Known::Absent { at };
-        self.keys.push(hash, Link { key: *key, known });
+        self.keys.push(hash, Link { key: parts, known });
         Ok(())
     }
 
@@ -160,16 +166,13 @@ impl CatCache {
         ensures shown_same { OnErr result (ShowsSame self.old self.new) }
     {
         let hash = key_hash(self.id, prefix);
+        let parts = self.prefixes.parts_of(prefix)?;
         self.prefixes.reserve(hash)?;
         let Ok(r) = self.pool.add(Cached::List { rows, at }) else {
             return Err(NoMemory);
         };
         let known = Known::Held(r);
-        let link = Link {
-            key: *prefix,
-            known,
-        };
-        self.prefixes.push(hash, link);
+        self.prefixes.push(hash, Link { key: parts, known });
         Ok(r)
     }
 

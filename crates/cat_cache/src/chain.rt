@@ -38,12 +38,12 @@ impl Chain {
         &self.links
     }
 
-    // Makes room for one more.
+    // Makes room for one more, and for no other: most hashes have one link.
     pub(crate) fn reserve(&mut self) -> Result<(), NoMemory>
         ensures same { self.new.items ≡ self.old.items }
         ensures ok { OnOk result (1 ≤ self.new.room) }
     {
-        self.links.reserve(1)?;
+        self.links.reserve_exact(1)?;
         Ok(())
     }
 

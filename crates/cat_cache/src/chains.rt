@@ -1,4 +1,4 @@
-ghost use Rattle.std.specs.Prelude.{◌≡◌, ◌≤◌, ◌<◌, ◌+◌, ◌++◌, ◌∷◌, ℕ, [], cond, ◌==◌, nat_eq, IsSome, IfSome, IfNone, OnOk};
+ghost use Rattle.std.specs.Prelude.{◌≡◌, ◌≤◌, ◌<◌, ◌+◌, ◌++◌, ◌∷◌, ℕ, [], cond, ◌==◌, nat_eq, IsSome, IfSome, IfNone, IfOk, OnOk};
 ghost use Rattle.std.specs.Option.{option_map_or};
 ghost use Rattle.indexmap.specs.IndexMap.{get, index_map_len};
 ghost use Rattle.cat_cache.specs.Keys.{known_in};
@@ -6,7 +6,7 @@ ghost use Rattle.cat_cache.specs.Chains.{links_at, room_at};
 
 use crate::chain::Chain;
 use crate::link::{Known, Link, same_key};
-use base_types::{Key, NoMemory};
+use base_types::{Key, KeyPart, Listed, NoMemory};
 use indexmap::IndexMap;
 use std::alloc::Global;
 
@@ -39,15 +39,23 @@ impl Chains {
     }
 
     // What is known of a key that has this hash.
-    pub(crate) fn find(&self, hash: u32, key: &Key) -> Option<Known>
+    pub(crate) fn find(&self, hash: u32, key: &[KeyPart]) -> Option<Known>
         ensures { result ≡ known_in key.now (links_at self.now hash) }
     {
         for link in self.get(hash) {
-            if same_key(&link.key, key) {
+            if same_key(link.key.as_slice(), key) {
                 return Some(link.known);
             }
         }
         None
+    }
+
+    // The parts of a key, for a link.
+    pub(crate) fn parts_of(&self, key: &Key) -> Result<Listed<KeyPart>, NoMemory>
+        ensures { IfOk result (λ parts. parts ≡ key.now) }
+    {
+        let parts = Vec::from_slice(self.alloc, key.as_slice())?;
+        Ok(Listed::from_vec(parts))
     }
 
     // Makes room for one more link of a hash.

@@ -9,7 +9,8 @@
 //!
 //! What is handed out must not vanish under its user. So `find` and `find_list` pin the row or list that they
 //! find, and what is taken out while it is pinned is dead: it isn't found any more, and goes with its last
-//! pin. `peek` and `peek_list` lend without a pin, until the next call that changes the cache.
+//! pin. `peek` and `peek_list` lend without a pin, until the next call that changes the cache, and take the parts
+//! of a key as they are.
 //!
 //! The promise to the layers above: contracts see a cache as a map from keys to entries (`entry_of` in
 //! `specs/Caches.antt`), one from prefixes of keys to lists (`list_of`), and one from references to what they
@@ -40,6 +41,7 @@ mod cat_cache;
 mod chain;
 mod chains;
 mod found;
+mod hash;
 mod link;
 mod taking_out;
 

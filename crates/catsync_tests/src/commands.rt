@@ -5,7 +5,9 @@ ghost use Rattle.ddl_effect.specs.Commands.{plan_of};
 use crate::events::text_of;
 use crate::row_texts::rows_of;
 use crate::scripts::{script_of, text_of_command};
-use base_types::{Change, Command, Kind, Listed, Mode, Name, NoMemory, Oid, Placed, Row, Xid};
+use base_types::{
+    Change, Command, Kind, Listed, Mode, Name, NoMemory, Oid, Placed, Purpose, Row, Xid,
+};
 use command_answers::{Answer, CommandError, answer_text};
 use ddl_effect::{Draft, EffectRefusal, Exec, Facts, Told, Want, effect};
 use event_kinds::{Entry, Event, Item};
@@ -33,6 +35,8 @@ const ADMITTED: &[(&str, [&str; 3])] = &[
     ("close t", ["25P01", "ok", "25P02"]),
     ("show t", ["ok", "ok", "25P02"]),
     ("create table t (a int4)", ["ok", "ok", "25P02"]),
+    ("drop table t", ["ok", "ok", "25P02"]),
+    ("alter table t rename to u", ["ok", "ok", "25P02"]),
 ];
 
 // What the blocks say of a command.
@@ -135,6 +139,14 @@ const PLANS: &[(&str, bool, [&str; 3])] = &[
         false,
         ["lock", "absent", "absent"],
     ),
+    ("drop table t", true, ["alter", "open", "columns"]),
+    ("drop table u", false, ["alter", "absent", "absent"]),
+    ("alter table t rename to u", true, ["alter", "open", "row"]),
+    (
+        "alter table u rename to t",
+        false,
+        ["alter", "absent", "absent"],
+    ),
     ("begin", false, ["done", "done", "done"]),
 ];
 
@@ -186,6 +198,12 @@ fn wanted(exec: &Exec) -> &'static str {
             mode: Mode::Share,
             ..
         } => "lock",
+        Want::Lookup {
+            mode: Mode::AccessExclusive,
+            ..
+        } => "alter",
+        Want::Read(Purpose::Attribute(Oid(16384))) => "columns",
+        Want::Read(Purpose::Class(Oid(16384))) => "row",
         Want::Open {
             rel: Oid(16384),
             kind: Kind::Table,
@@ -225,9 +243,10 @@ fn commands_follow_their_plans(rt: HostRuntime) -> Result<(), Fail> {
     Ok(())
 }
 
-// A table with a live column, another one that has a default, and a dropped one; and its index.
+// A table with a live column, another one that has a default, and a dropped one; its index; and a table with a dropped column
+// and a live one.
 fn catalog() -> &'static [u8] {
-    b"+class(16384,t,r,-) +att(16384,1,a,int4,100,l) +att(16384,2,b,text,-1,l) +att(16384,3,........pg.dropped.3........,int4,-1,d) +def(16385,16384,2,x) +class(16386,i,i,-) +ind(16386,16384,v,1)"
+    b"+class(16384,t,r,-) +att(16384,1,a,int4,100,l) +att(16384,2,b,text,-1,l) +att(16384,3,........pg.dropped.3........,int4,-1,d) +def(16385,16384,2,x) +class(16386,i,i,-) +ind(16386,16384,v,1) +att(16387,2,a,text,-1,l) +class(16387,e,r,70) +att(16387,1,........pg.dropped.1........,int4,-1,d)"
 }
 
 // Commands, and what each changes of this catalog, as a write with the number of its new oids in place of the Xid;
@@ -362,6 +381,22 @@ const EFFECTS: &[(&str, &[u8])] = &[
         b"error 42809 i is not a table",
     ),
     ("alter table u set (fillfactor = 9)", b"absent u"),
+    (
+        "alter table e rename to x",
+        b"h 1 1 write 0 =class(16387,x,r,70)",
+    ),
+    (
+        "alter table t rename to i",
+        b"h 1 1 write 0 =class(16384,i,r,-)",
+    ),
+    ("alter table i rename to x", b"error 42809 i is not a table"),
+    ("alter table u rename to x", b"absent u"),
+    (
+        "drop table e",
+        b"h 1 1 write 0 -att(16387,1) -att(16387,2) -class(16387)",
+    ),
+    ("drop table i", b"error 42809 i is not a table"),
+    ("drop table u", b"absent u"),
 ];
 
 // What a command changes where there are these rows, or why it changes nothing.
@@ -386,6 +421,8 @@ fn has_plan(command: &Command) -> bool
         Command::Show { .. } => true,
         Command::LockTable { .. } => true,
         Command::CreateTable { .. } => true,
+        Command::DropTable(_) => true,
+        Command::RenameTable { .. } => true,
         Command::AddColumn { .. } => true,
         Command::DropColumn { .. } => true,
         Command::RenameColumn { .. } => true,

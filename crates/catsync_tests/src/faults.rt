@@ -79,8 +79,8 @@ fn commands_of_each_form_have_no_hint(rt: HostRuntime) -> Result<(), Fail> {
 // Scripts, and their first command that isn't built yet.
 const UNBUILT: &[(&[u8], &str)] = &[
     (
-        b"ring 64\nbackends 2\n1: begin\n\n2: Drop Table t ;\n1: savepoint s\nsteps 1\nend\n",
-        "line 5: \"Drop Table t ;\"",
+        b"ring 64\nbackends 2\n1: begin\n\n2: Drop Index i ;\n1: savepoint s\nsteps 1\nend\n",
+        "line 5: \"Drop Index i ;\"",
     ),
     (b"backends 1\n1: begin\nend\n", ""),
     (b"backends 1\n1: drop tabel t\nend\n", ""),

@@ -15,6 +15,8 @@
 #[cfg(test)]
 mod answers;
 #[cfg(test)]
+mod backend_caches;
+#[cfg(test)]
 mod calls;
 #[cfg(test)]
 mod cat_caches;

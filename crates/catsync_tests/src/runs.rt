@@ -22,6 +22,7 @@ h 1 0 start
 h 1 1 look no
 h 1 1 look no
 h 1 1 scan relname t rows 0
+h 1 1 look no
 h 1 1 release 1
 h 1 2 stop
 l 1 1 error 42P01 relation t does not exist as of 4
@@ -130,7 +131,7 @@ const REFUSED: &[(&[&str], &[u8], u8, &str)] = &[
     ),
     (
         &["walk"],
-        b"backends 1\n1: begin\n1: drop table t\nend\n",
+        b"backends 1\n1: begin\n1: drop index i\nend\n",
         9,
         "the script holds",
     ),
@@ -142,7 +143,7 @@ const REFUSED: &[(&[&str], &[u8], u8, &str)] = &[
     ),
     (
         &["walk"],
-        b"backends 1\n1: alter table t rename to u\nend\n",
+        b"backends 1\n1: alter table t validate constraint k\nend\n",
         9,
         "the script holds",
     ),

@@ -1,10 +1,13 @@
-ghost use Rattle.std.specs.Prelude.{◌≡◌, true};
+ghost use Rattle.std.specs.Prelude.{◌≡◌, ◌≤◌, ◌<◌, [], ◌∷◌, true, IfOk};
+ghost use Rattle.event_kinds.specs.declared.entry.Event.TheVariants.{Start};
+ghost use Rattle.seg_calls.specs.Calls.{entry_of};
+ghost use Rattle.shared_seg.specs.Places.{promised_in};
 ghost use Rattle.walk_run.specs.Built.{is_built as is_built_scenario};
 
 use crate::ends::{STEADY, sink_of};
 use crate::scripts::script_of;
 use backend_core::Backend;
-use base_types::NoMemory;
+use base_types::{Mode, NoMemory, Oid};
 use event_kinds::Entry;
 use out_text::put_output;
 use script_text::Script;
@@ -164,5 +167,61 @@ fn messages_wait_until_they_are_fetched(rt: HostRuntime) -> Result<(), Fail> {
     for &(text, waiting) in WAITING {
         assert!(rt; waits(rt.alloc(), text)? == waiting);
     }
+    Ok(())
+}
+
+// A relation whose oid counts as drawn from the start.
+const REL: Oid = Oid(16383);
+
+// A segment that two backends have joined, of which the first has a place for one entry more.
+fn joined(alloc: Global, script: &Script) -> Result<Shared, NoMemory>
+    requires { 2 ≤ script.now.backends }
+    ensures history { IfOk result (λ seg. seg.history ≡ entry_of 1 0 Start ∷ entry_of 2 0 Start ∷ []) }
+    ensures script { IfOk result (λ seg. seg.script ≡ script.now) }
+    ensures places { IfOk result (λ seg. 0 < promised_in seg.promised 1) }
+{
+    let mut seg = Shared::new(alloc, script)?;
+    seg.promise(1, 2)?;
+    seg.promise(2, 1)?;
+    seg.start(1);
+    seg.start(2);
+    Ok(seg)
+}
+
+// Whether a lock of the first keeps the second out until it is given back.
+fn is_given_back(seg: &mut Shared) -> bool
+    requires history { seg.old.history ≡ entry_of 1 0 Start ∷ entry_of 2 0 Start ∷ [] }
+    requires two { 2 ≤ seg.old.script.backends }
+    requires places { 0 < promised_in seg.old.promised 1 }
+{
+    if seg.lock(1, 1, REL, Mode::AccessExclusive).is_err() {
+        return false;
+    }
+    if seg.lock(2, 1, REL, Mode::Share).is_ok() {
+        return false;
+    }
+    seg.unlock(1, 1, REL, Mode::AccessExclusive);
+    seg.lock(2, 1, REL, Mode::Share).is_ok()
+}
+
+fn has_given_back(alloc: Global, script: &Script) -> Result<bool, NoMemory>
+    requires { 2 ≤ script.now.backends }
+{
+    let mut seg = joined(alloc, script)?;
+    Ok(is_given_back(&mut seg))
+}
+
+fn gives_back(alloc: Global) -> Result<bool, NoMemory> {
+    let script = script_of(alloc, b"backends 2\nend\n")?;
+    if script.backends() < 2 {
+        return Ok(false);
+    }
+    has_given_back(alloc, &script)
+}
+
+// A lock that was refused is granted once the holder has unlocked the relation.
+#[test]
+fn a_lock_is_given_back(rt: HostRuntime) -> Result<(), Fail> {
+    assert!(rt; gives_back(rt.alloc())?);
     Ok(())
 }

@@ -34,7 +34,7 @@ backends 3
 1: create table t (a int4)
 3: begin
 1: rollback
-steps 1*2 2*5 1*1 3*1
+steps 1*2 2*6 1*1 3*1
 end
 ",
         &[

@@ -6,7 +6,7 @@ use Rattle.base_types.specs.declared.change.Change.{Change}
 use Rattle.base_types.specs.declared.change.Change.TheVariants.{Insert, Replace, Delete}
 use Rattle.base_types.specs.declared.col_type.ColType.TheVariants.{Int4, Text}
 use Rattle.base_types.specs.declared.command.Command.{Command}
-use Rattle.base_types.specs.declared.command.Command.TheVariants.{AddColumn, DropColumn, RenameColumn, SetStatistics, SetFillfactor}
+use Rattle.base_types.specs.declared.command.Command.TheVariants.{AddColumn, DropColumn, RenameColumn, SetStatistics, SetFillfactor, RenameTable, DropTable}
 use Rattle.base_types.specs.declared.kind.Kind.TheVariants.{Table, Index}
 use Rattle.base_types.specs.declared.mode.Mode.TheVariants.{ShareUpdateExclusive, AccessExclusive}
 use Rattle.base_types.specs.declared.row.Row.{Row}
@@ -15,10 +15,11 @@ use Rattle.base_types.specs.declared.row_key.RowKey.TheVariants as keys
 use Rattle.base_types.specs.declared.scan.Purpose.{Purpose}
 use Rattle.base_types.specs.declared.scan.Purpose.TheVariants as scans
 use Rattle.command_answers.specs.declared.error.CommandError.TheVariants as errors
+use Rattle.ddl_effect.specs.declared.told.Told.TheVariants as tells
 use Rattle.ddl_effect.specs.declared.want.Want.TheVariants as wants
-use Rattle.ddl_effect.specs.Plans.{Fails}
+use Rattle.ddl_effect.specs.Plans.{Done, Fails}
 use Rattle.ddl_effect.specs.Effects.{Effect, Refuses, Unknown, Writes, effect_of}
-use Rattle.ddl_effect.specs.Commands.{plan_of, adding, changing}
+use Rattle.ddl_effect.specs.Commands.{plan_of, adding, changing, renaming_table, dropping_table}
 use Rattle.ddl_effect.specs.Stages.{want_of}
 use Rattle.ddl_effect.proofs.Examples.{oid}
 
@@ -56,6 +57,12 @@ drop_locks = refl
 
 pub rename_locks : want_of (plan_of [] (RenameColumn (codes "t") (codes "a") (codes "d"))) ≡ wants.Lookup (codes "t") AccessExclusive
 rename_locks = refl
+
+pub rename_table_locks : want_of (plan_of [] (RenameTable (codes "t") (codes "u"))) ≡ wants.Lookup (codes "t") AccessExclusive
+rename_table_locks = refl
+
+pub drop_table_locks : want_of (plan_of [] (DropTable (codes "t"))) ≡ wants.Lookup (codes "t") AccessExclusive
+drop_table_locks = refl
 
 pub statistics_lock : want_of (plan_of [] (SetStatistics (codes "t") (codes "a") (pos 1))) ≡ wants.Lookup (codes "t") ShareUpdateExclusive
 statistics_lock = refl
@@ -151,3 +158,41 @@ least_fill = refl
 
 pub greatest_fill : comes_to (SetFillfactor (codes "t") 100) ≡ changed (Replace (Class (oid 16384) (codes "t") Table (Some 100)) ∷ [])
 greatest_fill = refl
+
+-- a table keeps its oid and its fillfactor under its new name
+pub table_renamed : comes_to (RenameTable (codes "t") (codes "u")) ≡ changed (Replace (Class (oid 16384) (codes "u") Table None) ∷ [])
+table_renamed = refl
+
+pub filled_renamed : renaming_table (codes "u") (Class (oid 16384) (codes "t") Table (Some 70) ∷ []) ≡ changing (Replace (Class (oid 16384) (codes "u") Table (Some 70)) ∷ [])
+filled_renamed = refl
+
+-- whether the new name is another relation's, is found as the row is written
+pub renamed_to_other : comes_to (RenameTable (codes "t") (codes "i")) ≡ changed (Replace (Class (oid 16384) (codes "i") Table None) ∷ [])
+renamed_to_other = refl
+
+pub renamed_to_itself : comes_to (RenameTable (codes "t") (codes "t")) ≡ changed (Replace table_row ∷ [])
+renamed_to_itself = refl
+
+-- a table whose row is gone is renamed without a write
+pub renamed_without_row : renaming_table (codes "u") [] ≡ Done tells.Ok
+renamed_without_row = refl
+
+pub rename_index : comes_to (RenameTable (codes "i") (codes "u")) ≡ Refuses (errors.NotTable (codes "i"))
+rename_index = refl
+
+pub rename_unknown : comes_to (RenameTable (codes "u") (codes "v")) ≡ Unknown (codes "u")
+rename_unknown = refl
+
+-- the rows of all columns go in the order of their numbers, those of dropped columns too, and then the table's own
+pub table_dropped : comes_to (DropTable (codes "t"))
+    ≡ changed (Delete (keys.Att (oid 16384) 1) ∷ Delete (keys.Att (oid 16384) 2) ∷ Delete (keys.Att (oid 16384) 3) ∷ Delete (keys.Class (oid 16384)) ∷ [])
+table_dropped = refl
+
+pub dropped_without_columns : dropping_table (oid 16384) [] ≡ changing (Delete (keys.Class (oid 16384)) ∷ [])
+dropped_without_columns = refl
+
+pub drop_index : comes_to (DropTable (codes "i")) ≡ Refuses (errors.NotTable (codes "i"))
+drop_index = refl
+
+pub drop_unknown : comes_to (DropTable (codes "u")) ≡ Unknown (codes "u")
+drop_unknown = refl

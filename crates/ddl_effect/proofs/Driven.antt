@@ -24,6 +24,7 @@ effect_of-after rows (Do (Lock rel mode) rest) given other is = ap (λ l. effect
 
 finds_some : (finding : Finding) → 0 < find_acts_left finding
 finds_some (findings.LockTable name mode) = omega arith
+finds_some (findings.DropTable name) = omega arith
 finds_some finding = omega arith
 
 -- one that hasn't come out has acts left
@@ -44,8 +45,9 @@ alters_few : (altering : Altering) → alter_acts_left altering ≤ 5
 alters_few alters.Done = omega arith
 alters_few stage = omega arith
 
-finds_few : (finding : Finding) → find_acts_left finding ≤ 2
+finds_few : (finding : Finding) → find_acts_left finding ≤ 4
 finds_few (findings.LockTable name mode) = omega arith
+finds_few (findings.DropTable name) = omega arith
 finds_few finding = omega arith
 
 pub acts_few : (exec : Exec) → acts_left exec ≤ 5

@@ -1,5 +1,5 @@
 -- What commands that only read come to, by computation.
-use Rattle.std.proofs.Common.{◌≡◌, Bool, true, false, None, Some, List, [], ◌∷◌, ℕ, ℤ, codes, pos, negsuc, refl}
+use Rattle.std.proofs.Common.{◌≡◌, true, false, None, List, [], ◌∷◌, ℤ, codes, pos, negsuc, refl}
 use Rattle.base_types.specs.Scans.{scan_of}
 use Rattle.base_types.specs.declared.col_type.ColType.TheVariants.{Int4, Text}
 use Rattle.base_types.specs.declared.kind.Kind.TheVariants.{Table, Index}
@@ -7,7 +7,6 @@ use Rattle.base_types.specs.declared.mode.Mode.TheVariants.{AccessShare}
 use Rattle.base_types.specs.declared.row.Row.{Row}
 use Rattle.base_types.specs.declared.row.Row.TheVariants.{Class, Att}
 use Rattle.base_types.specs.declared.scan.Purpose.TheVariants as scans
-use Rattle.command_answers.specs.declared.answer.Column.{Column}
 use Rattle.command_answers.specs.declared.error.CommandError.TheVariants as errors
 use Rattle.ddl_effect.specs.declared.told.Told.TheVariants as tells
 use Rattle.ddl_effect.specs.declared.want.Want.TheVariants as wants

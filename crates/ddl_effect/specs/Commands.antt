@@ -9,6 +9,7 @@ use Rattle.base_types.specs.Names.{dropped_name}
 use Rattle.base_types.specs.RowKeys.{key_of}
 use Rattle.base_types.specs.declared.scan.Purpose.TheVariants as scans
 use Rattle.base_types.specs.declared.row.Row.TheVariants as rows
+use Rattle.base_types.specs.declared.row_key.RowKey.TheVariants as keys
 use Rattle.base_types.specs.declared.command.Command.TheVariants as commands
 use Rattle.command_answers.specs.declared.answer.Column.{Column}
 use Rattle.command_answers.specs.declared.error.CommandError.TheVariants as errors
@@ -212,6 +213,32 @@ filling fill (row ∷ more) = changing (Replace (with_fill fill row) ∷ [])
 abbrev pub set_fillfactor : ℕ → Oid → Plan
 set_fillfactor fill rel = if_passes (nat_le 10 fill && nat_le fill 100) (errors.OutOfRange (pos fill)) (reading (scans.Class rel) (filling fill))
 
+-- the row of a relation with another name
+abbrev pub with_own_name : List ℕ → Row → Row
+with_own_name to (rows.Class oid own kind fill) = rows.Class oid to kind fill
+with_own_name to row = row
+
+-- `rename to`, by the table's row
+abbrev pub renaming_table : List ℕ → List Row → Plan
+renaming_table to [] = Done tells.Ok
+renaming_table to (row ∷ more) = changing (Replace (with_own_name to row) ∷ [])
+
+-- `rename to`, once the descriptor is open
+abbrev pub rename_table : List ℕ → Oid → Plan
+rename_table to rel = reading (scans.Class rel) (renaming_table to)
+
+-- deletes rows
+abbrev pub removing : List Row → List Change
+removing given = map (λ row. Delete (key_of row)) given
+
+-- `drop table`, by the rows of the table's columns: they go with it
+abbrev pub dropping_table : Oid → List Row → Plan
+dropping_table rel columns = changing (removing columns ++ Delete (keys.Class rel) ∷ [])
+
+-- `drop table`, once the descriptor is open
+abbrev pub drop_table : Oid → Plan
+drop_table rel = reading (scans.Attribute rel) (dropping_table rel)
+
 -- the column of a row, if it is live
 abbrev pub live_column : Row → Option Column
 live_column (rows.Att rel num own col_type stat true) = Some (record { name = own; col_type = col_type })
@@ -258,6 +285,8 @@ plan_of held (commands.Column name column) = column_of name column
 plan_of held (commands.Regclass oid) = regclass_of oid
 plan_of held (commands.LockTable name mode) = looking_up name mode (locking name)
 plan_of held (commands.CreateTable name columns) = creating name columns
+plan_of held (commands.DropTable name) = looking_up name AccessExclusive (altering name drop_table)
+plan_of held (commands.RenameTable name to) = looking_up name AccessExclusive (altering name (rename_table to))
 plan_of held (commands.AddColumn name column col_type) = looking_up name AccessExclusive (altering name (add_column column col_type))
 plan_of held (commands.DropColumn name column) = looking_up name AccessExclusive (altering name (drop_column column))
 plan_of held (commands.RenameColumn name column to) = looking_up name AccessExclusive (altering name (rename_column column to))

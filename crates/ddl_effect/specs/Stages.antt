@@ -10,7 +10,7 @@ use Rattle.ddl_effect.specs.declared.told.Told.TheVariants as tells
 use Rattle.ddl_effect.specs.declared.want.Want.TheVariants as wants
 use Rattle.ddl_effect.specs.Types.{Oid, Kind, Command, Mode, AccessShare, ShareUpdateExclusive, AccessExclusive, Table, Insert, Replace, Alteration, Altering, Finding, Told, Exec, Want}
 use Rattle.ddl_effect.specs.Plans.{Act, Lookup, Open, Search, Read, Lock, Write, Plan, Done, Fails, Absent, Do, NotBuilt, told_rests_on}
-use Rattle.ddl_effect.specs.Commands.{looking_up, showing, showing_field, locking, listing_columns, telling_columns, finding_column, telling_column, regclass_of, searching, opening, writing, altering, with_column, reading, changing, deleting, adding, add_column, dropping, drop_column, renaming, rename_column, targeting, set_statistics, filling, set_fillfactor}
+use Rattle.ddl_effect.specs.Commands.{looking_up, showing, showing_field, locking, listing_columns, telling_columns, finding_column, telling_column, regclass_of, searching, opening, writing, altering, with_column, reading, changing, deleting, adding, add_column, dropping, drop_column, renaming, rename_column, targeting, set_statistics, filling, set_fillfactor, rename_table, drop_table}
 
 -- the command alters a table
 abbrev pub alters_table : Command → Bool
@@ -19,6 +19,7 @@ alters_table (commands.DropColumn name column) = true
 alters_table (commands.RenameColumn name column to) = true
 alters_table (commands.SetStatistics name column stat) = true
 alters_table (commands.SetFillfactor name fill) = true
+alters_table (commands.RenameTable name to) = true
 alters_table command = false
 
 -- the mode in which an alteration locks its table
@@ -34,6 +35,7 @@ altered (alterations.DropColumn column) rel = drop_column column rel
 altered (alterations.RenameColumn column to) rel = rename_column column to rel
 altered (alterations.SetStatistics column stat) rel = set_statistics column stat rel
 altered (alterations.SetFillfactor fill) rel = set_fillfactor fill rel
+altered (alterations.RenameTable to) rel = rename_table to rel
 
 -- the plan that is left of an alteration
 abbrev pub altering_at : Altering → Plan
@@ -50,6 +52,7 @@ altering_at (alters.RenamingColumn rel column to) = rename_column column to rel
 altering_at (alters.RenamingTo rel row to) = renaming to rel row
 altering_at (alters.SettingStatistics rel column stat) = with_column rel column (targeting stat)
 altering_at (alters.SettingFillfactor rel fill) = reading (scans.Class rel) (filling fill)
+altering_at (alters.RenamingTable rel to) = rename_table to rel
 altering_at (alters.Inserting row) = changing (Insert row ∷ [])
 altering_at (alters.Replacing deleted row) = changing (deleting deleted ++ Replace row ∷ [])
 
@@ -60,10 +63,12 @@ name_sought (findings.ShowField name field) = name
 name_sought (findings.LockTable name mode) = name
 name_sought (findings.Columns name) = name
 name_sought (findings.Column name column) = name
+name_sought (findings.DropTable name) = name
 
 -- the mode in which it locks the relation
 abbrev pub mode_sought : Finding → Mode
 mode_sought (findings.LockTable name mode) = mode
+mode_sought (findings.DropTable name) = AccessExclusive
 mode_sought finding = AccessShare
 
 -- what comes after its lookup, which found a relation
@@ -73,6 +78,7 @@ plan_found (findings.ShowField name field) = showing_field name field
 plan_found (findings.LockTable name mode) = locking name
 plan_found (findings.Columns name) = listing_columns name
 plan_found (findings.Column name column) = finding_column name column
+plan_found (findings.DropTable name) = altering name drop_table
 
 -- the plan that is left
 abbrev pub plan_at : Exec → Plan
@@ -84,6 +90,8 @@ plan_at (stages.Opening rel kind field) = showing field rel kind
 plan_at (stages.ListingColumns rel) = searching (scans.AttList rel) telling_columns
 plan_at (stages.FindingColumn rel column) = searching (scans.AttName rel column) (telling_column column)
 plan_at (stages.FindingOid oid) = regclass_of oid
+plan_at (stages.OpeningToDrop rel) = opening rel Table (drop_table rel)
+plan_at (stages.DroppingTable rel) = drop_table rel
 plan_at (stages.Writing draft) = writing draft
 plan_at (stages.Altering altering) = altering_at altering
 
@@ -127,6 +135,7 @@ alter_acts_left (alters.RenamingColumn rel column to) = 3
 alter_acts_left (alters.RenamingTo rel row to) = 2
 alter_acts_left (alters.SettingStatistics rel column stat) = 2
 alter_acts_left (alters.SettingFillfactor rel fill) = 2
+alter_acts_left (alters.RenamingTable rel to) = 2
 alter_acts_left (alters.Inserting row) = 1
 alter_acts_left (alters.Replacing deleted row) = 1
 alter_acts_left stage = 0
@@ -139,6 +148,7 @@ told_of plan = tells.Ok
 -- at most so many acts are left of a command that finds a relation first
 abbrev pub find_acts_left : Finding → ℕ
 find_acts_left (findings.LockTable name mode) = 1
+find_acts_left (findings.DropTable name) = 4
 find_acts_left finding = 2
 
 -- at most so many acts are left
@@ -148,6 +158,8 @@ acts_left (stages.Opening rel kind field) = 1
 acts_left (stages.ListingColumns rel) = 1
 acts_left (stages.FindingColumn rel column) = 1
 acts_left (stages.FindingOid oid) = 1
+acts_left (stages.OpeningToDrop rel) = 3
+acts_left (stages.DroppingTable rel) = 2
 acts_left (stages.Writing draft) = 1
 acts_left (stages.Altering altering) = alter_acts_left altering
 acts_left stage = 0

@@ -11,6 +11,7 @@ pub enum Alteration {
     RenameColumn { column: Name, to: Name },
     SetStatistics { column: Name, stat: i32 },
     SetFillfactor { fill: u32 },
+    RenameTable { to: Name },
 }
 
 /// The mode in which an alteration locks its table (`AlterTableGetLockLevel` in
@@ -21,7 +22,8 @@ pub(crate) fn mode(alteration: &Alteration) -> Mode
     match alteration {
         Alteration::AddColumn { .. }
         | Alteration::DropColumn { .. }
-        | Alteration::RenameColumn { .. } => Mode::AccessExclusive,
+        | Alteration::RenameColumn { .. }
+        | Alteration::RenameTable { .. } => Mode::AccessExclusive,
         Alteration::SetStatistics { .. } | Alteration::SetFillfactor { .. } => {
             Mode::ShareUpdateExclusive
         }

@@ -1,6 +1,6 @@
 ghost use Rattle.std.specs.Prelude.{◌≡◌};
 ghost use Rattle.std.specs.List.{find};
-ghost use Rattle.ddl_effect.specs.Commands.{column_number as number_of, as_dropped, name_dropped, is_default_of, with_name, with_stat, with_fill};
+ghost use Rattle.ddl_effect.specs.Commands.{column_number as number_of, as_dropped, name_dropped, is_default_of, with_name, with_stat, with_fill, with_own_name};
 
 use base_types::{MOST_COLUMNS, Name, Row};
 
@@ -133,6 +133,26 @@ pub(crate) fn filled(row: &Row, fill: u32) -> Row
             name: *name,
             kind: *kind,
             fill: Some(fill),
+        },
+        other => *other,
+    }
+}
+
+/// The row of a relation with another name.
+pub(crate) fn renamed_relation(row: &Row, to: Name) -> Row
+    ensures { result ≡ with_own_name to row.now }
+{
+    match row {
+        Row::Class {
+            oid,
+            kind,
+            fill,
+            ..
+        } => Row::Class {
+            oid: *oid,
+            name: to,
+            kind: *kind,
+            fill: *fill,
         },
         other => *other,
     }

@@ -1,12 +1,13 @@
 ghost use Rattle.std.specs.Prelude.{◌≡◌, ◌<◌, ◌∷◌, ◌++◌, ℕ, List, [], false, IfOk, MatchOption};
 ghost use Rattle.ddl_effect.specs.Plans.{Absent, after_act};
-ghost use Rattle.ddl_effect.specs.Commands.{plan_of, found as found_rows, altering, column_there, column_free, reading, adding, dropping, renaming, targeting, filling, changing, deleting, with_name, writing};
+ghost use Rattle.ddl_effect.specs.Commands.{plan_of, found as found_rows, altering, column_there, column_free, reading, adding, dropping, renaming, targeting, filling, renaming_table, changing, deleting, with_name, writing};
 ghost use Rattle.ddl_effect.specs.Stages.{alters_table, altered, altering_at, altering_again, alter_acts_left, want_of};
 
 use crate::alteration::mode;
 use crate::altered_rows::{
-    MOST_STAT, column_number, default_of, dropped, filled, renamed, targeted,
+    MOST_STAT, column_number, default_of, dropped, filled, renamed, renamed_relation, targeted,
 };
+use crate::draft::draft_of;
 use crate::{Alteration, Draft, Want};
 use base_types::{
     Change, ColType, Command, Kind, Listed, MOST_COLUMNS, Name, NoMemory, Oid, Purpose, Row,
@@ -15,8 +16,8 @@ use command_answers::CommandError;
 use std::alloc::Global;
 
 /// How far an alteration of a table is: what is left of its plan (`ATExecAddColumn`,
-/// `ATExecDropColumn`, `renameatt_internal`, `ATExecSetStatistics` and `ATExecSetRelOptions` in
-/// `src/backend/commands/tablecmds.c`).
+/// `ATExecDropColumn`, `renameatt_internal`, `ATExecSetStatistics`, `ATExecSetRelOptions` and
+/// `RenameRelation` in `src/backend/commands/tablecmds.c`).
 #[derive(Clone, Copy)]
 pub enum Altering {
     /// It has done what it says.
@@ -83,6 +84,11 @@ pub enum Altering {
         rel: Oid,
         fill: u32,
     },
+    /// `rename to`: it reads the table's row.
+    RenamingTable {
+        rel: Oid,
+        to: Name,
+    },
     /// It writes a new row.
     Inserting {
         row: Row,
@@ -120,7 +126,9 @@ impl Altering {
             Altering::RenamingTo { rel, to, .. } => Want::Search(Purpose::AttName(*rel, *to)),
             Altering::NumberingColumn { rel, .. } => Want::Read(Purpose::Attribute(*rel)),
             Altering::DroppingDefault { rel, .. } => Want::Read(Purpose::AttrDef(*rel)),
-            Altering::SettingFillfactor { rel, .. } => Want::Read(Purpose::Class(*rel)),
+            Altering::SettingFillfactor { rel, .. } | Altering::RenamingTable { rel, .. } => {
+                Want::Read(Purpose::Class(*rel))
+            }
             Altering::Inserting { .. } | Altering::Replacing { .. } => Want::Write,
         }
     }
@@ -151,6 +159,7 @@ impl Altering {
             Altering::RenamingTo { row, to, .. } => named(row, to, rows),
             Altering::SettingStatistics { column, stat, .. } => with_target(column, stat, rows),
             Altering::SettingFillfactor { fill, .. } => with_fillfactor(fill, rows),
+            Altering::RenamingTable { to, .. } => with_table_name(to, rows),
             Altering::Inserting { .. } | Altering::Replacing { .. } | Altering::Done =>
                 Altering::Done,
             Altering::Failing(error) => Altering::Failing(error),
@@ -185,38 +194,25 @@ impl Altering {
 pub(crate) fn alteration_of(command: &Command) -> Option<Altering>
     ensures { MatchOption result (alters_table command.now ≡ false) (λ altering. altering_at altering ≡ plan_of [] command.now) }
 {
-    match command {
+    match *command {
         Command::AddColumn {
             name,
             column,
             col_type,
-        } => Some(alters(
-            *name,
-            Alteration::AddColumn {
-                column: *column,
-                col_type: *col_type,
-            },
-        )),
+        } => Some(alters(name, Alteration::AddColumn { column, col_type })),
         Command::DropColumn { name, column } => {
-            Some(alters(*name, Alteration::DropColumn { column: *column }))
+            Some(alters(name, Alteration::DropColumn { column }))
         }
-        Command::RenameColumn { name, column, to } => Some(alters(
-            *name,
-            Alteration::RenameColumn {
-                column: *column,
-                to: *to,
-            },
-        )),
-        Command::SetStatistics { name, column, stat } => Some(alters(
-            *name,
-            Alteration::SetStatistics {
-                column: *column,
-                stat: *stat,
-            },
-        )),
+        Command::RenameColumn { name, column, to } => {
+            Some(alters(name, Alteration::RenameColumn { column, to }))
+        }
+        Command::SetStatistics { name, column, stat } => {
+            Some(alters(name, Alteration::SetStatistics { column, stat }))
+        }
         Command::SetFillfactor { name, fill } => {
-            Some(alters(*name, Alteration::SetFillfactor { fill: *fill }))
+            Some(alters(name, Alteration::SetFillfactor { fill }))
         }
+        Command::RenameTable { name, to } => Some(alters(name, Alteration::RenameTable { to })),
         _ => None,
     }
 }
@@ -247,17 +243,6 @@ fn replacing(alloc: Global, deleted: Option<Row>, row: Row) -> Result<Draft, NoM
     }
     changes.push(Change::Replace(row))?;
     Ok(draft_of(alloc, changes))
-}
-
-// The draft of these changes, which need no new oid.
-fn draft_of(alloc: Global, changes: Listed<Change>) -> Draft
-    ensures { writing result ≡ changing changes }
-{
-    Draft {
-        changes,
-        forced: Listed::new(alloc),
-        new_oids: 0,
-    }
 }
 
 // After the lookup.
@@ -312,6 +297,7 @@ fn opened(rel: Oid, alteration: Alteration) -> Altering
             }
             Altering::SettingFillfactor { rel, fill }
         }
+        Alteration::RenameTable { to } => Altering::RenamingTable { rel, to },
     }
 }
 
@@ -429,6 +415,21 @@ fn with_fillfactor(fill: u32, rows: &[Row]) -> Altering
         Some(row) => Altering::Replacing {
             deleted: None,
             row: filled(row, fill),
+        },
+        None => Altering::Done,
+    }
+}
+
+// `rename to`, by the table's row.
+fn with_table_name(to: Name, rows: &[Row]) -> Altering
+    ensures plan { altering_at result ≡ renaming_table to rows.now }
+    ensures left { alter_acts_left result < 2 }
+    ensures there { (name : List ℕ) → altering_at result ≡ Absent name → ⊥ }
+{
+    match rows.first() {
+        Some(row) => Altering::Replacing {
+            deleted: None,
+            row: renamed_relation(row, to),
         },
         None => Altering::Done,
     }

@@ -1,10 +1,11 @@
 ghost use Rattle.std.specs.Prelude.{◌≡◌, ◌<◌, ℕ, List, true, [], IfOk, OnOk, OnErr, MatchOption};
 ghost use Rattle.std.specs.List.{filter_map};
 ghost use Rattle.ddl_effect.specs.Plans.{Absent, Done, is_built, after_act, told_rests_on};
-ghost use Rattle.ddl_effect.specs.Commands.{plan_of, found as found_rows, live_column as column_live, telling_columns, telling_column, regclass_of, told_fields, writing};
+ghost use Rattle.ddl_effect.specs.Commands.{plan_of, found as found_rows, live_column as column_live, telling_columns, telling_column, regclass_of, told_fields, showing_field, writing};
 ghost use Rattle.ddl_effect.specs.Stages.{plan_at, plan_again, plan_found, name_sought, want_of, told_of, acts_left};
 
 use crate::altering::alteration_of;
+use crate::drop_table::drop_table;
 use crate::table::create_table;
 use crate::{Altering, Draft, Finding, Told, Want};
 use base_types::{Command, Field, Kind, Listed, Name, NoMemory, Oid, Purpose, Row, has_field};
@@ -39,6 +40,15 @@ pub enum Exec {
     },
     /// `regclass`: it looks for the relation of an oid.
     FindingOid(Oid),
+    /// `drop table`: it opens the table's descriptor (`RemoveRelations` in
+    /// `src/backend/commands/tablecmds.c`).
+    OpeningToDrop {
+        rel: Oid,
+    },
+    /// `drop table`: it reads the table's columns, whose rows go with it.
+    DroppingTable {
+        rel: Oid,
+    },
     /// It writes.
     Writing(Draft),
     /// It alters a table.
@@ -62,6 +72,8 @@ impl Exec {
                 | Command::Regclass(_)
                 | Command::LockTable { .. }
                 | Command::CreateTable { .. }
+                | Command::DropTable(_)
+                | Command::RenameTable { .. }
                 | Command::AddColumn { .. }
                 | Command::DropColumn { .. }
                 | Command::RenameColumn { .. }
@@ -101,6 +113,7 @@ impl Exec {
             Command::CreateTable { name, columns } => {
                 create_table(alloc, *name, columns.as_slice())
             }
+            Command::DropTable(name) => Ok(Exec::Finding(Finding::DropTable { name: *name })),
             _ => match alteration_of(command) {
                 Some(altering) => Ok(Exec::Altering(altering)),
                 None => unreachable!(),
@@ -128,6 +141,11 @@ impl Exec {
             Exec::ListingColumns { rel } => Want::Search(Purpose::AttList(*rel)),
             Exec::FindingColumn { rel, column } => Want::Search(Purpose::AttName(*rel, *column)),
             Exec::FindingOid(oid) => Want::Search(Purpose::RelOid(*oid)),
+            Exec::OpeningToDrop { rel } => Want::Open {
+                rel: *rel,
+                kind: Kind::Table,
+            },
+            Exec::DroppingTable { rel } => Want::Read(Purpose::Attribute(*rel)),
             Exec::Writing(_) => Want::Write,
             Exec::Altering(altering) => altering.next(),
         }
@@ -158,6 +176,8 @@ impl Exec {
             Exec::ListingColumns { .. } => Exec::Done(Told::Columns(live_columns(alloc, rows)?)),
             Exec::FindingColumn { column, .. } => found_column(*column, rows),
             Exec::FindingOid(oid) => Exec::Done(Told::Regclass(*oid)),
+            Exec::OpeningToDrop { rel } => Exec::DroppingTable { rel: *rel },
+            Exec::DroppingTable { rel } => Exec::Writing(drop_table(alloc, *rel, rows)?),
             Exec::Writing(_) => Exec::Done(Told::Ok),
             Exec::Altering(altering) => Exec::Altering(altering.after(rows)),
             Exec::Done(_) | Exec::Failing(_) | Exec::Missing(_) => return Ok(()),
@@ -216,16 +236,7 @@ fn goes_on(finding: Finding, rel: Oid, kind: Kind) -> Exec
             kind,
             field: None,
         },
-        Finding::ShowField { name, field } => {
-            if !has_field(kind, field) {
-                return Exec::Failing(CommandError::NoField { name, field });
-            }
-            Exec::Opening {
-                rel,
-                kind,
-                field: Some(field),
-            }
-        }
+        Finding::ShowField { name, field } => to_show_field(name, field, rel, kind),
         Finding::LockTable { name, .. } => match kind {
             Kind::Table => Exec::Done(Told::Ok),
             Kind::Index => Exec::Failing(CommandError::NotTable { name }),
@@ -238,6 +249,27 @@ fn goes_on(finding: Finding, rel: Oid, kind: Kind) -> Exec
             Kind::Table => Exec::FindingColumn { rel, column },
             Kind::Index => Exec::Failing(CommandError::NotTable { name }),
         },
+        Finding::DropTable { name } => match kind {
+            Kind::Table => Exec::OpeningToDrop { rel },
+            Kind::Index => Exec::Failing(CommandError::NotTable { name }),
+        },
+    }
+}
+
+// `show T FIELD`, after its lookup: the relation has to have the field.
+fn to_show_field(name: Name, field: Field, rel: Oid, kind: Kind) -> Exec
+    ensures plan { plan_at result ≡ showing_field name field rel kind }
+    ensures left { acts_left result < 2 }
+    ensures there { (absent : List ℕ) → plan_at result ≡ Absent absent → ⊥ }
+    ensures named { (oid : Oid) → plan_at result ≡ Done (Told.Regclass oid) → ⊥ }
+{
+    if !has_field(kind, field) {
+        return Exec::Failing(CommandError::NoField { name, field });
+    }
+    Exec::Opening {
+        rel,
+        kind,
+        field: Some(field),
     }
 }
 

@@ -16,6 +16,8 @@ pub enum Finding {
     Columns { name: Name },
     /// `column`: the relation has to be a table.
     Column { name: Name, column: Name },
+    /// `drop table`: the relation has to be a table.
+    DropTable { name: Name },
 }
 
 impl Finding {
@@ -28,7 +30,8 @@ impl Finding {
             | Finding::ShowField { name, .. }
             | Finding::LockTable { name, .. }
             | Finding::Columns { name }
-            | Finding::Column { name, .. } => { *name }
+            | Finding::Column { name, .. }
+            | Finding::DropTable { name } => { *name }
         }
     }
 
@@ -38,6 +41,7 @@ impl Finding {
     {
         match self {
             Finding::LockTable { mode, .. } => *mode,
+            Finding::DropTable { .. } => Mode::AccessExclusive,
             _ => Mode::AccessShare,
         }
     }

@@ -15,6 +15,7 @@ mod alteration;
 mod altered_rows;
 mod altering;
 mod draft;
+mod drop_table;
 mod exec;
 mod facts;
 mod finding;

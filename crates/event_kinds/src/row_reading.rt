@@ -2,11 +2,11 @@ ghost use Rattle.std.specs.Prelude.{◌≡◌, ◌≤◌, ◌<◌, ◌++◌, ◌
 ghost use Rattle.event_kinds.specs.Readers.{Gives, more_at, with_front};
 
 use crate::cursor::Cursor;
-use base_types::{ConKind, Nums, Oid, Row, RowKey};
+use base_types::{ConKind, Name, Nums, Oid, Row, RowKey};
 
 // Rows and their keys.
 impl<'a> Cursor<'a> {
-    ghost use Rattle.event_kinds.specs.Reading.{class_at, att_at, def_at, ind_at, check_con_at, foreign_con_at, what_at, con_at, trg_at, row_at, key_at, number_at, digits_at, signed_at, fill_at, nums_at, then_paren};
+    ghost use Rattle.event_kinds.specs.Reading.{class_at, att_at, def_at, ind_at, check_con_at, foreign_con_at, what_at, con_at, trg_at, row_at, key_at, number_at, name_at, digits_at, signed_at, fill_at, nums_at, then_comma, then_paren};
 
     // A row.
     #[tactic(auto, unfolding(crate::specs::Reading::row_at))]
@@ -38,10 +38,8 @@ impl<'a> Cursor<'a> {
     fn class_row(&mut self) -> Option<Row>
         ensures { Gives result self.new (class_at self.old) }
     {
-        let oid = Oid(self.number()?);
-        self.eat(b",")?;
-        let name = self.name()?;
-        self.eat(b",")?;
+        let oid = Oid(self.next_number()?);
+        let name = self.next_name()?;
         let kind = self.kind()?;
         self.eat(b",")?;
         let fill = self.fill()?;
@@ -58,12 +56,9 @@ impl<'a> Cursor<'a> {
     fn att_row(&mut self) -> Option<Row>
         ensures { Gives result self.new (att_at self.old) }
     {
-        let rel = Oid(self.number()?);
-        self.eat(b",")?;
-        let num = self.number()?;
-        self.eat(b",")?;
-        let name = self.name()?;
-        self.eat(b",")?;
+        let rel = Oid(self.next_number()?);
+        let num = self.next_number()?;
+        let name = self.next_name()?;
         let col_type = self.col_type()?;
         self.eat(b",")?;
         let stat = self.signed()?;
@@ -84,12 +79,9 @@ impl<'a> Cursor<'a> {
     fn def_row(&mut self) -> Option<Row>
         ensures { Gives result self.new (def_at self.old) }
     {
-        let oid = Oid(self.number()?);
-        self.eat(b",")?;
-        let rel = Oid(self.number()?);
-        self.eat(b",")?;
-        let num = self.number()?;
-        self.eat(b",")?;
+        let oid = Oid(self.next_number()?);
+        let rel = Oid(self.next_number()?);
+        let num = self.next_number()?;
         let word = self.word()?;
         self.eat(b")")?;
         Some(Row::Def {
@@ -104,10 +96,8 @@ impl<'a> Cursor<'a> {
     fn ind_row(&mut self) -> Option<Row>
         ensures { Gives result self.new (ind_at self.old) }
     {
-        let index = Oid(self.number()?);
-        self.eat(b",")?;
-        let table = Oid(self.number()?);
-        self.eat(b",")?;
+        let index = Oid(self.next_number()?);
+        let table = Oid(self.next_number()?);
         let state = self.state()?;
         self.eat(b",")?;
         let nums = self.nums()?;
@@ -124,12 +114,9 @@ impl<'a> Cursor<'a> {
     fn con_row(&mut self) -> Option<Row>
         ensures { Gives result self.new (con_at self.old) }
     {
-        let oid = Oid(self.number()?);
-        self.eat(b",")?;
-        let rel = Oid(self.number()?);
-        self.eat(b",")?;
-        let name = self.name()?;
-        self.eat(b",")?;
+        let oid = Oid(self.next_number()?);
+        let rel = Oid(self.next_number()?);
+        let name = self.next_name()?;
         let (valid, what) = self.what()?;
         self.eat(b")")?;
         Some(Row::Con {
@@ -145,12 +132,9 @@ impl<'a> Cursor<'a> {
     fn trg_row(&mut self) -> Option<Row>
         ensures { Gives result self.new (trg_at self.old) }
     {
-        let oid = Oid(self.number()?);
-        self.eat(b",")?;
-        let rel = Oid(self.number()?);
-        self.eat(b",")?;
-        let name = self.name()?;
-        self.eat(b",")?;
+        let oid = Oid(self.next_number()?);
+        let rel = Oid(self.next_number()?);
+        let name = self.next_name()?;
         let on = self.on()?;
         self.eat(b")")?;
         Some(Row::Trg { oid, rel, name, on })
@@ -186,10 +170,8 @@ impl<'a> Cursor<'a> {
     {
         let valid = self.valid()?;
         self.eat(b",")?;
-        let num = self.number()?;
-        self.eat(b",")?;
-        let refrel = Oid(self.number()?);
-        self.eat(b",")?;
+        let num = self.next_number()?;
+        let refrel = Oid(self.next_number()?);
         let refnum = self.number()?;
         Some((
             valid,
@@ -253,6 +235,24 @@ impl<'a> Cursor<'a> {
         Some(nums)
     }
 
+    // A number and a comma.
+    fn next_number(&mut self) -> Option<u32>
+        ensures { Gives result self.new (then_comma number_at self.old) }
+    {
+        let number = self.number()?;
+        self.eat(b",")?;
+        Some(number)
+    }
+
+    // A name and a comma.
+    fn next_name(&mut self) -> Option<Name>
+        ensures { Gives result self.new (then_comma name_at self.old) }
+    {
+        let name = self.name()?;
+        self.eat(b",")?;
+        Some(name)
+    }
+
     // A number and a parenthesis.
     fn last_number(&mut self) -> Option<u32>
         ensures { Gives result self.new (then_paren number_at self.old) }
@@ -271,8 +271,7 @@ impl<'a> Cursor<'a> {
             return Some(RowKey::Class(Oid(self.last_number()?)));
         }
         if self.eat(b"att(").is_some() {
-            let rel = Oid(self.number()?);
-            self.eat(b",")?;
+            let rel = Oid(self.next_number()?);
             return Some(RowKey::Att(rel, self.last_number()?));
         }
         if self.eat(b"def(").is_some() {

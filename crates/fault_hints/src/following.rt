@@ -14,7 +14,7 @@ struct Reach {
 // By how many tokens the line follows the form that goes furthest.
 pub(crate) fn most_taken(line: &[u8], spans: &[Span]) -> usize {
     let mut most = 0;
-    for form in FORMS {
+    for &form in FORMS {
         most = most.max(reach_of(form, line, spans).count);
     }
     most
@@ -28,7 +28,7 @@ pub(crate) fn wanted_after(
     count: usize,
 ) -> Result<Vec<Symbol>, NoMemory> {
     let mut wanted = Vec::new(alloc);
-    for form in FORMS {
+    for &form in FORMS {
         let reach = reach_of(form, line, spans);
         if reach.count == count {
             put(&mut wanted, symbol_at(form, reach.at))?;

@@ -1,5 +1,5 @@
 // The forms of commands, a word a token. Words in capitals stand for operands (`Symbol::of`).
-pub(crate) const FORMS: [&str; 47] = [
+pub(crate) const FORMS: &[&str] = &[
     "alter table NAME add column NAME TYPE",
     "alter table NAME add constraint NAME check ( CONDITION REST )",
     "alter table NAME add constraint NAME check ( CONDITION REST ) not valid",

@@ -1,9 +1,9 @@
 use crate::lines::{bare, command_of, counts, push_quoted};
 use base_types::NoMemory;
+use ddl_effect::Exec;
 use script_text::{Rest, Script, ScriptFault, read_script};
 use std::alloc::Global;
 use std::fmt::Write;
-use walk_run::is_built_command;
 
 // How much of a command is shown.
 const MOST_SHOWN: usize = 60;
@@ -32,7 +32,7 @@ fn first_unbuilt(script: &Script) -> Option<usize> {
     script
         .commands()
         .iter()
-        .position(|placed| !is_built_command(&placed.command))
+        .position(|placed| !Exec::has_plan(&placed.command))
 }
 
 // The line and the words of the command after so many others.

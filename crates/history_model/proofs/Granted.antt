@@ -5,14 +5,12 @@ use Rattle.std.specs.List.{AllByRecursion, flat_map}
 use Rattle.std.proofs.lemmas.Bool.{eqb-true, eq-eqb, le-leb}
 use Rattle.base_types.specs.declared.ids.Oid.{Oid}
 use Rattle.base_types.specs.declared.mode.Mode.{Mode}
-use Rattle.base_types.specs.declared.row.Row.TheVariants as rows
 use Rattle.base_types.specs.Modes.{same_mode}
 use Rattle.base_types.specs.Scans.{same_oid}
 use Rattle.event_kinds.specs.declared.entry.Entry.{Entry}
 use Rattle.event_kinds.specs.declared.entry.Event.{Event}
 use Rattle.event_kinds.specs.declared.entry.Event.TheVariants as events
 use Rattle.event_kinds.specs.declared.entry.Item.{Item}
-use Rattle.event_kinds.specs.declared.entry.Item.TheVariants as forms
 use Rattle.lock_modes.specs.declared.grant.Grant.{Grant}
 use Rattle.lock_modes.specs.Grants.{is_lock, stays}
 use Rattle.history_model.specs.Transactions.{Running, running_transaction_of, running_by}
@@ -21,7 +19,8 @@ use Rattle.history_model.specs.Held.{granted_by, held_by, held_of}
 use Rattle.history_model.specs.Orderly.{MayComeNext, IsSound}
 use Rattle.history_model.proofs.Prefixes.{each-keeps}
 use Rattle.history_model.proofs.Reading.{held_of-more as held-more, running_transaction_of-own as running-own, running_transaction_of-other as running-other}
-use Rattle.history_model.proofs.Every.{every-weaker, every-append, every-filter}
+use Rattle.history_model.proofs.Every.{every-weaker, every-append, every-filter, every-kept}
+use Rattle.history_model.proofs.Exclude.{granted_here}
 use Rattle.history_model.proofs.Lawful.{IsLawful, IsLawfulEvent}
 use Rattle.history_model.proofs.Lives.{Begun, begun_at}
 use Rattle.history_model.proofs.Ordered.{Ordered, Ordered-start, Ordered-more, lawful_of}
@@ -63,12 +62,7 @@ run_kept history b c event g (Some t) is lawful run out = run
 
 -- a write grants to its backend
 pub granted_to : (b c : ℕ) (items : List Item) → AllByRecursion (λ g. (g.backend ≡ b) × (g.command ≡ c)) (flat_map (granted_by b c) items)
-granted_to b c [] = tt
-granted_to b c (item ∷ items) = every-append (λ g. (g.backend ≡ b) × (g.command ≡ c)) (granted_by b c item) (flat_map (granted_by b c) items) (of item) (granted_to b c items)
-  where
-    of : (item : Item) → AllByRecursion (λ g. (g.backend ≡ b) × (g.command ≡ c)) (granted_by b c item)
-    of (forms.Add (rows.Class oid own kind fill)) = ((refl, refl), tt)
-    of item = tt
+granted_to b c items = granted_here b c items
 
 OfRuns-more : (history : List Entry) (e : Entry) → IsLawful history e → Begun e.command (running_transaction_of history e.backend) (lists_of history e.backend) → OfRuns history → OfRuns (history ++ e ∷ [])
 OfRuns-more history e lawful begins runs = subst (AllByRecursion On) (sym (held-more history e)) (of e.event refl)
@@ -103,6 +97,7 @@ OfRuns-more history e lawful begins runs = subst (AllByRecursion On) (sym (held-
       where
         new : Grant
         new = record { backend = e.backend; command = e.command; rel = rel; mode = mode }
+    of (events.Unlock rel mode) is = every-kept On (λ g. not (is_lock e.backend rel mode g)) (held_of history) (old (λ g own from released low. absurd (cc)))
     of (events.Write xid items) is = every-append On (held_of history) (flat_map (granted_by e.backend e.command) items) (old (λ g own from released low. absurd (cc)))
         (every-weaker (λ g. (g.backend ≡ e.backend) × (g.command ≡ e.command)) On (λ g at. now g at.0 (subst (IsOfRun (running_by e.command e.event (running_transaction_of history e.backend))) (sym at.1)
         (subst (λ x. IsOfRun (running_by e.command x (running_transaction_of history e.backend)) e.command) (sym is) begins.first))) (flat_map (granted_by e.backend e.command) items) (granted_to e.backend e.command items))

@@ -3,7 +3,7 @@ use Rattle.std.proofs.Common.{◌≡◌, ◌≤◌, ◌<◌, ◌∙◌, ◌⊎�
 use Rattle.std.specs.Prelude.{nat_le, ⊤}
 use Rattle.std.specs.List.{AllByRecursion, list_any}
 use Rattle.std.specs.Option.{IfSome}
-use Rattle.std.proofs.lemmas.Bool.{eqb-true, eq-eqb, both_ways, or_cases, and_parts, and_from, leb-true, leb-false, lt-leb, not_from_false, false_from_ne_true}
+use Rattle.std.proofs.lemmas.Bool.{eqb-true, eq-eqb, both_ways, or_cases, and_parts, and_from, leb-true, leb-false, le-leb, lt-leb, not_from_false, false_from_ne_true}
 use Rattle.base_types.specs.declared.ids.Oid.{Oid}
 use Rattle.base_types.specs.declared.mode.Mode.{Mode}
 use Rattle.base_types.specs.declared.mode.Mode.TheVariants.{ShareUpdateExclusive, ShareRowExclusive, AccessExclusive}
@@ -18,7 +18,7 @@ use Rattle.event_kinds.specs.declared.entry.Event.{Event}
 use Rattle.event_kinds.specs.declared.entry.Event.TheVariants as events
 use Rattle.event_kinds.specs.declared.entry.Item.{Item}
 use Rattle.lock_modes.specs.declared.grant.Grant.{Grant}
-use Rattle.lock_modes.specs.Grants.{stays}
+use Rattle.lock_modes.specs.Grants.{is_lock, stays}
 use Rattle.history_model.specs.Transactions.{Running, running_transaction_of, running_by, begun, after_release, has_xid, runs_as}
 use Rattle.row_visibility.specs.declared.version.Version.{Version}
 use Rattle.row_visibility.specs.declared.version.Stamp.{Stamp}
@@ -27,12 +27,12 @@ use Rattle.history_model.specs.Held.{held_of, held_by}
 use Rattle.inval_messages.specs.Lists.{Written, has_write_from}
 use Rattle.history_model.specs.Sent.{lists_of, ends_transaction as ends_at}
 use Rattle.history_model.specs.Orderly.{main_rel}
-use Rattle.history_model.proofs.Every.{every-weaker, every-both, any-weaker, any-filter, any-left}
+use Rattle.history_model.proofs.Every.{every-weaker, every-both, any-weaker, any-filter, any-kept, any-left}
 use Rattle.history_model.proofs.Lawful.{IsLawful}
 use Rattle.history_model.proofs.Reading.{running_transaction_of-own as running-own, held_of-more as held-more, versions_of-more as versions-more}
 use Rattle.history_model.proofs.Runs.{Draws, runs-before, Runs, Runs-more}
 use Rattle.history_model.proofs.Touched.{entry_of, OfStamps, stamps-both, stamps-write, stamps-gone, is_of, Touch, Touched}
-use Rattle.history_model.proofs.Exclude.{Agree, AllAgree}
+use Rattle.history_model.proofs.Exclude.{Agree, AllAgree, lock_is}
 
 oid_eq : (a b : Oid) → same_oid a b ≡ true → a ≡ b
 oid_eq a b is = let e : a.0 ≡ b.0 = eqb-true a.0 b.0 is in ap {B = Oid} (λ n. record { 0 = n }) e
@@ -133,16 +133,17 @@ Guards history = AllByRecursion (OfStamps (Guard history)) (versions_of history)
 abbrev pub IsGuardedItem : List Entry → ℕ → (Oid → Type 0) → Item → Type 0
 IsGuardedItem before b P item = IfSome (added_row item) (λ row. P (main_rel row)) × AllByRecursion (λ v. ends before b item v ≡ true → P (main_rel v.row)) (versions_of before)
 
--- a release of which the transaction goes on leaves the grants of each command that has a write
-abbrev pub ReleasesLawfully : List Entry → ℕ → Event → Type 0
-ReleasesLawfully before b (events.Release from) = ends_at from (running_transaction_of before b) ≡ false → has_write_from from (lists_of before b) ≡ false
-ReleasesLawfully before b event = ⊤
+-- a release after which the transaction goes on takes no grant of a command that has a write; an unlock takes grants of this command alone, and no write of it or of a later one stands
+abbrev pub ReleasesLawfully : List Entry → ℕ → ℕ → Event → Type 0
+ReleasesLawfully before b c (events.Release from) = ends_at from (running_transaction_of before b) ≡ false → has_write_from from (lists_of before b) ≡ false
+ReleasesLawfully before b c (events.Unlock rel mode) = AllByRecursion (λ g. is_lock b rel mode g ≡ true → g.command ≡ c) (held_of before) × (has_write_from c (lists_of before b) ≡ false)
+ReleasesLawfully before b c event = ⊤
 
--- what is needed of a write and a release
+-- what is needed of a write, a release and an unlock
 abbrev pub GuardsBy : Demand → List Entry → ℕ → ℕ → Event → Type 0
 GuardsBy Q before b c (events.Write xid changes) =
     AllByRecursion (λ item. IfSome (added_row item) (Q (held_by b c (events.Write xid changes) (held_of before)) b c) × AllByRecursion (λ v. ends before b item v ≡ true → Q (held_by b c (events.Write xid changes) (held_of before)) b c v.row) (versions_of before)) changes
-GuardsBy Q before b c event = ReleasesLawfully before b event
+GuardsBy Q before b c event = ReleasesLawfully before b c event
 
 abbrev pub GuardsLawfully : List Entry → ℕ → ℕ → Event → Type 0
 GuardsLawfully before b c event = GuardsBy ByMain before b c event
@@ -204,12 +205,25 @@ held_stays test held b from a c key below guard = any-filter (guards_in test a c
             let short : c < from = leb-false from c (below (eq-eqb a b (sym ga ∙ eqb-true g.backend b own))) in
             not_from_false (nat_le from g.command) (lt-leb from g.command (omega arith))
 
+-- what is held by a grant that an unlock leaves: it takes those of one command
+pub held_left : (test : Mode → Bool) (held : List Grant) (b from : ℕ) (rel : Oid) (mode : Mode) (a c : ℕ) (key : Oid) → AllByRecursion (λ g. is_lock b rel mode g ≡ true → g.command ≡ from) held → ((a == b) ≡ true → nat_le from c ≡ false) → IsHeldIn test held a c key
+    → IsHeldIn test (filter (λ g. not (is_lock b rel mode g)) held) a c key
+held_left test held b from rel mode a c key of_command below guard = any-kept (guards_in test a c key) (λ g. not (is_lock b rel mode g)) held (every-weaker (λ g. is_lock b rel mode g ≡ true → g.command ≡ from) (λ g. guards_in test a c key g ≡ true → not (is_lock b rel mode g) ≡ true) kept held of_command) guard
+  where
+    kept : (g : Grant) → (is_lock b rel mode g ≡ true → g.command ≡ from) → guards_in test a c key g ≡ true → not (is_lock b rel mode g) ≡ true
+    kept g of_from is =
+        let p = and_parts ((g.backend == a) && nat_le g.command c) (same_oid g.rel key && test g.mode) is in
+        let q = and_parts (g.backend == a) (nat_le g.command c) p.0 in
+        not_from_false (is_lock b rel mode g) (false_from_ne_true (is_lock b rel mode g) (λ lock.
+        let one : a ≡ b = sym (eqb-true g.backend a q.0) ∙ (lock_is b rel mode g lock).0 in
+        both_ways _ (below (eq-eqb a b one)) (le-leb from c (omega (arith, of_from lock, leb-true g.command c q.1)))))
+
 -- a command that has a write is below the commands that have none
 pub is_below : (from c : ℕ) (lists : List Written) → has_write_from from lists ≡ false → list_any (is_of c) lists ≡ true → nat_le from c ≡ false
 is_below from c lists none there = false_from_ne_true (nat_le from c) (λ above. both_ways _ none (any-weaker (is_of c) (λ w. nat_le from w.command) (λ w is. ap (nat_le from) (eqb-true w.command c is) ∙ above) lists there))
 
 -- a grant after an event, while its transaction runs on
-held_kept : (test : Mode → Bool) (history : List Entry) (b c' : ℕ) (event : Event) (a x c : ℕ) (key : Oid) → ReleasesLawfully history b event → ((a == b) ≡ true → has_xid x (running_by c' event (running_transaction_of history b)) ≡ true)
+held_kept : (test : Mode → Bool) (history : List Entry) (b c' : ℕ) (event : Event) (a x c : ℕ) (key : Oid) → ReleasesLawfully history b c' event → ((a == b) ≡ true → has_xid x (running_by c' event (running_transaction_of history b)) ≡ true)
     → ((a == b) ≡ true → list_any (is_of c) (lists_of history b) ≡ true) → IsHeldIn test (held_of history) a c key → IsHeldIn test (held_by b c' event (held_of history)) a c key
 held_kept test history b c' (events.LockOk rel mode) a x c key lawful runs there guard = any-left (guards_in test a c key) (held_of history) _ guard
 held_kept test history b c' (events.Write xid changes) a x c key lawful runs there guard = any-left (guards_in test a c key) (held_of history) _ guard
@@ -223,13 +237,14 @@ held_kept test history b c' (events.Release from) a x c key lawful runs there gu
         by_end : (f : Bool) → has_xid x (if f then None else Some t) ≡ true → f ≡ false
         by_end true h = absurd (cc)
         by_end false h = refl
+held_kept test history b c' (events.Unlock rel mode) a x c key lawful runs there guard = held_left test (held_of history) b c' rel mode a c key lawful.0 (λ own. is_below c' c (lists_of history b) lawful.1 (there own)) guard
 held_kept test history b c' event a x c key lawful runs there guard = guard
 
 -- a demand that is met by what is held in some modes
 abbrev pub IsOfHeld : Demand → Type 0
 IsOfHeld Q = (old new : List Grant) (a c : ℕ) (row : Row) → ((test : Mode → Bool) (rel : Oid) → IsHeldIn test old a c rel → IsHeldIn test new a c rel) → Q old a c row → Q new a c row
 
-releases : (Q : Demand) (history : List Entry) (b c : ℕ) (event : Event) → GuardsBy Q history b c event → ReleasesLawfully history b event
+releases : (Q : Demand) (history : List Entry) (b c : ℕ) (event : Event) → GuardsBy Q history b c event → ReleasesLawfully history b c event
 releases Q history b c (events.Write xid changes) lawful = tt
 releases Q history b c event lawful = lawful
 

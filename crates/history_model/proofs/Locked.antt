@@ -1,6 +1,6 @@
 -- Under a lock that keeps out those who change a relation's rows, a backend's answers stay, and under any lock a relation that is seen is still seen.
-use Rattle.std.proofs.Common.{◌≡◌, ◌∙◌, inl, inr, ℕ, Bool, true, false, not, Option, None, List, [], ◌∷◌, ◌++◌, ◌==◌, ◌||◌, ◌&&◌, refl, sym, ap, subst, map, filter, fold}
-use Rattle.std.specs.Prelude.{nat_le, ⊤}
+use Rattle.std.proofs.Common.{◌≡◌, ◌∙◌, inl, inr, ℕ, Bool, true, false, Option, None, List, [], ◌∷◌, ◌++◌, ◌==◌, ◌||◌, ◌&&◌, refl, sym, ap, subst, map, filter, fold}
+use Rattle.std.specs.Prelude.{⊤}
 use Rattle.std.specs.List.{AllByRecursion, list_any, list_all}
 use Rattle.std.proofs.lemmas.Bool.{eqb-true, eq-eqb, both_ways, and_parts, and_from}
 use Rattle.base_types.specs.declared.ids.Oid.{Oid}
@@ -17,7 +17,7 @@ use Rattle.event_kinds.specs.declared.entry.Entry.{Entry}
 use Rattle.event_kinds.specs.declared.entry.Event.{Event}
 use Rattle.event_kinds.specs.declared.entry.Event.TheVariants as events
 use Rattle.lock_modes.specs.declared.grant.Grant.{Grant}
-use Rattle.lock_modes.specs.Grants.{is_lock, holds, stays}
+use Rattle.lock_modes.specs.Grants.{is_lock, holds}
 use Rattle.history_model.specs.Prefixes.{EachFrom}
 use Rattle.history_model.specs.Versions.{versions_of, sees, rows_of, answer_of}
 use Rattle.history_model.specs.Held.{held_by, held_of}
@@ -25,12 +25,13 @@ use Rattle.history_model.specs.Read.{is_scan_of, rows_read}
 use Rattle.history_model.specs.Orderly.{MayComeNext, IsSound}
 use Rattle.history_model.proofs.Prefixes.{EachEntry-more, EachEntry-prefix, EachEntry-rest, EachFrom-both, EachFrom-keeps}
 use Rattle.history_model.proofs.Reading.{held_of-more as held-more, rows_read-own, rows_read-other}
-use Rattle.history_model.proofs.Every.{every-weaker, any-weaker, any-filter, any-left, some-weaker, some-filter}
+use Rattle.history_model.proofs.Every.{every-weaker, any-weaker, some-weaker, some-filter}
 use Rattle.history_model.proofs.Asking.{oid_eq}
 use Rattle.history_model.proofs.Touched.{entry_of}
 use Rattle.history_model.proofs.Guards.{is_changing, any_with}
 use Rattle.history_model.proofs.FixedRows.{fixed, is_loose}
 use Rattle.history_model.proofs.Exclude.{Agree, AllAgree}
+use Rattle.history_model.proofs.SparedGrants.{SparesGrants, grant_spared}
 use Rattle.history_model.proofs.Granted.{lock_parts}
 use Rattle.history_model.proofs.Seen.{Pairwise}
 use Rattle.history_model.proofs.InOrder.{IsIn, Differ}
@@ -144,10 +145,11 @@ IsNoChange (events.Write xid items) = ⊥
 IsNoChange (events.Gone from) = ⊥
 IsNoChange event = ⊤
 
--- nor releases locks
+-- nor releases or unlocks any locks
 abbrev pub IsQuiet : Event → Type 0
 IsQuiet (events.Write xid items) = ⊥
 IsQuiet (events.Gone from) = ⊥
+IsQuiet (events.Unlock rel mode) = ⊥
 IsQuiet (events.Release from) = ⊥
 IsQuiet event = ⊤
 
@@ -224,19 +226,14 @@ pub read_between : (history more : List Entry) (b : ℕ) (rel : Oid) (d : Purpos
 read_between history more b rel d modes sound asks among still was =
     between (λ h. answer_of h b d ≡ rows_read h b d) (IsUndisturbed b rel modes) (λ before e well comes one same. undisturbed_read before e b rel d modes well comes asks among one same) history more sound was still
 
+quiet_spares : (p : Grant → Bool) (b : ℕ) (event : Event) → IsQuiet event → SparesGrants p b event
+quiet_spares p b (events.Release from) quiet = quiet
+quiet_spares p b (events.Unlock rel mode) quiet = absurd quiet
+quiet_spares p b event quiet = tt
+
 -- a grant of the backend stays while it releases nothing
 pub grant_kept : (a c : ℕ) (event : Event) (held : List Grant) (b : ℕ) (p : Grant → Bool) → ((g : Grant) → p g ≡ true → (g.backend == b) ≡ true) → ((a == b) ≡ true → IsQuiet event) → list_any p held ≡ true → list_any p (held_by a c event held) ≡ true
-grant_kept a c (events.LockOk on in') held b p own quiet some = any-left p held _ some
-grant_kept a c (events.Write xid items) held b p own quiet some = any-left p held _ some
-grant_kept a c (events.Release from) held b p own quiet some = any-filter p (stays a from) kept held some
-  where
-    kept : (g : Grant) → p g ≡ true → stays a from g ≡ true
-    kept g is = by_owner (g.backend == a) refl
-      where
-        by_owner : (t : Bool) → (g.backend == a) ≡ t → not (t && nat_le from g.command) ≡ true
-        by_owner false theirs = refl
-        by_owner true mine = absurd (quiet (eq-eqb a b (sym (eqb-true g.backend a mine) ∙ eqb-true g.backend b (own g is))))
-grant_kept a c event held b p own quiet some = some
+grant_kept a c event held b p own quiet some = grant_spared a c event held b p own (λ is. quiet_spares p a event (quiet is)) some
 
 barred_kept : (a c : ℕ) (event : Event) (held : List Grant) (b : ℕ) (rel : Oid) (mode : Mode) → ((a == b) ≡ true → IsQuiet event) → IsBarred held b rel mode → IsBarred (held_by a c event held) b rel mode
 barred_kept a c event held b rel mode quiet barred = grant_kept a c event held b (bars b rel mode) (λ g is. (and_parts (g.backend == b) (same_oid g.rel rel && conflicts mode g.mode) is).0) quiet barred

@@ -18,10 +18,9 @@ use Rattle.row_visibility.specs.declared.version.Version.{Version}
 use Rattle.row_visibility.specs.declared.version.Stamp.{Stamp}
 use Rattle.row_visibility.specs.Seen.{seen_by}
 use Rattle.lock_modes.specs.declared.grant.Grant.{Grant}
-use Rattle.lock_modes.specs.Grants.{stays}
 use Rattle.history_model.specs.Transactions.{Running, running_transaction_of, running_by, has_xid, is_visible, runs_as, is_committed, makes_visible}
 use Rattle.history_model.specs.Versions.{versions_of, versions_by, change_by, end_by, ends, version_of, added_row, old_row, is_back, end_back, counts, sees}
-use Rattle.history_model.specs.Sent.{lists_of, ends_transaction as ends_at}
+use Rattle.history_model.specs.Sent.{lists_of}
 use Rattle.history_model.specs.Held.{held_of, held_by, granted_by}
 use Rattle.history_model.specs.Writes.{changed_key}
 use Rattle.history_model.specs.Orderly.{main_rel, MayComeNext, IsSound}
@@ -31,11 +30,12 @@ use Rattle.history_model.proofs.Lawful.{IsLawful}
 use Rattle.history_model.proofs.Reading.{running_transaction_of-own as running-own, running_transaction_of-other as running-other, versions_of-more as versions-more, held_of-more as held-more}
 use Rattle.history_model.proofs.Runs.{Runs, Runs-more, one_xid}
 use Rattle.history_model.proofs.Touched.{entry_of, OfStamps, stamps-weaker, is_of, Touch, Touched}
-use Rattle.history_model.proofs.Guards.{IsHeldIn, Guard, GuardsLawfully, MayChange, changes_on, guard_changes, one_changer, any_with, held_stays, is_below}
-use Rattle.history_model.proofs.Seen.{counts_at, IsDown, every_command, seen-same, no_write, counts_at-same}
+use Rattle.history_model.proofs.Guards.{IsHeldIn, Guard, GuardsLawfully, MayChange, changes_on, guard_changes, one_changer, any_with}
+use Rattle.history_model.proofs.Seen.{counts_at, IsDown, every_command, seen-same, counts_at-same}
 use Rattle.history_model.proofs.OneVersion.{visible_as, gone_seen, before_command, before_down, GoneView, gone_view, distinct_split, differ_from, added_key}
 use Rattle.history_model.proofs.Lives.{Begun, begun_at}
 use Rattle.history_model.proofs.Ordered.{Ordered, Ordered-start, Ordered-more, if_some, guards_lawful, ended_named, early_at, lawful_of}
+use Rattle.history_model.proofs.TakenLocks.{TakesFrom, release_takes, unlock_takes, taken_counts}
 use Rattle.history_model.proofs.Steady.{no_command, find_some, not_ended}
 
 -- rows that concern a relation, as they are masked, and the modes on it under which masked rows are changed
@@ -506,10 +506,11 @@ steady_visible m history w c xid lawful k steady a p x cx down none = by_owner (
     by_owner true is = own (eqb-true w a is)
     by_owner false other = by_held other (list_any (changes_on a (main_rel x)) (held_of history)) refl
 
-steady_release : (m : Masking) (history : List Entry) (w c from : ℕ) → IsLawful history (entry_of w c (events.Release from)) → GuardsLawfully history w c (events.Release from) → Ordered history → Steady m history
-    → (a : ℕ) (p : ℕ → Bool) (x : Row) → m.concerns x → IsDown p → HasNone m (filter (stays w from) (held_of history)) a p
-    → ShowSame m x (counts_at (history ++ entry_of w c (events.Release from) ∷ []) a p) (versions_of history) (counts_at (history ++ entry_of w c (events.Release from) ∷ []) a no_command) (versions_of history)
-steady_release m history w c from lawful releasing k steady a p x cx down none =
+-- an entry that takes locks
+steady_taken : (m : Masking) (from : ℕ) (history : List Entry) (w c : ℕ) (event : Event) → TakesFrom from history w c event → IsLawful history (entry_of w c event) → Ordered history → Steady m history
+    → (a : ℕ) (p : ℕ → Bool) (x : Row) → m.concerns x → IsDown p → HasNone m (held_by w c event (held_of history)) a p
+    → ShowSame m x (counts_at (history ++ entry_of w c event ∷ []) a p) (versions_of history) (counts_at (history ++ entry_of w c event ∷ []) a no_command) (versions_of history)
+steady_taken m from history w c event takes lawful k steady a p x cx down none =
     show-trans m x (f p) (counts_at history a p) (f no_command) vs vs vs (kept p)
     (show-trans m x (counts_at history a p) (counts_at history a no_command) (f no_command) vs vs vs (by_owner (w == a) refl) (show-sym m x (f no_command) (counts_at history a no_command) vs vs (kept no_command)))
   where
@@ -517,45 +518,26 @@ steady_release m history w c from lawful releasing k steady a p x cx down none =
     vs = versions_of history
 
     f : (ℕ → Bool) → Stamp → Bool
-    f q = counts_at (history ++ entry_of w c (events.Release from) ∷ []) a q
+    f q = counts_at (history ++ entry_of w c event ∷ []) a q
 
     kept : (q : ℕ → Bool) → ShowSame m x (f q) vs (counts_at history a q) vs
-    kept q = counted_kept m x history w c (events.Release from) a q lawful k.runs k.touched (λ y. refl)
+    kept q = counted_kept m x history w c event a q lawful k.runs k.touched takes.hidden
 
     other_held : (w == a) ≡ false → ShowSame m x (counts_at history a p) vs (counts_at history a no_command) vs
-    other_held other = steady a p x cx down (λ i passes strong. none i passes (held_stays m.strong (held_of history) w from a i m.rel (λ own. absurd (both_ways _ other (eq-eqb w a (sym (eqb-true a w own))))) strong))
+    other_held other = steady a p x cx down (λ i passes strong. none i passes (takes.held m.strong a i m.rel (λ own. absurd (both_ways _ other (eq-eqb w a (sym (eqb-true a w own))))) strong))
 
     -- its own: what stands is of commands below
     own_held : w ≡ a → ShowSame m x (counts_at history a p) vs (counts_at history a no_command) vs
     own_held one =
         show-trans m x (counts_at history a p) (counts_at history a q) (counts_at history a no_command) vs vs vs
-        (counted_all m x (counts_at history a p) (counts_at history a q) vs (every-weaker (OfStamps (Touch history)) (OfStamps (λ s row. counts_at history a p s ≡ counts_at history a q s)) (stamps-weaker (Touch history) (λ s row. counts_at history a p s ≡ counts_at history a q s) below) vs k.touched))
+        (counted_all m x (counts_at history a p) (counts_at history a q) vs (every-weaker (OfStamps (Touch history)) (OfStamps (λ s row. counts_at history a p s ≡ counts_at history a q s))
+        (stamps-weaker (Touch history) (λ s row. counts_at history a p s ≡ counts_at history a q s) (taken_counts from history w c event takes a one p)) vs k.touched))
         (steady a q x cx (before_down p from down) (λ i passes strong.
         let parts = and_parts (p i) (not (nat_le from i)) passes in
-        none i parts.0 (held_stays m.strong (held_of history) w from a i m.rel (λ own. not-true (nat_le from i) parts.1) strong)))
+        none i parts.0 (takes.held m.strong a i m.rel (λ own. not-true (nat_le from i) parts.1) strong)))
       where
         q : ℕ → Bool
         q = before_command p from
-
-        and_true : (t : Bool) → (t && true) ≡ t
-        and_true true = refl
-        and_true false = refl
-
-        by_end : (s : Stamp) (row : Row) → Touch history s row → runs_as history w s.xid.0 ≡ true → (t : Bool) → ends_at from (running_transaction_of history w) ≡ t → counts_at history a p s ≡ counts_at history a q s
-        by_end s row touch runs false stays' =
-            ap (λ t. is_committed history s.xid.0 || (runs_as history a s.xid.0 && t)) (sym (ap (λ t. p s.command && not t) (is_below from s.command (lists_of history w) (releasing stays') (touch.written w runs)) ∙ and_true (p s.command)))
-        by_end s row touch runs true ends' = of (lawful ends')
-          where
-            of : (lists_of history w ≡ []) ⊎ (is_visible (running_transaction_of history w) ≡ true) → counts_at history a p s ≡ counts_at history a q s
-            of (inl hidden) = absurd (no_write s.command (lists_of history w) hidden (touch.written w runs))
-            of (inr shown) = ap (λ t. t || (runs_as history a s.xid.0 && p s.command)) (k.runs.shown w s.xid.0 runs shown) ∙ sym (ap (λ t. t || (runs_as history a s.xid.0 && q s.command)) (k.runs.shown w s.xid.0 runs shown))
-
-        by_run : (s : Stamp) (row : Row) → Touch history s row → (t : Bool) → runs_as history a s.xid.0 ≡ t → counts_at history a p s ≡ counts_at history a q s
-        by_run s row touch false is = ap (λ t. is_committed history s.xid.0 || (t && p s.command)) is ∙ sym (ap (λ t. is_committed history s.xid.0 || (t && q s.command)) is)
-        by_run s row touch true is = by_end s row touch (subst (λ o. runs_as history o s.xid.0 ≡ true) (sym one) is) (ends_at from (running_transaction_of history w)) refl
-
-        below : (s : Stamp) (row : Row) → Touch history s row → counts_at history a p s ≡ counts_at history a q s
-        below s row touch = by_run s row touch (runs_as history a s.xid.0) refl
 
     by_owner : (t : Bool) → (w == a) ≡ t → ShowSame m x (counts_at history a p) vs (counts_at history a no_command) vs
     by_owner true is = own_held (eqb-true w a is)
@@ -578,7 +560,8 @@ steady_by : (m : Masking) (history : List Entry) (w c : ℕ) (event : Event) →
 steady_by m history w c (events.Write xid items) lawful guarding k masks comes begun steady a p x cx down none = steady_write m history w c xid items lawful k comes.follows.event.keys (masks history w c xid items k comes) begun.low steady a p x cx down none
 steady_by m history w c (events.Gone from) lawful guarding k masks comes begun steady a p x cx down none = steady_gone m history w c from lawful k steady a p x cx down none
 steady_by m history w c (events.Visible xid) lawful guarding k masks comes begun steady a p x cx down none = steady_visible m history w c xid lawful k steady a p x cx down none
-steady_by m history w c (events.Release from) lawful guarding k masks comes begun steady a p x cx down none = steady_release m history w c from lawful guarding k steady a p x cx down none
+steady_by m history w c (events.Release from) lawful guarding k masks comes begun steady a p x cx down none = steady_taken m from history w c (events.Release from) (release_takes history w c from lawful guarding k) lawful k steady a p x cx down none
+steady_by m history w c (events.Unlock rel mode) lawful guarding k masks comes begun steady a p x cx down none = steady_taken m c history w c (events.Unlock rel mode) (unlock_takes history w c rel mode guarding) lawful k steady a p x cx down none
 steady_by m history w c (events.LockOk rel mode) lawful guarding k masks comes begun steady a p x cx down none = steady_quiet m history w c (events.LockOk rel mode) lawful k steady (λ y. refl) a p x cx down (λ i passes strong. none i passes (any-left _ (held_of history) _ strong))
 steady_by m history w c event lawful guarding k masks comes begun steady a p x cx down none = steady_quiet m history w c event lawful k steady (λ y. refl) a p x cx down none
 

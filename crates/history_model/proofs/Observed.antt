@@ -1,6 +1,6 @@
 -- What a backend has read by a scan is what the scan would give, and so of a field its text, as long as the scan still serves and whoever may change it has made all changes known to it.
-use Rattle.std.proofs.Common.{◌≡◌, ◌≤◌, ◌+◌, ◌-◌, ◌∙◌, ◌⊎◌, inl, inr, ℕ, zero, suc, Bool, true, false, Option, Some, None, List, [], ◌∷◌, ◌++◌, ◌==◌, ◌||◌, ◌&&◌, not, refl, sym, ap, subst, arith, append-nil, length, take, drop}
-use Rattle.std.specs.Prelude.{nat_le, ⊤}
+use Rattle.std.proofs.Common.{◌≡◌, ◌≤◌, ◌+◌, ◌-◌, ◌∙◌, ◌⊎◌, inl, inr, ℕ, zero, suc, Bool, true, false, Option, Some, None, List, [], ◌∷◌, ◌++◌, ◌==◌, ◌||◌, ◌&&◌, refl, sym, ap, subst, arith, append-nil, length, take, drop}
+use Rattle.std.specs.Prelude.{⊤}
 use Rattle.std.specs.List.{list_any}
 use Rattle.std.proofs.lemmas.List.{drop-append-le, drop-drop, take-append-drop, take_all, length-drop}
 use Rattle.std.proofs.lemmas.Bool.{eqb-true, eq-eqb, both_ways, or_cases, or_parts, and_parts, and_from, false_from_ne_true}
@@ -17,7 +17,7 @@ use Rattle.event_kinds.specs.declared.entry.Event.TheVariants as events
 use Rattle.inval_messages.specs.declared.message.Message.{Message}
 use Rattle.inval_messages.specs.Messages.{covers}
 use Rattle.lock_modes.specs.declared.grant.Grant.{Grant}
-use Rattle.lock_modes.specs.Grants.{is_lock, holds, stays}
+use Rattle.lock_modes.specs.Grants.{is_lock, holds}
 use Rattle.history_model.specs.Lives.{life_of, FollowsLife}
 use Rattle.history_model.specs.Transactions.{Running, running_transaction_of, running_by, is_visible}
 use Rattle.history_model.specs.Versions.{answer_of}
@@ -31,10 +31,11 @@ use Rattle.history_model.specs.Read.{is_scan_of, rows_read, spares_by, usable_by
 use Rattle.history_model.specs.Orderly.{MayComeNext, IsSound}
 use Rattle.history_model.proofs.Prefixes.{each-keeps, EachEntry-more}
 use Rattle.history_model.proofs.Reading.{running_transaction_of-own as running-own, running_transaction_of-other as running-other, lists_of-other as lists-other, held_of-more as held-more, log_of-more as log-more, position_of-own as position-own, position_of-other as position-other, reached_of-more, is_usable-own, is_usable-other, rows_read-own, rows_read-other}
-use Rattle.history_model.proofs.Every.{any-weaker, any-filter, any-left, any-right, any-sides, every}
+use Rattle.history_model.proofs.Every.{any-weaker, any-left, any-right, any-sides, every}
 use Rattle.history_model.proofs.Lawful.{IsLawful}
 use Rattle.history_model.proofs.Touched.{entry_of}
 use Rattle.history_model.proofs.Guards.{any_with}
+use Rattle.history_model.proofs.SparedGrants.{grant_spared}
 use Rattle.history_model.proofs.Granted.{lock_parts}
 use Rattle.history_model.proofs.Reached.{reached-rises}
 use Rattle.history_model.proofs.Ordered.{Ordered, lawful_of, covers_of, sound_ordered}
@@ -160,17 +161,7 @@ behind-fetch history b c count rel modes d spared behind =
 
 -- what another holds it still holds
 holds_kept : (a c w : ℕ) (rel : Oid) (mode : Mode) (event : Event) (gs : List Grant) → (a == w) ≡ false → holds gs w rel mode ≡ true → holds (held_by a c event gs) w rel mode ≡ true
-holds_kept a c w rel mode (events.LockOk on in') gs other held = any-left (is_lock w rel mode) gs _ held
-holds_kept a c w rel mode (events.Write xid items) gs other held = any-left (is_lock w rel mode) gs _ held
-holds_kept a c w rel mode (events.Release from) gs other held = any-filter (is_lock w rel mode) (stays a from) kept gs held
-  where
-    kept : (g : Grant) → is_lock w rel mode g ≡ true → stays a from g ≡ true
-    kept g lock = by_owner (g.backend == a) refl
-      where
-        by_owner : (t : Bool) → (g.backend == a) ≡ t → not (t && nat_le from g.command) ≡ true
-        by_owner false theirs = refl
-        by_owner true mine = absurd (both_ways _ other (eq-eqb a w (sym (eqb-true g.backend a mine) ∙ eqb-true g.backend w (lock_parts w rel mode g lock).0)))
-holds_kept a c w rel mode event gs other held = held
+holds_kept a c w rel mode event gs other held = grant_spared a c event gs w (is_lock w rel mode) (λ g lock. (lock_parts w rel mode g lock).0) (λ own. absurd (both_ways _ other own)) held
 
 writer_kept : (history : List Entry) (e : Entry) (w : ℕ) (rel : Oid) (mode : Mode) → (e.backend == w) ≡ false → is_writer history w rel mode ≡ true → is_writer (history ++ e ∷ []) w rel mode ≡ true
 writer_kept history e w rel mode other is =

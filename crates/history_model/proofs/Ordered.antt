@@ -24,7 +24,7 @@ use Rattle.event_kinds.specs.declared.entry.Event.TheVariants as events
 use Rattle.event_kinds.specs.declared.entry.Item.{Item}
 use Rattle.event_kinds.specs.declared.entry.Item.TheVariants as forms
 use Rattle.lock_modes.specs.declared.grant.Grant.{Grant}
-use Rattle.lock_modes.specs.Grants.{holds}
+use Rattle.lock_modes.specs.Grants.{is_lock, holds, stays}
 use Rattle.history_model.specs.Lives.{Life, Unstarted, Alive, Stopped, life_of, FollowsLife}
 use Rattle.history_model.specs.Transactions.{Running, running_transaction_of, is_visible, runs_as, is_committed}
 use Rattle.history_model.specs.Versions.{versions_of, rows_of, row_with, ends, ended_key, added_row, old_row, counts, sees}
@@ -39,11 +39,11 @@ use Rattle.history_model.specs.Legal.{FollowsVisible, MayRelease, AllowsEvent}
 use Rattle.history_model.specs.Orderly.{has_key, is_fresh, main_rel, keeps_relation, covers_named, IsOrderlyEvent, MayComeNext, IsSound}
 use Rattle.history_model.proofs.Prefixes.{each-keeps}
 use Rattle.history_model.proofs.Reading.{held_of-more as held-more}
-use Rattle.history_model.proofs.Every.{every-weaker, every, every-append, every-filter, every-both, any-left, any-right}
+use Rattle.history_model.proofs.Every.{every-weaker, every, every-append, every-kept, every-both, any-left, any-right}
 use Rattle.history_model.proofs.Lawful.{EndsOnce, CoversRow, CoversItem, CoversLawfully, IsLawfulEvent, IsLawful}
 use Rattle.history_model.proofs.Asking.{oid_eq, scan_in}
 use Rattle.history_model.proofs.Runs.{Runs, Runs-start, Runs-more}
-use Rattle.history_model.proofs.Exclude.{AllAgree, LocksWell, LocksWell-more, LocksLawfully}
+use Rattle.history_model.proofs.Exclude.{AllAgree, LocksWell, LocksWell-more, LocksLawfully, granted_here, lock_command}
 use Rattle.history_model.proofs.Touched.{entry_of, OfStamps, Touched, Touched-more}
 use Rattle.history_model.proofs.Guards.{key_eq, key_refl, is_changing, is_exclusive, is_update, exclusive_changes, update_changes, guards_in, IsHeldIn, held_in-weaker, IsGuarded, IsGuardedItem, Guard, Guards, Guards-more, GuardsLawfully, one_guard}
 use Rattle.history_model.proofs.FixedRows.{IsWeak, weak_or_strong, main_of}
@@ -400,7 +400,7 @@ keys_lawful history b c (events.Write xid items) allows orderly rels k = (
 keys_lawful history b c event allows orderly rels k = tt
 
 locks_lawful : (history : List Entry) (b c : ℕ) (event : Event) → AllowsEvent history b c event → IsOrderlyEvent history b event → LocksLawfully history b event
-locks_lawful history b c (events.LockOk rel mode) allows orderly = (allows.1, orderly)
+locks_lawful history b c (events.LockOk rel mode) allows orderly = (allows.0, (allows.1, orderly))
 locks_lawful history b c (events.Write xid items) allows orderly = allows.oids
 locks_lawful history b c event allows orderly = tt
 
@@ -426,6 +426,7 @@ release_guards history b from false may not' = may
 pub guards_lawful : (history : List Entry) (b c : ℕ) (event : Event) → AllowsEvent history b c event → Ordered history → AllByRecursion (λ g. g.backend ≡ b → g.command ≤ c) (held_of history) → GuardsLawfully history b c event
 guards_lawful history b c (events.Write xid items) allows k early = guarded_items history b c xid items k allows early
 guards_lawful history b c (events.Release from) allows k early = release_guards history b from (is_visible (running_transaction_of history b)) allows.1
+guards_lawful history b c (events.Unlock rel mode) allows k early = (lock_command history b c rel mode k.locks allows.0, allows.1)
 guards_lawful history b c event allows k early = tt
 
 hidden_by : (v : Bool) (event : Event) → FollowsVisible v event → (FollowsVisible true event → ⊥) → v ≡ false
@@ -450,14 +451,6 @@ lawful_event history b c (events.Visible xid) life visible allows orderly k earl
 lawful_event history b c (events.Gone from) life visible allows orderly k early = hidden_by (is_visible (running_transaction_of history b)) (events.Gone from) visible (λ f. f)
 lawful_event history b c (events.Release from) life visible allows orderly k early = λ ends'. released history b from (is_visible (running_transaction_of history b)) refl allows.1 k.lives (running_transaction_of history b) refl ends'
 lawful_event history b c event life visible allows orderly k early = tt
-
-granted_here : (b c : ℕ) (items : List Item) → AllByRecursion (λ g. (g.backend ≡ b) × (g.command ≡ c)) (flat_map (granted_by b c) items)
-granted_here b c [] = tt
-granted_here b c (item ∷ items) = every-append (λ g. (g.backend ≡ b) × (g.command ≡ c)) (granted_by b c item) (flat_map (granted_by b c) items) (of item) (granted_here b c items)
-  where
-    of : (item : Item) → AllByRecursion (λ g. (g.backend ≡ b) × (g.command ≡ c)) (granted_by b c item)
-    of (forms.Add (rows.Class oid own kind fill)) = ((refl, refl), tt)
-    of item = tt
 
 rises_at : (history : List Entry) (e : Entry) → FollowsLife (life_of history e.backend) e.command e.event → Lives history → command_of history e.backend ≤ e.command
 rises_at history e follows lives = rises (life_of history e.backend) e.command (command_of history e.backend) e.event (running_transaction_of history e.backend) (lists_of history e.backend) follows (lives.timely e.backend)
@@ -487,7 +480,8 @@ Early-more history e follows lives early = subst (AllByRecursion On) (sym (held-
     of : (event : Event) → AllByRecursion On (held_by e.backend e.command event (held_of history))
     of (events.LockOk rel mode) = every-append On (held_of history) (record { backend = e.backend; command = e.command; rel = rel; mode = mode } ∷ []) old (new (record { backend = e.backend; command = e.command; rel = rel; mode = mode }) (refl, refl), tt)
     of (events.Write xid items) = every-append On (held_of history) (flat_map (granted_by e.backend e.command) items) old (every-weaker (λ g. (g.backend ≡ e.backend) × (g.command ≡ e.command)) On new (flat_map (granted_by e.backend e.command) items) (granted_here e.backend e.command items))
-    of (events.Release from) = every-filter On (λ g. not ((g.backend == e.backend) && nat_le from g.command)) (held_of history) (every-weaker On (λ g. not ((g.backend == e.backend) && nat_le from g.command) ≡ true → On g) (λ g on is. on) (held_of history) old)
+    of (events.Unlock rel mode) = every-kept On (λ g. not (is_lock e.backend rel mode g)) (held_of history) old
+    of (events.Release from) = every-kept On (stays e.backend from) (held_of history) old
     of event = old
 
 pub early_at : (history : List Entry) (e : Entry) → Ordered history → FollowsLife (life_of history e.backend) e.command e.event → AllByRecursion (λ g. g.backend ≡ e.backend → g.command ≤ e.command) (held_of history)
@@ -521,7 +515,7 @@ Ordered-more history e k comes =
     }
 
 pub Ordered-start : Ordered []
-Ordered-start = record { runs = Runs-start; lives = Lives-start; early = tt; locks = record { agree = tt; drawn = tt }; touched = tt; guards = tt; rels = tt; one = tt }
+Ordered-start = record { runs = Runs-start; lives = Lives-start; early = tt; locks = record { agree = tt; once = tt; drawn = tt }; touched = tt; guards = tt; rels = tt; one = tt }
 
 -- all of it holds of each sound history
 pub sound_ordered : (history : List Entry) → IsSound history → Ordered history

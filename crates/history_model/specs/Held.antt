@@ -1,9 +1,9 @@
 -- The locks that are held.
-use Rattle.std.specs.Prelude.{ℕ, List, [], ◌∷◌, ◌++◌, fold, filter}
+use Rattle.std.specs.Prelude.{ℕ, not, List, [], ◌∷◌, ◌++◌, fold, filter}
 use Rattle.std.specs.List.{flat_map}
 use Rattle.base_types.specs.declared.row.Row.TheVariants.{Class}
-use Rattle.lock_modes.specs.Grants.{stays}
-use Rattle.history_model.specs.Types.{AccessExclusive, Grant, Item, Add, Entry, Event, LockOk, Write, Release}
+use Rattle.lock_modes.specs.Grants.{is_lock, stays}
+use Rattle.history_model.specs.Types.{AccessExclusive, Grant, Item, Add, Entry, Event, LockOk, Unlock, Write, Release}
 
 -- a new relation is locked by its writer
 abbrev pub granted_by : ℕ → ℕ → Item → List Grant
@@ -13,6 +13,7 @@ granted_by b c item = []
 -- the grants after an event
 abbrev pub held_by : ℕ → ℕ → Event → List Grant → List Grant
 held_by b c (LockOk rel mode) old = old ++ record { backend = b; command = c; rel = rel; mode = mode } ∷ []
+held_by b c (Unlock rel mode) old = filter (λ g. not (is_lock b rel mode g)) old
 held_by b c (Write xid items) old = old ++ flat_map (granted_by b c) items
 held_by b c (Release from) old = filter (stays b from) old
 held_by b c event old = old

@@ -1,10 +1,10 @@
 -- What a history allows as its next entry, whichever commands the backends run.
-use Rattle.std.specs.Prelude.{ℕ, Bool, true, false, Option, Some, None, List, [], ◌≡◌, ◌≤◌, ◌==◌, ◌-◌, min, length, ⊤}
+use Rattle.std.specs.Prelude.{ℕ, Bool, true, false, Option, Some, None, List, [], ◌≡◌, ◌≤◌, ◌==◌, ◌&&◌, ◌-◌, min, length, ⊤}
 use Rattle.std.specs.Option.{option_map}
 use Rattle.std.specs.List.{list_any}
-use Rattle.lock_modes.specs.Grants.{holds, first_conflict}
+use Rattle.lock_modes.specs.Grants.{is_lock, holds, first_conflict}
 use Rattle.inval_messages.specs.Lists.{has_write_from}
-use Rattle.history_model.specs.Types.{Mode, Entry, Event, Start, Look, Fetch, FetchReset, LockOk, LockHeld, Scan, Write, ClashRow, ClashRunning, Visible, Publish, Release, Gone, Stop}
+use Rattle.history_model.specs.Types.{Oid, Mode, Grant, Entry, Event, Start, Look, Fetch, FetchReset, LockOk, LockHeld, Unlock, Scan, Write, ClashRow, ClashRunning, Visible, Publish, Release, Gone, Stop}
 use Rattle.history_model.specs.Prefixes.{EachEntry}
 use Rattle.history_model.specs.Lives.{FollowsLife, life_of, last_event_of}
 use Rattle.history_model.specs.Transactions.{running_transaction_of, is_visible, runs_as}
@@ -46,6 +46,14 @@ abbrev pub MayRelease : Bool → List Entry → ℕ → ℕ → Type 0
 MayRelease true before b from = (option_map (λ t. t.first) (running_transaction_of before b) ≡ Some from) × (left_in (lists_of before b) (running_transaction_of before b) ≡ [])
 MayRelease false before b from = has_write_from from (lists_of before b) ≡ false
 
+-- a grant of the mode on the relation to the backend, in this command
+abbrev pub is_lock_of : ℕ → ℕ → Oid → Mode → Grant → Bool
+is_lock_of b c rel mode g = is_lock b rel mode g && (g.command == c)
+
+-- a backend gives back a lock that it was granted in the command that runs, of which no write stands
+abbrev pub AllowsUnlock : List Entry → ℕ → ℕ → Oid → Mode → Type 0
+AllowsUnlock before b c rel mode = (list_any (is_lock_of b c rel mode) (held_of before) ≡ true) × (has_write_from c (lists_of before b) ≡ false)
+
 -- what the entries before allow the backend to do in this command
 abbrev pub AllowsEvent : List Entry → ℕ → ℕ → Event → Type 0
 AllowsEvent before b c Start = ⊤
@@ -55,6 +63,7 @@ AllowsEvent before b c FetchReset = last_event_of before b ≡ Some (Look true)
 AllowsEvent before b c (Scan purpose rows) = rows ≡ length (answer_of before b purpose)
 AllowsEvent before b c (LockOk rel mode) = (holds (held_of before) b rel mode ≡ false) × (first_conflict (held_of before) b rel mode ≡ None)
 AllowsEvent before b c (LockHeld rel mode holder held) = (holds (held_of before) b rel mode ≡ false) × (option_map {U = ℕ × Mode} (λ g. (g.backend, g.mode)) (first_conflict (held_of before) b rel mode) ≡ Some (holder, held))
+AllowsEvent before b c (Unlock rel mode) = AllowsUnlock before b c rel mode
 AllowsEvent before b c (Write xid items) = IsWriteAllowed before b c xid items
 AllowsEvent before b c (ClashRunning name xid) = list_any (λ user. user == xid.0) (users_of before b name) ≡ true
 AllowsEvent before b c (ClashRow name rel) = (users_of before b name ≡ []) × (is_named before b name rel ≡ true)

@@ -12,7 +12,7 @@ pub use Rattle.base_types.specs.declared.change.Change.TheVariants.{Insert, Repl
 pub use Rattle.base_types.specs.declared.scan.Purpose.{Purpose}
 pub use Rattle.event_kinds.specs.declared.entry.Entry.{Entry}
 pub use Rattle.event_kinds.specs.declared.entry.Event.{Event}
-pub use Rattle.event_kinds.specs.declared.entry.Event.TheVariants.{Start, Look, Fetch, FetchReset, LockOk, LockHeld, Scan, Write, ClashRow, ClashRunning, Visible, Publish, Release, Gone, Fail, Stop}
+pub use Rattle.event_kinds.specs.declared.entry.Event.TheVariants.{Start, Look, Fetch, FetchReset, LockOk, LockHeld, Unlock, Scan, Write, ClashRow, ClashRunning, Visible, Publish, Release, Gone, Fail, Stop}
 pub use Rattle.event_kinds.specs.declared.entry.Item.{Item}
 pub use Rattle.event_kinds.specs.declared.entry.Item.TheVariants.{Add, Put, Remove, Force}
 pub use Rattle.row_visibility.specs.declared.version.Stamp.{Stamp}

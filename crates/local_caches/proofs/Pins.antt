@@ -1,5 +1,5 @@
 -- How often the relations are pinned.
-use Rattle.std.proofs.Common.{◌≡◌, ◌≢◌, ◌<◌, ◌+◌, ◌∙◌, ◌⊎◌, inl, inr, ℕ, false, Option, Some, None, IsSome, IsSomeAnd, List, [], ◌∷◌, ◌++◌, sym, ap, refl, arith, if◌then◌else◌}
+use Rattle.std.proofs.Common.{◌≡◌, ◌≢◌, ◌<◌, ◌+◌, ◌∙◌, ◌⊎◌, inl, inr, ◌||◌, ℕ, Bool, true, false, Option, Some, None, IsSome, IsSomeAnd, List, [], ◌∷◌, ◌++◌, sym, ap, refl, arith, if◌then◌else◌}
 use Rattle.std.proofs.lemmas.Bool.{or_parts, eq-eqb, ne_eqb}
 use Rattle.std.specs.List.{list_any}
 use Rattle.std.specs.Option.{option_map}
@@ -21,6 +21,17 @@ times_none rel [] none = refl
 times_none rel (x ∷ xs) none =
     let parts = or_parts (same_oid x rel) (list_any (λ other. same_oid other rel) xs) none in
     ap (λ n. n + (if same_oid x rel then 1 else 0)) (times_none rel xs parts.1) ∙ ap (λ t. 0 + (if t then 1 else 0)) parts.0
+
+-- a relation that is among these stands there
+pub times_some : (rel : Oid) (xs : List Oid) → list_any (λ other. same_oid other rel) xs ≡ true → 0 < times rel xs
+times_some rel [] some = absurd (cc)
+times_some rel (x ∷ xs) some = by (same_oid x rel) refl (times_some rel xs)
+  where
+    by : (t : Bool) → same_oid x rel ≡ t → (list_any (λ other. same_oid other rel) xs ≡ true → 0 < times rel xs) → 0 < times rel xs + (if same_oid x rel then 1 else 0)
+    by true is more = let one : times rel xs + (if same_oid x rel then 1 else 0) ≡ times rel xs + 1 = ap (λ t. times rel xs + (if t then 1 else 0)) is in omega (arith, one)
+    by false is more =
+        let rest = more (sym (ap (λ t. t || list_any (λ other. same_oid other rel) xs) is) ∙ some) in
+        omega (arith, rest)
 
 -- one more at the end
 pub times_more : (rel other : Oid) (xs : List Oid) → times rel (xs ++ other ∷ []) ≡ times rel xs + (if same_oid other rel then 1 else 0)

@@ -8,7 +8,7 @@ ghost use Rattle.local_caches.specs.Whole.{AreOfTheirs, AreUnpinned};
 use crate::given::Given;
 use crate::home::Lookup;
 use crate::keyed::{find_key, find_list, put_key, put_list};
-use base_types::{CacheId, Listed, NoMemory, Row};
+use base_types::{CacheId, KeyPart, Listed, NoMemory, Row};
 use cat_cache::CatCache;
 use std::alloc::Global;
 
@@ -27,6 +27,7 @@ pub(crate) struct CatCaches {
 #[tactic(auto, unfolding(crate::specs::CatCaches::looked_up), using(crate::proofs::Unpinned::nothing_pinned, crate::proofs::Unpinned::gone_unpinned))]
 impl CatCaches {
     ghost use Rattle.local_caches.specs.CatCaches.{cache_of, looked_up, PutsLookup, HasAll};
+    ghost use Rattle.local_caches.specs.declared.home.Lookup.TheVariants as lookups;
 
     // Nothing is kept, which takes no memory.
     pub(crate) fn new(alloc: Global) -> CatCaches
@@ -39,14 +40,18 @@ impl CatCaches {
         }
     }
 
-    // What is kept by a lookup.
-    pub(crate) fn find(&self, lookup: &Lookup) -> Option<Given<'_>>
-        ensures { option_map given result ≡ looked_up self.now lookup.now }
+    // What is kept of the key of these parts.
+    pub(crate) fn find_key(&self, id: CacheId, key: &[KeyPart]) -> Option<Given<'_>>
+        ensures { option_map given result ≡ looked_up self.now (lookups.Key id key.now) }
     {
-        match lookup {
-            Lookup::Key(id, key) => find_key(self.cache(*id), key),
-            Lookup::List(prefix) => find_list(&self.columns, prefix),
-        }
+        find_key(self.cache(id), key)
+    }
+
+    // What is kept of the keys that begin with these parts.
+    pub(crate) fn find_list(&self, prefix: &[KeyPart]) -> Option<Given<'_>>
+        ensures { option_map given result ≡ looked_up self.now (lookups.List prefix.now) }
+    {
+        find_list(&self.columns, prefix)
     }
 
     // The cache of a catalog.

@@ -1,4 +1,4 @@
-ghost use Rattle.std.specs.Prelude.{◌≡◌, [], cond, OnOk, OnErr};
+ghost use Rattle.std.specs.Prelude.{◌≡◌, ◌≢◌, ◌<◌, [], true, cond, OnOk, OnErr};
 ghost use Rattle.std.specs.Option.{option_map};
 ghost use Rattle.std.specs.List.{list_any};
 ghost use Rattle.base_types.specs.Scans.{same_oid};
@@ -24,13 +24,14 @@ pub(crate) struct Descriptors {
     ghost pins: { ArePinned relations pinned.items },
 }
 
-#[tactic(auto, unfolding(crate::specs::Descriptors::parts_of))]
+#[tactic(auto, unfolding(crate::specs::Descriptors::has_descriptor, crate::specs::Descriptors::parts_of, crate::specs::Descriptors::pins_of))]
 impl Descriptors {
-    ghost use Rattle.local_caches.specs.Descriptors.{parts_of, HasParts, AddsPart};
+    ghost use Rattle.local_caches.specs.Descriptors.{has_descriptor, parts_of, pins_of, HasParts, HasPins, AddsPart};
 
     // No descriptors, which takes no memory.
     pub(crate) fn new(alloc: Global) -> Descriptors
-        ensures { (rel : _) → parts_of result rel ≡ [] }
+        ensures parts { (rel : _) → parts_of result rel ≡ [] }
+        ensures pins { (rel : _) → pins_of result rel ≡ 0 }
     {
         Descriptors {
             alloc,
@@ -66,6 +67,7 @@ impl Descriptors {
     pub(crate) fn put(&mut self, rel: Oid, part: Part) -> Result<(), NoMemory>
         ensures ok { OnOk result (AddsPart self.old self.new rel part) }
         ensures err { OnErr result (HasParts self.old self.new) }
+        ensures pins { HasPins self.old self.new }
     {
         put_part(self.alloc, &mut self.relations, rel, part)
     }
@@ -73,21 +75,26 @@ impl Descriptors {
     // Executes a message for a relation: its descriptor goes, or is to be built anew where it is pinned
     // (`RelationCacheInvalidateEntry` in `src/backend/utils/cache/relcache.c`).
     pub(crate) fn execute(&mut self, rel: Oid)
-        ensures { (other : _) → parts_of self.new other ≡ cond (same_oid rel other) [] (parts_of self.old other) }
+        ensures parts { (other : _) → parts_of self.new other ≡ cond (same_oid rel other) [] (parts_of self.old other) }
+        ensures pins { HasPins self.old self.new }
     {
         let _ = self.relations.note_message(rel);
     }
 
     // The same for all of them (`RelationCacheInvalidate` in `src/backend/utils/cache/relcache.c`).
     pub(crate) fn reset(&mut self)
-        ensures { (rel : _) → parts_of self.new rel ≡ [] }
+        ensures parts { (rel : _) → parts_of self.new rel ≡ [] }
+        ensures pins { HasPins self.old self.new }
     {
         self.relations.note_reset();
     }
 
     // Pins a relation's descriptor, if there is one and it isn't pinned yet. Out of memory, nothing changes.
     pub(crate) fn pin(&mut self, rel: Oid) -> Result<(), NoMemory>
-        ensures { HasParts self.old self.new }
+        ensures parts { HasParts self.old self.new }
+        ensures pinned { OnOk result (has_descriptor self.old rel ≡ true → 0 < pins_of self.new rel) }
+        ensures others { (other : _) → other ≢ rel → pins_of self.new other ≡ pins_of self.old other }
+        ensures err { OnErr result (HasPins self.old self.new) }
     {
         if is_among(&self.pinned, rel) {
             return Ok(());
@@ -102,7 +109,8 @@ impl Descriptors {
 
     // Lets go of all descriptors that are pinned. They stay, also without pins.
     pub(crate) fn unpin_all(&mut self)
-        ensures { HasParts self.old self.new }
+        ensures parts { HasParts self.old self.new }
+        ensures pins { (rel : _) → pins_of self.new rel ≡ 0 }
     {
         while let Some(rel) = self.pinned.pop() {
             if let Some(r) = self.relations.reference(rel) {

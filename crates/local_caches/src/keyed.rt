@@ -8,11 +8,11 @@ ghost use Rattle.local_caches.specs.Keyed.{PutsKey, PutsList};
 ghost use Rattle.local_caches.specs.Whole.{IsUnpinned};
 
 use crate::given::Given;
-use base_types::{Key, Listed, NoMemory, Row};
+use base_types::{Key, KeyPart, Listed, NoMemory, Row};
 use cat_cache::{CatCache, Found, FoundList};
 
 // What a key was found to have.
-pub(crate) fn find_key<'a>(cache: &'a CatCache, key: &Key) -> Option<Given<'a>>
+pub(crate) fn find_key<'a>(cache: &'a CatCache, key: &[KeyPart]) -> Option<Given<'a>>
     ensures { option_map given result ≡ option_map read_in (entry_of cache.now key.now) }
 {
     match cache.peek(key) {
@@ -26,7 +26,7 @@ pub(crate) fn find_key<'a>(cache: &'a CatCache, key: &Key) -> Option<Given<'a>>
 }
 
 // What the keys were found to have that begin with these parts.
-pub(crate) fn find_list<'a>(cache: &'a CatCache, prefix: &Key) -> Option<Given<'a>>
+pub(crate) fn find_list<'a>(cache: &'a CatCache, prefix: &[KeyPart]) -> Option<Given<'a>>
     ensures { option_map given result ≡ option_map read_listed (list_of cache.now prefix.now) }
 {
     match cache.peek_list(prefix) {

@@ -10,7 +10,7 @@ use crate::given::Given;
 use crate::home::{Home, home_of};
 use crate::part::Part;
 use crate::parts::first_missing_of;
-use base_types::{Kind, Listed, NoMemory, Oid, Purpose, Row};
+use base_types::{CacheId, KeyPart, Kind, Listed, NoMemory, Oid, Purpose, Row};
 use inval_messages::Message;
 use std::alloc::Global;
 
@@ -70,13 +70,31 @@ impl LocalCaches {
         }
     }
 
-    // What is kept of a scan.
+    // What is kept of a scan, at its home. The parts of its key are passed as they are: to build a whole key
+    // would take longer than to look it up.
     fn find(&self, scan: &Purpose) -> Option<Given<'_>>
         ensures { option_map given result ≡ kept_of self.now scan.now }
     {
-        match home_of(scan) {
-            Home::Cat(lookup) => self.catalogs.find(&lookup),
-            Home::Rel(rel) => self.descriptors.find(rel, scan),
+        let catalogs = &self.catalogs;
+        match scan {
+            Purpose::RelName(name) => {
+                catalogs.find_key(CacheId::RelName, &[KeyPart::Name(*name)])
+            }
+            Purpose::RelOid(rel) => catalogs.find_key(CacheId::RelOid, &[KeyPart::Oid(*rel)]),
+            Purpose::AttName(rel, name) => {
+                catalogs.find_key(
+                    CacheId::AttName,
+                    &[KeyPart::Oid(*rel), KeyPart::Name(*name)],
+                )
+            }
+            Purpose::AttList(rel) => catalogs.find_list(&[KeyPart::Oid(*rel)]),
+            Purpose::Class(rel)
+            | Purpose::Attribute(rel)
+            | Purpose::AttrDef(rel)
+            | Purpose::Constraint(rel)
+            | Purpose::Index(rel)
+            | Purpose::Trigger(rel)
+            | Purpose::IndexRow(rel) => self.descriptors.find(*rel, scan),
         }
     }
 

@@ -85,6 +85,16 @@ pub trait Seg {
         ensures script { script self.new ≡ script self.old }
         ensures locks { Locks (history self.old) (history self.new) (promised self.old) (promised self.new) b c rel mode result };
 
+    /// It gives back a lock on a relation that it was granted in this command, as a lookup does whose
+    /// name means another relation by then (`UnlockRelationOid` in `src/backend/storage/lmgr/lmgr.c`,
+    /// for `RangeVarGetRelidExtended` in `src/backend/catalog/namespace.c`). No write of the command
+    /// stands.
+    fn unlock(&mut self, b: u32, c: u32, rel: Oid, mode: Mode)
+        requires call { MayCall (script self.old) (history self.old) (entry_of b c (Event.Unlock rel mode)) }
+        requires place { 0 < promised self.old b }
+        ensures script { script self.new ≡ script self.old }
+        ensures appends { Appends (history self.old) (history self.new) (promised self.old) (promised self.new) (entry_of b c (Event.Unlock rel mode)) };
+
     /// It makes all changes of a draft at once, and holds the relations that are new in
     /// AccessExclusive (`CatalogTupleInsert` and its like in `src/backend/catalog/indexing.c`).
     /// `Clash`: exactly where a new name of a relation is taken.

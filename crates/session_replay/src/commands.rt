@@ -48,6 +48,7 @@ fn copied(alloc: Global, command: &Command) -> Option<Command> {
             name: *name,
             columns: copied_columns(alloc, columns)?,
         }),
+        Command::DropTable(name) => Some(Command::DropTable(*name)),
         _ => copied_alteration(command),
     }
 }
@@ -70,6 +71,7 @@ fn copied_alteration(command: &Command) -> Option<Command> {
             Command::SetStatistics { name, column, stat }
         }
         Command::SetFillfactor { name, fill } => Command::SetFillfactor { name, fill },
+        Command::RenameTable { name, to } => Command::RenameTable { name, to },
         _ => return None,
     })
 }

@@ -104,7 +104,8 @@ impl Session {
             Event::Fetch { count } => self.fetch(segment, *count as usize)?,
             Event::FetchReset => self.reset(segment)?,
             Event::Scan { purpose, rows } => self.scan(segment, purpose, *rows)?,
-            Event::LockOk { rel, mode } => self.lock(segment, *rel, *mode)?,
+            Event::LockOk { rel, mode } => self.lock(*rel, *mode)?,
+            Event::Unlock { rel, mode } => self.unlock(*rel, *mode)?,
             Event::Write { xid, items } => self.write(segment, *xid, items.as_slice())?,
             Event::Publish { count } => self.publish(segment, *count)?,
             _ => self.enter_alone(event)?,
@@ -154,18 +155,22 @@ impl Session {
             .ok()
     }
 
-    fn lock(&mut self, segment: &Segment, rel: Oid, mode: Mode) -> Option<()> {
+    fn lock(&mut self, rel: Oid, mode: Mode) -> Option<()> {
         if self.progress.reserve_lock().is_err() {
             return None;
         }
         if !is_countable(&self.progress) || self.progress.locks.state(rel, mode).is_some() {
             return None;
         }
-        let event = Event::LockOk { rel, mode };
-        if !self.progress.may_play(segment.next_oid, &event) {
+        self.progress.enter_lock(rel, mode);
+        Some(())
+    }
+
+    fn unlock(&mut self, rel: Oid, mode: Mode) -> Option<()> {
+        if !is_countable(&self.progress) || self.progress.locks.state(rel, mode).is_none() {
             return None;
         }
-        self.progress.enter_lock(rel, mode);
+        self.progress.enter_unlock(rel, mode);
         Some(())
     }
 

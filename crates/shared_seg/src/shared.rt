@@ -27,7 +27,6 @@ use std::snapshot::Snapshot;
 use txn_blocks::RunningTransaction;
 
 /// What all backends of a script share.
-#[derive(Drop)]
 pub struct Shared {
     alloc: Global,
     script: Snapshot<Script>,
@@ -40,6 +39,23 @@ pub struct Shared {
     next_oid: u32,
     last_xid: u32,
     ghost short: { length places.entries + sum places.promised ≤ 2 ^ 56 },
+}
+
+// Written out, and not derived: so it is proved here, and not again wherever one is dropped.
+impl Drop for Shared {
+    fn drop(self) {
+        let Shared {
+            alloc: _,
+            script: _,
+            places: _,
+            store: _,
+            locks: _,
+            queue: _,
+            transactions: _,
+            next_oid: _,
+            last_xid: _,
+        } = self;
+    }
 }
 
 impl Model for Shared {
@@ -207,6 +223,16 @@ impl Seg for Shared {
             }
             Err(LockRefusal::NoMemory) => Err(LockRefusal::NoMemory),
         }
+    }
+
+    fn unlock(&mut self, b: u32, c: u32, rel: Oid, mode: Mode) {
+        self.places.append(Entry {
+            backend: b,
+            command: c,
+            event: Event::Unlock { rel, mode },
+        });
+        self.locks.unlock(b, rel, mode);
+        begin(&mut self.transactions, b, c);
     }
 
     fn write(&mut self, b: u32, c: u32, draft: &Draft) -> Result<Written, WriteRefusal> {

@@ -16,8 +16,8 @@ pub fn is_built(script: &Script) -> bool
         .all(|placed| is_built_command(&placed.command))
 }
 
-/// Whether one command can be run today.
-pub fn is_built_command(command: &Command) -> bool
+// Whether one command can be run today.
+fn is_built_command(command: &Command) -> bool
     ensures { result ≡ runs command.now }
 {
     Exec::has_plan(command)

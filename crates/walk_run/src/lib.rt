@@ -26,5 +26,5 @@ mod lines;
 mod own_commands;
 mod walking;
 
-pub use built::{is_built, is_built_command};
+pub use built::is_built;
 pub use walking::{World, walk, walk_on};

@@ -73,6 +73,7 @@ fn copied(alloc: Global, command: &Command) -> Result<Command, NoMemory>
             name: *name,
             columns: copied_columns(alloc, columns)?,
         },
+        Command::DropTable(name) => Command::DropTable(*name),
         _ => copied_alteration(command),
     })
 }
@@ -109,6 +110,10 @@ fn copied_alteration(command: &Command) -> Command
         Command::SetFillfactor { name, fill } => Command::SetFillfactor {
             name: *name,
             fill: *fill,
+        },
+        Command::RenameTable { name, to } => Command::RenameTable {
+            name: *name,
+            to: *to,
         },
         _ => unreachable!(),
     }

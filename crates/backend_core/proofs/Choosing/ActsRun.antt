@@ -1,5 +1,5 @@
 -- In a command that acts or scans, and whose transaction's first look is made, a transaction runs.
-use Rattle.std.proofs.Common.{◌≡◌, ◌≢◌, ◌∙◌, ◌&&◌, ◌||◌, inl, inr, Bool, true, false, not, Option, Some, None, List, [], ◌∷◌, refl, sym, ap, subst, is_none, is_some}
+use Rattle.std.proofs.Common.{◌≡◌, ◌≢◌, ◌∙◌, ◌&&◌, ◌||◌, inl, inr, Bool, true, false, not, Option, Some, None, List, [], ◌∷◌, refl, sym, ap, subst, is_none, is_some, ℕ}
 use Rattle.std.specs.List.{list_any}
 use Rattle.std.proofs.lemmas.Bool.{both_ways}
 use Rattle.std.proofs.lemmas.Option.{slice_get_within, get_or_from_slice_get}
@@ -8,7 +8,7 @@ use Rattle.command_answers.specs.declared.error.CommandError.TheVariants as erro
 use Rattle.txn_blocks.specs.Blocks.{Block, Outside, Inside, Failed, no_block, ends_block, ends_failure, refused_in, refused_by}
 use Rattle.ddl_effect.specs.Commands.{plan_of}
 use Rattle.ddl_effect.specs.declared.told.Told.TheVariants as tells
-use Rattle.ddl_effect.specs.Plans.{Act, Plan, Done, Fails, Absent, NotBuilt, Do}
+use Rattle.ddl_effect.specs.Plans.{Act, Plan, Done, Fails, Absent, NotBuilt, Do, Lookup}
 use Rattle.ddl_effect.specs.Stages.{plan_at}
 use Rattle.cacheless.specs.Facts.{Facts, facts_of}
 use Rattle.cacheless.specs.May.{is_first_missing, is_next_of_act, has_failed, is_next_at}
@@ -16,16 +16,19 @@ use Rattle.cacheless.specs.OnCourse.{OnItsWay, AllOnCourse}
 use Rattle.cacheless.specs.Owed.{Owes, OwesLook, begins, owed_at_start}
 use Rattle.cacheless.specs.Runs.{runs}
 use Rattle.cacheless.specs.Session.{Session, Unsettled, Badly, none_open, outcome_of, is_settled, plan_admitted, plan_first, refused_first}
-use Rattle.cacheless.specs.State.{kept_at, owed_first}
+use Rattle.cacheless.specs.State.{kept_at, owed_first, is_absent}
 use Rattle.cacheless.specs.Types.{CommandError, Told}
 use Rattle.cacheless.proofs.Plans.ActOrder.{FollowsOrder, follows_order}
 use Rattle.cacheless.proofs.Same.{start_owed}
+use Rattle.cacheless.proofs.Entries.EnteredLooks.{not_absent}
 use Rattle.cacheless.proofs.Plans.SilentActs.{on_its_way}
 use Rattle.cacheless.proofs.Tests.{and_true, not_true, or_either}
 use Rattle.cacheless.proofs.Plans.Ways.{acts as acting, none_reached}
 use Rattle.backend_core.specs.Types.{Row, Purpose, Command, Scenario, Entry, Backend}
 use Rattle.backend_core.specs.Agrees.{command_at, AwaitsEntry}
 use Rattle.backend_core.specs.Fits.{RunsBy, TransactionFits, Fits}
+use Rattle.backend_core.specs.Steps.{FindsNone, Looks, Says}
+use Rattle.backend_core.specs.Words.{is_unfound}
 use Rattle.backend_core.proofs.Fitting.NextTransaction.{some_first}
 use Rattle.backend_core.proofs.Own.{waiting, follows, going}
 
@@ -59,9 +62,9 @@ none_left : {X : Type 0} (o : Option X) → is_some o ≡ false → is_none o �
 none_left None is = refl
 none_left (Some x) is = absurd (cc is)
 
-pub acts_run : (facts : Facts) (o : Option Command) (s : Session) (looked to_build : Bool) (command : Command) → o ≡ Some command → Fits facts o s looked to_build → s.ended ≡ false → s.blocked ≡ false → runs command ≡ true → DoesSome (plan_of none_open command) → owed_at_start facts command s ≡ []
+pub acts_run : (facts : Facts) (o : Option Command) (s : Session) (looked to_build told : Bool) (command : Command) → o ≡ Some command → Fits facts o s looked to_build told → s.ended ≡ false → s.blocked ≡ false → runs command ≡ true → DoesSome (plan_of none_open command) → owed_at_start facts command s ≡ []
     → is_some facts.running ≡ true
-acts_run facts o s looked to_build command at fits going unblocked built acts free = by_block s.blocks.block refl (subst (TransactionFits facts o s) going fits.transaction)
+acts_run facts o s looked to_build told command at fits going unblocked built acts free = by_block s.blocks.block refl (subst (TransactionFits facts o s) going fits.transaction)
   where
     admitted : is_some (refused_in s.blocks.block command) ≡ false
     admitted = ap (λ c. is_some (refused_first s.blocks c)) (sym at) ∙ sym fits.blocked ∙ unblocked
@@ -91,7 +94,7 @@ module _ (scenario : Scenario) (seen : List Entry) (s : Backend) (waits : Awaits
       by_test true is = absurd (let badly : outcome_of (plan_first (waiting waits).blocks (command_at s)) ≡ Badly = refused_badly (command_at s) (waiting waits) (sym waits.fits.blocked ∙ is) in goes (ap outcome_of (waits.fits.settled (ap is_settled badly)) ∙ badly))
 
   runs_here : owed_first s.progress command ≡ [] → outcome_of (plan_at s.progress.exec) ≢ Badly → DoesSome (plan_of none_open command) → is_some (facts_of seen s.progress.id).running ≡ true
-  runs_here free goes acts = acts_run (facts_of seen s.progress.id) (command_at s) (waiting waits) s.looked s.looked_to_build command at waits.fits (going scenario seen s waits courses command at) (unblocked_here goes) built acts
+  runs_here free goes acts = acts_run (facts_of seen s.progress.id) (command_at s) (waiting waits) s.looked s.looked_to_build s.told command at waits.fits (going scenario seen s waits courses command at) (unblocked_here goes) built acts
       (start_owed (facts_of seen s.progress.id) command s.progress waits.rests.holds.rest waits.rests.holds.facts ∙ free)
 
   -- its plan isn't an answer alone
@@ -102,6 +105,35 @@ module _ (scenario : Scenario) (seen : List Entry) (s : Backend) (waits : Awaits
   -- before an act
   pub act_runs : (act : Act) (rest : List Row → Plan) → plan_at s.progress.exec ≡ Do act rest → owed_first s.progress command ≡ [] → is_some (facts_of seen s.progress.id).running ≡ true
   act_runs act rest acts free = runs_here free (λ badly. let no : Unsettled ≡ Badly = ap outcome_of (sym acts) ∙ badly in cc no) (acts_none act rest acts)
+
+  -- where the command says that there is no relation of a name
+  absent_runs : (name : List ℕ) → plan_at s.progress.exec ≡ Absent name → owed_first s.progress command ≡ [] → is_some (facts_of seen s.progress.id).running ≡ true
+  absent_runs name says free = acts_run (facts_of seen s.progress.id) (command_at s) (waiting waits) s.looked s.looked_to_build s.told command at waits.fits (going scenario seen s waits courses command at) unblocked built acts
+      (start_owed (facts_of seen s.progress.id) command s.progress waits.rests.holds.rest waits.rests.holds.facts ∙ free)
+    where
+      unblocked : s.progress.blocked ≡ false
+      unblocked = by_test s.progress.blocked refl
+        where
+          by_test : (t : Bool) → s.progress.blocked ≡ t → s.progress.blocked ≡ false
+          by_test false is = is
+          by_test true is = absurd (let badly : outcome_of (plan_first (waiting waits).blocks (command_at s)) ≡ Badly = refused_badly (command_at s) (waiting waits) (sym waits.fits.blocked ∙ is) in
+              both_ways _ (ap is_absent (waits.fits.settled (ap is_settled badly)) ∙ not_absent (waiting waits).blocks (command_at s)) (ap is_absent says))
+
+      acts : DoesSome (plan_of none_open command)
+      acts told none = let was = (follows scenario seen s waits courses command at).sought name says in let both : Do (Lookup name was.mode) was.rest ≡ Done told = sym was.looks ∙ was.first ∙ none in cc both
+
+  -- before the look of a lookup that has found no relation
+  pub find_runs : owed_first s.progress command ≡ [] → FindsNone s.progress command → is_some (facts_of seen s.progress.id).running ≡ true
+  find_runs free (Looks unfound owes) = by_plan (plan_at s.progress.exec) refl unfound
+    where
+      by_plan : (p : Plan) → plan_at s.progress.exec ≡ p → is_unfound s.progress p ≡ true → is_some (facts_of seen s.progress.id).running ≡ true
+      by_plan (Do act rest) is of = act_runs act rest is free
+      by_plan p is of = absurd (cc of)
+  find_runs free (Says absent quiet) = by_plan (plan_at s.progress.exec) refl absent
+    where
+      by_plan : (p : Plan) → plan_at s.progress.exec ≡ p → is_absent p ≡ true → is_some (facts_of seen s.progress.id).running ≡ true
+      by_plan (Absent name) is of = absent_runs name is free
+      by_plan p is of = absurd (cc of)
 
   -- before a scan
   pub scan_runs : (scan : Purpose) → is_next_at scan s.progress ≡ true → owed_first s.progress command ≡ [] → is_some (facts_of seen s.progress.id).running ≡ true

@@ -13,16 +13,21 @@ use Rattle.seg_calls.specs.Calls.{entry_of, took_back, MayCall, MayRequest}
 use Rattle.seg_calls.proofs.Allowed.{is_start, request_follows}
 use Rattle.cacheless.specs.Facts.{Facts, facts_of}
 use Rattle.cacheless.specs.May.{lacks_any, owes_nothing, may_play_now}
-use Rattle.cacheless.specs.Owed.{Owes as Owing, OwesLook, OwesFetch, OwesScan, owed_after, owed_of}
-use Rattle.cacheless.specs.Plays.{started_in, may_look, MayPlayIn}
-use Rattle.cacheless.specs.Ends.{TakesBack, end_of, end_of_all}
-use Rattle.cacheless.specs.Session.{Session}
-use Rattle.cacheless.specs.State.{owed_at, owed_first, one_if, is_out}
+use Rattle.cacheless.specs.Owed.{Owes as Owing, OwesLook, OwesFetch, OwesScan, owed_after, owed_of, started_in}
+use Rattle.cacheless.specs.Plays.{may_look, MayPlayIn}
+use Rattle.cacheless.specs.Ends.{TakesBack, end_of, end_of_all, Commits, Ends, End, end_well, end_badly}
+use Rattle.cacheless.specs.Session.{Session, Well, Badly, Unsettled, number_of, outcome_of}
+use Rattle.cacheless.specs.State.{owed_at, owed_first, one_if, is_out, is_absent, is_quiet}
 use Rattle.cacheless.proofs.Deciding.{holds_decides}
 use Rattle.cacheless.proofs.Same.{owes_nothing_is}
 use Rattle.backend_core.specs.Types.{Command, Scenario, Entry, Event, Progress, Backend}
 use Rattle.backend_core.specs.Agrees.{command_at, AwaitsEntry}
 use Rattle.backend_core.proofs.Own.{waiting}
+use Rattle.backend_core.specs.Fits.{first_at}
+use Rattle.txn_blocks.specs.Blocks.{innermost}
+use Rattle.cacheless.specs.Settled.{nothing_waits}
+use Rattle.ddl_effect.specs.Plans.{Absent, Plan}
+use Rattle.ddl_effect.specs.Stages.{plan_at}
 
 pub one_at_most : (t : Bool) → one_if t ≤ 1
 one_at_most true = omega arith
@@ -65,6 +70,7 @@ look_may facts s owes low = by_owed (owed_after facts.last) owes
 pub data Busy (p : Progress) (command : Command) : Type 0 where
   Owes : owes_nothing command p ≡ false → Busy p command
   Acts : is_out p ≡ false → Busy p command
+  Sought : is_absent (plan_at p.exec) ≡ true → is_quiet p.due ≡ true → Busy p command
 
 -- so where a look or a fetch is due
 pub due_busy : (p : Progress) (command : Command) → is_empty (owed_at p.due) ≡ false → Busy p command
@@ -77,9 +83,26 @@ module _ (scenario : Scenario) (seen : List Entry) (s : Backend) (waits : Awaits
   owes_same : is_empty (owed_of facts command (waiting waits)) ≡ owes_nothing command s.progress
   owes_same = owes_nothing_is facts command s.progress waits.rests.holds.rest waits.rests.holds.facts
 
-  not_busy : owed_of facts command (waiting waits) ≡ [] → is_out s.progress ≡ true → Busy s.progress command → ⊥
-  not_busy free out (Owes busy) = both_ways _ busy (sym owes_same ∙ ap is_empty free)
-  not_busy free out (Acts busy) = both_ways _ busy out
+  not_busy : owed_of facts command (waiting waits) ≡ [] → is_out s.progress ≡ true → Busy s.progress command → (is_absent (plan_at s.progress.exec) ≡ true → is_quiet s.progress.due ≡ true → ⊥) → ⊥
+  not_busy free out (Owes busy) never = both_ways _ busy (sym owes_same ∙ ap is_empty free)
+  not_busy free out (Acts busy) never = both_ways _ busy out
+  not_busy free out (Sought absent quiet) never = never absent quiet
+
+  -- a command that says that there is no relation of a name doesn't commit
+  never_commits : (first : ℕ) → end_of facts command (waiting waits) ≡ Commits first → is_absent (plan_at s.progress.exec) ≡ true → ⊥
+  never_commits first commits absent = by_plan (plan_at s.progress.exec) refl absent
+    where
+      by_blocked : (t : Bool) → elim t as (λ x. End) [ true ↦ Ends | false ↦ TakesBack (innermost (number_of (waiting waits)) s.progress.blocks.levels) ] ≡ Commits first → ⊥
+      by_blocked true is = cc is
+      by_blocked false is = cc is
+
+      by_plan : (p : Plan) → plan_at s.progress.exec ≡ p → is_absent p ≡ true → ⊥
+      by_plan (Absent name) is of = by_blocked s.progress.blocked (sym (ap (λ p. elim (outcome_of p) as (λ x. End) [ Well ↦ end_well facts command (waiting waits) | Badly ↦ end_badly (waiting waits) | Unsettled ↦ Ends ]) is) ∙ commits)
+      by_plan p is of = cc of
+
+  -- nor has it taken anything back where its last entry was a look
+  never_gone : (from : ℕ) → facts.last ≡ Some (events.Gone from) → is_quiet s.progress.due ≡ true → ⊥
+  never_gone from gone quiet = both_ways _ (ap nothing_waits gone) (waits.rests.holds.facts.quiet ∙ quiet)
 
   -- the transaction isn't visible
   pub hidden : Busy s.progress command → is_visible facts.running ≡ false
@@ -88,7 +111,7 @@ module _ (scenario : Scenario) (seen : List Entry) (s : Backend) (waits : Awaits
       by_test : (t : Bool) → is_visible facts.running ≡ t → is_visible facts.running ≡ false
       by_test false is = is
       by_test true is = absurd (let c = waits.fits.visible is in let one : c.command ≡ command = (let both : Some c.command ≡ Some command = sym c.at ∙ at in cc both) in
-          not_busy (subst (λ x. owed_of facts x (waiting waits) ≡ []) one c.free) c.out busy)
+          not_busy (subst (λ x. owed_of facts x (waiting waits) ≡ []) one c.free) c.out busy (λ absent quiet. never_commits (first_at facts) (subst (λ x. end_of facts x (waiting waits) ≡ Commits (first_at facts)) one c.end) absent))
 
   -- and the last entry took nothing back
   pub standing : Busy s.progress command → took_back facts.last ≡ false
@@ -96,7 +119,7 @@ module _ (scenario : Scenario) (seen : List Entry) (s : Backend) (waits : Awaits
     where
       by_last : (last : Option Event) → facts.last ≡ last → took_back last ≡ false
       by_last (Some (events.Gone from)) is = absurd (let t = waits.fits.taken from is in
-          not_busy (subst (λ o. elim o as (λ x. Type 0) [ Some c ↦ (end_of facts c (waiting waits) ≡ TakesBack from) × (owed_of facts c (waiting waits) ≡ []) | None ↦ end_of_all facts ≡ TakesBack from ]) at t.end).1 t.out busy)
+          not_busy (subst (λ o. elim o as (λ x. Type 0) [ Some c ↦ (end_of facts c (waiting waits) ≡ TakesBack from) × (owed_of facts c (waiting waits) ≡ []) | None ↦ end_of_all facts ≡ TakesBack from ]) at t.end).1 t.out busy (λ absent quiet. never_gone from is quiet))
       by_last last is = refl
 
   -- so it may ask for something

@@ -1,34 +1,38 @@
 -- What comes next of a command's acts, and of its end.
-use Rattle.std.proofs.Common.{◌≡◌, ◌∙◌, ℕ, Bool, true, false, not, ◌&&◌, ◌||◌, Option, Some, None, List, [], ◌∷◌, cond, refl, sym, ap, subst, filter, is_some, if◌then◌else◌}
+use Rattle.std.proofs.Common.{◌≡◌, ◌∙◌, inl, ℕ, Bool, true, false, not, ◌&&◌, ◌||◌, Option, Some, None, List, [], ◌∷◌, cond, refl, sym, ap, subst, filter, is_some, if◌then◌else◌, is_none, ◌==◌, ◌+◌}
 use Rattle.std.specs.List.{find, list_any}
 use Rattle.std.specs.Option.{option_map_or}
 use Rattle.std.proofs.Math.Bool.{or-true}
-use Rattle.std.proofs.lemmas.Bool.{both_ways, eq-eqb}
+use Rattle.std.proofs.lemmas.Bool.{both_ways, eq-eqb, eqb-true, and_parts}
 use Rattle.base_types.specs.Scans.{same_oid, same_scan, is_build_scan, build_scans}
 use Rattle.base_types.specs.Modes.{mode_number, same_mode}
 use Rattle.base_types.specs.declared.row.Row.TheVariants as rows
 use Rattle.base_types.specs.declared.scan.Purpose.TheVariants as scans
 use Rattle.base_types.proofs.SameScan.{same_scan-itself}
-use Rattle.lock_modes.specs.Own.{has_lock}
+use Rattle.lock_modes.specs.Own.{has_lock, is_own}
 use Rattle.ddl_effect.specs.Plans.{Plan, Act, Done, Fails, Absent, NotBuilt, Do, Lookup, Open, Search, Read, Lock, Write}
 use Rattle.ddl_effect.specs.Stages.{plan_at, want_of_act, want_of}
 use Rattle.ddl_effect.specs.declared.want.Want.{Want}
 use Rattle.ddl_effect.specs.declared.want.Want.TheVariants as wants
 use Rattle.history_model.specs.Writes.{is_empty}
-use Rattle.cacheless.specs.May.{has_failed, names_relation, is_lock_at, is_first_missing, is_next_of_act, is_next_at, lacks_opened, lacks_any, owes_nothing}
+use Rattle.cacheless.specs.May.{has_failed, names_relation, is_lock_at, is_first_missing, is_next_of_act, is_next_at, lacks_opened, lacks_any, owes_nothing, is_unlock_at}
 use Rattle.cacheless.specs.OpenedReads.{ReadsOpened}
 use Rattle.cacheless.specs.Session.{Badly, outcome_of}
-use Rattle.cacheless.specs.Silently.{gives_at, gives_next, IsAtRest}
-use Rattle.cacheless.specs.State.{kept_at, is_kept, row_sought, missing, builds_missing, act_missing}
+use Rattle.cacheless.specs.Silently.{gives_at, gives_next, IsAtRest, looks_up_at, has_accepted_at}
+use Rattle.cacheless.specs.State.{kept_at, is_kept, row_sought, missing, builds_missing, act_missing, owed_at, owed_first}
 use Rattle.cacheless.proofs.ReadsBuilds.{ReadsBuilds, stage_reads}
 use Rattle.cacheless.proofs.Same.{lacks_opened_is}
 use Rattle.cacheless.proofs.Plans.SilentActs.{empty_list}
-use Rattle.cacheless.proofs.Tests.{both_true}
-use Rattle.backend_core.specs.Types.{Oid, Mode, Kind, Row, Purpose, Command, OwnLock, Progress}
-use Rattle.backend_core.specs.Steps.{IsFree, IsScanNext, IsLockNext}
-use Rattle.backend_core.specs.Words.{unlocked_of}
+use Rattle.cacheless.proofs.Tests.{both_true, not_true}
+use Rattle.backend_core.specs.Types.{Oid, Mode, Kind, Row, Purpose, Command, OwnLock, Progress, Backend}
+use Rattle.backend_core.specs.Steps.{IsFree, IsScanNext, IsLockNext, IsUnlockNext, IsChoiceSound, Looks, IsAcceptNext}
+use Rattle.backend_core.specs.Words.{relation_named, is_unfound}
 use Rattle.cacheless.proofs.Answers.KeptReads.{kept_opened}
 use Rattle.backend_core.proofs.Choosing.Nexting.{out_owes, none_built, find_all, each_builds}
+use Rattle.backend_core.specs.Fits.{TakesFit}
+use Rattle.cacheless.specs.Settled.{has_taken_no_other, if_locked}
+use Rattle.history_model.proofs.Every.{any-weaker}
+use Rattle.cacheless.specs.Types.{Purpose}
 
 -- the act that is wanted, but for a write
 abbrev wanted_act : Want → Option Act
@@ -82,49 +86,43 @@ one_lacks : (t : Bool) (scan : Purpose) → not (is_empty (cond (not t) (scan �
 one_lacks true scan = refl
 one_lacks false scan = refl
 
--- the relation that isn't locked is that of the row
-unlocked_named : (locks : List OwnLock) (mode : Mode) (o : Option Row) (rel : Oid) → unlocked_of locks mode o ≡ Some rel → names_relation rel o ≡ true
-unlocked_named locks mode (Some (rows.Class oid name kind fill)) rel found = by_lock (has_lock locks oid mode) found
-  where
-    by_lock : (t : Bool) → elim t as (λ x. Option Oid) [ true ↦ None | false ↦ Some oid ] ≡ Some rel → same_oid rel oid ≡ true
-    by_lock true none = absurd (cc none)
-    by_lock false same = let one : oid ≡ rel = cc same in eq-eqb rel.0 oid.0 (ap (λ o. o.0) (sym one))
-unlocked_named locks mode o rel found = absurd (cc found)
+-- the row is that of the relation
+named_is : (o : Option Row) (rel : Oid) → relation_named o ≡ Some rel → names_relation rel o ≡ true
+named_is (Some (rows.Class oid name kind fill)) rel found = let one : oid ≡ rel = cc found in eq-eqb rel.0 oid.0 (ap (λ o. o.0) (sym one))
+named_is o rel found = absurd (cc found)
+
+-- or of another one
+named_not : (o : Option Row) (rel taken : Oid) → relation_named o ≡ Some rel → (taken.0 == rel.0) ≡ false → names_relation taken o ≡ false
+named_not (Some (rows.Class oid name kind fill)) rel taken found other = let one : oid ≡ rel = cc found in ap (λ (r : Oid). taken.0 == r.0) one ∙ other
+named_not o rel taken found other = absurd (cc found)
+
+-- or there is none
+named_none : (o : Option Row) (rel : Oid) → relation_named o ≡ None → names_relation rel o ≡ false
+named_none None rel none = refl
+named_none (Some (rows.Class oid name kind fill)) rel none = absurd (cc none)
+named_none (Some row) rel none = refl
 
 module _ (p : Progress) (command : Command) (still : IsAtRest p) (free : IsFree p command) (whole : lacks_opened (kept_at p) p.opened ≡ false) where
   -- the scan of a name
   pub lookup_next : (name : List ℕ) (mode : Mode) → want_of (plan_at p.exec) ≡ wants.Lookup name mode → owes_nothing command p ≡ false → IsScanNext p (scans.RelName name) false
-  lookup_next name mode want owes = by_tests p.granted (is_kept (kept_at p) (scans.RelName name)) refl refl
+  lookup_next name mode want owes = by_test (is_kept (kept_at p) (scans.RelName name)) refl
     where
       act : Wants (plan_at p.exec) (Lookup name mode)
       act = plan_wanted (plan_at p.exec) (Lookup name mode) (ap wanted_act want)
 
-      lacks : (t : Bool) → p.granted ≡ t → lacks_any p ≡ not (is_empty (if t then [] else missing (kept_at p) (scans.RelName name ∷ [])))
-      lacks t is = lacks_is p (Lookup name mode) act whole ∙ ap (λ x. not (is_empty (if x then [] else missing (kept_at p) (scans.RelName name ∷ [])))) is
+      lacks : (t : Bool) → is_kept (kept_at p) (scans.RelName name) ≡ t → lacks_any p ≡ not t
+      lacks t is = lacks_is p (Lookup name mode) act whole ∙ one_lacks (is_kept (kept_at p) (scans.RelName name)) (scans.RelName name) ∙ ap not is
 
-      by_tests : (t kept : Bool) → p.granted ≡ t → is_kept (kept_at p) (scans.RelName name) ≡ kept → IsScanNext p (scans.RelName name) false
-      by_tests true kept is has = absurd (both_ways _ owes (out_owes p command free (lacks true is)))
-      by_tests false true is has = absurd (both_ways _ owes (out_owes p command free (lacks false is ∙ one_lacks (is_kept (kept_at p) (scans.RelName name)) (scans.RelName name) ∙ ap not has)))
-      by_tests false false is has = record {
+      by_test : (t : Bool) → is_kept (kept_at p) (scans.RelName name) ≡ t → IsScanNext p (scans.RelName name) false
+      by_test true has = absurd (both_ways _ owes (out_owes p command free (lacks true has)))
+      by_test false has = record {
         command = command;
         free = free;
-        lacks = lacks false is ∙ one_lacks (is_kept (kept_at p) (scans.RelName name)) (scans.RelName name) ∙ ap not has;
-        next = next_is p (Lookup name mode) act (scans.RelName name) ((λ i. not (is i) && (not (has i) && same_scan (scans.RelName name) (scans.RelName name))) ∙ same_scan-itself (scans.RelName name));
+        lacks = lacks false has;
+        next = next_is p (Lookup name mode) act (scans.RelName name) ((λ i. not (has i) && same_scan (scans.RelName name) (scans.RelName name)) ∙ same_scan-itself (scans.RelName name));
         first = λ other. none_built (kept_at p) p.opened (scans.RelName name) other whole;
         kind = refl;
       }
-
-  -- the lock of the relation that it names
-  pub lock_next : (name : List ℕ) (mode : Mode) (rel : Oid) → want_of (plan_at p.exec) ≡ wants.Lookup name mode → owes_nothing command p ≡ true → unlocked_of p.locks.items mode (row_sought p name) ≡ Some rel → IsLockNext p rel mode
-  lock_next name mode rel want owes found = record {
-    command = command;
-    free = free;
-    may = both_true (owes_nothing command p) (is_lock_at p (plan_at p.exec) rel mode) owes (ap (λ q. is_lock_at p q rel mode) act.is
-        ∙ both_true (names_relation rel (row_sought p name)) (same_mode mode mode) (unlocked_named p.locks.items mode (row_sought p name) rel found) (eq-eqb (mode_number mode) (mode_number mode) refl));
-  }
-    where
-      act : Wants (plan_at p.exec) (Lookup name mode)
-      act = plan_wanted (plan_at p.exec) (Lookup name mode) (ap wanted_act want)
 
   -- the scan of a catalog cache
   pub search_next : (scan : Purpose) → want_of (plan_at p.exec) ≡ wants.Search scan → IsScanNext p scan false
@@ -194,3 +192,83 @@ fails_none p want goes is failing = by_plan (plan_at p.exec) refl (ap fails is �
     by_plan (Do act rest) at bad = by_act act bad
     by_plan (Fails error) at bad = both_ways _ goes (ap (λ x. elim (outcome_of x) as (λ y. Bool) [ Badly ↦ true | other ↦ false ]) at)
     by_plan (Absent name) at bad = both_ways _ goes (ap (λ x. elim (outcome_of x) as (λ y. Bool) [ Badly ↦ true | other ↦ false ]) at)
+
+-- what comes next of a lookup whose scan serves
+module _ (s : Backend) (command : Command) (still : IsAtRest s.progress) (chosen : IsChoiceSound s) (free : IsFree s.progress command) (name : List ℕ) (mode : Mode) (want : want_of (plan_at s.progress.exec) ≡ wants.Lookup name mode) (owes : owes_nothing command s.progress ≡ true) where
+  act : Wants (plan_at s.progress.exec) (Lookup name mode)
+  act = plan_wanted (plan_at s.progress.exec) (Lookup name mode) (ap wanted_act want)
+
+  -- the lock of the relation that it names
+  pub lock_next : (rel : Oid) → relation_named (row_sought s.progress name) ≡ Some rel → s.progress.taken ≡ None → IsLockNext s.progress rel mode
+  lock_next rel found none = record {
+    command = command;
+    free = free;
+    may = both_true (owes_nothing command s.progress && is_none s.progress.taken) (is_lock_at s.progress (plan_at s.progress.exec) rel mode) (both_true (owes_nothing command s.progress) (is_none s.progress.taken) owes (ap (λ o. is_none o) none)) (ap (λ q. is_lock_at s.progress q rel mode) act.is
+        ∙ both_true (names_relation rel (row_sought s.progress name)) (same_mode mode mode) (named_is (row_sought s.progress name) rel found) (eq-eqb (mode_number mode) (mode_number mode) refl));
+  }
+
+  -- that of another one is given back
+  unlock_next : (taken : Oid) → s.progress.taken ≡ Some taken → names_relation taken (row_sought s.progress name) ≡ false → IsUnlockNext s.progress taken mode
+  unlock_next taken took other = record {
+    command = command;
+    free = free;
+    may = both_true (owes_nothing command s.progress) (is_unlock_at s.progress (plan_at s.progress.exec) taken mode) owes (ap (λ q. is_unlock_at s.progress q taken mode) act.is
+        ∙ both_true (option_map_or (same_oid taken) s.progress.taken false && same_mode mode mode) (not (names_relation taken (row_sought s.progress name)))
+        (both_true (option_map_or (same_oid taken) s.progress.taken false) (same_mode mode mode) (ap (λ o. option_map_or (same_oid taken) o false) took ∙ eq-eqb taken.0 taken.0 refl) (eq-eqb (mode_number mode) (mode_number mode) refl)) (ap not other));
+  }
+
+  pub unlock_other : (rel taken : Oid) → relation_named (row_sought s.progress name) ≡ Some rel → s.progress.taken ≡ Some taken → (taken.0 == rel.0) ≡ false → IsUnlockNext s.progress taken mode
+  unlock_other rel taken found took other = unlock_next taken took (named_not (row_sought s.progress name) rel taken found other)
+
+  pub unlock_unfound : (taken : Oid) → relation_named (row_sought s.progress name) ≡ None → s.progress.taken ≡ Some taken → IsUnlockNext s.progress taken mode
+  unlock_unfound taken none took = unlock_next taken took (named_none (row_sought s.progress name) taken none)
+
+  -- a relation that is locked already ends the lookup
+  pub locked_ends : (rel taken : Oid) → relation_named (row_sought s.progress name) ≡ Some rel → s.progress.taken ≡ Some taken → (taken.0 == rel.0) ≡ true → ⊥
+  locked_ends rel taken found took same = not_at_rest s.progress command (Lookup name mode) still free act owes (by_row (row_sought s.progress name) found)
+    where
+      has : list_any (λ lock. is_own taken mode lock && (lock.command == s.progress.finished + 1)) s.progress.locks.items ≡ true
+      has = subst (TakesFit (s.progress.finished + 1) s.progress.locks.items (Some taken)) act.is (subst (λ o. TakesFit (s.progress.finished + 1) s.progress.locks.items o (plan_at s.progress.exec)) took chosen.takes)
+
+      one : taken ≡ rel
+      one = ap (λ n. record { 0 = n }) (eqb-true taken.0 rel.0 same)
+
+      by_row : (o : Option Row) → relation_named o ≡ Some rel → is_some (looks_up_at s.progress mode o) ≡ true
+      by_row (Some (rows.Class oid own kind fill)) is = let named : oid ≡ rel = cc is in
+          (λ i. is_some (if_locked (has_lock s.progress.locks.items (named i) mode && has_taken_no_other (took i) (named i)) (rows.Class oid own kind fill ∷ [])))
+          ∙ (λ i. is_some (if_locked (has_lock s.progress.locks.items (sym one i) mode && has_taken_no_other (Some taken) (sym one i)) (rows.Class oid own kind fill ∷ [])))
+          ∙ (λ i. is_some (if_locked (any-weaker (λ lock. is_own taken mode lock && (lock.command == s.progress.finished + 1)) (is_own taken mode) (λ lock is. (and_parts (is_own taken mode lock) _ is).0) s.progress.locks.items has i && eq-eqb taken.0 taken.0 refl i) (rows.Class oid own kind fill ∷ [])))
+      by_row None is = absurd (cc is)
+      by_row (Some row) is = absurd (cc is)
+
+  -- the scan of the name is kept
+  kept_name : is_kept (kept_at s.progress) (scans.RelName name) ≡ true
+  kept_name = by_test (is_kept (kept_at s.progress) (scans.RelName name)) refl
+    where
+      lacks_same : lacks_any s.progress ≡ (lacks_opened (kept_at s.progress) s.progress.opened || not (is_kept (kept_at s.progress) (scans.RelName name)))
+      lacks_same = (λ i. not (goes_on s.progress (Lookup name mode) act i) && (lacks_opened (kept_at s.progress) s.progress.opened || not (is_empty (act_missing s.progress (act.is i)))))
+          ∙ ap (λ t. lacks_opened (kept_at s.progress) s.progress.opened || t) (one_lacks (is_kept (kept_at s.progress) (scans.RelName name)) (scans.RelName name))
+
+      by_test : (t : Bool) → is_kept (kept_at s.progress) (scans.RelName name) ≡ t → t ≡ true
+      by_test true is = refl
+      by_test false is = absurd (both_ways _ (not_true (lacks_any s.progress) (and_parts (is_empty (owed_first s.progress command) && is_empty (owed_at s.progress.due)) (not (lacks_any s.progress)) owes).1)
+          (lacks_same ∙ ap (λ t. lacks_opened (kept_at s.progress) s.progress.opened || not t) is ∙ or-true (lacks_opened (kept_at s.progress) s.progress.opened)))
+
+  unfound_next : relation_named (row_sought s.progress name) ≡ None → s.progress.taken ≡ None → is_unfound s.progress (plan_at s.progress.exec) ≡ true
+  unfound_next none free_of = ap (is_unfound s.progress) act.is ∙ (λ i. is_none (free_of i) && kept_name i && is_none (relation_named (row_sought s.progress name))) ∙ ap (λ o. is_none o) none
+
+  -- one that found no relation, and looked, ends
+  pub accepted_ends : relation_named (row_sought s.progress name) ≡ None → s.progress.taken ≡ None → s.looked ≡ true → ⊥
+  accepted_ends none free_of looked = not_at_rest s.progress command (Lookup name mode) still free act owes (by_row (row_sought s.progress name) none)
+    where
+      accepted : has_accepted_at s.progress ≡ true
+      accepted = chosen.accepts looked (unfound_next none free_of) free.due
+
+      by_row : (o : Option Row) → relation_named o ≡ None → is_some (looks_up_at s.progress mode o) ≡ true
+      by_row None is = ap (λ t. is_some (if_locked t [])) accepted
+      by_row (Some (rows.Class oid own kind fill)) is = absurd (cc is)
+      by_row (Some row) is = ap (λ t. is_some (if_locked t (row ∷ []))) accepted
+
+  -- it looks first
+  pub accept_next : relation_named (row_sought s.progress name) ≡ None → s.progress.taken ≡ None → s.looked ≡ false → IsAcceptNext s
+  accept_next none free_of unlooked = record { command = command; free = free; finds = Looks (unfound_next none free_of) owes; unlooked = inl unlooked }

@@ -35,9 +35,11 @@ use Rattle.backend_core.proofs.Own.{waiting, waiting_course}
 ends_next : (s : Backend) (next : Next) → IsSomeAnd (end_event s.progress next) (EndsNext s.progress) → IsNextOf s next
 ends_next s nexts.Look ends = absurd ends
 ends_next s (nexts.LookBeforeScan builds) ends = absurd ends
+ends_next s nexts.LookBeforeAbsent ends = absurd ends
 ends_next s nexts.Fetch ends = absurd ends
 ends_next s (nexts.Scan scan builds) ends = absurd ends
 ends_next s (nexts.Lock rel mode) ends = absurd ends
+ends_next s (nexts.Unlock rel mode) ends = absurd ends
 ends_next s nexts.Write ends = absurd ends
 ends_next s nexts.Leave ends = absurd ends
 ends_next s next ends = ends
@@ -48,7 +50,7 @@ some_weaker (Some event) P Q all some = all event some
 
 -- in a command that has come out and owes nothing, at rest
 pub out_owes : (p : Progress) (command : Command) → IsFree p command → lacks_any p ≡ false → owes_nothing command p ≡ true
-out_owes p command free lacks = λ i. is_empty (free.first i) && is_empty (owed_at (free.due i)) && not (lacks i)
+out_owes p command free lacks = λ i. is_empty (free.first i) && is_empty (free.due i) && not (lacks i)
 
 -- its end is still to be made
 end_is : (p : Progress) (command : Command) (end : End) → IsAtRest p → IsFree p command → is_out p ≡ true → lacks_any p ≡ false → end_at p command ≡ end → (p.ended ≡ false) × (is_ends end ≡ false)
@@ -71,7 +73,7 @@ commits_next s command next first still free out lacks end comes = ends_next s n
 pub takes_back_next : (s : Backend) (command : Command) (next : Next) (from : ℕ) → IsAtRest s.progress → IsFree s.progress command → is_out s.progress ≡ true → lacks_any s.progress ≡ false → end_at s.progress command ≡ TakesBack from → ComesOfBack from s.progress next → IsNextOf s next
 takes_back_next s command next from still free out lacks end comes = ends_next s next (some_weaker (end_event s.progress next) _ (EndsNext s.progress) (λ event is. InCommand command free out (out_owes s.progress command free lacks)
     (both_true (not s.progress.ended && owes_no_end command s.progress (end_at s.progress command)) (is_next_of_end s.progress event (end_at s.progress command))
-    (both_true (not s.progress.ended) (owes_no_end command s.progress (end_at s.progress command)) (ap not (end_is s.progress command (TakesBack from) still free out lacks end).0) (ap (owes_no_end command s.progress) end ∙ ap (λ d. is_empty (owed_at d)) free.due))
+    (both_true (not s.progress.ended) (owes_no_end command s.progress (end_at s.progress command)) (ap not (end_is s.progress command (TakesBack from) still free out lacks end).0) (ap (owes_no_end command s.progress) end ∙ ap is_empty free.due))
     (ap (is_next_of_end s.progress event) end ∙ is))) comes)
 
 -- the plans of commands read what they have opened, however far they are

@@ -7,7 +7,7 @@ use Rattle.ddl_effect.specs.Stages.{plan_at, plan_again}
 use Rattle.ddl_effect.specs.declared.exec.Exec.TheVariants as stages
 use Rattle.history_model.specs.Writes.{is_empty}
 use Rattle.cacheless.specs.Facts.{facts_of}
-use Rattle.cacheless.specs.Holds.{GivenFits, Holds}
+use Rattle.cacheless.specs.Holds.{Holds}
 use Rattle.cacheless.specs.May.{lacks_opened, owes_nothing}
 use Rattle.cacheless.specs.Puts.{PutsOpened}
 use Rattle.cacheless.specs.Session.{Badly, outcome_of, is_settled}
@@ -39,9 +39,9 @@ module _ (scenario : Scenario) (seen : List Entry) (s : Backend) (exec : Exec) (
       running = h.facts.running;
       lists = h.facts.lists;
       owed = h.facts.owed;
+      quiet = h.facts.quiet;
       usable = h.facts.usable;
       kept = h.facts.kept;
-      given = subst (λ p. s.progress.granted ≡ true → GivenFits (facts_of seen s.progress.id) p s.progress.given) (sym plan) h.facts.given;
     };
     counts = h.counts;
     order = h.order;
@@ -58,7 +58,7 @@ module _ (scenario : Scenario) (seen : List Entry) (s : Backend) (exec : Exec) (
       places = record { kept = k.places.kept; absent = λ name missed whole. k.places.absent name (sym plan ∙ missed) (record { untaken = whole.untaken; going = whole.going }) };
     };
     rests = record { holds = holds_same waits.rests.holds; still = still };
-    fits = subst (λ x. Fits (facts_of seen s.progress.id) (command_at s) x s.looked s.looked_to_build) (sym (session_same waits.rests.holds.rest)) waits.fits;
+    fits = subst (λ x. Fits (facts_of seen s.progress.id) (command_at s) x s.looked s.looked_to_build s.told) (sym (session_same waits.rests.holds.rest)) waits.fits;
     lines = waits.lines;
     tells = record { answer = waits.tells.answer; out = λ some. ap (λ p. is_settled (outcome_of p)) plan ∙ waits.tells.out some };
     answered = answered;

@@ -41,17 +41,17 @@ xid_own (Some t) xid some is = by_xid t.xid some is
     by_xid (Some x) there at = eq-eqb x xid (sym at)
 
 -- where a commit comes next nothing was taken back
-untaken : (facts : Facts) (o : Option Command) (s : Session) (looked to_build : Bool) → Fits facts o s looked to_build → IsCommit facts (end_by facts o s) → (from : ℕ) → facts.last ≡ Some (events.Gone from) → ⊥
-untaken facts o s looked to_build fits commit from is = let no : TakesBack from ≡ Commits commit.first = sym (back_end facts o s looked to_build from fits is) ∙ commit.is in cc no
+untaken : (facts : Facts) (o : Option Command) (s : Session) (looked to_build told : Bool) → Fits facts o s looked to_build told → IsCommit facts (end_by facts o s) → (from : ℕ) → facts.last ≡ Some (events.Gone from) → ⊥
+untaken facts o s looked to_build told fits commit from is = let no : TakesBack from ≡ Commits commit.first = sym (back_end facts o s looked to_build told from fits is) ∙ commit.is in cc no
 
-none_gone : (facts : Facts) (o : Option Command) (s : Session) (looked to_build : Bool) (event : Event) → Fits facts o s looked to_build → IsCommit facts (end_by facts o s) → FollowsGone facts.last event
-none_gone facts o s looked to_build event fits commit = by_last facts.last refl
+none_gone : (facts : Facts) (o : Option Command) (s : Session) (looked to_build told : Bool) (event : Event) → Fits facts o s looked to_build told → IsCommit facts (end_by facts o s) → FollowsGone facts.last event
+none_gone facts o s looked to_build told event fits commit = by_last facts.last refl
   where
     by_last : (last : Option Event) → facts.last ≡ last → FollowsGone last event
-    by_last (Some (events.Gone from)) is = absurd (untaken facts o s looked to_build fits commit from is)
+    by_last (Some (events.Gone from)) is = absurd (untaken facts o s looked to_build told fits commit from is)
     by_last last is = tt
 
-module _ (facts : Facts) (o : Option Command) (s : Session) (looked to_build : Bool) (next : ℕ) (event : Event) (ends : ends_command event ≡ true) (fits : Fits facts o s looked to_build) (plays : MayPlayIn next facts o s event) (commit : IsCommit facts (end_by facts o s)) where
+module _ (facts : Facts) (o : Option Command) (s : Session) (looked to_build told : Bool) (next : ℕ) (event : Event) (ends : ends_command event ≡ true) (fits : Fits facts o s looked to_build told) (plays : MayPlayIn next facts o s event) (commit : IsCommit facts (end_by facts o s)) where
   -- its command owes no scan
   commit_free : outcome_of s.left ≡ Well → OwesNoScan facts s
   commit_free well = by_command o plays commit
@@ -67,7 +67,7 @@ module _ (facts : Facts) (o : Option Command) (s : Session) (looked to_build : B
 -- it may be entered
 pub commit_call : (scenario : Scenario) (seen : List Entry) (s : Backend) (xid : Xid) → AwaitsEntry scenario seen s → EndsNext s.progress (events.Visible xid) → MayCall scenario seen (entry_of s.progress.id (s.progress.finished + 1) (events.Visible xid))
 commit_call scenario seen s xid waits next = end_call scenario seen s waits (events.Visible xid) refl next (subst (λ v. FollowsVisible v (events.Visible xid)) (sym now.hidden) tt)
-    (none_gone facts (command_at s) (waiting waits) s.looked s.looked_to_build (events.Visible xid) waits.fits now.commit)
+    (none_gone facts (command_at s) (waiting waits) s.looked s.looked_to_build s.told (events.Visible xid) waits.fits now.commit)
     (xid_own facts.running xid.0 (waits.fits.written (write_from_first now.commit.first facts.lists now.commit.written)) now.xid_is, write_from_first now.commit.first facts.lists now.commit.written)
   where
     facts : Facts
@@ -111,7 +111,7 @@ module _ (scenario : Scenario) (seen : List Entry) (s : Backend) (messages : Lis
   -- it may be entered
   pub publish_call : MayCall scenario seen (entry_of s.progress.id (s.progress.finished + 1) (events.Publish (length messages)))
   publish_call = end_call scenario seen s waits (events.Publish (length messages)) refl publish_next (shown (is_visible facts.running) (length messages))
-      (none_gone facts (command_at s) (waiting waits) s.looked s.looked_to_build (events.Publish (length messages)) waits.fits publish_now.commit) (publish_now.visible, publish_now.some, publish_now.most)
+      (none_gone facts (command_at s) (waiting waits) s.looked s.looked_to_build s.told (events.Publish (length messages)) waits.fits publish_now.commit) (publish_now.visible, publish_now.some, publish_now.most)
 
   -- and these are the next
   pub publish_these : ArePublishedNext seen s.progress.id messages
@@ -127,11 +127,11 @@ module _ (scenario : Scenario) (old : List Entry) (was : Backend) (event : Event
   abbrev after_commit : Facts
   after_commit = record before { last = Some event; running = Some (record { first = (begun (was.progress.finished + 1) before.running).first; xid = (begun (was.progress.finished + 1) before.running).xid; published = published; visible = visible }) }
 
-  commit_fits : (locks : List OwnLock) (at : ℕ) → owed_after (Some event) ≡ [] → ((from : ℕ) → Some event ≡ Some (events.Gone from) → ⊥) → Fits after_commit (command_at was) (later_at (waiting waits) locks at) was.looked was.looked_to_build
-  commit_fits locks at free standing = fits_ending before after_commit (command_at was) (waiting waits) was.looked was.looked_to_build event locks at waits.fits now goes
+  commit_fits : (locks : List OwnLock) (at : ℕ) → owed_after (Some event) ≡ [] → ((from : ℕ) → Some event ≡ Some (events.Gone from) → ⊥) → Fits after_commit (command_at was) (later_at (waiting waits) locks at) was.looked was.looked_to_build was.told
+  commit_fits locks at free standing = fits_ending before after_commit (command_at was) (waiting waits) was.looked was.looked_to_build was.told event locks at waits.fits now goes (λ scan none. none)
       (λ is. begun_xid (was.progress.finished + 1) before.running (waits.fits.written is))
-      (λ is. commits_on before after_commit (command_at was) (waiting waits) was.looked was.looked_to_build event locks at waits.fits now goes commit refl
-      (commit_free before (command_at was) (waiting waits) was.looked was.looked_to_build (next_oid old) event ends waits.fits (end_plays scenario old was waits event ends next) commit))
+      (λ is. commits_on before after_commit (command_at was) (waiting waits) was.looked was.looked_to_build was.told event locks at waits.fits now goes commit refl
+      (commit_free before (command_at was) (waiting waits) was.looked was.looked_to_build was.told (next_oid old) event ends waits.fits (end_plays scenario old was waits event ends next) commit))
       (λ from is. absurd (standing from is))
     where
       now : EndsBy before (command_at was) (waiting waits) event
@@ -148,7 +148,7 @@ pub commit_enters : (scenario : Scenario) (old new : List Entry) (had has : ℕ 
     → HasEntered scenario old was.progress (events.Visible xid) waits.rests p → kept_at p ≡ kept_at was.progress → p.answer ≡ was.progress.answer → Appends old new had has (entry_of was.progress.id (was.progress.finished + 1) (events.Visible xid)) → Enters scenario old new had has was (record was { progress = p })
 commit_enters scenario old new had has was xid p waits played courses next goes kept same appends =
     end_enters scenario old new had has was event p waits refl played courses next goes (subst (AreLastScans old was.progress.id) (sym kept) waits.keeps.places.kept)
-    (absent_still scenario old was event waits p goes kept (ap (λ (x : Session). x.left) goes.session) (ap (λ (x : Session). x.ended) goes.session) (untaken facts (command_at was) (waiting waits) was.looked was.looked_to_build waits.fits now.commit)) same
+    (absent_still scenario old was event waits p goes kept (ap (λ (x : Session). x.left) goes.session) (ap (λ (x : Session). x.ended) goes.session) (untaken facts (command_at was) (waiting waits) was.looked was.looked_to_build was.told waits.fits now.commit)) same
     (commit_fits scenario old was event waits refl next now.commit (begun (was.progress.finished + 1) facts.running).published true _ (length old + 1) refl (λ from is. cc is)) appends
   where
     event : Event
@@ -167,7 +167,7 @@ pub publish_enters : (scenario : Scenario) (old new : List Entry) (had has : ℕ
     → Appends old new had has (entry_of was.progress.id (was.progress.finished + 1) (events.Publish (length messages))) → Enters scenario old new had has was (record was { progress = p })
 publish_enters scenario old new had has was messages p waits played courses next is goes kept same appends =
     end_enters scenario old new had has was event p waits refl played courses now_next goes (subst (AreLastScans old was.progress.id) (sym kept) waits.keeps.places.kept)
-    (absent_still scenario old was event waits p goes kept (ap (λ (x : Session). x.left) goes.session) (ap (λ (x : Session). x.ended) goes.session) (untaken facts (command_at was) (waiting waits) was.looked was.looked_to_build waits.fits (publish_now scenario old was messages waits next is).commit)) same
+    (absent_still scenario old was event waits p goes kept (ap (λ (x : Session). x.left) goes.session) (ap (λ (x : Session). x.ended) goes.session) (untaken facts (command_at was) (waiting waits) was.looked was.looked_to_build was.told waits.fits (publish_now scenario old was messages waits next is).commit)) same
     (commit_fits scenario old was event waits refl now_next (publish_now scenario old was messages waits next is).commit ((begun (was.progress.finished + 1) facts.running).published + length messages) (begun (was.progress.finished + 1) facts.running).visible _ (length old + 1) refl (λ from same. cc same)) appends
   where
     event : Event

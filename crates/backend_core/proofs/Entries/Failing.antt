@@ -1,5 +1,5 @@
 -- An entry that shows an error, which ends its command: a lock or a write that is refused.
-use Rattle.std.proofs.Common.{◌≡◌, ◌+◌, ◌∙◌, ℕ, true, false, Some, None, List, [], refl, sym, ap, subst, length, drop, is_some, arith}
+use Rattle.std.proofs.Common.{◌≡◌, ◌+◌, ◌∙◌, ℕ, true, false, Some, None, List, [], refl, sym, ap, subst, length, drop, is_some, arith, Option}
 use Rattle.std.proofs.lemmas.Bool.{both_ways}
 use Rattle.event_kinds.specs.declared.entry.Event.TheVariants as events
 use Rattle.row_visibility.specs.declared.clash.Clash.{Clash}
@@ -16,20 +16,21 @@ use Rattle.seg_calls.specs.Calls.{entry_of, Appends}
 use Rattle.cacheless.specs.Facts.{Facts, facts_of, facts_by}
 use Rattle.cacheless.specs.Holds.{HasEntered, with_own}
 use Rattle.cacheless.specs.OnCourse.{AllOnCourse}
-use Rattle.cacheless.specs.Owed.{owed_after}
-use Rattle.cacheless.specs.Plays.{started_in, MayPlayIn}
+use Rattle.cacheless.specs.Owed.{owed_after, started_in}
+use Rattle.cacheless.specs.Plays.{MayPlayIn}
 use Rattle.cacheless.specs.Schedule.{LooksTruly}
 use Rattle.cacheless.specs.Session.{Session, Tally, number_of, outcome_of, is_settled}
 use Rattle.cacheless.specs.Sessions.{noted, ends_command, entered}
 use Rattle.cacheless.specs.State.{kept_at, is_absent, clash_event, error_of}
 use Rattle.backend_core.specs.Types.{Oid, Mode, Purpose, Command, CommandError, Scenario, Entry, Event, Progress, Backend}
 use Rattle.backend_core.specs.Agrees.{IsPlayed, command_at, AreLastScans, AwaitsEntry}
-use Rattle.backend_core.specs.Fits.{looks_due, LooksFit}
+use Rattle.backend_core.specs.Fits.{looks_due, LooksFit, TakesFit}
 use Rattle.backend_core.specs.Steps.{Enters}
 use Rattle.backend_core.proofs.Choosing.Chosen.{Acts}
 use Rattle.backend_core.proofs.Fitting.Entered.{fits_at, keeps_at, kept_stays, keeps_none}
 use Rattle.backend_core.proofs.Entries.Inside.{runs_on, inside_fits}
 use Rattle.backend_core.proofs.Own.{waiting, going, Inside, own_enters}
+use Rattle.cacheless.specs.Types.{Oid}
 
 -- the facts and the session after such an entry
 abbrev later_of : List Entry → Backend → Event → Facts
@@ -73,18 +74,22 @@ pub record IsActing (scenario : Scenario) (old : List Entry) (was : Backend) (co
 
 -- after it the backend agrees
 pub failed_enters : (scenario : Scenario) (old new : List Entry) (had has : ℕ → ℕ) (was : Backend) (p : Progress) (event : Event) (error : CommandError) (command : Command) (waits : AwaitsEntry scenario old was) → IsPlayed scenario old → AllOnCourse scenario old → IsActing scenario old was command
-    → ShowsError scenario old was (waiting waits) event error → MayPlayIn (next_oid old) (facts_of old was.progress.id) (command_at was) (waiting waits) event → HasEntered scenario old was.progress event waits.rests p → kept_at p ≡ kept_at was.progress → p.answer ≡ None
+    → (was.looked ≡ true → ⊥) → ShowsError scenario old was (waiting waits) event error → MayPlayIn (next_oid old) (facts_of old was.progress.id) (command_at was) (waiting waits) event → HasEntered scenario old was.progress event waits.rests p → kept_at p ≡ kept_at was.progress → p.answer ≡ None
     → Appends old new had has (entry_of was.progress.id (was.progress.finished + 1) event) → Enters scenario old new had has was (record was { progress = p })
-failed_enters scenario old new had has was p event error command waits played courses acting shows plays goes kept none appends =
+failed_enters scenario old new had has was p event error command waits played courses acting unlooked shows plays goes kept none appends =
     own_enters scenario old new had has was (record was { progress = p }) event waits played courses (record { plays = plays; truly = shows.truly; queue = shows.queue }) goes
     (keeps_at scenario old was event waits p goes (record was { progress = p }) refl shows.lives
     (kept_stays old (entry_of was.progress.id (was.progress.finished + 1) event) was.progress.id (kept_at p) shows.others (subst (AreLastScans old was.progress.id) (sym kept) waits.keeps.places.kept))
     (keeps_none (with_own old was.progress event) p (ap is_absent (ap (λ (x : Session). x.left) goes.session ∙ shows.left))))
-    (fits_at scenario old was event waits p goes was.looked was.looked_to_build
-    (inside_fits scenario old was waits courses command acting.at later now was.looked was.looked_to_build same shows.lists shows.last
-    (record { blocks = shows.blocks; finished = ap length shows.finished; blocked = shows.blocked; ended = shows.ended; left = λ is there. absurd (both_ways _ acting.unsettled is) }) acting.runs (Acts acting.unsettled) looks))
+    (fits_at scenario old was event waits p goes was.looked was.looked_to_build was.told
+    (inside_fits scenario old was waits courses command acting.at later now was.looked was.looked_to_build was.told same shows.lists shows.last
+    (record { blocks = shows.blocks; finished = ap length shows.finished; blocked = shows.blocked; ended = shows.ended; left = λ is there. absurd (both_ways _ acting.unsettled is) }) acting.runs (Acts acting.unsettled) looks (λ made. absurd (unlooked made)) (subst (TakesFit (number_of now) now.locks now.taken) (sym shows.left) (takes_none now.taken))))
     refl (Inside shows.inside none) (λ inside. shows.goes_on) appends
   where
+    takes_none : (o : Option Oid) → TakesFit (number_of (now_of old was event (waiting waits))) (now_of old was event (waiting waits)).locks o (Fails error)
+    takes_none None = tt
+    takes_none (Some rel) = tt
+
     later : Facts
     later = later_of old was event
 
@@ -94,13 +99,13 @@ failed_enters scenario old new had has was p event error command waits played co
     same : later.running ≡ (facts_of old was.progress.id).running
     same = shows.running ∙ runs_on (was.progress.finished + 1) (facts_of old was.progress.id).running acting.runs
 
-    before : LooksFit (facts_of old was.progress.id) (waiting waits) was.looked was.looked_to_build
+    before : LooksFit (facts_of old was.progress.id) (waiting waits) was.looked was.looked_to_build was.told
     before = waits.fits.looks (going scenario old was waits courses command acting.at)
 
     started : started_in (number_of now) later ≡ started_in (number_of (waiting waits)) (facts_of old was.progress.id)
     started = (λ i. started_in (length (shows.finished i) + 1) (record (facts_of old was.progress.id) { running = same i }))
 
-    looks : LooksFit later now was.looked was.looked_to_build
+    looks : LooksFit later now was.looked was.looked_to_build was.told
     looks = record {
       enough = omega (arith, before.enough, ap looks_due acting.owed, ap looks_due shows.owes, started, ap (λ (t : Tally). t.looks) shows.tally, ap (λ (t : Tally). t.scans) shows.tally, ap (λ (t : Tally). t.grants) shows.tally, ap (λ (t : Tally). t.full) shows.tally);
       within = omega (arith, before.within, ap looks_due acting.owed, ap looks_due shows.owes, started, ap (λ (t : Tally). t.looks) shows.tally, ap (λ (t : Tally). t.scans) shows.tally, ap (λ (t : Tally). t.grants) shows.tally, ap (λ (t : Tally). t.fetches) shows.tally);

@@ -17,8 +17,8 @@ use Rattle.cacheless.specs.Facts.{Facts, facts_of, facts_by}
 use Rattle.cacheless.specs.Holds.{HasStarted}
 use Rattle.cacheless.specs.Lines.{lines_from}
 use Rattle.cacheless.specs.OnCourse.{is_over, EntersCourse}
-use Rattle.cacheless.specs.Owed.{owed_after}
-use Rattle.cacheless.specs.Plays.{started_in, MayPlayAt}
+use Rattle.cacheless.specs.Owed.{owed_after, started_in}
+use Rattle.cacheless.specs.Plays.{MayPlayAt}
 use Rattle.cacheless.specs.Runs.{runs}
 use Rattle.cacheless.specs.Session.{Session, first_of, at_command}
 use Rattle.cacheless.specs.State.{kept_at, is_absent, session_at}
@@ -50,7 +50,7 @@ join_call scenario seen s before = record {
 }
 
 -- what its choice keeps from then on
-fits_first : (facts : Facts) (o : Option Command) (at : ℕ) → facts.running ≡ None → facts.lists ≡ [] → facts.last ≡ Some events.Start → Fits facts o (at_command no_block [] [] at o) false false
+fits_first : (facts : Facts) (o : Option Command) (at : ℕ) → facts.running ≡ None → facts.lists ≡ [] → facts.last ≡ Some events.Start → Fits facts o (at_command no_block [] [] at o) false false false
 fits_first facts o at runs lists last = record {
   looks = λ _. record { enough = omega (arith, none, ap (λ l. looks_due (owed_after l)) last); within = omega (arith, none, ap (λ l. looks_due (owed_after l)) last) };
   transaction = inl runs;
@@ -64,6 +64,8 @@ fits_first facts o at runs lists last = record {
   taken = λ from is. absurd (let both : Some events.Start ≡ Some (events.Gone from) = sym last ∙ is in cc both);
   accepts = λ owes. absurd (both_ways _ owes (ap (λ l. is_empty (owed_after l)) last));
   past = λ none. subst (λ x. IsPast facts (at_command no_block [] [] at x)) (sym none) (record { out = refl; opened = refl; free = ap owed_after last });
+  sought = λ is. absurd (cc is);
+  takes = tt;
 }
   where
     none : started_in 1 facts ≡ 0
@@ -86,12 +88,13 @@ join_enters scenario old new had has was p before played started kept same appen
       };
     };
     holds = started.holds;
-    fits = subst (λ f. Fits f (slice_get p.commands p.finished) (session_at p started.holds.rest) was.looked was.looked_to_build) (sym facts_are)
-        (subst (λ x. Fits facts (slice_get p.commands p.finished) x was.looked was.looked_to_build) (sym started.session)
-        (subst (λ o. Fits facts o (at_command no_block [] [] (length old + 1) (slice_get was.progress.commands 0)) was.looked was.looked_to_build) (sym first_command)
-        (subst (λ t. Fits facts (slice_get was.progress.commands 0) (at_command no_block [] [] (length old + 1) (slice_get was.progress.commands 0)) was.looked t) (sym before.new.looked_to_build)
-        (subst (λ t. Fits facts (slice_get was.progress.commands 0) (at_command no_block [] [] (length old + 1) (slice_get was.progress.commands 0)) t false) (sym before.new.looked)
-        (fits_first facts (slice_get was.progress.commands 0) (length old + 1) refl (ap (λ f. f.lists) before.facts) refl)))));
+    fits = subst (λ f. Fits f (slice_get p.commands p.finished) (session_at p started.holds.rest) was.looked was.looked_to_build was.told) (sym facts_are)
+        (subst (λ x. Fits facts (slice_get p.commands p.finished) x was.looked was.looked_to_build was.told) (sym started.session)
+        (subst (λ o. Fits facts o (at_command no_block [] [] (length old + 1) (slice_get was.progress.commands 0)) was.looked was.looked_to_build was.told) (sym first_command)
+        (subst (λ t. Fits facts (slice_get was.progress.commands 0) (at_command no_block [] [] (length old + 1) (slice_get was.progress.commands 0)) was.looked was.looked_to_build t) (sym before.new.told)
+        (subst (λ t. Fits facts (slice_get was.progress.commands 0) (at_command no_block [] [] (length old + 1) (slice_get was.progress.commands 0)) was.looked t false) (sym before.new.looked_to_build)
+        (subst (λ t. Fits facts (slice_get was.progress.commands 0) (at_command no_block [] [] (length old + 1) (slice_get was.progress.commands 0)) t false false) (sym before.new.looked)
+        (fits_first facts (slice_get was.progress.commands 0) (length old + 1) refl (ap (λ f. f.lists) before.facts) refl))))));
     tells = record {
       played = IsPlayed-more scenario old e played makes.may;
       course = subst (λ k. EntersCourse scenario (old ++ e ∷ []) k (session_at p started.holds.rest)) (sym started.moves.id) (subst (EntersCourse scenario (old ++ e ∷ []) b) (sym (started.session ∙ ap (at_command no_block [] [] (length old + 1)) first_is))
@@ -136,4 +139,4 @@ join_enters scenario old new had has was p before played started kept same appen
     first_is = sym (first_left was.progress.commands 0) ∙ ap first_of before.waits.commands
 
     makes : MakesEntry scenario old new had has b
-    makes = appended_makes scenario old new had has e (before.waits.number, subst (λ o. MayPlayAt scenario old b o 0 events.Start) (sym before.session) tt) (record { needed = tt; truly = tt; tables = tt; queue = tt }) appends
+    makes = appended_makes scenario old new had has e (before.waits.number, subst (λ o. MayPlayAt scenario old b o 0 events.Start) (sym before.session) tt) (record { needed = tt; truly = tt; columns = tt; names = tt; queue = tt }) appends

@@ -1,5 +1,5 @@
 -- The locks that a backend asks for.
-use Rattle.std.proofs.Common.{◌≡◌, ◌<◌, ◌+◌, ◌∙◌, ◌&&◌, ℕ, Bool, true, false, not, Option, Some, None, Err, List, [], ◌∷◌, refl, sym, ap, subst, length, drop, is_some, arith}
+use Rattle.std.proofs.Common.{◌≡◌, ◌<◌, ◌+◌, ◌∙◌, ◌&&◌, ℕ, Bool, true, false, not, Option, Some, None, Err, List, [], ◌∷◌, refl, sym, ap, subst, length, drop, is_some, arith, is_none, ◌++◌}
 use Rattle.std.specs.List.{cons_option}
 use Rattle.std.proofs.lemmas.Bool.{and_parts}
 use Rattle.base_types.specs.declared.row.Row.TheVariants as rows
@@ -20,12 +20,12 @@ use Rattle.cacheless.specs.Facts.{Facts, facts_of, facts_by}
 use Rattle.cacheless.specs.Holds.{HasEntered, with_own}
 use Rattle.cacheless.specs.May.{lacks_any, owes_nothing, names_relation, is_lock_at, may_play_at, may_last_at}
 use Rattle.cacheless.specs.OnCourse.{AllOnCourse}
-use Rattle.cacheless.specs.Owed.{owed_of}
-use Rattle.cacheless.specs.Plays.{started_in, IsLock, MayPlayIn}
+use Rattle.cacheless.specs.Owed.{owed_of, started_in}
+use Rattle.cacheless.specs.Plays.{IsLock, MayPlayIn}
 use Rattle.cacheless.specs.Session.{Session, number_of, outcome_of, is_settled}
 use Rattle.cacheless.specs.Sessions.{entered}
-use Rattle.cacheless.specs.Settled.{if_locked, looked_up}
-use Rattle.cacheless.specs.Silently.{gives_next}
+use Rattle.cacheless.specs.Settled.{if_locked, looked_up, has_taken_no_other}
+use Rattle.cacheless.specs.Silently.{gives_next, looks_up_at}
 use Rattle.cacheless.specs.State.{kept_at, owed_at, owed_first, row_sought, is_absent}
 use Rattle.cacheless.proofs.Plans.AloneLocks.{session_holds}
 use Rattle.cacheless.proofs.Allowed.NextKeeps as keeping
@@ -33,7 +33,7 @@ use Rattle.cacheless.proofs.SameRows.{oid_decides}
 use Rattle.cacheless.proofs.Tests.{not_true}
 use Rattle.backend_core.specs.Types.{Oid, Mode, Row, OwnLock, Scenario, Entry, Event, Progress, Backend}
 use Rattle.backend_core.specs.Agrees.{IsPlayed, command_at, AreLastScans, AwaitsEntry}
-use Rattle.backend_core.specs.Fits.{looks_due, LooksFit}
+use Rattle.backend_core.specs.Fits.{looks_due, LooksFit, IsLookedFor, lacks_name}
 use Rattle.backend_core.specs.Steps.{IsLockNext, Enters}
 use Rattle.backend_core.proofs.Choosing.ActsRun.{act_runs}
 use Rattle.backend_core.proofs.Entries.Alike.{alike_enters}
@@ -42,29 +42,30 @@ use Rattle.backend_core.proofs.Fitting.Entered.{fits_at, keeps_still, keeps_none
 use Rattle.backend_core.proofs.Entries.Failing.{IsActing, held_shows, failed_enters}
 use Rattle.backend_core.proofs.Entries.Inside.{runs_on, inside_fits}
 use Rattle.backend_core.proofs.Own.{waiting, waiting_is, follows, going, Inside, own_enters}
+use Rattle.backend_core.proofs.Fitting.Sought.{takes_cleared, no_look, act_serves, takes_granted, lock_found}
+use Rattle.cacheless.proofs.Allowed.NextKeeps.{nothing_owed}
+use Rattle.cacheless.specs.Types.{Row}
+use Rattle.std.proofs.Math.Bool.{and-true}
 
--- the relation of the row isn't locked, where it waits for its lock
-unlocked : (locks : List OwnLock) (mode : Mode) (given : Option Row) (rel : Oid) → names_relation rel given ≡ true → is_some (looked_up locks mode (cons_option given [])) ≡ false → has_lock locks rel mode ≡ false
-unlocked locks mode (Some (rows.Class oid own kind fill)) rel names none = subst (λ r. has_lock locks r mode ≡ false) (sym ((oid_decides rel oid).0 names)) (by_test (has_lock locks oid mode) none)
-  where
-    by_test : (t : Bool) → is_some (if_locked t (rows.Class oid own kind fill ∷ [])) ≡ false → t ≡ false
-    by_test true gives = absurd (cc gives)
-    by_test false gives = refl
-unlocked locks mode given rel names none = absurd (cc names)
+unlocked_still : (t : Bool) (given : List Row) → is_some (if_locked t given) ≡ false → t ≡ false
+unlocked_still true given gives = absurd (cc gives)
+unlocked_still false given gives = refl
 
-unlocked_still : (t : Bool) → is_some (if_locked t []) ≡ false → t ≡ false
-unlocked_still true gives = absurd (cc gives)
-unlocked_still false gives = refl
+-- the relation of the row isn't locked, where it waits for its lock and none is taken
+unlocked : (s : Progress) (mode : Mode) (given : Option Row) (rel : Oid) → s.taken ≡ None → names_relation rel given ≡ true → is_some (looks_up_at s mode given) ≡ false → has_lock s.locks.items rel mode ≡ false
+unlocked s mode (Some (rows.Class oid own kind fill)) rel free names none = subst (λ r. has_lock s.locks.items r mode ≡ false) (sym ((oid_decides rel oid).0 names))
+    (sym (and-true (has_lock s.locks.items oid mode)) ∙ ap (λ o. has_lock s.locks.items oid mode && has_taken_no_other o oid) (sym free) ∙ unlocked_still (has_lock s.locks.items oid mode && has_taken_no_other s.taken oid) (rows.Class oid own kind fill ∷ []) none)
+unlocked s mode given rel free names none = absurd (cc names)
 
 -- the lock that comes next isn't held
-not_held : (facts : Facts) (s : Progress) (p : Plan) (rel : Oid) (mode : Mode) → is_lock_at s p rel mode ≡ true → IsLock facts p rel mode → gives_next s p ≡ false → has_lock s.locks.items rel mode ≡ false
-not_held facts s (Do (Lookup name wanted) rest) rel mode is asks none = subst (λ m. has_lock s.locks.items rel m ≡ false) (sym asks.1) (unlocked s.locks.items wanted (row_sought s name) rel (and_parts (names_relation rel (row_sought s name)) _ is).0 none)
-not_held facts s (Do (Lock other wanted) rest) rel mode is asks none = (λ i. has_lock s.locks.items (asks.0 i) (asks.1 i)) ∙ unlocked_still (has_lock s.locks.items other wanted) none
-not_held facts s (Do (Open of kind) rest) rel mode is asks none = absurd asks
-not_held facts s (Do (Search scan) rest) rel mode is asks none = absurd asks
-not_held facts s (Do (Read scan) rest) rel mode is asks none = absurd asks
-not_held facts s (Do (Write draft) rest) rel mode is asks none = absurd asks
-not_held facts s p rel mode is asks none = absurd asks
+not_held : (facts : Facts) (s : Progress) (p : Plan) (rel : Oid) (mode : Mode) → s.taken ≡ None → is_lock_at s p rel mode ≡ true → IsLock facts p rel mode → gives_next s p ≡ false → has_lock s.locks.items rel mode ≡ false
+not_held facts s (Do (Lookup name wanted) rest) rel mode free is asks none = subst (λ m. has_lock s.locks.items rel m ≡ false) (sym asks.1) (unlocked s wanted (row_sought s name) rel free (and_parts (names_relation rel (row_sought s name)) _ is).0 none)
+not_held facts s (Do (Lock other wanted) rest) rel mode free is asks none = (λ i. has_lock s.locks.items (asks.0 i) (asks.1 i)) ∙ unlocked_still (has_lock s.locks.items other wanted) [] none
+not_held facts s (Do (Open of kind) rest) rel mode free is asks none = absurd asks
+not_held facts s (Do (Search scan) rest) rel mode free is asks none = absurd asks
+not_held facts s (Do (Read scan) rest) rel mode free is asks none = absurd asks
+not_held facts s (Do (Write draft) rest) rel mode free is asks none = absurd asks
+not_held facts s p rel mode free is asks none = absurd asks
 
 -- an act asks for it
 record IsAct (p : Plan) : Type 0 where
@@ -93,27 +94,30 @@ module _ (scenario : Scenario) (old : List Entry) (was : Backend) (waits : Await
   abbrev s : Session
   s = waiting waits
 
+  parts : (owes_nothing next.command was.progress && is_none was.progress.taken ≡ true) × (is_lock_at was.progress (plan_at was.progress.exec) rel mode ≡ true)
+  parts = and_parts (owes_nothing next.command was.progress && is_none was.progress.taken) _ next.may
+
   may : (owes_nothing next.command was.progress ≡ true) × (is_lock_at was.progress (plan_at was.progress.exec) rel mode ≡ true)
-  may = and_parts (owes_nothing next.command was.progress) _ next.may
+  may = ((and_parts (owes_nothing next.command was.progress) _ parts.0).0, parts.1)
 
   plays : (event : Event) → may_play_at (next_oid old) next.command was.progress event ≡ true → MayPlayIn (next_oid old) facts (command_at was) s event
   plays event is = now_plays scenario old was waits next.command next.free.at event (ap (λ o. elim o as (λ x. Bool) [ Some command ↦ may_play_at (next_oid old) command was.progress event | None ↦ may_last_at was.progress event ]) next.free.at ∙ is)
 
-  asks : (owed_of facts next.command s ≡ []) × IsLock facts (plan_at was.progress.exec) rel mode
+  asks : (owed_of facts next.command s ≡ []) × (was.progress.taken ≡ None) × IsLock facts (plan_at was.progress.exec) rel mode
   asks = subst (λ o. MayPlayIn (next_oid old) facts o s (events.LockOk rel mode)) next.free.at (plays (events.LockOk rel mode) next.may)
 
   is_act : IsAct (plan_at was.progress.exec)
-  is_act = locks_act facts (plan_at was.progress.exec) rel mode asks.1
+  is_act = locks_act facts (plan_at was.progress.exec) rel mode asks.2
 
   acting : IsActing scenario old was next.command
   acting = record {
     at = next.free.at;
     unsettled = ap (λ p. is_settled (outcome_of p)) is_act.is;
     runs = act_runs scenario old was waits courses next.command next.free.at is_act.act is_act.rest is_act.is next.free.first;
-    owed = waits.rests.holds.facts.owed ∙ ap owed_at next.free.due;
+    owed = waits.rests.holds.facts.owed ∙ next.free.due;
   }
 
-  before : LooksFit facts s was.looked was.looked_to_build
+  before : LooksFit facts s was.looked was.looked_to_build was.told
   before = waits.fits.looks (going scenario old was waits courses next.command next.free.at)
 
   same : Some (begun (was.progress.finished + 1) facts.running) ≡ facts.running
@@ -123,33 +127,33 @@ module _ (scenario : Scenario) (old : List Entry) (was : Backend) (waits : Await
   pub lock_request : MayRequest scenario old was.progress.id (was.progress.finished + 1)
   lock_request = may_request scenario old was waits next.command next.free.at (Acts acting.unsettled)
 
-  -- it is asked for, and no scan is lacked
-  pub lock_asked : is_lock_at was.progress (plan_at was.progress.exec) rel mode ≡ true
-  lock_asked = may.1
-
-  pub lock_whole : lacks_any was.progress ≡ false
-  lock_whole = not_true (lacks_any was.progress) (and_parts (is_empty (owed_first was.progress next.command) && is_empty (owed_at was.progress.due)) (not (lacks_any was.progress)) may.0).1
+  -- no look was made that isn't used
+  unlooked : {X : Type 0} → IsLookedFor facts s.taken s.left → X
+  unlooked = no_look facts s.taken s.left (subst (λ p. lacks_name facts p ≡ false) (sym is_act.is) (act_serves facts is_act.act is_act.rest (nothing_owed facts next.command s is_act.act is_act.rest is_act.is asks.0)))
+      (lock_found facts s.taken s.left rel mode asks.2) (ap is_absent is_act.is)
 
   pub lock_free : has_lock was.progress.locks.items rel mode ≡ false
-  lock_free = not_held facts was.progress (plan_at was.progress.exec) rel mode may.1 asks.1 (ap (λ t. t && gives_next was.progress (plan_at was.progress.exec)) (sym may.0) ∙ (waits.rests.still next.command next.free.at).0)
+  lock_free = not_held facts was.progress (plan_at was.progress.exec) rel mode asks.1 may.1 asks.2 (ap (λ t. t && gives_next was.progress (plan_at was.progress.exec)) (sym may.0) ∙ (waits.rests.still next.command next.free.at).0)
 
   pub lock_new : holds (held_of old) was.progress.id rel mode ≡ false
   lock_new = session_holds scenario old was.progress.id s played.sound (waiting_is scenario old was waits) rel mode ∙ lock_free
 
   pub lock_drawn : rel.0 < next_oid old
-  lock_drawn = keeping.lock_drawn old was.progress.id s next.command rel mode played.sound played.tables (follows scenario old was waits courses next.command next.free.at) asks.0 asks.1
+  lock_drawn = keeping.lock_drawn old was.progress.id s next.command rel mode played.sound (follows scenario old was waits courses next.command next.free.at) asks.2
 
   -- a lock that is granted, to a backend that had the room for it made
   module _ (first : Backend) (id : was.progress.id ≡ first.progress.id) (new : List Entry) (had has : ℕ → ℕ) (p : Progress) (kept : kept_at p ≡ kept_at was.progress) (none : p.answer ≡ None) where
     pub granted_enters : HasEntered scenario old was.progress (events.LockOk rel mode) waits.rests p
-        → Appends old new had has (entry_of was.progress.id (was.progress.finished + 1) (events.LockOk rel mode)) → Enters scenario old new had has first (record was { progress = p })
-    granted_enters goes appends = alike_enters scenario old new had has first was (record was { progress = p }) id (
-        own_enters scenario old new had has was (record was { progress = p }) event waits played courses (record { plays = plays event next.may; truly = tt; queue = tt }) goes
-        (keeps_still scenario old was event waits p goes (record was { progress = p }) refl refl (λ scan. refl) (subst (AreLastScans old was.progress.id) (sym kept) waits.keeps.places.kept)
+        → Appends old new had has (entry_of was.progress.id (was.progress.finished + 1) (events.LockOk rel mode)) → Enters scenario old new had has first (record was { progress = p; told = false })
+    granted_enters goes appends = alike_enters scenario old new had has first was (record was { progress = p; told = false }) id (
+        own_enters scenario old new had has was (record was { progress = p; told = false }) event waits played courses (record { plays = plays event next.may; truly = tt; queue = tt }) goes
+        (keeps_still scenario old was event waits p goes (record was { progress = p; told = false }) refl refl (λ scan. refl) (subst (AreLastScans old was.progress.id) (sym kept) waits.keeps.places.kept)
         (keeps_none (with_own old was.progress event) p (ap is_absent (ap (λ (x : Session). x.left) goes.session ∙ is_act.is))))
-        (fits_at scenario old was event waits p goes was.looked was.looked_to_build
-        (inside_fits scenario old was waits courses next.command next.free.at later now was.looked was.looked_to_build same refl (λ from is. cc is) (record { blocks = refl; finished = refl; blocked = refl; ended = refl; left = λ is there. refl }) acting.runs (Acts acting.unsettled)
-        (record { enough = omega (arith, before.enough, ap looks_due acting.owed, started); within = omega (arith, before.within, ap looks_due acting.owed, started) })))
+        (fits_at scenario old was event waits p goes was.looked was.looked_to_build false
+        (inside_fits scenario old was waits courses next.command next.free.at later now was.looked was.looked_to_build false same refl (λ from is. cc is) (record { blocks = refl; finished = refl; blocked = refl; ended = refl; left = λ is there. refl }) acting.runs (Acts acting.unsettled)
+        (record { enough = omega (arith, before.enough, ap looks_due acting.owed, started); within = omega (arith, before.within, ap looks_due acting.owed, started) })
+        (λ made. unlooked (waits.fits.sought made)) (takes_cleared _ (number_of s) (s.locks ++ record { rel = rel; mode = mode; command = was.progress.finished + 1; clear = false } ∷ []) (Some rel) s.left
+        (takes_granted facts (number_of s) (was.progress.finished + 1) s.locks s.left rel mode (ap (λ n. n + 1) (sym waits.rests.holds.count)) asks.2))))
         refl (Inside refl none) (λ inside. refl) appends)
       where
         event : Event
@@ -168,4 +172,4 @@ module _ (scenario : Scenario) (old : List Entry) (was : Backend) (waits : Await
     pub refused_enters : (holder : ℕ) (held : Mode) → HasEntered scenario old was.progress (events.LockHeld rel mode holder held) waits.rests p
         → Appends old new had has (entry_of was.progress.id (was.progress.finished + 1) (events.LockHeld rel mode holder held)) → Enters scenario old new had has first (record was { progress = p })
     refused_enters holder held goes appends = alike_enters scenario old new had has first was (record was { progress = p }) id (failed_enters scenario old new had has was p (events.LockHeld rel mode holder held) (errors.Locked rel holder held) next.command waits played courses acting
-        (held_shows scenario old was s rel mode holder held) (plays (events.LockHeld rel mode holder held) next.may) goes kept none appends)
+        (λ made. unlooked (waits.fits.sought made)) (held_shows scenario old was s rel mode holder held) (plays (events.LockHeld rel mode holder held) next.may) goes kept none appends)

@@ -1,9 +1,10 @@
 -- The scans of a backend.
-use Rattle.std.proofs.Common.{◌≡◌, ◌≤◌, ◌+◌, ◌∙◌, ◌&&◌, ℕ, Bool, true, false, not, Option, Some, None, IfSome, List, [], refl, sym, ap, subst, length, drop, if◌then◌else◌, arith}
-use Rattle.std.proofs.lemmas.Bool.{both_ways, eq-eqb, lt-ltb}
-use Rattle.base_types.specs.Scans.{same_scan}
+use Rattle.std.proofs.Common.{◌≡◌, ◌≤◌, ◌+◌, ◌∙◌, ◌&&◌, ℕ, Bool, true, false, not, Option, Some, None, IfSome, List, [], refl, sym, ap, subst, length, drop, if◌then◌else◌, arith, ◌∷◌}
+use Rattle.std.proofs.lemmas.Bool.{both_ways, eq-eqb, lt-ltb, and_parts}
+use Rattle.base_types.specs.Scans.{same_scan, is_build_scan}
 use Rattle.event_kinds.specs.declared.entry.Event.TheVariants as events
-use Rattle.ddl_effect.specs.Plans.{Plan, Absent}
+use Rattle.base_types.specs.declared.scan.Purpose.TheVariants as scans
+use Rattle.ddl_effect.specs.Plans.{Plan, Absent, Do, Lookup, Open, Search, Read as Reading, Lock, Write}
 use Rattle.ddl_effect.specs.Stages.{plan_at}
 use Rattle.local_caches.specs.Kept.{is_keyed}
 use Rattle.history_model.specs.Drawn.{next_oid}
@@ -12,20 +13,20 @@ use Rattle.history_model.specs.Versions.{answer_of}
 use Rattle.seg_calls.specs.Calls.{entry_of, MayRequest, Appends}
 use Rattle.cacheless.specs.Facts.{Facts, facts_of, facts_by}
 use Rattle.cacheless.specs.Holds.{HasEntered, with_own}
-use Rattle.cacheless.specs.May.{has_failed}
+use Rattle.cacheless.specs.May.{has_failed, is_first_missing, is_next_of_act}
 use Rattle.cacheless.specs.OnCourse.{AllOnCourse}
-use Rattle.cacheless.specs.Owed.{owed_after}
-use Rattle.cacheless.specs.Plays.{started_in, has_looked, MayPlayIn}
+use Rattle.cacheless.specs.Owed.{owed_after, started_in, has_looked}
+use Rattle.cacheless.specs.Plays.{MayPlayIn}
 use Rattle.cacheless.specs.Session.{Session, Badly, number_of, outcome_of}
 use Rattle.cacheless.specs.Sessions.{entered}
-use Rattle.cacheless.specs.State.{kept_at, kept_with, is_absent, owed_at, one_if}
+use Rattle.cacheless.specs.State.{kept_at, kept_with, is_absent, owed_at, one_if, is_kept}
 use Rattle.cacheless.proofs.Answers.ReadPlaces.{place_read-more, place_read-scan}
 use Rattle.cacheless.proofs.OneOfKey.{one_of_key}
 use Rattle.cacheless.proofs.Same.{next_same}
-use Rattle.cacheless.proofs.Tests.{and_true, not_true}
-use Rattle.backend_core.specs.Types.{Row, Purpose, Scenario, Entry, Event, Read, Progress, Backend}
+use Rattle.cacheless.proofs.Tests.{and_true, not_true, or_either}
+use Rattle.backend_core.specs.Types.{Oid, Mode, Row, Purpose, Scenario, Entry, Event, Read, Progress, Backend, Opening}
 use Rattle.backend_core.specs.Agrees.{IsPlayed, command_at, AreLastScans, AwaitsEntry}
-use Rattle.backend_core.specs.Fits.{looks_due, LooksFit, Fits}
+use Rattle.backend_core.specs.Fits.{looks_due, LooksFit, Fits, IsLookedFor, Lacks, Unfound, Said, finds_no_name}
 use Rattle.backend_core.specs.Steps.{IsScanNext, MakesEntry, Enters}
 use Rattle.backend_core.specs.Words.{is_looked_for}
 use Rattle.backend_core.proofs.Choosing.ActsRun.{scan_runs}
@@ -33,7 +34,12 @@ use Rattle.backend_core.proofs.Choosing.Chosen.{may_request}
 use Rattle.backend_core.proofs.Fitting.Entered.{fits_at, keeps_at, keeps_none}
 use Rattle.backend_core.proofs.Entries.Inside.{runs_on, inside_fits}
 use Rattle.backend_core.proofs.Entries.Looking.{scan_busy}
-use Rattle.backend_core.proofs.Own.{waiting, going, OwnEntry, Inside, own_makes, own_enters}
+use Rattle.backend_core.proofs.Own.{waiting, going, OwnEntry, Inside, own_makes, own_enters, follows}
+use Rattle.backend_core.proofs.Fitting.Sought.{takes_cleared, built_leaves}
+use Rattle.cacheless.proofs.ReadsBuilds.{stage_reads}
+use Rattle.base_types.proofs.SameScan.{same_scan-true}
+use Rattle.std.specs.List.{list_any}
+use Rattle.cacheless.proofs.Plans.SilentActs.{lookup_opens_none}
 
 -- the scan that comes next may be asked for
 pub scan_request : (scenario : Scenario) (seen : List Entry) (s : Backend) (scan : Purpose) (builds : Bool) → AwaitsEntry scenario seen s → IsScanNext s.progress scan builds → MayRequest scenario seen s.progress.id (s.progress.finished + 1)
@@ -48,12 +54,12 @@ one_less false true true l t is left right = omega (arith, ap one_if left, ap on
 one_less false true false l t is left right = omega (arith, ap one_if left, ap one_if right)
 one_less false false to_build l t is left right = absurd (cc is)
 
-looked_enough : (facts : Facts) (s : Session) (looked to_build : Bool) → LooksFit facts s looked to_build → owed_after facts.last ≡ [] → 1 ≤ one_if looked + one_if to_build → has_looked facts s ≡ true
-looked_enough facts s looked to_build fits none some = lt-ltb (s.tally.scans + s.tally.grants + started_in (number_of s) facts + s.tally.full) s.tally.looks (omega (arith, fits.enough, ap looks_due none, some))
+looked_enough : (facts : Facts) (s : Session) (looked to_build told : Bool) → LooksFit facts s looked to_build told → owed_after facts.last ≡ [] → 1 ≤ one_if looked + one_if to_build → has_looked facts s ≡ true
+looked_enough facts s looked to_build told fits none some = lt-ltb (s.tally.scans + s.tally.grants + started_in (number_of s) facts + s.tally.full) s.tally.looks (omega (arith, fits.enough, ap looks_due none, some))
 
 -- where it asks for the row of a key it gives one at most
 pub scan_one : (scenario : Scenario) (old : List Entry) (b : ℕ) (scan : Purpose) (rows : List Row) → IsPlayed scenario old → rows ≡ answer_of old b scan → is_keyed scan ≡ true → length rows ≤ 1
-scan_one scenario old b scan rows played are keyed = subst (λ l. length l ≤ 1) (sym are) (one_of_key old b scan played.sound played.tables keyed)
+scan_one scenario old b scan rows played are keyed = subst (λ l. length l ≤ 1) (sym are) (one_of_key old b scan played.sound played.columns played.names keyed)
 
 -- all that a scan rests on
 module _ (scenario : Scenario) (old : List Entry) (was : Backend) (waits : AwaitsEntry scenario old was) (courses : AllOnCourse scenario old) (scan : Purpose) (builds : Bool) (next : IsScanNext was.progress scan builds) (looked_for : is_looked_for builds was ≡ true) (count : ℕ) where
@@ -73,7 +79,7 @@ module _ (scenario : Scenario) (old : List Entry) (was : Backend) (waits : Await
   now = entered (facts_of (with_own old was.progress event) was.progress.id) (drop was.progress.finished was.progress.commands) (length old + 1) (was.progress.finished + 1) event s
 
   owed : owed_after facts.last ≡ []
-  owed = waits.rests.holds.facts.owed ∙ ap owed_at next.free.due
+  owed = waits.rests.holds.facts.owed ∙ next.free.due
 
   looked_flag : elim builds as (λ x. Bool) [ true ↦ was.looked_to_build | false ↦ was.looked ] ≡ true
   looked_flag = by_kind builds looked_for
@@ -82,7 +88,7 @@ module _ (scenario : Scenario) (old : List Entry) (was : Backend) (waits : Await
       by_kind true is = is
       by_kind false is = is
 
-  before : LooksFit facts s was.looked was.looked_to_build
+  before : LooksFit facts s was.looked was.looked_to_build was.told
   before = waits.fits.looks (going scenario old was waits courses next.command next.free.at)
 
   scan_own : OwnEntry scenario old was event waits
@@ -90,7 +96,7 @@ module _ (scenario : Scenario) (old : List Entry) (was : Backend) (waits : Await
     plays = subst (λ o. MayPlayIn (next_oid old) facts o s event) (sym next.free.at) (
       owed,
       next_same facts was.progress waits.rests.holds.rest scan waits.rests.holds.facts ∙ next.next,
-      looked_enough facts s was.looked was.looked_to_build before owed (omega (arith, one_less builds was.looked was.looked_to_build (was.looked && not (not builds)) (was.looked_to_build && not builds) looked_flag refl refl)),
+      looked_enough facts s was.looked was.looked_to_build was.told before owed (omega (arith, one_less builds was.looked was.looked_to_build (was.looked && not (not builds)) (was.looked_to_build && not builds) looked_flag refl refl)),
     );
     truly = tt;
     queue = tt;
@@ -103,7 +109,7 @@ module _ (scenario : Scenario) (old : List Entry) (was : Backend) (waits : Await
   same : later.running ≡ facts.running
   same = runs_on (was.progress.finished + 1) facts.running (scan_runs scenario old was waits courses next.command next.free.at scan next.next next.free.first)
 
-  looks_less : (l t : Bool) → l ≡ (was.looked && not (not builds)) → t ≡ (was.looked_to_build && not builds) → LooksFit later now l t
+  looks_less : (l t : Bool) → l ≡ (was.looked && not (not builds)) → t ≡ (was.looked_to_build && not builds) → LooksFit later now l t was.told
   looks_less l t left right = record {
     enough = omega (arith, before.enough, ap looks_due owed, started, one_less builds was.looked was.looked_to_build l t looked_flag left right);
     within = omega (arith, before.within, ap looks_due owed, started, one_less builds was.looked was.looked_to_build l t looked_flag left right);
@@ -112,9 +118,46 @@ module _ (scenario : Scenario) (old : List Entry) (was : Backend) (waits : Await
       started : started_in (number_of now) later ≡ started_in (number_of s) facts
       started = ap (λ o. started_in (number_of s) (record facts { running = o })) same
 
-  scan_fits : (l t : Bool) → l ≡ (was.looked && not (not builds)) → t ≡ (was.looked_to_build && not builds) → Fits later (command_at was) now l t
-  scan_fits l t left right = inside_fits scenario old was waits courses next.command next.free.at later now l t same refl (λ from is. cc is) (record { blocks = refl; finished = refl; blocked = refl; ended = refl; left = λ is there. refl })
+  -- it has no failure to tell
+  present : is_absent (plan_at was.progress.exec) ≡ false
+  present = by_plan (plan_at was.progress.exec) refl
+    where
+      by_plan : (p : Plan) → plan_at was.progress.exec ≡ p → is_absent p ≡ false
+      by_plan (Absent name) at = absurd (both_ways _ (not_true (has_failed was.progress) (and_true (not (has_failed was.progress)) _ next.next).0) (ap (λ p. elim (outcome_of p) as (λ x. Bool) [ Badly ↦ true | other ↦ false ]) at))
+      by_plan p at = refl
+
+  scan_fits : (l t : Bool) → l ≡ (was.looked && not (not builds)) → t ≡ (was.looked_to_build && not builds) → Fits later (command_at was) now l t was.told
+  scan_fits l t left right = inside_fits scenario old was waits courses next.command next.free.at later now l t was.told same refl (λ from is. cc is) (record { blocks = refl; finished = refl; blocked = refl; ended = refl; left = λ is there. refl })
       (scan_runs scenario old was waits courses next.command next.free.at scan next.next next.free.first) (scan_busy was.progress next.command next.lacks) (looks_less l t left right)
+      (λ made. sought builds refl (and_parts was.looked (not (not builds)) (sym left ∙ made))) (takes_cleared _ (number_of s) s.locks s.taken s.left waits.fits.takes)
+    where
+      -- what a look was made for is a scan of a catalog cache, which this one leaves lacking
+      sought : (u : Bool) → builds ≡ u → (was.looked ≡ true) × (not (not builds) ≡ true) → IsLookedFor later s.taken s.left
+      sought false is made = absurd (let both : true ≡ false = sym made.1 ∙ ap (λ b. not (not b)) is in cc both)
+      sought true is made = by_case (waits.fits.sought made.0)
+        where
+          for_build : is_build_scan scan ≡ true
+          for_build = next.kind ∙ is
+
+          -- before a lookup nothing is open, so no descriptor lacks a scan
+          never : (name : List ℕ) (mode : Mode) (rest : List Row → Plan) → plan_at was.progress.exec ≡ Do (Lookup name mode) rest → ⊥
+          never name mode rest at = or_either _ _ (and_true (not (has_failed was.progress)) _ next.next).1
+              (λ opened. let none : false ≡ true = sym (ap (list_any (λ (o : Opening). is_first_missing scan (kept_at was.progress) o.kind o.rel)) (lookup_opens_none old was.progress.id s next.command name mode rest (follows scenario old was waits courses next.command next.free.at) at)) ∙ opened in cc none)
+              (λ act. both_ways _ (refl {a = false}) (sym (ap is_build_scan (same_scan-true scan (scans.RelName name) (and_parts (not (is_kept (kept_at was.progress) (scans.RelName name))) (same_scan scan (scans.RelName name)) (sym (ap (is_next_of_act scan was.progress) at) ∙ act)).1)) ∙ for_build))
+
+          no_name : (p : Plan) → plan_at was.progress.exec ≡ p → finds_no_name facts s.taken p ≡ true → ⊥
+          no_name (Do (Lookup name mode) rest) at finds = never name mode rest at
+          no_name (Do (Open of kind) rest) at finds = cc finds
+          no_name (Do (Search other) rest) at finds = cc finds
+          no_name (Do (Reading other) rest) at finds = cc finds
+          no_name (Do (Lock of mode) rest) at finds = cc finds
+          no_name (Do (Write draft) rest) at finds = cc finds
+          no_name p at finds = cc finds
+
+          by_case : IsLookedFor facts s.taken s.left → IsLookedFor later s.taken s.left
+          by_case (Lacks lacks) = Lacks (built_leaves facts later scan s.left (stage_reads was.progress.exec) for_build (λ other. refl) lacks)
+          by_case (Unfound finds look) = absurd (no_name s.left refl finds)
+          by_case (Said absent) = absurd (both_ways _ present absent)
 
   -- what was kept stays where it is, and the scan stands at its entry
   kept_then : (rows : List Row) → AreLastScans (with_own old was.progress event) was.progress.id (kept_with scan rows (length old + 1) (kept_at was.progress))
@@ -132,14 +175,6 @@ module _ (scenario : Scenario) (old : List Entry) (was : Backend) (waits : Await
       by_same false others None at = tt
       by_same false others (Some read) at = place_read-more old e was.progress.id other others ∙ at
 
-  -- it has no failure to tell
-  present : is_absent (plan_at was.progress.exec) ≡ false
-  present = by_plan (plan_at was.progress.exec) refl
-    where
-      by_plan : (p : Plan) → plan_at was.progress.exec ≡ p → is_absent p ≡ false
-      by_plan (Absent name) at = absurd (both_ways _ (not_true (has_failed was.progress) (and_true (not (has_failed was.progress)) _ next.next).0) (ap (λ p. elim (outcome_of p) as (λ x. Bool) [ Badly ↦ true | other ↦ false ]) at))
-      by_plan p at = refl
-
   -- so after it the backend agrees
   pub scan_enters : (new : List Entry) (had has : ℕ → ℕ) (p : Progress) (l t : Bool) (rows : List Row) (at : ℕ) → IsPlayed scenario old → HasEntered scenario old was.progress event waits.rests p → at ≡ length old + 1
       → kept_at p ≡ kept_with scan rows at (kept_at was.progress) → p.answer ≡ None
@@ -150,5 +185,5 @@ module _ (scenario : Scenario) (old : List Entry) (was : Backend) (waits : Await
       (keeps_at scenario old was event waits p goes (record was { progress = p; looked = l; looked_to_build = t }) refl refl
       (subst (AreLastScans (with_own old was.progress event) was.progress.id) (sym (kept ∙ ap (λ n. kept_with scan rows n (kept_at was.progress)) at_is)) (kept_then rows))
       (keeps_none (with_own old was.progress event) p (ap is_absent (ap (λ (x : Session). x.left) goes.session) ∙ present)))
-      (fits_at scenario old was event waits p goes l t (scan_fits l t left right))
+      (fits_at scenario old was event waits p goes l t was.told (scan_fits l t left right))
       refl (Inside refl none) (λ inside. refl) appends

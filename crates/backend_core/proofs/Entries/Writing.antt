@@ -1,5 +1,5 @@
 -- The write of a backend, where its draft is at hand.
-use Rattle.std.proofs.Common.{◌≡◌, ◌≤◌, ◌<◌, ◌+◌, ◌∙◌, ◌==◌, ◌&&◌, ◌||◌, ℕ, false, Some, None, Result, Ok, Err, OnOk, OnErr, List, [], ◌∷◌, refl, sym, ap, subst, length, drop, arith}
+use Rattle.std.proofs.Common.{◌≡◌, ◌≤◌, ◌<◌, ◌+◌, ◌∙◌, ◌==◌, ◌&&◌, ◌||◌, ℕ, false, Some, None, Result, Ok, Err, OnOk, OnErr, List, [], ◌∷◌, refl, sym, ap, subst, length, drop, arith, true}
 use Rattle.std.specs.List.{AllByRecursion, flat_map}
 use Rattle.std.proofs.Math.Bool.{and-false}
 use Rattle.std.proofs.lemmas.Bool.{both_ways, ne_eqb}
@@ -12,7 +12,7 @@ use Rattle.lock_modes.specs.declared.grant.Grant.{Grant}
 use Rattle.lock_modes.specs.Grants.{holds}
 use Rattle.lock_modes.specs.Own.{has_lock}
 use Rattle.inval_messages.specs.Lists.{Written}
-use Rattle.ddl_effect.specs.Commands.{writing}
+use Rattle.ddl_effect.specs.Commands.{plan_of, writing}
 use Rattle.ddl_effect.specs.declared.told.Told.TheVariants as tells
 use Rattle.ddl_effect.specs.Plans.{Done, Write}
 use Rattle.ddl_effect.specs.Stages.{plan_at}
@@ -24,24 +24,27 @@ use Rattle.history_model.proofs.Ordered.{locks_exclude}
 use Rattle.seg_calls.specs.declared.refusal.Written.{Written as Made}
 use Rattle.seg_calls.specs.declared.refusal.WriteRefusal.TheVariants as refusals
 use Rattle.seg_calls.specs.Calls.{entry_of, items_drawn, MayRequest, MayWrite, MakesWrite, Clashes, Writes, Appends}
+use Rattle.cacheless.specs.ActsDone.{made_in, relation_by}
 use Rattle.cacheless.specs.Facts.{Facts, facts_of, facts_by}
 use Rattle.cacheless.specs.Holds.{Rests, HasEntered, with_own}
 use Rattle.cacheless.specs.Locks.{locked_by}
 use Rattle.cacheless.specs.OnCourse.{OnItsWay, AllOnCourse}
-use Rattle.cacheless.specs.Owed.{owed_of}
-use Rattle.cacheless.specs.Plays.{started_in, IsWrite, IsClash, MayPlay, MayPlayIn}
-use Rattle.cacheless.specs.Session.{Session, number_of, outcome_of, is_settled}
+use Rattle.cacheless.specs.Owed.{owed_of, started_in}
+use Rattle.cacheless.specs.Plays.{IsWrite, IsClash, MayPlay, MayPlayIn}
+use Rattle.cacheless.specs.Session.{Session, none_open, number_of, outcome_of, is_settled}
 use Rattle.cacheless.specs.Sessions.{written, entered}
 use Rattle.cacheless.specs.State.{is_absent, owed_at, lists_at, kept_at, kept_spared, locks_made, messages_in, clash_event, error_of}
+use Rattle.cacheless.proofs.Allowed.NamesRead.{read_as_now}
 use Rattle.cacheless.proofs.Allowed.NextKeeps.{spelled_at}
 use Rattle.cacheless.proofs.Plans.AloneLocks.{session_holds}
 use Rattle.cacheless.proofs.Written.Listed.{lists_before_it}
 use Rattle.cacheless.proofs.Same.{owes_nothing_is}
 use Rattle.cacheless.proofs.Plans.SilentActs.{empty_list, on_its_way}
+use Rattle.cacheless.proofs.Written.NamesGiven.{AreReadAsNow}
 use Rattle.cacheless.proofs.Written.WriteFits.{WriteFits, write_fits}
 use Rattle.backend_core.specs.Types.{Oid, Xid, Command, Draft, Item, Message, Scenario, Entry, Event, Progress, Backend}
 use Rattle.backend_core.specs.Agrees.{IsPlayed, AreLastScans, AwaitsEntry}
-use Rattle.backend_core.specs.Fits.{looks_due, LooksFit}
+use Rattle.backend_core.specs.Fits.{looks_due, LooksFit, IsLookedFor, TakesFit}
 use Rattle.backend_core.specs.Steps.{IsWriteNext, MakesEntry, Enters, IsRefused}
 use Rattle.backend_core.proofs.Choosing.ActsRun.{act_runs}
 use Rattle.backend_core.proofs.Entries.Alike.{alike_enters}
@@ -49,7 +52,9 @@ use Rattle.backend_core.proofs.Choosing.Chosen.{Acts, may_request, started_still
 use Rattle.backend_core.proofs.Fitting.Entered.{fits_at, keeps_at, kept_stays, kept-spared, keeps_none}
 use Rattle.backend_core.proofs.Entries.Failing.{IsActing, clash_shows, failed_enters}
 use Rattle.backend_core.proofs.Entries.Inside.{made_refused, entry_fits}
-use Rattle.backend_core.proofs.Own.{waiting, waiting_is, at_session, follows, going, OwnEntry, Inside, own_makes, own_enters}
+use Rattle.backend_core.proofs.Own.{waiting, waiting_is, waiting_course, at_session, follows, going, OwnEntry, Inside, own_makes, own_enters}
+use Rattle.backend_core.proofs.Fitting.Sought.{no_look}
+use Rattle.cacheless.specs.Types.{OwnLock}
 
 -- on a relation that is still to be drawn there is no lock
 none_held : (b : ℕ) (rel : Oid) (next : ℕ) (held : List Grant) → rel.0 ≡ next → AllByRecursion (λ g. g.rel.0 < next) held → holds held b rel AccessExclusive ≡ false
@@ -84,8 +89,12 @@ module _ (scenario : Scenario) (old : List Entry) (was : Backend) (draft : Draft
     at = next.free.at;
     unsettled = ap (λ p. is_settled (outcome_of p)) at;
     runs = act_runs scenario old was waits courses next.command next.free.at (Write draft) (λ given. Done tells.Ok) at next.free.first;
-    owed = waits.rests.holds.facts.owed ∙ ap owed_at next.free.due;
+    owed = waits.rests.holds.facts.owed ∙ next.free.due;
   }
+
+  -- no look was made that isn't used
+  unlooked : was.looked ≡ true → ⊥
+  unlooked made = no_look facts s.taken (writing draft) refl refl refl (subst (IsLookedFor facts s.taken) at (waits.fits.sought made))
 
   way : OnItsWay old was.progress.id s next.command
   way = on_its_way old was.progress.id s next.command (Write draft) (λ given. Done tells.Ok) (follows scenario old was waits courses next.command next.free.at) at
@@ -94,8 +103,12 @@ module _ (scenario : Scenario) (old : List Entry) (was : Backend) (draft : Draft
   unwritten = subst (λ n. has_written old was.progress.id (n + 1) ≡ false) waits.rests.holds.count way.unwritten
 
   -- what it is about to write may be written
-  suits : WriteFits old was.progress.id (was.progress.finished + 1) facts draft
-  suits = write_fits old was.progress.id (was.progress.finished + 1) facts next.command way.gave draft (λ given. Done tells.Ok) played.sound played.tables (spelled_at scenario was.progress.id (length s.finished) next.command played.spelled (at_session scenario old was waits ∙ next.free.at)) way.runs way.holds (sym way.plan ∙ at)
+  suits : WriteFits old was.progress.id (was.progress.finished + 1) facts (made_in relation_by way.gave (plan_of none_open next.command)) draft
+  suits = write_fits old was.progress.id (was.progress.finished + 1) facts next.command way.gave draft (λ given. Done tells.Ok) played.sound played.columns (spelled_at scenario was.progress.id (length s.finished) next.command played.spelled (at_session scenario old was waits ∙ next.free.at)) way.runs way.holds (sym way.plan ∙ at)
+
+  -- and the row of its table was read as it is
+  read : AreReadAsNow old was.progress.id facts (made_in relation_by way.gave (plan_of none_open next.command))
+  read = read_as_now scenario old was.progress.id s next.command draft (λ given. Done tells.Ok) played (waiting_is scenario old was waits) (waiting_course scenario old was waits courses) (at_session scenario old was waits ∙ next.free.at) at owed_none way
 
   pub write_request : MayRequest scenario old was.progress.id (was.progress.finished + 1)
   write_request = may_request scenario old was waits next.command next.free.at (Acts acting.unsettled)
@@ -133,12 +146,13 @@ module _ (scenario : Scenario) (old : List Entry) (was : Backend) (draft : Draft
       (subst (AreLastScans (with_own old was.progress event) was.progress.id) (sym kept) (kept-spared (with_own old was.progress event) was.progress.id messages (kept_at was.progress)
       (kept_stays old (entry_of was.progress.id (was.progress.finished + 1) event) was.progress.id (kept_at was.progress) (λ scan. refl) waits.keeps.places.kept)))
       (keeps_none (with_own old was.progress event) p (ap is_absent (ap (λ (x : Session). x.left) goes.session ∙ ap (λ q. (written q s).left) at))))
-      (fits_at scenario old was event waits p goes was.looked was.looked_to_build
-      (entry_fits scenario old was waits courses next.command next.free.at later now was.looked was.looked_to_build
+      (fits_at scenario old was event waits p goes was.looked was.looked_to_build was.told
+      (entry_fits scenario old was waits courses next.command next.free.at later now was.looked was.looked_to_build was.told
       (record { runs = λ i. Some (record (begun (sym waits.rests.holds.count i + 1) facts.running) { xid = Some xid.0 }); written = λ is. refl; last = λ from is. cc is })
       (record { blocks = ap (λ q. (written q s).blocks) at; finished = ap (λ q. length (written q s).finished) at; blocked = ap (λ q. (written q s).blocked) at; ended = ap (λ q. (written q s).ended) at; left = λ is there. absurd (both_ways _ acting.unsettled is) })
       acting.runs (Acts acting.unsettled)
-      (record { enough = omega (arith, before.enough, ap looks_due acting.owed, started); within = omega (arith, before.within, ap looks_due acting.owed, started) })))
+      (record { enough = omega (arith, before.enough, ap looks_due acting.owed, started); within = omega (arith, before.within, ap looks_due acting.owed, started) })
+      (λ made. absurd (unlooked made)) (subst (λ q. TakesFit (number_of now) now.locks (written q s).taken (written q s).left) (sym at) tt)))
       refl (Inside refl none) (λ inside. ap (λ q. (written q s).ended) at) appends
     where
       event : Event
@@ -150,7 +164,7 @@ module _ (scenario : Scenario) (old : List Entry) (was : Backend) (draft : Draft
       now : Session
       now = entered (facts_of (with_own old was.progress event) was.progress.id) (drop was.progress.finished was.progress.commands) (length old + 1) (was.progress.finished + 1) event s
 
-      before : LooksFit facts s was.looked was.looked_to_build
+      before : LooksFit facts s was.looked was.looked_to_build was.told
       before = waits.fits.looks (going scenario old was waits courses next.command next.free.at)
 
       started : started_in (number_of now) later ≡ started_in (number_of s) facts
@@ -166,6 +180,6 @@ module _ (scenario : Scenario) (old : List Entry) (was : Backend) (draft : Draft
   -- and after one that is refused
   pub clash_enters : (first : Backend) → was.progress.id ≡ first.progress.id → (new : List Entry) (had has : ℕ → ℕ) (p : Progress) (name : List ℕ) (clash : Clash) → HasEntered scenario old was.progress (clash_event name clash) waits.rests p → kept_at p ≡ kept_at was.progress → p.answer ≡ None
       → Writes old new had has was.progress.id (was.progress.finished + 1) draft (Err (refusals.Clash name clash)) → Enters scenario old new had has first (record was { progress = p })
-  clash_enters first id new had has p name clash goes kept none writes = let refused = clashes_as old new had has was.progress.id (was.progress.finished + 1) draft name clash writes in alike_enters scenario old new had has first was (record was { progress = p }) id (failed_enters scenario old new had has was p (clash_event name clash) (error_of name clash) next.command waits played courses acting (clash_shows scenario old was s name clash)
+  clash_enters first id new had has p name clash goes kept none writes = let refused = clashes_as old new had has was.progress.id (was.progress.finished + 1) draft name clash writes in alike_enters scenario old new had has first was (record was { progress = p }) id (failed_enters scenario old new had has was p (clash_event name clash) (error_of name clash) next.command waits played courses acting unlooked (clash_shows scenario old was s name clash)
       (subst (λ o. MayPlayIn (next_oid old) facts o s (clash_event name clash)) (sym next.free.at)
-      (clash_plays (next_oid old) facts next.command s name clash owed_none (subst (λ p. IsClash facts (next_oid old) p name) (sym at) (suits.names name refused.is_new)))) goes kept none refused.appends)
+      (clash_plays (next_oid old) facts next.command s name clash owed_none (subst (λ p. IsClash facts (next_oid old) p name) (sym at) (suits.names read name refused.is_new)))) goes kept none refused.appends)

@@ -53,15 +53,15 @@ keeps_none seen p there = λ name missed whole. absurd (both_ways _ there (ap is
 
 module _ (scenario : Scenario) (old : List Entry) (was : Backend) (event : Event) (waits : AwaitsEntry scenario old was) (p : Progress) (goes : HasEntered scenario old was.progress event waits.rests p) where
   -- what the choice keeps of the session that the entry left, it keeps of what the code holds then
-  pub fits_at : (looked to_build : Bool) → Fits (facts_by old was.progress.id (was.progress.finished + 1) event (facts_of old was.progress.id)) (command_at was)
-      (entered (facts_of (with_own old was.progress event) was.progress.id) (drop was.progress.finished was.progress.commands) (length old + 1) (was.progress.finished + 1) event (waiting waits)) looked to_build
-      → Fits (facts_of (with_own old was.progress event) p.id) (slice_get p.commands p.finished) (session_at p goes.holds.rest) looked to_build
-  fits_at looked to_build fits =
-      subst (λ f. Fits f (slice_get p.commands p.finished) (session_at p goes.holds.rest) looked to_build)
+  pub fits_at : (looked to_build told : Bool) → Fits (facts_by old was.progress.id (was.progress.finished + 1) event (facts_of old was.progress.id)) (command_at was)
+      (entered (facts_of (with_own old was.progress event) was.progress.id) (drop was.progress.finished was.progress.commands) (length old + 1) (was.progress.finished + 1) event (waiting waits)) looked to_build told
+      → Fits (facts_of (with_own old was.progress event) p.id) (slice_get p.commands p.finished) (session_at p goes.holds.rest) looked to_build told
+  fits_at looked to_build told fits =
+      subst (λ f. Fits f (slice_get p.commands p.finished) (session_at p goes.holds.rest) looked to_build told)
       (sym (ap (facts_of (with_own old was.progress event)) goes.moves.id ∙ facts_of-own old (entry_of was.progress.id (was.progress.finished + 1) event) was.progress.id (eq-eqb was.progress.id was.progress.id refl)))
-      (subst (λ o. Fits (facts_by old was.progress.id (was.progress.finished + 1) event (facts_of old was.progress.id)) o (session_at p goes.holds.rest) looked to_build)
+      (subst (λ o. Fits (facts_by old was.progress.id (was.progress.finished + 1) event (facts_of old was.progress.id)) o (session_at p goes.holds.rest) looked to_build told)
       (sym (ap (λ l. slice_get l p.finished) goes.moves.commands ∙ ap (slice_get was.progress.commands) goes.moves.finished))
-      (subst (λ x. Fits (facts_by old was.progress.id (was.progress.finished + 1) event (facts_of old was.progress.id)) (command_at was) x looked to_build) (sym goes.session) fits))
+      (subst (λ x. Fits (facts_by old was.progress.id (was.progress.finished + 1) event (facts_of old was.progress.id)) (command_at was) x looked to_build told) (sym goes.session) fits))
 
   -- and so it keeps the rest, where the places of its scans are told
   pub keeps_at : (now : Backend) → now.life ≡ was.life → life_by (was.progress.finished + 1) event ≡ Alive (was.progress.finished + 1) → AreLastScans (with_own old was.progress event) was.progress.id (kept_at p)

@@ -1,5 +1,5 @@
 -- What the choice keeps with an entry of an end.
-use Rattle.std.proofs.Common.{◌≡◌, ◌≤◌, ◌+◌, ◌∙◌, ◌==◌, ◌&&◌, ◌||◌, inl, inr, ℕ, Bool, true, false, Option, Some, None, List, [], ◌∷◌, ◌++◌, cond, refl, sym, ap, subst, map, is_none, is_some, if◌then◌else◌, arith}
+use Rattle.std.proofs.Common.{◌≡◌, ◌≤◌, ◌+◌, ◌∙◌, ◌==◌, ◌&&◌, ◌||◌, inl, inr, ℕ, Bool, true, false, Option, Some, None, List, [], ◌∷◌, ◌++◌, cond, refl, sym, ap, subst, map, is_none, is_some, if◌then◌else◌, arith, not}
 use Rattle.std.specs.Option.{option_map, option_map_or}
 use Rattle.std.specs.Prelude.{nat_lt}
 use Rattle.std.proofs.Math.Bool.{and-false}
@@ -8,20 +8,21 @@ use Rattle.base_types.specs.declared.command.Command.TheVariants as commands
 use Rattle.event_kinds.specs.declared.entry.Event.TheVariants as events
 use Rattle.inval_messages.specs.Lists.{Written, has_write_from, lists_before}
 use Rattle.txn_blocks.specs.Blocks.{Block, Outside, Inside, Failed}
-use Rattle.ddl_effect.specs.Plans.{Plan, left_rests_on, Done, Fails, Absent, NotBuilt, Do}
+use Rattle.ddl_effect.specs.Plans.{Plan, left_rests_on, Done, Fails, Absent, NotBuilt, Do, told_rests_on}
 use Rattle.history_model.specs.Sent.{ends_transaction}
 use Rattle.history_model.specs.Transactions.{Running, begun, after_release, is_visible}
 use Rattle.history_model.specs.Writes.{is_empty}
 use Rattle.cacheless.specs.Ends.{End, Ends, Commits, TakesBack, end_of_all, end_of_block, end_well, end_badly, end_of}
 use Rattle.cacheless.specs.Facts.{Facts}
 use Rattle.cacheless.proofs.Allowed.Releases.{OwesNoScan}
-use Rattle.cacheless.specs.Owed.{Owes, OwesLook, OwesScan, unusable, owed_at_start, owed_after, begins, builds_owed, act_owed, scans_owed, owed_of}
-use Rattle.cacheless.specs.Plays.{started_in}
+use Rattle.cacheless.specs.Owed.{Owes, OwesLook, OwesScan, unusable, owed_at_start, owed_after, begins, builds_owed, act_owed, scans_owed, owed_of, started_in}
 use Rattle.cacheless.specs.Session.{Session, Outcome, Well, Badly, Unsettled, number_of, outcome_of, is_settled}
 use Rattle.backend_core.specs.Types.{Purpose, Command, Event, OwnLock}
-use Rattle.backend_core.specs.Fits.{looks_due, first_at, RunsBlock, RunsBy, RunsAfter, TransactionFits, OnCommit, OnTakingBack, Fits}
+use Rattle.backend_core.specs.Fits.{looks_due, first_at, RunsBlock, RunsBy, RunsAfter, TransactionFits, OnCommit, OnTakingBack, Fits, IsLookedFor, Lacks, Unfound, Said, TakesFit}
 use Rattle.backend_core.proofs.Choosing.EndsNow.{end_by, EndsBy, IsCommit, commit_first}
 use Rattle.backend_core.proofs.Fitting.NextTransaction.{failed_on}
+use Rattle.cacheless.specs.Types.{Oid, Purpose, OwnLock}
+use Rattle.cacheless.proofs.Tests.{not_true}
 
 -- the session after an entry of an end, with its locks
 abbrev pub later_at : Session → List OwnLock → ℕ → Session
@@ -82,14 +83,41 @@ owed_later facts later command s locks at goes out built =
     start = ap (λ t. elim (begins command s && t) as (λ x. List Owes) [ true ↦ OwesLook ∷ [] | false ↦ [] ]) (none_some later.running goes.some)
         ∙ ap (λ t. elim t as (λ x. List Owes) [ true ↦ OwesLook ∷ [] | false ↦ [] ]) (and-false (begins command s))
 
-    by_plan : (p : Plan) → s.left ≡ p → is_settled (outcome_of p) ≡ true → (outcome_of s.left ≡ Well → OwesNoScan later s) → ◌≡◌ {A = List Purpose} (elim (outcome_of p) [ Badly ↦ [] | other ↦ builds_owed later s.opened ++ act_owed later s.granted p ]) []
+    by_plan : (p : Plan) → s.left ≡ p → is_settled (outcome_of p) ≡ true → (outcome_of s.left ≡ Well → OwesNoScan later s) → ◌≡◌ {A = List Purpose} (elim (outcome_of p) [ Badly ↦ [] | other ↦ builds_owed later s.opened ++ act_owed later p ]) []
     by_plan (Done told) at is none = let free = none (ap outcome_of at) in ap (λ l. l ++ unusable later (left_rests_on (Done told))) free.0 ∙ free.1 told at
     by_plan (Fails error) at is none = refl
     by_plan (Absent name) at is none = refl
     by_plan (Do act rest) at is none = absurd (cc is)
     by_plan NotBuilt at is none = absurd (cc is)
 
-module _ (facts later : Facts) (o : Option Command) (s : Session) (looked to_build : Bool) (event : Event) (locks : List OwnLock) (at : ℕ) (fits : Fits facts o s looked to_build) (ends : EndsBy facts o s event) where
+-- a look that was made for a command that has come out: for its answer, or to say that there is no relation of a name
+sought_out : (facts later : Facts) (taken : Option Oid) (p : Plan) → is_settled (outcome_of p) ≡ true → ((scan : Purpose) → facts.usable scan ≡ false → later.usable scan ≡ false) → IsLookedFor facts taken p → IsLookedFor later taken p
+sought_out facts later taken p out spares (Said is) = Said is
+sought_out facts later taken (Done told) out spares (Lacks is) = Lacks (by_scan (told_rests_on told) is)
+  where
+    by_scan : (o : Option Purpose) → option_map_or (λ scan. not (facts.usable scan)) o false ≡ true → option_map_or (λ scan. not (later.usable scan)) o false ≡ true
+    by_scan None lacks = lacks
+    by_scan (Some scan) lacks = ap not (spares scan (not_true (facts.usable scan) lacks))
+sought_out facts later taken (Do act rest) out spares (Lacks is) = absurd (cc out)
+sought_out facts later taken (Fails error) out spares (Lacks is) = absurd (cc is)
+sought_out facts later taken (Absent name) out spares (Lacks is) = absurd (cc is)
+sought_out facts later taken NotBuilt out spares (Lacks is) = absurd (cc is)
+sought_out facts later taken (Do act rest) out spares (Unfound is look) = absurd (cc out)
+sought_out facts later taken (Done told) out spares (Unfound is look) = absurd (cc is)
+sought_out facts later taken (Fails error) out spares (Unfound is look) = absurd (cc is)
+sought_out facts later taken (Absent name) out spares (Unfound is look) = absurd (cc is)
+sought_out facts later taken NotBuilt out spares (Unfound is look) = absurd (cc is)
+
+-- such a command needs no lock that its lookup took
+takes_out : (number : ℕ) (locks : List OwnLock) (number' : ℕ) (locks' : List OwnLock) (taken : Option Oid) (p : Plan) → is_settled (outcome_of p) ≡ true → TakesFit number locks taken p → TakesFit number' locks' taken p
+takes_out number locks number' locks' None p out takes = tt
+takes_out number locks number' locks' (Some rel) (Do act rest) out takes = absurd (cc out)
+takes_out number locks number' locks' (Some rel) (Absent name) out takes = takes
+takes_out number locks number' locks' (Some rel) (Done told) out takes = tt
+takes_out number locks number' locks' (Some rel) (Fails error) out takes = tt
+takes_out number locks number' locks' (Some rel) NotBuilt out takes = tt
+
+module _ (facts later : Facts) (o : Option Command) (s : Session) (looked to_build told : Bool) (event : Event) (locks : List OwnLock) (at : ℕ) (fits : Fits facts o s looked to_build told) (ends : EndsBy facts o s event) where
   runs_later : GoesOn facts later → (t : Bool) → TransactionFits facts o s t → s.ended ≡ t → TransactionFits later o (later_at s locks at) t
   runs_later goes true none is = absurd (both_ways _ ends.going is)
   runs_later goes false by is = by_block s.blocks.block by
@@ -107,9 +135,9 @@ module _ (facts later : Facts) (o : Option Command) (s : Session) (looked to_bui
       by_block Failed failed = failed_on facts later s.blocks.levels block_later (λ none. none_runs none) failed
 
   -- where the transaction goes on
-  pub fits_ending : GoesOn facts later → (has_write_from 0 later.lists ≡ true → option_map_or (λ t. is_some t.xid) later.running false ≡ true)
-      → (is_visible later.running ≡ true → OnCommit later o (later_at s locks at)) → ((from : ℕ) → later.last ≡ Some (events.Gone from) → OnTakingBack later o (later_at s locks at) from) → Fits later o (later_at s locks at) looked to_build
-  fits_ending goes written visible taken = record {
+  pub fits_ending : GoesOn facts later → ((scan : Purpose) → facts.usable scan ≡ false → later.usable scan ≡ false) → (has_write_from 0 later.lists ≡ true → option_map_or (λ t. is_some t.xid) later.running false ≡ true)
+      → (is_visible later.running ≡ true → OnCommit later o (later_at s locks at)) → ((from : ℕ) → later.last ≡ Some (events.Gone from) → OnTakingBack later o (later_at s locks at) from) → Fits later o (later_at s locks at) looked to_build told
+  fits_ending goes spares written visible taken = record {
     looks = λ going. let l = fits.looks going in record { enough = omega (arith, l.enough, started, due, due_now); within = omega (arith, l.within, started, due, due_now) };
     transaction = runs_later goes s.ended fits.transaction refl;
     first = subst (λ n. n ≤ number_of s) (sym (first_same facts later goes)) fits.first;
@@ -122,6 +150,8 @@ module _ (facts later : Facts) (o : Option Command) (s : Session) (looked to_bui
     taken = taken;
     accepts = λ owes. absurd (both_ways _ owes (ap (λ l. is_empty l) goes.free));
     past = λ none. let p = fits.past none in record { out = p.out; opened = p.opened; free = goes.free };
+    sought = λ is. sought_out facts later s.taken s.left ends.out spares (fits.sought is);
+    takes = takes_out (number_of s) s.locks (number_of s) locks s.taken s.left ends.out fits.takes;
   }
     where
       started : started_in (number_of s) later ≡ started_in (number_of s) facts
@@ -142,7 +172,7 @@ module _ (facts later : Facts) (o : Option Command) (s : Session) (looked to_bui
       begun_is (Some t) n some = refl
 
       first_is : first_at later ≡ commit.first
-      first_is = first_same facts later goes ∙ begun_is facts.running (number_of s) goes.runs ∙ commit_first facts o s looked to_build commit.first fits ends.going commit.is
+      first_is = first_same facts later goes ∙ begun_is facts.running (number_of s) goes.runs ∙ commit_first facts o s looked to_build told commit.first fits ends.going commit.is
 
       all_back : (own : Option Running) → option_map_or (λ t. TakesBack t.first) own Ends ≡ Commits commit.first → ⊥
       all_back None is = cc is
@@ -169,9 +199,9 @@ module _ (facts later : Facts) (o : Option Command) (s : Session) (looked to_bui
       by_command None is = of_first TakesBack Ends later.running facts.running goes.same ∙ is
 
   -- the release is made: what runs then fits the blocks after the command, and isn't visible
-  pub fits_released : (from : ℕ) → later.last ≡ Some (events.Release from) → first_at later ≤ number_of s → (has_write_from 0 later.lists ≡ true → option_map_or (λ t. is_some t.xid) later.running false ≡ true) → is_visible later.running ≡ false → RunsAfter later o s
-      → Fits later o (record s { ended = true; locks = locks; last = at }) looked to_build
-  fits_released from last low written hidden runs_on = record {
+  pub fits_released : (from : ℕ) → later.last ≡ Some (events.Release from) → ((scan : Purpose) → facts.usable scan ≡ false → later.usable scan ≡ false) → first_at later ≤ number_of s → (has_write_from 0 later.lists ≡ true → option_map_or (λ t. is_some t.xid) later.running false ≡ true) → is_visible later.running ≡ false → RunsAfter later o s
+      → Fits later o (record s { ended = true; locks = locks; last = at }) looked to_build told
+  fits_released from last spares low written hidden runs_on = record {
     looks = λ going. absurd (cc going);
     transaction = by_command o runs_on;
     first = low;
@@ -184,6 +214,8 @@ module _ (facts later : Facts) (o : Option Command) (s : Session) (looked to_bui
     taken = λ n is. absurd (let no : Some (events.Release from) ≡ Some (events.Gone n) = sym last ∙ is in cc no);
     accepts = λ owes. absurd (both_ways _ owes (ap (λ l. is_empty (owed_after l)) last));
     past = λ past. let p = fits.past past in record { out = p.out; opened = p.opened; free = ap owed_after last };
+    sought = λ is. sought_out facts later s.taken s.left ends.out spares (fits.sought is);
+    takes = takes_out (number_of s) s.locks (number_of s) locks s.taken s.left ends.out fits.takes;
   }
     where
       by_command : (x : Option Command) → RunsAfter later x s → RunsAfter later x (record s { ended = true; locks = locks; last = at })

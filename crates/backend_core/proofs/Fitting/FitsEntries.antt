@@ -13,7 +13,7 @@ use Rattle.cacheless.specs.Owed.{begins}
 use Rattle.cacheless.specs.State.{is_absent}
 use Rattle.cacheless.proofs.Entries.EnteredLooks.{not_absent}
 use Rattle.backend_core.specs.Types.{Command}
-use Rattle.backend_core.specs.Fits.{LooksFit, first_at, LevelsRise, RunsBlock, RunsFailed, RunsBy, TransactionFits, Fits}
+use Rattle.backend_core.specs.Fits.{LooksFit, first_at, LevelsRise, RunsBlock, RunsFailed, RunsBy, TransactionFits, Fits, IsLookedFor, TakesFit}
 use Rattle.backend_core.proofs.Fitting.NextTransaction.{some_first, failed_on}
 
 -- what such an entry leaves of the facts: its transaction runs, with its first command, and isn't visible
@@ -86,9 +86,9 @@ module _ (facts later : Facts) (o : Option Command) (s now : Session) (command :
       none_runs none (Starts c here starts outside none') = absurd (let both : Failed ≡ Outside = sym is ∙ outside in cc both)
 
 -- what the choice keeps
-pub fits_inside : (facts later : Facts) (o : Option Command) (s now : Session) (looked to_build looked_now to_build_now : Bool) (command : Command) → o ≡ Some command → Fits facts o s looked to_build → StaysInside facts later (number_of s) → StaysAt s now → RunsHere facts o s → is_visible facts.running ≡ false → s.ended ≡ false
-    → LooksFit later now looked_now to_build_now → Fits later o now looked_now to_build_now
-fits_inside facts later o s now looked to_build looked_now to_build_now command at fits stays same goes hidden going looks = record {
+pub fits_inside : (facts later : Facts) (o : Option Command) (s now : Session) (looked to_build told looked_now to_build_now told_now : Bool) (command : Command) → o ≡ Some command → Fits facts o s looked to_build told → StaysInside facts later (number_of s) → StaysAt s now → RunsHere facts o s → is_visible facts.running ≡ false → s.ended ≡ false
+    → LooksFit later now looked_now to_build_now told_now → (looked_now ≡ true → IsLookedFor later now.taken now.left) → TakesFit (number_of now) now.locks now.taken now.left → Fits later o now looked_now to_build_now told_now
+fits_inside facts later o s now looked to_build told looked_now to_build_now told_now command at fits stays same goes hidden going looks sought takes = record {
   looks = λ _. looks;
   transaction = subst (TransactionFits later o now) (sym (same.ended ∙ going)) (subst (λ b. RunsBy later o now b.block) (sym same.blocks) (runs_now facts later o s now command at fits.first stays same goes s.blocks.block refl (subst (TransactionFits facts o s) going fits.transaction)));
   first = first_low facts later o s now command at fits.first stays same goes;
@@ -102,4 +102,6 @@ fits_inside facts later o s now looked to_build looked_now to_build_now command 
   taken = λ from is. absurd (stays.last from is);
   accepts = λ _. ap (λ r. is_some r) stays.runs;
   past = λ none. absurd (let both : Some command ≡ None = sym at ∙ none in cc both);
+  sought = sought;
+  takes = takes;
 }

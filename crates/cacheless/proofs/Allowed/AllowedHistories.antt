@@ -1,7 +1,7 @@
 -- An allowed history is sound, its writes keep tables, and each of its backends is on its course.
 use Rattle.std.proofs.Common.{ℕ, List, [], ◌∷◌, ◌++◌, refl}
 use Rattle.history_model.specs.Legal.{MayFollow, IsLegal}
-use Rattle.history_model.specs.Orderly.{IsOrderly, MayComeNext, IsSound}
+use Rattle.history_model.specs.Orderly.{MayComeNext, IsSound}
 use Rattle.history_model.specs.Read.{ScansOnlyIfNeeded, IsEconomical}
 use Rattle.history_model.proofs.Prefixes.{EachEntry-more, EachEntry-weaker, EachFrom-both, each-keeps}
 use Rattle.cacheless.specs.Types.{Scenario, Entry}
@@ -9,32 +9,33 @@ use Rattle.cacheless.specs.OnCourse.{AllOnCourse}
 use Rattle.cacheless.specs.Played.{AreSpelled, IsPlayed}
 use Rattle.cacheless.specs.Plays.{IsNext, Plays}
 use Rattle.cacheless.specs.Output.{IsAllowed, IsOutput}
-use Rattle.cacheless.specs.TableWrites.{WritesTables}
+use Rattle.cacheless.specs.TableWrites.{WritesColumns, WritesNamesApart}
 use Rattle.cacheless.proofs.Allowed.Economical.{plays_needed}
-use Rattle.cacheless.proofs.Allowed.NextKeeps.{next_keeps}
+use Rattle.cacheless.proofs.Allowed.NextKeeps.{KeepsAllBy, next_keeps}
 use Rattle.cacheless.proofs.Allowed.NextOnCourse.{all_stay}
 
 -- a played history whose backends are on their courses stays so with each entry that it allows and that its backend may do next
 pub played_more : (scenario : Scenario) (history : List Entry) (e : Entry) → IsPlayed scenario history → AllOnCourse scenario history → MayFollow history e → IsNext scenario history e → IsPlayed scenario (history ++ e ∷ []) × AllOnCourse scenario (history ++ e ∷ [])
-played_more scenario history e played courses follows next = (later, all_stay scenario history e later (record { sound = played.sound; tables = played.tables; comes = comes; keeps = kept.1 }) next courses)
+played_more scenario history e played courses follows next = (later, all_stay scenario history e later (record { sound = played.sound; comes = comes; columns = played.columns; keeps = kept.columns }) next courses)
   where
-    kept : IsOrderly history e × WritesTables history e
+    kept : KeepsAllBy history e.backend e.event
     kept = next_keeps scenario history e played courses next
 
     comes : MayComeNext history e
-    comes = record { follows = follows; orderly = kept.0 }
+    comes = record { follows = follows; orderly = kept.orderly }
 
     later : IsPlayed scenario (history ++ e ∷ [])
     later = record {
       sound = EachEntry-more MayComeNext history e played.sound comes;
       plays = EachEntry-more (IsNext scenario) history e played.plays next;
-      tables = EachEntry-more WritesTables history e played.tables kept.1;
+      columns = EachEntry-more WritesColumns history e played.columns kept.columns;
+      names = EachEntry-more WritesNamesApart history e played.names kept.names;
       spelled = played.spelled;
     }
 
 -- nothing is played
 pub played_start : (scenario : Scenario) → AreSpelled scenario → IsPlayed scenario [] × AllOnCourse scenario []
-played_start scenario spelled = (record { sound = tt; plays = tt; tables = tt; spelled = spelled }, λ b c. refl)
+played_start scenario spelled = (record { sound = tt; plays = tt; columns = tt; names = tt; spelled = spelled }, λ b c. refl)
 
 -- a legal history in which backends do what the commands of a script say is played, and each is on its course
 pub plays_on_course : (scenario : Scenario) (history : List Entry) → AreSpelled scenario → IsLegal history → Plays scenario history → IsPlayed scenario history × AllOnCourse scenario history

@@ -43,23 +43,19 @@ each_lacked facts scan (o ∷ opened) is = by_side (each_lacked facts scan opene
     by_side more (inl here) = first_lacked facts scan (build_scans o.kind o.rel) here
     by_side more (inr there) = more there
 
--- and so it is with the scan of a lookup, which is lacked only until its lock is granted
-taken_lacked : (facts : Facts) (scan : Purpose) (granted : Bool) (wanted : List Purpose) → list_any (same_scan scan) (take 1 (if granted then [] else unusable facts wanted)) ≡ true → facts.usable scan ≡ false
-taken_lacked facts scan true wanted is = absurd (cc is)
-taken_lacked facts scan false wanted is = first_lacked facts scan wanted is
-
-act_lacked : (facts : Facts) (scan : Purpose) (granted : Bool) (plan : Plan) → list_any (same_scan scan) (act_next facts granted plan) ≡ true → facts.usable scan ≡ false
-act_lacked facts scan granted (Do (Lookup name mode) rest) is = taken_lacked facts scan granted (scans.RelName name ∷ []) is
-act_lacked facts scan granted (Do (Search wanted) rest) is = first_lacked facts scan (wanted ∷ []) is
-act_lacked facts scan granted (Do (Open rel kind) rest) is = first_lacked facts scan (build_scans kind rel) is
-act_lacked facts scan granted (Do (Read other) rest) is = absurd (cc is)
-act_lacked facts scan granted (Do (Lock rel mode) rest) is = absurd (cc is)
-act_lacked facts scan granted (Do (Write draft) rest) is = absurd (cc is)
-act_lacked facts scan granted (Done (tells.Regclass oid)) is = first_lacked facts scan (scans.RelOid oid ∷ []) is
-act_lacked facts scan granted (Done told) is = absurd (cc is)
-act_lacked facts scan granted (Fails error) is = absurd (cc is)
-act_lacked facts scan granted (Absent name) is = absurd (cc is)
-act_lacked facts scan granted NotBuilt is = absurd (cc is)
+-- and so it is with the scans of the next act
+act_lacked : (facts : Facts) (scan : Purpose) (plan : Plan) → list_any (same_scan scan) (act_next facts plan) ≡ true → facts.usable scan ≡ false
+act_lacked facts scan (Do (Lookup name mode) rest) is = first_lacked facts scan (scans.RelName name ∷ []) is
+act_lacked facts scan (Do (Search wanted) rest) is = first_lacked facts scan (wanted ∷ []) is
+act_lacked facts scan (Do (Open rel kind) rest) is = first_lacked facts scan (build_scans kind rel) is
+act_lacked facts scan (Do (Read other) rest) is = absurd (cc is)
+act_lacked facts scan (Do (Lock rel mode) rest) is = absurd (cc is)
+act_lacked facts scan (Do (Write draft) rest) is = absurd (cc is)
+act_lacked facts scan (Done (tells.Regclass oid)) is = first_lacked facts scan (scans.RelOid oid ∷ []) is
+act_lacked facts scan (Done told) is = absurd (cc is)
+act_lacked facts scan (Fails error) is = absurd (cc is)
+act_lacked facts scan (Absent name) is = absurd (cc is)
+act_lacked facts scan NotBuilt is = absurd (cc is)
 
 -- a scan that comes next isn't usable
 next_lacked : (facts : Facts) (scan : Purpose) (s : Session) → is_next_scan scan facts s ≡ true → facts.usable scan ≡ false
@@ -68,14 +64,14 @@ next_lacked facts scan s is = by_outcome (outcome_of s.left) is
     builds : List Purpose
     builds = flat_map (λ (o : Opening). take 1 (unusable facts (build_scans o.kind o.rel))) s.opened
 
-    both : list_any (same_scan scan) (builds ++ act_next facts s.granted s.left) ≡ true → facts.usable scan ≡ false
-    both any = by_side (or_cases _ _ (sym (list_any-append (same_scan scan) builds (act_next facts s.granted s.left)) ∙ any))
+    both : list_any (same_scan scan) (builds ++ act_next facts s.left) ≡ true → facts.usable scan ≡ false
+    both any = by_side (or_cases _ _ (sym (list_any-append (same_scan scan) builds (act_next facts s.left)) ∙ any))
       where
-        by_side : (list_any (same_scan scan) builds ≡ true) ⊎ (list_any (same_scan scan) (act_next facts s.granted s.left) ≡ true) → facts.usable scan ≡ false
+        by_side : (list_any (same_scan scan) builds ≡ true) ⊎ (list_any (same_scan scan) (act_next facts s.left) ≡ true) → facts.usable scan ≡ false
         by_side (inl here) = each_lacked facts scan s.opened here
-        by_side (inr there) = act_lacked facts scan s.granted s.left there
+        by_side (inr there) = act_lacked facts scan s.left there
 
-    by_outcome : (o : Outcome) → list_any (same_scan scan) (elim o as (λ x. List Purpose) [ Badly ↦ [] | other ↦ builds ++ act_next facts s.granted s.left ]) ≡ true → facts.usable scan ≡ false
+    by_outcome : (o : Outcome) → list_any (same_scan scan) (elim o as (λ x. List Purpose) [ Badly ↦ [] | other ↦ builds ++ act_next facts s.left ]) ≡ true → facts.usable scan ≡ false
     by_outcome Unsettled any = both any
     by_outcome Well any = both any
     by_outcome Badly any = absurd (cc any)

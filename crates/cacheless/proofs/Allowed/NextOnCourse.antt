@@ -23,7 +23,7 @@ use Rattle.cacheless.specs.Settled.{settled}
 use Rattle.cacheless.proofs.HeldLocks.{settled-locks}
 use Rattle.cacheless.proofs.Allowed.OwnEntries.{IsNoted, own_follows, OwnEntry}
 use Rattle.cacheless.proofs.Allowed.Releases.{release_finishes}
-use Rattle.cacheless.proofs.Reading.{facts_of-own, session_of-own, session_of-other}
+use Rattle.cacheless.proofs.Reading.{facts_of-own, facts_of-other, session_of-own, session_of-other}
 use Rattle.cacheless.proofs.Allowed.SettledCourse.{first_left, begins_on_course, settled_on_course}
 use Rattle.cacheless.proofs.Allowed.StaysOnCourse.{has_written-quiet, has_written-other, has_written-earlier, MayCome, follows-more}
 
@@ -43,7 +43,6 @@ entered_noted facts left at c event s = record {
     sought = ap (λ x. x.sought) same;
     finished = ap (λ x. x.finished) same;
   };
-  granted = ap (λ x. x.granted) same;
   ended = ap (λ x. x.ended) same;
 }
   where
@@ -89,9 +88,10 @@ pub other_stays : (scenario : Scenario) (history : List Entry) (e : Entry) (b : 
 other_stays scenario history e b None may other none = λ c. has_written-other history e b c other ∙ none c
 other_stays scenario history e b (Some s) may other course = record {
   follows = λ command at. follows-more history e b s s command may (λ own. absurd (both_ways _ other own)) (λ c. has_written-other history e b c other) (λ name. rows_read-other history e b (scans.RelName name) other)
-      (λ over. ap (λ last. is_over last s) (last_event_of-other history e b other) ∙ over) (record { left = refl; refused = refl; opened = refl; found = refl; sought = refl; finished = refl }) refl (course.follows command at);
+      (λ over. ap (λ last. is_over last s) (last_event_of-other history e b other) ∙ over) (record { left = refl; refused = refl; opened = refl; found = refl; sought = refl; finished = refl }) (course.follows command at);
   going = course.going;
   later = λ c after. has_written-other history e b c other ∙ course.later c after;
+  clear = subst (λ facts. ClearUnlessOwed facts (slice_get (commands_of scenario b) (length s.finished)) s) (sym (facts_of-other history e b other)) course.clear;
 }
 
 -- the entry of a backend and a command after a history

@@ -1,9 +1,10 @@
 -- An entry of a backend keeps its running command on its course.
-use Rattle.std.proofs.Common.{◌≡◌, ◌+◌, ◌-◌, ◌∙◌, ℕ, Bool, true, false, Option, Some, None, List, [], ◌∷◌, ◌++◌, ◌&&◌, ◌||◌, refl, sym, ap, subst, length, take}
+use Rattle.std.proofs.Common.{◌≡◌, ◌+◌, ◌-◌, ◌∙◌, ℕ, Bool, true, false, Option, Some, None, List, [], ◌∷◌, ◌++◌, ◌&&◌, ◌||◌, refl, sym, ap, subst, length, take, ◌==◌}
 use Rattle.std.specs.List.{flat_map, list_any}
 use Rattle.std.proofs.Math.Bool.{or-true}
-use Rattle.std.proofs.lemmas.Bool.{eq-eqb}
-use Rattle.base_types.specs.Scans.{same_scan, build_scans}
+use Rattle.std.proofs.lemmas.Bool.{eq-eqb, and_from, or_left}
+use Rattle.base_types.specs.Scans.{same_scan, build_scans, same_oid}
+use Rattle.base_types.specs.Modes.{mode_number, same_mode}
 use Rattle.base_types.specs.declared.ids.Xid.{Xid}
 use Rattle.base_types.specs.declared.row.Row.TheVariants as rows
 use Rattle.base_types.specs.declared.scan.Purpose.TheVariants as scans
@@ -12,29 +13,34 @@ use Rattle.command_answers.specs.declared.error.CommandError.TheVariants as erro
 use Rattle.ddl_effect.specs.declared.told.Told.TheVariants as tells
 use Rattle.ddl_effect.specs.Plans.{Lookup, Open, Search, Read, Lock, Write, Plan, Done, Fails, Absent, NotBuilt, Do}
 use Rattle.history_model.specs.Drawn.{next_oid}
+use Rattle.history_model.specs.Held.{held_of}
 use Rattle.history_model.specs.Lives.{last_event_of}
-use Rattle.history_model.specs.Orderly.{IsSound}
-use Rattle.history_model.specs.Read.{is_scan_of, rows_read}
-use Rattle.history_model.specs.Versions.{answer_of}
+use Rattle.history_model.specs.Orderly.{IsSound, MayComeNext}
+use Rattle.history_model.specs.Prefixes.{EachEntry}
+use Rattle.history_model.specs.Read.{is_scan_of, rows_read, is_usable}
 use Rattle.history_model.specs.Writes.{has_written, is_write}
-use Rattle.history_model.proofs.Locked.{IsQuiet, found_first}
-use Rattle.history_model.proofs.Reading.{has_written-more, last_event_of-own, rows_read-own}
+use Rattle.history_model.proofs.Locked.{IsQuiet, unchanged_answers}
+use Rattle.history_model.proofs.Every.{any-right}
+use Rattle.history_model.proofs.Reading.{has_written-more, last_event_of-own, held_of-more}
 use Rattle.history_model.proofs.Touched.{entry_of}
 use Rattle.cacheless.specs.Types.{Oid, Mode, Purpose, Row, Item, Opening, Command, CommandError, Told, Entry, Event}
+use Rattle.cacheless.specs.ActsDone.{reached, made_in, opening_by}
 use Rattle.cacheless.specs.Ends.{End, Ends, end_of, next_of_end, end_left, end_well, end_badly}
 use Rattle.cacheless.specs.Facts.{Facts, facts_of}
-use Rattle.cacheless.specs.OnCourse.{is_absent, OnItsWay, is_over, Begun, Wrote, Over, IsFirstSeen, NamedFits, WasSought, DoesNoAct, FollowsPlan}
+use Rattle.cacheless.specs.OnCourse.{is_absent, OnItsWay, is_over, Begun, Wrote, Over, NamedFits, WasSought, DoesNoAct, FollowsPlan}
 use Rattle.cacheless.specs.Owed.{unusable, act_next, is_next_scan}
-use Rattle.cacheless.specs.Plays.{IsLock, IsWrite, MayPlay}
+use Rattle.cacheless.specs.Plays.{IsWrite, IsUnlock, MayPlay}
 use Rattle.cacheless.specs.Session.{Session, Outcome, Unsettled, Well, Badly, none_open, number_of, outcome_of, is_settled}
 use Rattle.cacheless.specs.Sessions.{refused_with, written, resumed, noted}
-use Rattle.cacheless.specs.Settled.{class_oid}
+use Rattle.cacheless.specs.Settled.{found_by}
 use Rattle.cacheless.proofs.Plans.ActOrder.{at_write}
-use Rattle.cacheless.proofs.Plans.SilentActs.{lookup_seen, on_its_way, its_place, unrefused}
-use Rattle.cacheless.proofs.Allowed.NextKeeps.{nothing_owed}
-use Rattle.cacheless.proofs.Allowed.StaysOnCourse.{has_written-quiet, rows_read-unscanned, IsAfter, MayCome, first_seen-more, named_out, way-more, sought-more, plain-more, follows-more, over_stays}
+use Rattle.cacheless.proofs.Plans.AfterActs.{lookup_first}
+use Rattle.cacheless.proofs.Plans.SilentActs.{on_its_way, its_place, unrefused, its_order, named_there}
+use Rattle.cacheless.proofs.Allowed.StaysOnCourse.{has_written-quiet, rows_read-unscanned, IsAfter, MayCome, named-more, way-more, sought-more, plain-more, follows-more, over_stays}
 use Rattle.cacheless.proofs.Plans.Ways.{acts, none_reached}
 use Rattle.ddl_effect.specs.Commands.{plan_of}
+use Rattle.lock_modes.specs.declared.grant.Grant.{Grant}
+use Rattle.lock_modes.specs.Grants.{is_lock, holds}
 
 -- an entry that the running command of a backend may make next
 pub record OwnEntry (history : List Entry) (b : ℕ) (s : Session) (command : Command) (event : Event) : Type 0 where
@@ -48,7 +54,6 @@ with_own history b s event = history ++ entry_of b (number_of s) event ∷ []
 -- the session after an entry that left this one
 pub record IsNoted (s later : Session) : Type 0 where
   pub after : IsAfter s later
-  pub granted : later.granted ≡ s.granted
   pub ended : later.ended ≡ s.ended
 
 own_over : (history : List Entry) (b : ℕ) (s later : Session) (command : Command) (event : Event) → OwnEntry history b s command event → IsQuiet event → later.ended ≡ s.ended → is_over (last_event_of history b) s ≡ true → is_over (last_event_of (with_own history b s event) b) later ≡ true
@@ -58,34 +63,33 @@ own_over history b s later command event own quiet same over =
 -- an entry that changes nothing of the command
 quiet_follows : (history : List Entry) (b : ℕ) (s later : Session) (command : Command) (event : Event) → OwnEntry history b s command event → IsQuiet event → is_write event ≡ false → ((name : List ℕ) → is_scan_of (scans.RelName name) event ≡ false) → IsNoted s later → FollowsPlan (with_own history b s event) b later command
 quiet_follows history b s later command event own quiet unwritten unread noted = follows-more history (entry_of b (number_of s) event) b s later command own.may (λ mine. quiet) (λ c. has_written-quiet history (entry_of b (number_of s) event) b c unwritten)
-    (λ name. rows_read-unscanned history (entry_of b (number_of s) event) b (scans.RelName name) (unread name)) (own_over history b s later command event own quiet noted.ended) noted.after noted.granted own.follows
+    (λ name. rows_read-unscanned history (entry_of b (number_of s) event) b (scans.RelName name) (unread name)) (own_over history b s later command event own quiet noted.ended) noted.after own.follows
+
+-- what a lookup has taken is no part of how far the command is
+as_noted : (t s later : Session) → IsNoted t later → IsNoted (record t { taken = s.taken }) later
+as_noted t s later noted = let a = noted.after in record { after = record { left = a.left; refused = a.refused; opened = a.opened; found = a.found; sought = a.sought; finished = a.finished }; ended = noted.ended }
 
 -- an entry that shows an error
 error_follows : (seen : List Entry) (b : ℕ) (s later : Session) (command : Command) (error : CommandError) → ((told : Told) → plan_of none_open command ≡ Done told → DoesNoAct s told) → IsNoted (refused_with error s) later → FollowsPlan seen b later command
 error_follows seen b s later command error plain noted = record {
   refused = λ shown is. noted.after.left ∙ (let both : Some error ≡ Some shown = sym noted.after.refused ∙ is in cc both);
   way = λ none. absurd (let both : Some error ≡ None = sym noted.after.refused ∙ none in cc both);
-  named = subst (λ p. NamedFits seen b p later.granted) (sym noted.after.left) tt;
+  named = subst (NamedFits seen b) (sym noted.after.left) tt;
   sought = λ name is. absurd (let both : Fails error ≡ Absent name = sym noted.after.left ∙ is in cc both);
   plain = λ told none. record { opened = noted.after.opened ∙ (plain told none).opened; left = λ well. absurd (let both : Badly ≡ Well = ap outcome_of (sym noted.after.left) ∙ well in cc both) };
 }
 
 -- a command that failed to find a relation makes no scan
 scan_there : (facts : Facts) (s : Session) (scan : Purpose) (plan : Plan) → s.left ≡ plan → is_next_scan scan facts s ≡ true → is_absent plan ≡ false
-scan_there facts s scan (Absent name) at is = absurd (let no : false ≡ true = sym (ap (λ p. list_any (same_scan scan) (elim (outcome_of p) as (λ x. List Purpose) [ Badly ↦ [] | other ↦ flat_map (λ (o : Opening). take 1 (unusable facts (build_scans o.kind o.rel))) s.opened ++ act_next facts s.granted p ])) at) ∙ is in cc no)
+scan_there facts s scan (Absent name) at is = absurd (let no : false ≡ true = sym (ap (λ p. list_any (same_scan scan) (elim (outcome_of p) as (λ x. List Purpose) [ Badly ↦ [] | other ↦ flat_map (λ (o : Opening). take 1 (unusable facts (build_scans o.kind o.rel))) s.opened ++ act_next facts p ])) at) ∙ is in cc no)
 scan_there facts s scan plan at is = refl
-
--- the first relation that a scan gives is seen
-first_seen : (history : List Entry) (b : ℕ) (d : Purpose) (given : List Row) → IsSound history → answer_of history b d ≡ given → IsFirstSeen history b given
-first_seen history b d (rows.Class rel own kind fill ∷ more) sound is = let seen = found_first history b d rel own kind fill more sound is in record { name = own; fill = seen.0; row = seen.1 }
-first_seen history b d given sound is = tt
 
 -- a scan
 scan_follows : (history : List Entry) (b : ℕ) (s later : Session) (command : Command) (scan : Purpose) (count : ℕ) → OwnEntry history b s command (events.Scan scan count) → IsNoted s later → FollowsPlan (with_own history b s (events.Scan scan count)) b later command
 scan_follows history b s later command scan count own noted = record {
   refused = λ error is. noted.after.left ∙ own.follows.refused error (sym noted.after.refused ∙ is);
   way = λ none. way-more history e b s later command own.may (λ mine. tt) (λ c. has_written-quiet history e b c refl) (own_over history b s later command (events.Scan scan count) own tt noted.ended) noted.after (own.follows.way (sym noted.after.refused ∙ none));
-  named = subst (λ p. NamedFits new b p later.granted) (sym noted.after.left) (subst (NamedFits new b s.left) (sym noted.granted) (by_plan s.left s.granted there own.follows.named));
+  named = subst (NamedFits new b) (sym noted.after.left) (named_there new b s.left there);
   sought = λ name is. absurd (let both : false ≡ true = sym there ∙ ap is_absent (sym noted.after.left ∙ is) in cc both);
   plain = λ told none. plain-more s later told noted.after (own.follows.plain told none);
 }
@@ -98,49 +102,6 @@ scan_follows history b s later command scan count own noted = record {
 
     there : is_absent s.left ≡ false
     there = scan_there (facts_of history b) s scan s.left refl own.plays.1
-
-    by_scan : (name : List ℕ) (t : Bool) → same_scan scan (scans.RelName name) ≡ t → IsFirstSeen history b (rows_read history b (scans.RelName name)) → IsFirstSeen new b (rows_read new b (scans.RelName name))
-    by_scan name true is seen = subst (IsFirstSeen new b) (sym (rows_read-own history e b (scans.RelName name) (eq-eqb b b refl) ∙ ap (λ u. elim u [ true ↦ answer_of history b (scans.RelName name) | false ↦ rows_read history b (scans.RelName name) ]) is))
-        (first_seen-more history e b (answer_of history b (scans.RelName name)) own.may (λ mine. tt) (first_seen history b (scans.RelName name) (answer_of history b (scans.RelName name)) own.may.sound refl))
-    by_scan name false is seen = subst (IsFirstSeen new b) (sym (rows_read-unscanned history e b (scans.RelName name) is)) (first_seen-more history e b (rows_read history b (scans.RelName name)) own.may (λ mine. tt) seen)
-
-    by_plan : (p : Plan) (granted : Bool) → is_absent p ≡ false → NamedFits history b p granted → NamedFits new b p granted
-    by_plan (Do (Lookup name mode) rest) true here fits = by_scan name (same_scan scan (scans.RelName name)) refl fits
-    by_plan (Do (Lookup name mode) rest) false here fits = tt
-    by_plan (Do act rest) granted here fits = tt
-    by_plan (Absent name) granted here fits = absurd (cc here)
-    by_plan p granted here fits = tt
-
--- a lock that is granted
-lock_follows : (history : List Entry) (b : ℕ) (s later : Session) (command : Command) (rel : Oid) (mode : Mode) → OwnEntry history b s command (events.LockOk rel mode) → IsNoted (record s { granted = true }) later → FollowsPlan (with_own history b s (events.LockOk rel mode)) b later command
-lock_follows history b s later command rel mode own noted = record {
-  refused = λ error is. after.left ∙ own.follows.refused error (sym after.refused ∙ is);
-  way = λ none. way-more history e b s later command own.may (λ mine. tt) (λ c. has_written-quiet history e b c refl) (own_over history b s later command (events.LockOk rel mode) own tt noted.ended) after (own.follows.way (sym after.refused ∙ none));
-  named = subst (λ p. NamedFits new b p later.granted) (sym after.left) (subst (NamedFits new b s.left) (sym noted.granted) (by_plan s.left refl own.plays.1));
-  sought = λ name is. sought-more history e b s later command name (λ c. has_written-quiet history e b c refl) after (own.follows.sought name (sym after.left ∙ is));
-  plain = λ told none. plain-more s later told after (own.follows.plain told none);
-}
-  where
-    e : Entry
-    e = entry_of b (number_of s) (events.LockOk rel mode)
-
-    new : List Entry
-    new = history ++ e ∷ []
-
-    after : IsAfter s later
-    after = let a = noted.after in record { left = a.left; refused = a.refused; opened = a.opened; found = a.found; sought = a.sought; finished = a.finished }
-
-    by_plan : (p : Plan) → s.left ≡ p → IsLock (facts_of history b) p rel mode → NamedFits new b p true
-    by_plan (Do (Lookup name wanted) rest) at asks = subst (IsFirstSeen new b) (sym (rows_read-unscanned history e b (scans.RelName name) refl)) (first_seen-more history e b (rows_read history b (scans.RelName name)) own.may (λ mine. tt)
-        (lookup_seen history b name wanted rest s.granted own.may.sound own.may.tables (nothing_owed (facts_of history b) command s (Lookup name wanted) rest at own.plays.0) (subst (λ p. NamedFits history b p s.granted) at own.follows.named)))
-    by_plan (Do act rest) at asks = tt
-    by_plan (Absent name) at asks = absurd asks
-    by_plan p at asks = tt
-
--- where a scan of a name gave none, no relation is said to be seen
-none_first : (seen : List Entry) (b : ℕ) (given : List Row) → class_oid given ≡ None → IsFirstSeen seen b given
-none_first seen b (rows.Class rel own kind fill ∷ more) none = absurd (cc none)
-none_first seen b given none = tt
 
 -- a fetch brings a command that failed to find a relation back to its lookup
 brought_back : (history : List Entry) (b : ℕ) (s later : Session) (command : Command) (name : List ℕ) (event : Event) → OwnEntry history b s command event → is_write event ≡ false → ((own : List ℕ) → is_scan_of (scans.RelName own) event ≡ false) → s.left ≡ Absent name
@@ -156,7 +117,7 @@ brought_back history b s later command name event own unwritten unread at noted 
     holds = record { locked = tt; still = tt };
     unwritten = ap (λ l. has_written new b (length l + 1)) after.finished ∙ has_written-quiet history e b (number_of s) unwritten ∙ was.unwritten;
   });
-  named = subst (λ p. NamedFits new b p later.granted) (sym (after.left ∙ was.looks)) (by_granted later.granted);
+  named = subst (NamedFits new b) (sym (after.left ∙ was.looks)) tt;
   sought = λ other is. absurd (let both : Do (Lookup name was.mode) was.rest ≡ Absent other = sym (after.left ∙ was.looks) ∙ is in cc both);
   plain = λ told none. absurd (let both : Do (Lookup name was.mode) was.rest ≡ Done told = sym was.looks ∙ was.first ∙ none in cc both);
 }
@@ -173,9 +134,50 @@ brought_back history b s later command name event own unwritten unread at noted 
     was : WasSought history b s command name
     was = own.follows.sought name at
 
-    by_granted : (t : Bool) → NamedFits new b (Do (Lookup name was.mode) was.rest) t
-    by_granted true = none_first new b (rows_read new b (scans.RelName name)) (ap class_oid (rows_read-unscanned history e b (scans.RelName name) (unread name)) ∙ subst (λ p. NamedFits history b p s.granted) at own.follows.named)
-    by_granted false = tt
+-- a lock that is given back: the lookup that took it is the command's first act
+unlock_follows : (history : List Entry) (b : ℕ) (s later : Session) (command : Command) (rel : Oid) (mode : Mode) → OwnEntry history b s command (events.Unlock rel mode) → IsNoted (record s { taken = None }) later → FollowsPlan (with_own history b s (events.Unlock rel mode)) b later command
+unlock_follows history b s later command rel mode own noted = by_plan s.left refl own.plays.1
+  where
+    e : Entry
+    e = entry_of b (number_of s) (events.Unlock rel mode)
+
+    new : List Entry
+    new = history ++ e ∷ []
+
+    after : IsAfter s later
+    after = let a = noted.after in record { left = a.left; refused = a.refused; opened = a.opened; found = a.found; sought = a.sought; finished = a.finished }
+
+    by_plan : (p : Plan) → s.left ≡ p → IsUnlock (facts_of history b) s.taken p rel mode → FollowsPlan new b later command
+    by_plan (Do (Lookup name wanted) rest) at asks = record {
+      refused = λ error is. after.left ∙ own.follows.refused error (sym after.refused ∙ is);
+      way = λ none. Begun (record {
+        gave = [];
+        plan = after.left ∙ way.plan ∙ ap (λ g. reached g (plan_of none_open command)) first;
+        found = after.found ∙ way.found ∙ ap (λ g. made_in found_by g (plan_of none_open command)) first;
+        opened = after.opened ∙ way.opened ∙ ap (λ g. made_in opening_by g (plan_of none_open command)) first;
+        runs = way.runs;
+        holds = record { locked = tt; still = tt };
+        unwritten = ap (λ l. has_written new b (length l + 1)) after.finished ∙ has_written-quiet history e b (number_of s) refl ∙ way.unwritten;
+      });
+      named = subst (NamedFits new b) (sym (after.left ∙ at)) tt;
+      sought = λ other is. absurd (let both : Do (Lookup name wanted) rest ≡ Absent other = sym (after.left ∙ at) ∙ is in cc both);
+      plain = λ told none. plain-more s later told after (own.follows.plain told none);
+    }
+      where
+        way : OnItsWay history b s command
+        way = on_its_way history b s command (Lookup name wanted) rest own.follows at
+
+        first : way.gave ≡ []
+        first = lookup_first way.gave (plan_of none_open command) name wanted rest (its_order history b s command way) (sym way.plan ∙ at)
+    by_plan (Do (Open of kind) rest) at asks = absurd asks
+    by_plan (Do (Search scan) rest) at asks = absurd asks
+    by_plan (Do (Read scan) rest) at asks = absurd asks
+    by_plan (Do (Lock of wanted) rest) at asks = absurd asks
+    by_plan (Do (Write draft) rest) at asks = absurd asks
+    by_plan (Done told) at asks = absurd asks
+    by_plan (Fails error) at asks = absurd asks
+    by_plan (Absent name) at asks = absurd asks
+    by_plan NotBuilt at asks = absurd asks
 
 -- a fetch
 fetch_follows : (history : List Entry) (b : ℕ) (s later : Session) (command : Command) (event : Event) → OwnEntry history b s command event → IsQuiet event → is_write event ≡ false → ((name : List ℕ) → is_scan_of (scans.RelName name) event ≡ false) → IsNoted (resumed s.left s) later
@@ -209,7 +211,7 @@ write_follows history b s later command xid items own noted = by_plan s.left ref
         plan = done;
         written = ap (λ l. has_written new b (length l + 1)) is.after.finished ∙ written_now history b (number_of s) xid items;
       });
-      named = subst (λ p. NamedFits new b p later.granted) (sym done) tt;
+      named = subst (NamedFits new b) (sym done) tt;
       sought = λ name absent. absurd (let both : Done tells.Ok ≡ Absent name = sym done ∙ absent in cc both);
       plain = λ told none. absurd (none_reached way.gave (plan_of none_open command) (Write draft) rest (ap acts none) (sym way.plan ∙ at));
     }
@@ -248,7 +250,7 @@ over_follows : (history : List Entry) (b : ℕ) (s later : Session) (command : C
 over_follows history b s later command event own out unwritten unread over after = record {
   refused = λ error is. after.left ∙ own.follows.refused error (sym after.refused ∙ is);
   way = λ none. Over (record { out = ap (λ p. is_settled (outcome_of p)) after.left ∙ out; over = ap (λ last. is_over last later) (last_event_of-own history e b (eq-eqb b b refl)) ∙ over });
-  named = subst (λ p. NamedFits new b p later.granted) (sym after.left) (named_out history e b s.left s.granted later.granted out (λ name. rows_read-unscanned history e b (scans.RelName name) (unread name)) own.follows.named);
+  named = subst (NamedFits new b) (sym after.left) (named-more history e b s.left (λ name. rows_read-unscanned history e b (scans.RelName name) (unread name)) own.follows.named);
   sought = λ name is. sought-more history e b s later command name (λ c. has_written-quiet history e b c unwritten) after (own.follows.sought name (sym after.left ∙ is));
   plain = λ told none. plain-more s later told after (own.follows.plain told none);
 }
@@ -265,7 +267,8 @@ own_follows history b s later command (events.Look some_wait) own noted = quiet_
 own_follows history b s later command (events.Fetch count) own noted = fetch_follows history b s later command (events.Fetch count) own tt refl (λ name. refl) noted
 own_follows history b s later command events.FetchReset own noted = fetch_follows history b s later command events.FetchReset own tt refl (λ name. refl) noted
 own_follows history b s later command (events.Scan scan count) own noted = scan_follows history b s later command scan count own noted
-own_follows history b s later command (events.LockOk rel mode) own noted = lock_follows history b s later command rel mode own noted
+own_follows history b s later command (events.LockOk rel mode) own noted = quiet_follows history b s later command (events.LockOk rel mode) own tt refl (λ name. refl) (as_noted (record s { taken = Some rel }) s later noted)
+own_follows history b s later command (events.Unlock rel mode) own noted = unlock_follows history b s later command rel mode own noted
 own_follows history b s later command (events.LockHeld rel mode holder held) own noted = error_follows (with_own history b s (events.LockHeld rel mode holder held)) b s later command (errors.Locked rel holder held) own.follows.plain noted
 own_follows history b s later command (events.Write xid items) own noted = write_follows history b s later command xid items own noted
 own_follows history b s later command (events.ClashRow name rel) own noted = error_follows (with_own history b s (events.ClashRow name rel)) b s later command (errors.RelationExists name) own.follows.plain noted

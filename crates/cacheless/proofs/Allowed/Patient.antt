@@ -67,6 +67,7 @@ in_command next facts command s events.FetchReset may = tt
 in_command next facts command s (events.Scan scan count) may = may.0
 in_command next facts command s (events.LockOk rel mode) may = nothing_owed facts command s may.0
 in_command next facts command s (events.LockHeld rel mode holder held) may = nothing_owed facts command s may.0
+in_command next facts command s (events.Unlock rel mode) may = nothing_owed facts command s may.0
 in_command next facts command s (events.Write xid items) may = nothing_owed facts command s may.0
 in_command next facts command s (events.ClashRow name rel) may = nothing_owed facts command s may.0
 in_command next facts command s (events.ClashRunning name xid) may = nothing_owed facts command s may.0

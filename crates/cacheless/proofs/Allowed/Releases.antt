@@ -65,15 +65,15 @@ OwesNoScan facts s = (builds_owed facts s.opened ≡ []) × ((told : Told) → s
 
 -- so it is of a command that came out well and owes nothing
 pub owes_no_scan : (facts : Facts) (command : Command) (s : Session) → outcome_of s.left ≡ Well → owed_of facts command s ≡ [] → OwesNoScan facts s
-owes_no_scan facts command s well none = (both.0, λ told is. ap (act_owed facts s.granted) (sym is) ∙ both.1)
+owes_no_scan facts command s well none = (both.0, λ told is. ap (act_owed facts) (sym is) ∙ both.1)
   where
     unmapped : (l : List Purpose) → map OwesScan l ≡ [] → l ≡ []
     unmapped [] is = refl
     unmapped (x ∷ xs) is = absurd (cc is)
 
-    both : (builds_owed facts s.opened ≡ []) × (act_owed facts s.granted s.left ≡ [])
-    both = both_empty (builds_owed facts s.opened) (act_owed facts s.granted s.left) (unmapped _
-        (sym (ap (λ o. map OwesScan (elim o as (λ x. List Purpose) [ Badly ↦ [] | other ↦ builds_owed facts s.opened ++ act_owed facts s.granted s.left ])) well) ∙ (both_empty _ (map OwesScan (scans_owed facts s)) none).1))
+    both : (builds_owed facts s.opened ≡ []) × (act_owed facts s.left ≡ [])
+    both = both_empty (builds_owed facts s.opened) (act_owed facts s.left) (unmapped _
+        (sym (ap (λ o. map OwesScan (elim o as (λ x. List Purpose) [ Badly ↦ [] | other ↦ builds_owed facts s.opened ++ act_owed facts s.left ])) well) ∙ (both_empty _ (map OwesScan (scans_owed facts s)) none).1))
 
 -- nor is one owed at its end
 pub ends_free : (facts : Facts) (command : Command) (s : Session) → ((told : Told) → plan_of none_open command ≡ Done told → DoesNoAct s told) → outcome_of s.left ≡ Well → owed_at_end facts command s ≡ [] → OwesNoScan facts s
@@ -108,16 +108,16 @@ released history b s command from facts own are later stands =
 
     by_outcome : (o : Outcome) → outcome_of s.left ≡ o → is_settled o ≡ true → scans_owed after later ≡ []
     by_outcome Unsettled is settles = absurd (cc settles)
-    by_outcome Badly is settles = ap (λ o. elim o as (λ x. List Purpose) [ Badly ↦ [] | other ↦ builds_owed after later.opened ++ act_owed after later.granted later.left ]) (ap outcome_of stands.after.left ∙ is)
+    by_outcome Badly is settles = ap (λ o. elim o as (λ x. List Purpose) [ Badly ↦ [] | other ↦ builds_owed after later.opened ++ act_owed after later.left ]) (ap outcome_of stands.after.left ∙ is)
     by_outcome Well is settles =
-        ap (λ o. elim o as (λ x. List Purpose) [ Badly ↦ [] | other ↦ builds_owed after later.opened ++ act_owed after later.granted later.left ]) (ap outcome_of stands.after.left ∙ is)
-        ∙ ap (λ l. l ++ act_owed after later.granted later.left) (ap (builds_owed after) stands.after.opened ∙ free.0)
-        ∙ ap (act_owed after later.granted) stands.after.left ∙ answer_owed s.left refl is
+        ap (λ o. elim o as (λ x. List Purpose) [ Badly ↦ [] | other ↦ builds_owed after later.opened ++ act_owed after later.left ]) (ap outcome_of stands.after.left ∙ is)
+        ∙ ap (λ l. l ++ act_owed after later.left) (ap (builds_owed after) stands.after.opened ∙ free.0)
+        ∙ ap (act_owed after) stands.after.left ∙ answer_owed s.left refl is
       where
         free : OwesNoScan (facts_of history b) s
         free = ends_free (facts_of history b) command s own.follows.plain is own.plays.0
 
-        answer_owed : (p : Plan) → s.left ≡ p → outcome_of p ≡ Well → act_owed after later.granted p ≡ []
+        answer_owed : (p : Plan) → s.left ≡ p → outcome_of p ≡ Well → act_owed after p ≡ []
         answer_owed (Done told) at w = free.1 told at
         answer_owed (Fails error) at w = absurd (cc w)
         answer_owed (Absent name) at w = absurd (cc w)

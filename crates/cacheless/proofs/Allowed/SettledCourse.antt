@@ -21,10 +21,10 @@ use Rattle.cacheless.specs.Ends.{end_left}
 use Rattle.cacheless.proofs.Plans.ActOrder.{follows_order}
 use Rattle.cacheless.proofs.Plans.AfterActs.{order_there}
 use Rattle.cacheless.proofs.Settling.{acted-out}
-use Rattle.cacheless.proofs.Plans.SilentActs.{both_empty, empty_list, IsDoneHere, is_done_here, named_ungranted, absent_name, act_follows}
+use Rattle.cacheless.proofs.Plans.SilentActs.{both_empty, empty_list, IsDoneHere, is_done_here, named_there, absent_name, act_follows}
 
 -- whether its accept of messages is over doesn't change where an act is done here
-builds_done : (facts : Facts) (command : Command) (s : Session) → builds_owed facts s.opened ≡ [] → is_empty (owed_at_start facts command s ++ owed_after facts.last) ≡ true → owes_accept facts (Some command) s ≡ false
+pub builds_done : (facts : Facts) (command : Command) (s : Session) → builds_owed facts s.opened ≡ [] → is_empty (owed_at_start facts command s ++ owed_after facts.last) ≡ true → owes_accept facts (Some command) s ≡ false
 builds_done facts command s builds free =
     ap (λ t. not t || owes_build facts s) free
     ∙ ap (λ l. elim (outcome_of s.left) as (λ x. Bool) [ Badly ↦ false | other ↦ not (is_empty l) ]) builds ∙ by_outcome (outcome_of s.left)
@@ -103,7 +103,7 @@ pub begins_plan : (seen : List Entry) (b : ℕ) (blocks : Blocks) (finished : Li
 begins_plan seen b blocks finished locks last command unwritten = record {
   refused = λ error is. ap (λ o. plan_admitted o command) is;
   way = λ none. by_test (ap (λ o. plan_admitted o command) none) (runs command) refl;
-  named = named_ungranted seen b (plan_admitted (refused_by blocks command) command) (admitted_there (refused_by blocks command) command);
+  named = named_there seen b (plan_admitted (refused_by blocks command) command) (admitted_there (refused_by blocks command) command);
   sought = λ name is. absurd (let both : true ≡ false = sym (absent_name name (plan_admitted (refused_by blocks command) command) is) ∙ admitted_there (refused_by blocks command) command in cc both);
   plain = λ told none. record { opened = refl; left = λ well. admitted_done command (refused_by blocks command) told none well };
 }
@@ -150,15 +150,15 @@ finished_accepts facts command s finished = by_parts (empty_list _ (and_parts (i
     first : List Owes
     first = owed_at_start facts command s ++ owed_after facts.last
 
-    by_outcome : (o : Outcome) → map OwesScan (elim o as (λ x. List Purpose) [ Badly ↦ [] | other ↦ builds_owed facts s.opened ++ act_owed facts s.granted s.left ]) ≡ [] → elim o as (λ x. Bool) [ Badly ↦ false | other ↦ not (is_empty (builds_owed facts s.opened)) ] ≡ false
+    by_outcome : (o : Outcome) → map OwesScan (elim o as (λ x. List Purpose) [ Badly ↦ [] | other ↦ builds_owed facts s.opened ++ act_owed facts s.left ]) ≡ [] → elim o as (λ x. Bool) [ Badly ↦ false | other ↦ not (is_empty (builds_owed facts s.opened)) ] ≡ false
     by_outcome Unsettled none = by_builds (builds_owed facts s.opened) none
       where
-        by_builds : (l : List Purpose) → map OwesScan (l ++ act_owed facts s.granted s.left) ≡ [] → not (is_empty l) ≡ false
+        by_builds : (l : List Purpose) → map OwesScan (l ++ act_owed facts s.left) ≡ [] → not (is_empty l) ≡ false
         by_builds [] is = refl
         by_builds (x ∷ xs) is = absurd (cc is)
     by_outcome Well none = by_builds (builds_owed facts s.opened) none
       where
-        by_builds : (l : List Purpose) → map OwesScan (l ++ act_owed facts s.granted s.left) ≡ [] → not (is_empty l) ≡ false
+        by_builds : (l : List Purpose) → map OwesScan (l ++ act_owed facts s.left) ≡ [] → not (is_empty l) ≡ false
         by_builds [] is = refl
         by_builds (x ∷ xs) is = absurd (cc is)
     by_outcome Badly none = refl
@@ -178,6 +178,7 @@ settled_on_course scenario seen b [] s has are course = record {
   follows = λ command at. absurd (none_left command at);
   going = λ command at. absurd (none_left command at);
   later = course.later;
+  clear = course.clear;
 }
   where
     none_left : (command : Command) → slice_get (commands_of scenario b) (length s.finished) ≡ Some command → ⊥
@@ -214,6 +215,7 @@ settled_on_course scenario seen b (command ∷ rest) s has are course = by_end (
       follows = λ other here. subst (FollowsPlan seen b now) (let both : Some command ≡ Some other = sym at ∙ ap (slice_get (commands_of scenario b)) (sym counts) ∙ here in cc both) acts_done.follows;
       going = λ other here. acts_done.ended ∙ goes s.ended refl going;
       later = λ c after. course.later c (omega (arith, after, counts));
+      clear = subst (λ o. ClearUnlessOwed (facts_of seen b) o now) (sym at ∙ ap (slice_get (commands_of scenario b)) (sym counts)) acts_done.clear;
     }
 
 -- one act that is done here keeps it so

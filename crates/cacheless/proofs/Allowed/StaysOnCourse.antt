@@ -8,20 +8,20 @@ use Rattle.event_kinds.specs.declared.entry.Event.TheVariants as events
 use Rattle.ddl_effect.specs.Plans.{Plan, Absent, Do, Lookup}
 use Rattle.ddl_effect.specs.Commands.{plan_of}
 use Rattle.history_model.specs.Legal.{FollowsGone}
+use Rattle.history_model.specs.Held.{held_of}
 use Rattle.history_model.specs.Lives.{last_event_of}
 use Rattle.history_model.specs.Read.{is_scan_of, rows_read}
 use Rattle.history_model.specs.Versions.{answer_of}
 use Rattle.history_model.specs.Writes.{has_written, is_write}
-use Rattle.history_model.proofs.Locked.{IsQuiet, IsIdle}
+use Rattle.history_model.proofs.Locked.{IsQuiet, quiet_keeps, held_bars_exclusive, IsIdle, found_stays}
 use Rattle.history_model.proofs.Reading.{has_written-more, rows_read-own, rows_read-other}
-use Rattle.cacheless.specs.Types.{Row, Purpose, Command, Told, Entry, Event}
-use Rattle.cacheless.specs.OnCourse.{OnItsWay, is_over, Way, Begun, Wrote, Unbuilt, Over, IsFirstSeen, NamedFits, WasSought, DoesNoAct, FollowsPlan}
+use Rattle.cacheless.specs.Types.{Row, Purpose, Command, Told, Entry, Event, Mode}
+use Rattle.cacheless.specs.OnCourse.{OnItsWay, is_over, Way, Begun, Wrote, Unbuilt, Over, NamedFits, WasSought, DoesNoAct, FollowsPlan}
 use Rattle.cacheless.specs.Session.{Session, none_open, number_of, outcome_of, is_settled}
 use Rattle.cacheless.specs.Settled.{class_oid}
 use Rattle.cacheless.proofs.Plans.ActOrder.{follows_order}
-pub use Rattle.cacheless.proofs.StillSeen.{MayCome}
-use Rattle.cacheless.proofs.Plans.StillLocked.{way_stays}
-use Rattle.cacheless.proofs.StillSeen.{IsNoGone, TakesNoneBack, relation_stays}
+pub use Rattle.cacheless.proofs.Plans.StillLocked.{MayCome}
+use Rattle.cacheless.proofs.Plans.StillLocked.{held_stays, way_stays}
 
 -- the commands in which a backend has written, after an entry that is no write
 pub has_written-quiet : (history : List Entry) (e : Entry) (b c : ℕ) → is_write e.event ≡ false → has_written (history ++ e ∷ []) b c ≡ has_written history b c
@@ -91,26 +91,10 @@ way-more history e b s later command may idle writes over after (Wrote w) = Wrot
 way-more history e b s later command may idle writes over after (Unbuilt w) = Unbuilt (record { plan = after.left ∙ w.plan })
 way-more history e b s later command may idle writes over after (Over w) = Over (record { out = ap (λ p. is_settled (outcome_of p)) after.left ∙ w.out; over = over w.over })
 
--- the relation that the first row names
-pub first_seen-more : (history : List Entry) (e : Entry) (b : ℕ) (given : List Row) → MayCome history e → TakesNoneBack b history e → IsFirstSeen history b given → IsFirstSeen (history ++ e ∷ []) b given
-first_seen-more history e b (rows.Class rel own kind fill ∷ more) may none seen =
-    let still = relation_stays history e b rel seen.name kind may.sound may.tables may.comes may.keeps none (seen.fill, seen.row) in record { name = seen.name; fill = still.0; row = still.1 }
-first_seen-more history e b given may none seen = tt
-
 -- what the scan of a name gave
-pub named-more : (history : List Entry) (e : Entry) (b : ℕ) (plan : Plan) (granted : Bool) → MayCome history e → TakesNoneBack b history e → LeavesNames history e b → NamedFits history b plan granted → NamedFits (history ++ e ∷ []) b plan granted
-named-more history e b (Do (Lookup name mode) rest) true may none names fits =
-    subst (IsFirstSeen (history ++ e ∷ []) b) (sym (names name)) (first_seen-more history e b (rows_read history b (scans.RelName name)) may none fits)
-named-more history e b (Do (Lookup name mode) rest) false may none names fits = tt
-named-more history e b (Do act rest) granted may none names fits = tt
-named-more history e b (Absent name) granted may none names fits = ap class_oid (names name) ∙ fits
-named-more history e b plan granted may none names fits = tt
-
--- the same of a command that has come out, after any entry that is no scan of a name
-pub named_out : (history : List Entry) (e : Entry) (b : ℕ) (plan : Plan) (granted now : Bool) → is_settled (outcome_of plan) ≡ true → LeavesNames history e b → NamedFits history b plan granted → NamedFits (history ++ e ∷ []) b plan now
-named_out history e b (Do act rest) granted now out names fits = absurd (cc)
-named_out history e b (Absent name) granted now out names fits = ap class_oid (names name) ∙ fits
-named_out history e b plan granted now out names fits = tt
+pub named-more : (history : List Entry) (e : Entry) (b : ℕ) (plan : Plan) → LeavesNames history e b → NamedFits history b plan → NamedFits (history ++ e ∷ []) b plan
+named-more history e b (Absent name) names fits = ap class_oid (names name) ∙ fits
+named-more history e b plan names fits = tt
 
 -- a command that failed to find a relation
 pub sought-more : (history : List Entry) (e : Entry) (b : ℕ) (s later : Session) (command : Command) (name : List ℕ) → LeavesWrites history e b → IsAfter s later → WasSought history b s command name → WasSought (history ++ e ∷ []) b later command name
@@ -129,18 +113,13 @@ sought-more history e b s later command name writes after was = record {
 pub plain-more : (s later : Session) (told : Told) → IsAfter s later → DoesNoAct s told → DoesNoAct later told
 plain-more s later told after none = record { opened = after.opened ∙ none.opened; left = λ well. after.left ∙ none.left (ap outcome_of (sym after.left) ∙ well) }
 
-quiet_back : (event : Event) → IsQuiet event → IsNoGone event
-quiet_back (events.Gone from) quiet = quiet
-quiet_back event quiet = tt
-
 -- the running command as a whole
 pub follows-more : (history : List Entry) (e : Entry) (b : ℕ) (s later : Session) (command : Command) → MayCome history e → IsIdle b history e → LeavesWrites history e b → LeavesNames history e b
-    → (is_over (last_event_of history b) s ≡ true → is_over (last_event_of (history ++ e ∷ []) b) later ≡ true) → IsAfter s later → later.granted ≡ s.granted → FollowsPlan history b s command → FollowsPlan (history ++ e ∷ []) b later command
-follows-more history e b s later command may idle writes names over after granted follows = record {
+    → (is_over (last_event_of history b) s ≡ true → is_over (last_event_of (history ++ e ∷ []) b) later ≡ true) → IsAfter s later → FollowsPlan history b s command → FollowsPlan (history ++ e ∷ []) b later command
+follows-more history e b s later command may idle writes names over after follows = record {
   refused = λ error is. after.left ∙ follows.refused error (sym after.refused ∙ is);
   way = λ none. way-more history e b s later command may idle writes over after (follows.way (sym after.refused ∙ none));
-  named = subst (λ p. NamedFits (history ++ e ∷ []) b p later.granted) (sym after.left) (subst (NamedFits (history ++ e ∷ []) b s.left) (sym granted)
-      (named-more history e b s.left s.granted may (λ own. quiet_back e.event (idle own)) names follows.named));
+  named = subst (NamedFits (history ++ e ∷ []) b) (sym after.left) (named-more history e b s.left names follows.named);
   sought = λ name is. sought-more history e b s later command name writes after (follows.sought name (sym after.left ∙ is));
   plain = λ told none. plain-more s later told after (follows.plain told none);
 }

@@ -16,7 +16,7 @@ use Rattle.cacheless.specs.Types.{Mode, Row, Command, OwnLock, Scenario, Entry, 
 use Rattle.cacheless.specs.declared.progress.Progress.{Progress}
 use Rattle.cacheless.specs.Answering.{IsToldText, AreLastScans, IsWhole, PlacesFit}
 use Rattle.cacheless.specs.Facts.{Facts, facts_of}
-use Rattle.cacheless.specs.Holds.{is_class, GivenFits, FactsFit, Holds, HasActed, HasPassed}
+use Rattle.cacheless.specs.Holds.{FactsFit, Holds, HasActed, HasPassed}
 use Rattle.cacheless.specs.Lines.{line_of, lines_from}
 use Rattle.cacheless.specs.OnCourse.{is_absent, is_over, OnItsWay, EntersCourse}
 use Rattle.cacheless.specs.Session.{Session, number_of, first_of, outcome_of, is_settled}
@@ -74,31 +74,15 @@ over_same : (last : Option Event) (s later : Session) → later.ended ≡ s.ende
 over_same (Some (events.Gone from)) s later same = refl
 over_same last s later same = same
 
--- a lookup by rows whose first is that of a relation finds one
-finds_class : (locks : List OwnLock) (mode : Mode) (read given : List Row) → looked_up locks mode read ≡ Some given → is_class (slice_get read 0) ≡ true → class_oid given ≡ None → ⊥
-finds_class locks mode [] given gave is none = absurd (cc is)
-finds_class locks mode (rows.Class oid own kind fill ∷ more) given gave is none = by_lock (has_lock locks oid mode) gave
-  where
-    by_lock : (t : Bool) → if_locked t (rows.Class oid own kind fill ∷ []) ≡ Some given → ⊥
-    by_lock true held = let it : rows.Class oid own kind fill ∷ [] ≡ given = cc held in absurd (let no : Some oid ≡ None = ap class_oid it ∙ none in cc no)
-    by_lock false free = absurd (cc free)
-finds_class locks mode (row ∷ more) given gave is none = absurd (cc is)
-
--- a lookup that found no relation was granted no lock, so its scan is kept
-unfound_kept : (facts : Facts) (s : Progress) (locks : List OwnLock) (name : List ℕ) (mode : Mode) (rest : List Row → Plan) (given : List Row) → FactsFit facts s → plan_at s.exec ≡ Do (Lookup name mode) rest → act_owed facts s.granted (Do (Lookup name mode) rest) ≡ []
-    → looked_up locks mode (facts.rows (scans.RelName name)) ≡ Some given → class_oid given ≡ None → is_kept (kept_at s) (scans.RelName name) ≡ true
-unfound_kept facts s locks name mode rest given fits at owed gave none = by_granted s.granted refl owed
-  where
-    by_granted : (t : Bool) → s.granted ≡ t → act_owed facts t (Do (Lookup name mode) rest) ≡ [] → is_kept (kept_at s) (scans.RelName name) ≡ true
-    by_granted true is nothing = let found = subst (λ p. GivenFits facts p s.given) at (fits.given is) in
-        absurd (finds_class locks mode (facts.rows (scans.RelName name)) given gave (ap is_class found.0 ∙ found.1) none)
-    by_granted false is nothing = sym (fits.usable (scans.RelName name)) ∙ cond_none (facts.usable (scans.RelName name)) (scans.RelName name) nothing
+-- a lookup that is done has its scan kept
+lookup_kept : (facts : Facts) (s : Progress) (name : List ℕ) (mode : Mode) (rest : List Row → Plan) → FactsFit facts s → act_owed facts (Do (Lookup name mode) rest) ≡ [] → is_kept (kept_at s) (scans.RelName name) ≡ true
+lookup_kept facts s name mode rest fits owed = sym (fits.usable (scans.RelName name)) ∙ cond_none (facts.usable (scans.RelName name)) (scans.RelName name) owed
 
 -- where an act left that no relation has a name, the scan of the name is kept
 absent_kept : (seen : List Entry) (was : Progress) (rest : Rest) (command : Command) (act : Act) (further : List Row → Plan) (given : List Row) → FactsFit (facts_of seen was.id) was → OnItsWay seen was.id (session_at was rest) command → plan_at was.exec ≡ Do act further
     → IsDoneHere (facts_of seen was.id) (session_at was rest) act further given → (name : List ℕ) → further given ≡ Absent name → is_kept (kept_at was) (scans.RelName name) ≡ true
 absent_kept seen was rest command (Lookup sought mode) further given fits way at done name absent = subst (λ n. is_kept (kept_at was) (scans.RelName n) ≡ true) one
-    (unfound_kept (facts_of seen was.id) was was.locks.items sought mode further given fits at done.owed done.gave unfound.none)
+    (lookup_kept (facts_of seen was.id) was sought mode further fits done.owed)
   where
     unfound : IsUnfound sought (further given) given
     unfound = after_lookup sought mode further given (at_lookup _ _ sought mode further (its_place seen was.id (session_at was rest) command (Lookup sought mode) further way at)).2 (ap is_absent absent)
@@ -174,7 +158,7 @@ answer_holds scenario seen s text holds = record {
   rest = holds.rest;
   count = holds.count;
   is = holds.is;
-  facts = let f = holds.facts in record { running = f.running; lists = f.lists; owed = f.owed; usable = f.usable; kept = f.kept; given = f.given };
+  facts = let f = holds.facts in record { running = f.running; lists = f.lists; owed = f.owed; quiet = f.quiet; usable = f.usable; kept = f.kept };
   counts = holds.counts;
   order = holds.order;
   sought = holds.sought;

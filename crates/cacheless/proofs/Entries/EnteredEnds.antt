@@ -41,9 +41,9 @@ visible_holds scenario old was xid locks rests items = own_entered scenario old 
     running = ap (λ o. Some (record (begun (was.finished + 1) o) { visible = true })) f.running ∙ runs_shown (was.finished + 1) was.running;
     lists = f.lists;
     owed = refl;
+    quiet = refl;
     usable = f.usable;
     kept = f.kept;
-    given = f.given;
   };
   counts = counts_stay rests.holds.counts;
   order = rests.holds.order;
@@ -69,9 +69,9 @@ publish_holds scenario old was count locks rests items = own_entered scenario ol
     running = ap (λ o. Some (record (begun (was.finished + 1) o) { published = (begun (was.finished + 1) o).published + count })) f.running ∙ runs_sent (was.finished + 1) count was.running;
     lists = f.lists;
     owed = refl;
+    quiet = refl;
     usable = f.usable;
     kept = f.kept;
-    given = f.given;
   };
   counts = counts_stay rests.holds.counts;
   order = rests.holds.order;
@@ -122,9 +122,9 @@ gone_holds scenario old was from cats rels caches lists locks rests cats_are rel
     running = ap (λ o. Some (begun (was.finished + 1) o)) f.running ∙ runs_begun (was.finished + 1) was.running;
     lists = ap (lists_before from) f.lists ∙ sym before;
     owed = refl;
+    quiet = refl;
     usable = λ scan. ap (λ t. t && (facts_of old was.id).usable scan) (gone_usable old was from cats rels scan f cats_are rels_are) ∙ ap (λ t. is_spared scan (cats ++ rels) && t) (f.usable scan) ∙ kept_twice cats rels (kept_at was) scan ∙ ap (λ k. is_kept k scan) (sym keeps);
     kept = subst (AreRight after.rows) (sym keeps) (all-spared (λ scan read. read.rows ≡ after.rows scan) rels (kept_spared cats (kept_at was)) (all-spared (λ scan read. read.rows ≡ after.rows scan) cats (kept_at was) f.kept));
-    given = f.given;
   };
   counts = counts_stay rests.holds.counts;
   order = subst (AllByRecursion (λ (list : Written). list.command ≤ was.finished + 1)) (sym before)
@@ -154,9 +154,9 @@ release_holds scenario old was from lists held locks rests left stay items = own
     running = ap (λ o. after_release from (begun (was.finished + 1) o)) f.running ∙ release_begun from (was.finished + 1) was.running;
     lists = ap (λ o. lists_left (ends_transaction from o) (facts_of old was.id).lists) f.running ∙ ap (λ t. lists_left t (facts_of old was.id).lists) (ends_same from was.running) ∙ ap (lists_left (ends_own from was.running)) f.lists ∙ sym left;
     owed = refl;
+    quiet = refl;
     usable = f.usable;
     kept = f.kept;
-    given = f.given;
   };
   counts = counts_stay rests.holds.counts;
   order = subst (AllByRecursion (λ (list : Written). list.command ≤ was.finished + 1)) (sym left) (left_low (ends_own from was.running));

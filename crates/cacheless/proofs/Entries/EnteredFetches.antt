@@ -20,11 +20,12 @@ use Rattle.cacheless.specs.declared.progress.Progress.{Progress}
 use Rattle.cacheless.specs.Facts.{Facts, facts_of}
 use Rattle.cacheless.specs.Session.{Session, Tally}
 use Rattle.cacheless.specs.Owed.{Owes, OwesLook, owed_after}
+use Rattle.cacheless.specs.Settled.{nothing_waits}
 use Rattle.cacheless.specs.Sessions.{resumed, placed_at, counted}
 use Rattle.cacheless.specs.Puts.{PutsOpened}
 use Rattle.txn_blocks.specs.Transactions.{begun_own}
-use Rattle.cacheless.specs.State.{owed_at, due_fetched, one_if, Kept, kept_at, nothing_kept, is_kept, kept_spared, is_absent, is_full, is_in_accept, locks_accepted, Rest, rest_of, tally_at, session_at}
-use Rattle.cacheless.specs.Holds.{AreRight, GivenFits, FactsFit, Rests, HasEntered}
+use Rattle.cacheless.specs.State.{owed_at, is_quiet, due_fetched, one_if, Kept, kept_at, nothing_kept, is_kept, kept_spared, is_absent, is_full, is_in_accept, locks_accepted, Rest, rest_of, tally_at, session_at}
+use Rattle.cacheless.specs.Holds.{AreRight, FactsFit, Rests, HasEntered}
 use Rattle.cacheless.proofs.Tests.{not_both}
 use Rattle.cacheless.proofs.Same.{full_same}
 use Rattle.cacheless.proofs.Written.Putting.{puts_again}
@@ -94,20 +95,6 @@ pub resumed_same : (was : Progress) (exec : Exec) (rest : Rest) → (is_absent (
 resumed_same was exec rest sought again = resumed_is (plan_at was.exec) (session_at was rest)
     ∙ (λ i. record (session_at was rest) { left = (left_is was rest sought (plan_at was.exec) refl ∙ sym again) i; found = found_again (plan_at was.exec) (session_at was rest) })
 
--- what a lookup found fits still
-given_again : (facts : Facts) (was : Progress) (exec : Exec) → plan_at exec ≡ plan_again was.exec → GivenFits facts (plan_at was.exec) was.given → GivenFits facts (plan_at exec) was.given
-given_again facts was exec again fit = by_plan (plan_at was.exec) refl fit
-  where
-    stays : (p : Plan) → plan_at was.exec ≡ p → is_absent p ≡ false → GivenFits facts p was.given → GivenFits facts (plan_at exec) was.given
-    stays p at found fit = subst (λ q. GivenFits facts q was.given) (sym at ∙ sym (again_same was.exec (ap is_absent at ∙ found)) ∙ sym again) fit
-
-    by_plan : (p : Plan) → plan_at was.exec ≡ p → GivenFits facts p was.given → GivenFits facts (plan_at exec) was.given
-    by_plan (Absent name) at fit = absurd fit
-    by_plan (Done told) at fit = stays (Done told) at refl fit
-    by_plan (Fails error) at fit = stays (Fails error) at refl fit
-    by_plan (Do act rest) at fit = stays (Do act rest) at refl fit
-    by_plan NotBuilt at fit = stays NotBuilt at refl fit
-
 -- the state after a fetch of these messages, but for its full fetches
 abbrev pub fetched_first : Progress → ℕ → LocalCaches → Exec → Progress
 fetched_first was count caches exec = record was {
@@ -130,6 +117,13 @@ owed_fetched count = by_test (count == 32)
     by_test true = refl
     by_test false = refl
 
+quiet_fetched : (count : ℕ) → nothing_waits (Some (events.Fetch count)) ≡ is_quiet (due_fetched count)
+quiet_fetched count = by_test (count == 32)
+  where
+    by_test : (t : Bool) → false ≡ is_quiet (elim t as (λ x. Due) [ true ↦ dues.Look | false ↦ dues.Nothing ])
+    by_test true = refl
+    by_test false = refl
+
 full_more : (t : Bool) (tally : Tally) → elim t as (λ x. Tally) [ true ↦ record tally { full = tally.full + 1 } | false ↦ tally ] ≡ record tally { full = tally.full + one_if t }
 full_more true tally = refl
 full_more false tally = λ i. record tally { full = same i }
@@ -147,7 +141,7 @@ pub fetch_holds : (scenario : Scenario) (old : List Entry) (was : Progress) (cou
 fetch_holds scenario old was count messages caches exec locks rests are keeps again items = own_entered scenario old was now event locks rests (record { session = λ _ _ _ _ _ _. refl; finished = λ s. ends_same s.left s }) (record {
   moves = record { id = refl; commands = refl; finished = refl };
   session = whole ∙ sym (ap (λ t. session_at now (rest_of t)) whole);
-  facts = record { running = fits.running; lists = fits.lists; owed = fits.owed; usable = fits.usable; kept = fits.kept; given = fits.given };
+  facts = record { running = fits.running; lists = fits.lists; owed = fits.owed; quiet = fits.quiet; usable = fits.usable; kept = fits.kept };
   counts = let c = rests.holds.counts in record { looks = omega (arith, c.looks); scans = omega (arith, c.scans); grants = omega (arith, c.grants); fetches = omega (arith, c.fetches); full = omega (arith, c.full, one_at_most (is_full count first)) };
   order = rests.holds.order;
   sought = λ is. absurd (not_both (is_absent (plan_at exec)) is (ap is_absent again ∙ never_absent was.exec));
@@ -175,9 +169,9 @@ fetch_holds scenario old was count messages caches exec locks rests are keeps ag
       running = ap (λ o. Some (begun (was.finished + 1) o)) f.running ∙ runs_begun (was.finished + 1) was.running;
       lists = f.lists;
       owed = owed_fetched count;
+      quiet = quiet_fetched count;
       usable = λ scan. ap (λ l. is_spared scan l && (facts_of old was.id).usable scan) (sym are) ∙ ap (λ t. is_spared scan messages && t) (f.usable scan) ∙ sym (is_kept-spared messages (kept_at was) scan) ∙ ap (λ k. is_kept k scan) (sym keeps);
       kept = subst (AreRight after.rows) (sym keeps) (all-spared (λ scan read. read.rows ≡ after.rows scan) messages (kept_at was) f.kept);
-      given = λ granted. given_again after was exec again (f.given granted);
     }
 
     s : Session
@@ -219,9 +213,9 @@ reset_holds scenario old was caches exec locks rests keeps again items = own_ent
     running = ap (λ o. Some (begun (was.finished + 1) o)) f.running ∙ runs_begun (was.finished + 1) was.running;
     lists = f.lists;
     owed = refl;
+    quiet = refl;
     usable = λ scan. ap (λ k. is_kept k scan) (sym keeps);
     kept = subst (AreRight after.rows) (sym keeps) (λ scan. tt);
-    given = λ granted. given_again after was exec again (f.given granted);
   };
   counts = let c = rests.holds.counts in record { looks = omega (arith, c.looks); scans = omega (arith, c.scans); grants = omega (arith, c.grants); fetches = omega (arith, c.fetches); full = omega (arith, c.full) };
   order = rests.holds.order;

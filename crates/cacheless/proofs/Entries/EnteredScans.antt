@@ -23,7 +23,7 @@ use Rattle.cacheless.specs.Facts.{Facts, facts_of}
 use Rattle.txn_blocks.specs.Transactions.{begun_own}
 use Rattle.cacheless.specs.State.{Kept, kept_at, kept_with, is_kept, is_in_accept, locks_accepted}
 use Rattle.cacheless.specs.May.{is_first_missing, is_missing, is_next_of_act, is_next_at, has_failed}
-use Rattle.cacheless.specs.Holds.{AreRight, GivenFits, Rests, HasEntered}
+use Rattle.cacheless.specs.Holds.{AreRight, Rests, HasEntered}
 use Rattle.cacheless.proofs.Tests.{and_true, or_either}
 use Rattle.cacheless.proofs.Same.{builds_of}
 use Rattle.cacheless.proofs.Entries.Entering.{facts_after, with_locks, own_entered, runs_begun}
@@ -40,18 +40,18 @@ found_first p P (x ∷ l) scan holds is = by_test (p x) refl is (found_first p P
     by_test true at here rest = let same : x ≡ scan = sym (same_scan-true scan x here) in (subst (λ y. p y ≡ true) same at, subst P same holds.0)
     by_test false at here rest = rest here
 
-first_lacks : (kept : Kept) (scan : Purpose) (kind : Kind) (rel : Oid) → is_first_missing scan kept kind rel ≡ true → IsLacking kept scan
+pub first_lacks : (kept : Kept) (scan : Purpose) (kind : Kind) (rel : Oid) → is_first_missing scan kept kind rel ≡ true → IsLacking kept scan
 first_lacks kept scan kind rel is = found_first (λ d. not (is_kept kept d)) (λ d. is_build_scan d ≡ true) (build_scans kind rel) scan (builds_of kind rel) is
 
-opened_lacks : (kept : Kept) (scan : Purpose) (opened : List Opening) → list_any (λ o. is_first_missing scan kept o.kind o.rel) opened ≡ true → IsLacking kept scan
+pub opened_lacks : (kept : Kept) (scan : Purpose) (opened : List Opening) → list_any (λ o. is_first_missing scan kept o.kind o.rel) opened ≡ true → IsLacking kept scan
 opened_lacks kept scan [] is = absurd (cc)
 opened_lacks kept scan (o ∷ opened) is = or_either (is_first_missing scan kept o.kind o.rel) (list_any (λ q. is_first_missing scan kept q.kind q.rel) opened) is (first_lacks kept scan o.kind o.rel) (opened_lacks kept scan opened)
 
-missing_lacks : (kept : Kept) (scan wanted : Purpose) → is_missing scan kept wanted ≡ true → not (is_kept kept scan) ≡ true
+pub missing_lacks : (kept : Kept) (scan wanted : Purpose) → is_missing scan kept wanted ≡ true → not (is_kept kept scan) ≡ true
 missing_lacks kept scan wanted is = let parts = and_true (not (is_kept kept wanted)) (same_scan scan wanted) is in ap (λ d. not (is_kept kept d)) (same_scan-true scan wanted parts.1) ∙ parts.0
 
 act_lacking : (s : Progress) (scan : Purpose) (p : Plan) → is_next_of_act scan s p ≡ true → not (is_kept (kept_at s) scan) ≡ true
-act_lacking s scan (Do (Lookup name mode) rest) is = missing_lacks (kept_at s) scan (scans.RelName name) (and_true (not s.granted) (is_missing scan (kept_at s) (scans.RelName name)) is).1
+act_lacking s scan (Do (Lookup name mode) rest) is = missing_lacks (kept_at s) scan (scans.RelName name) is
 act_lacking s scan (Do (Search wanted) rest) is = missing_lacks (kept_at s) scan wanted is
 act_lacking s scan (Do (Open rel kind) rest) is = (first_lacks (kept_at s) scan kind rel is).0
 act_lacking s scan (Done (tells.Regclass oid)) is = missing_lacks (kept_at s) scan (scans.RelOid oid) is
@@ -81,19 +81,6 @@ rows_by-own old b made scan count given is = ap (λ t. elim t [ true ↦ answer_
 -- the state after a scan
 abbrev pub built_scan : Progress → LocalCaches → Progress
 built_scan was caches = record was { due = dues.Nothing; running = Some (begun_own (was.finished + 1) was.running); tally = record was.tally { scans = was.tally.scans + 1 }; caches = caches; answer = None }
-
--- none is of the name that a lookup has its lock for
-next_other : (s : Progress) (scan : Purpose) (name : List ℕ) (mode : Mode) (rest : List Row → Plan) → plan_at s.exec ≡ Do (Lookup name mode) rest → s.granted ≡ true → is_next_at scan s ≡ true → same_scan scan (scans.RelName name) ≡ false
-next_other s scan name mode rest at granted is = or_either _ _ (and_true (not (has_failed s)) _ is).1
-    (λ here. no_named scan (scans.RelName name) (opened_lacks (kept_at s) scan s.opened here).1 refl)
-    (λ there. absurd (let both : false ≡ true = sym (ap (λ p. is_next_of_act scan s p) at ∙ ap (λ t. not t && is_missing scan (kept_at s) (scans.RelName name)) granted) ∙ there in cc both))
-
--- what a lookup found fits as before
-given_as_before : (old : List Entry) (was : Progress) (scan : Purpose) (count : ℕ) (p : Plan) → plan_at was.exec ≡ p → was.granted ≡ true → is_next_at scan was ≡ true → GivenFits (facts_of old was.id) p was.given → GivenFits (facts_after old was (events.Scan scan count)) p was.given
-given_as_before old was scan count (Do (Lookup name mode) rest) at granted next fit =
-    (ap (λ l. slice_get l 0) (rows_by-others old was.id scan (scans.RelName name) count ((facts_of old was.id).rows (scans.RelName name)) (next_other was scan name mode rest at granted next)) ∙ fit.0, fit.1)
-given_as_before old was scan count (Absent name) at granted next fit = fit
-given_as_before old was scan count p at granted next fit = fit
 
 -- with the scan more is kept
 kept_more : (kept : Kept) (scan : Purpose) (given : List Row) (at : ℕ) (other : Purpose) → (same_scan scan other || is_kept kept other) ≡ is_kept (kept_with scan given at kept) other
@@ -129,9 +116,9 @@ built_holds scenario old was scan count given at caches locks rests next are pus
     running = ap (λ o. Some (begun (was.finished + 1) o)) f.running ∙ runs_begun (was.finished + 1) was.running;
     lists = f.lists;
     owed = refl;
+    quiet = refl;
     usable = λ other. ap (λ t. same_scan scan other || t) (f.usable other) ∙ kept_more (kept_at was) scan given at other ∙ ap (λ k. is_kept k other) (sym pushed);
     kept = subst (AreRight after.rows) (sym pushed) (right_more old was.id (kept_at was) scan given at count are f.kept);
-    given = λ granted. given_as_before old was scan count (plan_at was.exec) refl granted next (f.given granted);
   };
   counts = let c = rests.holds.counts in record { looks = omega (arith, c.looks); scans = omega (arith, c.scans); grants = omega (arith, c.grants); fetches = omega (arith, c.fetches); full = c.full };
   order = rests.holds.order;

@@ -84,7 +84,7 @@ done_written (stages.Altering altering) given is = alters_done altering given is
 done_written stage given is = absurd (cc)
 
 -- the session once the write of its command is made
-written_is : (p : Plan) (s : Session) → want_of p ≡ wants.Write → written p s ≡ record s { left = after_act [] p; opened = []; granted = false }
+written_is : (p : Plan) (s : Session) → want_of p ≡ wants.Write → written p s ≡ record s { left = after_act [] p; opened = []; taken = None }
 written_is (Do (Write draft) rest) s is = refl
 written_is (Do (Lookup name mode) rest) s is = absurd (cc)
 written_is (Do (Open rel kind) rest) s is = absurd (cc)
@@ -101,7 +101,7 @@ abbrev pub wrote : Progress → Xid → LocalCaches → Held → Exec → Roomy 
 wrote was xid caches lists exec locks = record was {
   exec = exec;
   opened = [];
-  granted = false;
+  taken = None;
   due = dues.Nothing;
   running = Some (record (begun_own (was.finished + 1) was.running) { xid = Some xid });
   lists = lists;
@@ -126,9 +126,9 @@ write_holds scenario old was xid items messages new_oids first caches lists exec
     running = ap (λ o. Some (record (begun (was.finished + 1) o) { xid = Some xid.0 })) f.running ∙ runs_written (was.finished + 1) xid was.running;
     lists = ap (λ l. l ++ written_by old was.id (was.finished + 1) items ∷ []) f.lists ∙ sym listed;
     owed = refl;
+    quiet = refl;
     usable = λ scan. ap (λ t. t && (facts_of old was.id).usable scan) (sym (spared_alike old was.id items scan)) ∙ ap (λ l. is_spared scan l && (facts_of old was.id).usable scan) (sym are) ∙ ap (λ t. is_spared scan messages && t) (f.usable scan) ∙ sym (is_kept-spared messages (kept_at was) scan) ∙ ap (λ k. is_kept k scan) (sym keeps);
     kept = subst (AreRight after.rows) (sym keeps) (all-spared (λ scan read. read.rows ≡ after.rows scan) messages (kept_at was) f.kept);
-    given = λ is. absurd (cc is);
   };
   counts = counts_stay rests.holds.counts;
   order = subst (AllByRecursion (λ (list : Written). list.command ≤ was.finished + 1)) (sym listed)
@@ -159,6 +159,6 @@ write_holds scenario old was xid items messages new_oids first caches lists exec
     s : Session
     s = session_at was rests.holds.rest
 
-    whole : noted_after old was event rests.holds.rest ≡ record s { left = plan_at exec; opened = []; granted = false; locks = locked.items; judged = length old + 1; last = length old + 1 }
+    whole : noted_after old was event rests.holds.rest ≡ record s { left = plan_at exec; opened = []; taken = None; locks = locked.items; judged = length old + 1; last = length old + 1 }
     whole = ap (λ (t : Session). record t { tally = s.tally; locks = was.locks.items ++ flat_map (locked_by (was.finished + 1)) items; judged = length old + 1; last = length old + 1 }) (written_is (plan_at was.exec) s wants_it)
-        ∙ (λ i. record s { left = sym goes i; opened = []; granted = false; locks = (ap (λ l. was.locks.items ++ l) makes ∙ sym held) i; judged = length old + 1; last = length old + 1 })
+        ∙ (λ i. record s { left = sym goes i; opened = []; taken = None; locks = (ap (λ l. was.locks.items ++ l) makes ∙ sym held) i; judged = length old + 1; last = length old + 1 })

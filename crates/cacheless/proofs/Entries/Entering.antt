@@ -87,7 +87,7 @@ own_holds scenario old was now event locks rests on enters items = record {
       ∙ ap (λ o. Some (settled after (drop now.finished now.commands) (accepted after o (session_at now rest)))) (first_left now.commands now.finished)
       ∙ ap (λ s. Some (settled after (drop now.finished now.commands) s)) (accepted_same after (slice_get now.commands now.finished) now locks rest enters.facts items)
       ∙ ap (λ f. Some (settled f (drop now.finished now.commands) (session_at (with_locks now locks) rest))) (sym facts);
-  facts = subst (λ f. FactsFit f (with_locks now locks)) (sym facts) (record { running = enters.facts.running; lists = enters.facts.lists; owed = enters.facts.owed; usable = enters.facts.usable; kept = enters.facts.kept; given = enters.facts.given });
+  facts = subst (λ f. FactsFit f (with_locks now locks)) (sym facts) (record { running = enters.facts.running; lists = enters.facts.lists; owed = enters.facts.owed; usable = enters.facts.usable; quiet = enters.facts.quiet; kept = enters.facts.kept });
   counts = subst (CountsFit now.tally) (sym (length_push old e)) enters.counts;
   order = enters.order;
   sought = enters.sought;

@@ -1,8 +1,9 @@
 -- What the code makes of an entry, by what its calls gave.
-use Rattle.std.proofs.Common.{◌≡◌, ◌+◌, ◌∙◌, ℕ, Bool, true, false, None, Some, Option, List, [], ◌∷◌, ◌++◌, sym, ap, subst, length, filter, nat_lt, slice_get, Vec, Global}
+use Rattle.std.proofs.Common.{◌≡◌, ◌+◌, ◌∙◌, ℕ, Bool, true, false, not, None, Some, Option, List, [], ◌∷◌, ◌++◌, sym, ap, subst, length, filter, nat_lt, slice_get, Vec, Global}
 use Rattle.std.specs.List.{flat_map}
 use Rattle.event_kinds.specs.declared.entry.Event.TheVariants as events
 use Rattle.command_answers.specs.declared.error.CommandError.TheVariants as errors
+use Rattle.lock_modes.specs.Own.{is_own}
 use Rattle.lock_modes.specs.Rooms.{Roomy}
 use Rattle.inval_messages.specs.Lists.{cats_in, rels_in, lists_from, lists_before}
 use Rattle.command_lists.specs.Lists.{Held, all_lists, new_list, with_messages}
@@ -26,7 +27,7 @@ use Rattle.cacheless.specs.Holds.{Rests, HasEntered}
 use Rattle.cacheless.proofs.Entries.EnteredLooks.{looked, look_holds}
 use Rattle.cacheless.proofs.Entries.EnteredFetches.{fetched_first, fetched, fetch_holds, reset_holds}
 use Rattle.cacheless.proofs.Entries.EnteredScans.{built_scan, built_holds}
-use Rattle.cacheless.proofs.Entries.EnteredLocks.{granted, granted_holds, refused_holds, clash_holds}
+use Rattle.cacheless.proofs.Entries.EnteredLocks.{granted, granted_holds, gave_back, unlock_holds, refused_holds, clash_holds}
 use Rattle.cacheless.proofs.Entries.EnteredWrites.{wrote, write_holds}
 use Rattle.cacheless.proofs.Entries.EnteredEnds.{shown, visible_holds, publish_holds, taken_back, gone_holds, let_go, release_holds}
 
@@ -88,11 +89,17 @@ reset_code was own caches mid locks begins keeps again items scenario seen rests
     state : mid ≡ canonical
     state = again.is ∙ (λ i. record canonical { running = Some (begins i) })
 
-pub granted_code : (was : Progress) (rel : Oid) (mode : Mode) (own : RunningTransaction) (given : Option Row) (locks : Roomy OwnLock) → is_lock_at was (plan_at was.exec) rel mode ≡ true → lacks_any was ≡ false → own ≡ begun_own (was.finished + 1) was.running → given ≡ row_next was (plan_at was.exec)
+pub granted_code : (was : Progress) (rel : Oid) (mode : Mode) (own : RunningTransaction) (locks : Roomy OwnLock) → own ≡ begun_own (was.finished + 1) was.running
     → locks.items ≡ was.locks.items ++ record { rel = rel; mode = mode; command = was.finished + 1; clear = false } ∷ []
-    → (scenario : Scenario) (seen : List Entry) → (rests : Rests scenario seen was) → HasEntered scenario seen was (events.LockOk rel mode) rests (record was { due = dues.Look; running = Some own; tally = record was.tally { grants = was.tally.grants + 1 }; granted = true; given = given; locks = locks; answer = None })
-granted_code was rel mode own given locks asks whole begins found items scenario seen rests =
-    subst (HasEntered scenario seen was (events.LockOk rel mode) rests) (λ i. record (granted was given locks) { running = Some (sym begins i) }) (granted_holds scenario seen was rel mode given locks rests asks whole found items)
+    → (scenario : Scenario) (seen : List Entry) → (rests : Rests scenario seen was) → HasEntered scenario seen was (events.LockOk rel mode) rests (record was { due = dues.Look; running = Some own; tally = record was.tally { grants = was.tally.grants + 1 }; taken = Some rel; locks = locks; answer = None })
+granted_code was rel mode own locks begins items scenario seen rests =
+    subst (HasEntered scenario seen was (events.LockOk rel mode) rests) (λ i. record (granted was rel locks) { running = Some (sym begins i) }) (granted_holds scenario seen was rel mode locks rests items)
+
+pub unlock_code : (was : Progress) (rel : Oid) (mode : Mode) (own : RunningTransaction) (left locks : Roomy OwnLock) → own ≡ begun_own (was.finished + 1) was.running → left.items ≡ filter (λ lock. not (is_own rel mode lock)) was.locks.items
+    → locks.items ≡ locks_accepted (is_in_accept (record was { running = Some own; due = dues.Nothing; taken = None; locks = left }) (slice_get was.commands was.finished)) left.items
+    → (scenario : Scenario) (seen : List Entry) → (rests : Rests scenario seen was) → HasEntered scenario seen was (events.Unlock rel mode) rests (record was { due = dues.Nothing; running = Some own; taken = None; locks = locks; answer = None })
+unlock_code was rel mode own left locks begins stay items scenario seen rests =
+    subst (HasEntered scenario seen was (events.Unlock rel mode) rests) (λ i. record (gave_back was locks) { running = Some (sym begins i) }) (unlock_holds scenario seen was rel mode left locks rests stay items)
 
 pub refused_code : (was now : Progress) (rel : Oid) (mode : Mode) (holder : ℕ) (held : Mode) → FailsWith (errors.Locked rel holder held) was now
     → (scenario : Scenario) (seen : List Entry) → (rests : Rests scenario seen was) → HasEntered scenario seen was (events.LockHeld rel mode holder held) rests now
@@ -114,13 +121,13 @@ built_code was scan rows at own caches locks begins next pushed items scenario s
 pub write_code : (was : Progress) (xid : Xid) (messages : List Message) (new_oids : ℕ) (first : Oid) (own : RunningTransaction) (lists : Held) (caches : LocalCaches) (exec : Exec) (opened_none : List Opening) (locked locks : Roomy OwnLock)
     → own ≡ record (begun_own (was.finished + 1) was.running) { xid = Some xid } → want_of (plan_at was.exec) ≡ wants.Write → all_lists lists.lists ≡ lists_at was ++ with_messages messages (new_list (was.finished + 1)) ∷ []
     → kept_of caches ≡ kept_spared messages (kept_at was) → plan_at exec ≡ after_act [] (plan_at was.exec) → opened_none ≡ [] → locked.items ≡ locks_written new_oids first (was.finished + 1) was.locks.items
-    → locks.items ≡ locks_accepted (is_in_accept (record was { lists = lists; caches = caches; running = Some own; due = dues.Nothing; exec = exec; opened = opened_none; granted = false; locks = locked }) (slice_get was.commands was.finished)) locked.items
+    → locks.items ≡ locks_accepted (is_in_accept (record was { lists = lists; caches = caches; running = Some own; due = dues.Nothing; exec = exec; opened = opened_none; taken = None; locks = locked }) (slice_get was.commands was.finished)) locked.items
     → (scenario : Scenario) (seen : List Entry) (items : List Item) → (rests : Rests scenario seen was) → messages ≡ messages_in seen was.id items → flat_map (locked_by (was.finished + 1)) items ≡ locks_made new_oids first (was.finished + 1)
-    → HasEntered scenario seen was (events.Write xid items) rests (record was { lists = lists; caches = caches; running = Some own; due = dues.Nothing; exec = exec; opened = opened_none; granted = false; locks = locks; answer = None })
+    → HasEntered scenario seen was (events.Write xid items) rests (record was { lists = lists; caches = caches; running = Some own; due = dues.Nothing; exec = exec; opened = opened_none; taken = None; locks = locks; answer = None })
 write_code was xid messages new_oids first own lists caches exec opened_none locked locks begins wants_it pushed keeps goes none held accepts scenario seen items rests are makes =
     subst (HasEntered scenario seen was (events.Write xid items) rests) (λ i. record (wrote was xid caches lists exec locks) { running = Some (sym begins i); opened = sym none i })
     (write_holds scenario seen was xid items messages new_oids first caches lists exec locked locks rests wants_it are makes pushed keeps goes held
-    (accepts ∙ (λ i. locks_accepted (is_in_accept (record was { lists = lists; caches = caches; running = Some own; due = dues.Nothing; exec = exec; opened = none i; granted = false; locks = locked }) (slice_get was.commands was.finished)) locked.items)))
+    (accepts ∙ (λ i. locks_accepted (is_in_accept (record was { lists = lists; caches = caches; running = Some own; due = dues.Nothing; exec = exec; opened = none i; taken = None; locks = locked }) (slice_get was.commands was.finished)) locked.items)))
 
 pub visible_code : (was : Progress) (xid : Xid) (own : RunningTransaction) (locks : Roomy OwnLock) → own ≡ begun_own (was.finished + 1) was.running
     → locks.items ≡ locks_accepted (is_in_accept (record was { running = Some (record own { visible = true }); due = dues.Nothing }) (slice_get was.commands was.finished)) was.locks.items

@@ -1,4 +1,4 @@
--- A worked example: a backend has found a table, and holds no lock on it, while another sets the table's fillfactor. By the laws it still sees the table, and for the other, under its lock, no column has number 3.
+-- A worked example: a backend has found a table, and holds no lock on it, while another sets the table's fillfactor. For the other, under its lock, no column has number 3.
 use Rattle.std.proofs.Common.{◌≡◌, ◌++◌, inl, false, Some, None, List, [], ◌∷◌, codes, true, refl, ap, arith}
 use Rattle.std.specs.Str.{bytes_eq}
 use Rattle.base_types.specs.declared.kind.Kind.TheVariants.{Table}
@@ -9,14 +9,12 @@ use Rattle.base_types.specs.declared.scan.Purpose.TheVariants as scans
 use Rattle.event_kinds.specs.declared.entry.Entry.{Entry}
 use Rattle.event_kinds.specs.declared.entry.Event.TheVariants.{Start, Look, Fetch, LockOk, Scan, Write, Visible, Publish, Release}
 use Rattle.event_kinds.specs.declared.entry.Item.TheVariants.{Put}
-use Rattle.history_model.specs.Prefixes.{EachEntry, EachFrom}
+use Rattle.history_model.specs.Prefixes.{EachEntry}
 use Rattle.history_model.specs.Orderly.{has_key, MayComeNext, IsSound}
 use Rattle.history_model.proofs.Prefixes.{EachEntry-prefix}
-use Rattle.history_model.proofs.Locked.{IsSeenAs}
-use Rattle.cacheless.specs.TableWrites.{KeepsTables, WritesTables}
+use Rattle.cacheless.specs.TableWrites.{KeepsColumns, WritesColumns}
 use Rattle.cacheless.proofs.Plans.Given.{oid, xid, entry, wide_table}
-use Rattle.cacheless.proofs.StillSeen.{TakesNoneBack, relation_between}
-use Rattle.cacheless.proofs.NumberedColumns.{numbered_columns}
+use Rattle.cacheless.proofs.WholeColumns.{whole_columns}
 
 -- the second backend finds the table that the first has made
 abbrev pub found : List Entry
@@ -37,36 +35,25 @@ sound = search arith
 names_differ : codes "aa" ≡ codes "ab" → ⊥
 names_differ is = let both : true ≡ false = ap (bytes_eq (codes "aa")) is in cc both
 
-table_kept : KeepsTables (entry 1 0 Start ∷ entry 2 0 Start ∷ []) 1 (wide_table 16384 (codes "t") 2)
+table_kept : KeepsColumns (entry 1 0 Start ∷ entry 2 0 Start ∷ []) 1 (wide_table 16384 (codes "t") 2)
 table_kept = record {
-  stay = refl;
-  names = (tt, (tt, (tt, tt)));
+  whole = refl;
   columns = refl;
   called = ((tt, tt), ((inl refl, tt), ((inl refl, tt), tt)));
   apart = (((λ are. are), ((λ are. are), tt)), (((λ are. names_differ are.1), tt), (tt, tt)));
-  named = (((λ share. share), ((λ share. share), tt)), (((λ share. share), tt), (tt, tt)));
 }
 
-fill_kept : KeepsTables (found ++ locked) 1 (Put (Class (oid 16384) (codes "t") Table (Some 70)) ∷ [])
+fill_kept : KeepsColumns (found ++ locked) 1 (Put (Class (oid 16384) (codes "t") Table (Some 70)) ∷ [])
 fill_kept = record {
-  stay = refl;
-  names = ((refl, refl), tt);
+  whole = refl;
   columns = refl;
   called = ((tt, ((λ are. are), ((λ are. are), ((λ are. are), tt)))), tt);
   apart = (tt, tt);
-  named = (tt, tt);
 }
 
-tables : EachEntry WritesTables (found ++ (locked ++ altered))
-tables = (tt, (tt, (table_kept, (tt, (tt, (tt, (tt, (tt, (tt, (tt, (tt, (fill_kept, (tt, tt)))))))))))))
+columns : EachEntry WritesColumns (found ++ (locked ++ altered))
+columns = (tt, (tt, (table_kept, (tt, (tt, (tt, (tt, (tt, (tt, (tt, (tt, (fill_kept, (tt, tt)))))))))))))
 
-none_back : EachFrom (TakesNoneBack 2) found (locked ++ altered)
-none_back = ((λ own. tt), ((λ own. tt), ((λ own. tt), tt)))
-
--- the second backend still sees the table
-pub table_stays : IsSeenAs (found ++ (locked ++ altered)) 2 (oid 16384) (codes "t") Table
-table_stays = relation_between found (locked ++ altered) 2 (oid 16384) (codes "t") Table sound tables none_back (None, refl)
-
--- and the first may add a column of number 3
+-- the first may add a column of number 3
 pub third_free : has_key (found ++ locked) (Att (oid 16384) 3) ≡ false
-third_free = (numbered_columns (found ++ locked) 1 (oid 16384) (EachEntry-prefix MayComeNext (found ++ locked) altered sound) (EachEntry-prefix WritesTables (found ++ locked) altered tables) (refl, (refl, (refl, tt)))).free
+third_free = (whole_columns (found ++ locked) 1 (oid 16384) (codes "t") Table (EachEntry-prefix MayComeNext (found ++ locked) altered sound) (EachEntry-prefix WritesColumns (found ++ locked) altered columns) (None, refl) (refl, (refl, (refl, tt)))).free

@@ -31,19 +31,19 @@ at_most_2 : 2 ≤ 2
 at_most_2 = omega arith
 
 abbrev pub columns_of_a_later_table : Scenario
-columns_of_a_later_table = script 2 (placed 1 (creating (codes "t") (codes "a")) ∷ placed 1 (creating (codes "u") (codes "b")) ∷ placed 2 (commands.Columns (codes "t")) ∷ placed 2 (commands.Columns (codes "t")) ∷ placed 2 commands.Begin ∷ placed 2 (commands.Columns (codes "t")) ∷ placed 2 (commands.Column (codes "t") (codes "a")) ∷ placed 2 (commands.Regclass (oid 16384)) ∷ placed 2 commands.Commit ∷ placed 2 (commands.Columns (codes "t")) ∷ []) ((turns 2 7 ∷ turns 1 7 ∷ turns 2 13 ∷ turns 1 7 ∷ turns 2 7 ∷ []) ∷ [])
+columns_of_a_later_table = script 2 (placed 1 (creating (codes "t") (codes "a")) ∷ placed 1 (creating (codes "u") (codes "b")) ∷ placed 2 (commands.Columns (codes "t")) ∷ placed 2 (commands.Columns (codes "t")) ∷ placed 2 commands.Begin ∷ placed 2 (commands.Columns (codes "t")) ∷ placed 2 (commands.Column (codes "t") (codes "a")) ∷ placed 2 (commands.Regclass (oid 16384)) ∷ placed 2 commands.Commit ∷ placed 2 (commands.Columns (codes "t")) ∷ []) ((turns 2 9 ∷ turns 1 7 ∷ turns 2 13 ∷ turns 1 7 ∷ turns 2 7 ∷ []) ∷ [])
 
 -- the reader scans for a name that no table has yet
 abbrev pub absent_scanned : List Entry
 absent_scanned = entry 2 0 Start ∷ entry 2 1 (Look false) ∷ entry 2 1 (Look false) ∷ entry 2 1 (Scan (scans.RelName (codes "t")) 0) ∷ []
 
--- the command ends by an error
+-- an accept brings nothing, and the command ends by an error
 abbrev pub absent_ended : List Entry
-absent_ended = absent_scanned ++ entry 2 1 (Release 1) ∷ []
+absent_ended = absent_scanned ++ entry 2 1 (Look false) ∷ entry 2 1 (Release 1) ∷ []
 
 -- the next command does without a scan
 abbrev pub absent_served : List Entry
-absent_served = absent_ended ++ entry 2 2 (Look false) ∷ entry 2 2 (Release 2) ∷ []
+absent_served = absent_ended ++ entry 2 2 (Look false) ∷ entry 2 2 (Look false) ∷ entry 2 2 (Release 2) ∷ []
 
 -- the table is made
 abbrev pub table_made : List Entry
@@ -99,19 +99,19 @@ columns_of_a_later_table_plays = (
       (
         ((at_least_2, at_most_2), (refl, (refl, refl, refl))),
         (
-          ((at_least_2, at_most_2), (refl, (refl, refl))),
+          ((at_least_2, at_most_2), (refl, refl)),
           (
-            ((at_least_2, at_most_2), (refl, refl)),
+            ((at_least_2, at_most_2), (refl, (refl, refl))),
             (
-              ((at_least_2, at_most_2), (refl, (refl, refl))),
+              ((at_least_2, at_most_2), (refl, refl)),
               (
-                ((at_least_1, at_most_1), tt),
+                ((at_least_2, at_most_2), (refl, refl)),
                 (
-                  ((at_least_1, at_most_1), (refl, refl)),
+                  ((at_least_2, at_most_2), (refl, (refl, refl))),
                   (
-                    ((at_least_1, at_most_1), (refl, (refl, refl))),
+                    ((at_least_1, at_most_1), tt),
                     (
-                      ((at_least_1, at_most_1), (refl, (refl, refl))),
+                      ((at_least_1, at_most_1), (refl, refl)),
                       (
                         ((at_least_1, at_most_1), (refl, (refl, refl))),
                         (
@@ -119,21 +119,21 @@ columns_of_a_later_table_plays = (
                           (
                             ((at_least_1, at_most_1), (refl, (refl, refl))),
                             (
-                              ((at_least_2, at_most_2), (refl, refl)),
+                              ((at_least_1, at_most_1), (refl, (refl, refl))),
                               (
-                                ((at_least_2, at_most_2), (refl, tt)),
+                                ((at_least_1, at_most_1), (refl, (refl, refl))),
                                 (
                                   ((at_least_2, at_most_2), (refl, refl)),
                                   (
-                                    ((at_least_2, at_most_2), (refl, (refl, refl, refl))),
+                                    ((at_least_2, at_most_2), (refl, tt)),
                                     (
-                                      ((at_least_2, at_most_2), (refl, (refl, (refl, refl)))),
+                                      ((at_least_2, at_most_2), (refl, refl)),
                                       (
-                                        ((at_least_2, at_most_2), (refl, refl)),
+                                        ((at_least_2, at_most_2), (refl, (refl, refl, refl))),
                                         (
-                                          ((at_least_2, at_most_2), (refl, refl)),
+                                          ((at_least_2, at_most_2), (refl, (refl, refl, (refl, refl)))),
                                           (
-                                            ((at_least_2, at_most_2), (refl, (refl, refl, refl))),
+                                            ((at_least_2, at_most_2), (refl, refl)),
                                             (
                                               ((at_least_2, at_most_2), (refl, refl)),
                                               (
@@ -143,15 +143,15 @@ columns_of_a_later_table_plays = (
                                                   (
                                                     ((at_least_2, at_most_2), (refl, (refl, refl, refl))),
                                                     (
-                                                      ((at_least_2, at_most_2), (refl, (refl, refl))),
+                                                      ((at_least_2, at_most_2), (refl, refl)),
                                                       (
-                                                        ((at_least_1, at_most_1), (refl, refl)),
+                                                        ((at_least_2, at_most_2), (refl, (refl, refl, refl))),
                                                         (
-                                                          ((at_least_1, at_most_1), (refl, tt)),
+                                                          ((at_least_2, at_most_2), (refl, (refl, refl))),
                                                           (
-                                                            ((at_least_1, at_most_1), (refl, (refl, refl))),
+                                                            ((at_least_1, at_most_1), (refl, refl)),
                                                             (
-                                                              ((at_least_1, at_most_1), (refl, (refl, refl))),
+                                                              ((at_least_1, at_most_1), (refl, tt)),
                                                               (
                                                                 ((at_least_1, at_most_1), (refl, (refl, refl))),
                                                                 (
@@ -159,18 +159,24 @@ columns_of_a_later_table_plays = (
                                                                   (
                                                                     ((at_least_1, at_most_1), (refl, (refl, refl))),
                                                                     (
-                                                                      ((at_least_2, at_most_2), (refl, refl)),
+                                                                      ((at_least_1, at_most_1), (refl, (refl, refl))),
                                                                       (
-                                                                        ((at_least_2, at_most_2), (refl, tt)),
+                                                                        ((at_least_1, at_most_1), (refl, (refl, refl))),
                                                                         (
-                                                                          ((at_least_2, at_most_2), (refl, (refl, (refl, refl)))),
+                                                                          ((at_least_2, at_most_2), (refl, refl)),
                                                                           (
-                                                                            ((at_least_2, at_most_2), (refl, refl)),
+                                                                            ((at_least_2, at_most_2), (refl, tt)),
                                                                             (
-                                                                              ((at_least_2, at_most_2), (refl, refl)),
+                                                                              ((at_least_2, at_most_2), (refl, (refl, refl, (refl, refl)))),
                                                                               (
-                                                                                ((at_least_2, at_most_2), (refl, (refl, refl, refl))),
-                                                                                (((at_least_2, at_most_2), (refl, (refl, refl))), tt),
+                                                                                ((at_least_2, at_most_2), (refl, refl)),
+                                                                                (
+                                                                                  ((at_least_2, at_most_2), (refl, refl)),
+                                                                                  (
+                                                                                    ((at_least_2, at_most_2), (refl, (refl, refl, refl))),
+                                                                                    (((at_least_2, at_most_2), (refl, (refl, refl))), tt),
+                                                                                  ),
+                                                                                ),
                                                                               ),
                                                                             ),
                                                                           ),
@@ -216,22 +222,22 @@ pub columns_of_a_later_table_sound : IsSound listed
 columns_of_a_later_table_sound = search arith
 
 pub columns_of_a_later_table_queue : FollowsQueue 4096 listed
-columns_of_a_later_table_queue = (tt, (tt, (tt, (tt, (tt, (tt, (tt, (tt, (tt, (tt, (tt, (tt, (tt, (tt, (tt, (refl, (tt, (tt, (tt, (tt, (tt, (tt, (tt, (tt, (tt, (tt, (tt, (tt, (refl, (tt, (tt, (tt, (tt, (tt, (tt, (refl, (tt, (tt, (tt, (tt, (tt, tt)))))))))))))))))))))))))))))))))))))))))
+columns_of_a_later_table_queue = (tt, (tt, (tt, (tt, (tt, (tt, (tt, (tt, (tt, (tt, (tt, (tt, (tt, (tt, (tt, (tt, (tt, (refl, (tt, (tt, (tt, (tt, (tt, (tt, (tt, (tt, (tt, (tt, (tt, (tt, (refl, (tt, (tt, (tt, (tt, (tt, (tt, (refl, (tt, (tt, (tt, (tt, (tt, tt)))))))))))))))))))))))))))))))))))))))))))
 
 pub columns_of_a_later_table_economical : IsEconomical listed
-columns_of_a_later_table_economical = (tt, (tt, (tt, (refl, (tt, (tt, (tt, (tt, (tt, (tt, (tt, (tt, (tt, (tt, (tt, (tt, (tt, (refl, (tt, (tt, (tt, (refl, (tt, (refl, (tt, (refl, (tt, (tt, (tt, (tt, (tt, (tt, (tt, (tt, (tt, (tt, (tt, (tt, (tt, (refl, (tt, tt)))))))))))))))))))))))))))))))))))))))))
+columns_of_a_later_table_economical = (tt, (tt, (tt, (refl, (tt, (tt, (tt, (tt, (tt, (tt, (tt, (tt, (tt, (tt, (tt, (tt, (tt, (tt, (tt, (refl, (tt, (tt, (tt, (refl, (tt, (refl, (tt, (refl, (tt, (tt, (tt, (tt, (tt, (tt, (tt, (tt, (tt, (tt, (tt, (tt, (tt, (refl, (tt, tt)))))))))))))))))))))))))))))))))))))))))))
 
 pub columns_of_a_later_table_follows : FollowsSchedule columns_of_a_later_table listed
-columns_of_a_later_table_follows = (refl, (refl, (refl, (refl, (refl, (refl, (refl, (refl, (refl, (refl, (refl, (refl, (refl, (refl, (refl, (refl, (refl, (refl, (refl, (refl, (refl, (refl, (refl, (refl, (refl, (refl, (refl, (refl, (refl, (refl, (refl, (refl, (refl, (refl, (refl, (refl, (refl, (refl, (refl, (refl, (refl, tt)))))))))))))))))))))))))))))))))))))))))
+columns_of_a_later_table_follows = (refl, (refl, (refl, (refl, (refl, (refl, (refl, (refl, (refl, (refl, (refl, (refl, (refl, (refl, (refl, (refl, (refl, (refl, (refl, (refl, (refl, (refl, (refl, (refl, (refl, (refl, (refl, (refl, (refl, (refl, (refl, (refl, (refl, (refl, (refl, (refl, (refl, (refl, (refl, (refl, (refl, (refl, (refl, tt)))))))))))))))))))))))))))))))))))))))))))
 
 pub columns_of_a_later_table_looks : AreLooksTrue listed
-columns_of_a_later_table_looks = (tt, (refl, (refl, (tt, (tt, (refl, (tt, (tt, (refl, (tt, (tt, (tt, (tt, (tt, (tt, (tt, (refl, (tt, (tt, (refl, (refl, (tt, (refl, (tt, (refl, (tt, (tt, (tt, (tt, (tt, (tt, (tt, (tt, (tt, (tt, (tt, (tt, (refl, (refl, (tt, (tt, tt)))))))))))))))))))))))))))))))))))))))))
+columns_of_a_later_table_looks = (tt, (refl, (refl, (tt, (refl, (tt, (refl, (refl, (tt, (tt, (refl, (tt, (tt, (tt, (tt, (tt, (tt, (tt, (refl, (tt, (tt, (refl, (refl, (tt, (refl, (tt, (refl, (tt, (tt, (tt, (tt, (tt, (tt, (tt, (tt, (tt, (tt, (tt, (tt, (refl, (refl, (tt, (tt, tt)))))))))))))))))))))))))))))))))))))))))))
 
 pub columns_of_a_later_table_complete : IsComplete columns_of_a_later_table listed
 columns_of_a_later_table_complete = refl
 
 abbrev pub columns_of_a_later_table_text : List ℕ
-columns_of_a_later_table_text = codes "h 2 0 start\nh 2 1 look no\nh 2 1 look no\nh 2 1 scan relname t rows 0\nh 2 1 release 1\nh 2 2 look no\nh 2 2 release 2\nh 1 0 start\nh 1 1 look no\nh 1 1 write 1 +class(16384,t,r,-) +att(16384,1,a,int4,-1,l)\nh 1 1 visible 1\nh 1 1 publish 3\nh 1 1 publish 1\nh 1 1 release 1\nh 2 3 look yes\nh 2 3 fetch 4\nh 2 4 look no\nh 2 4 scan relname t rows 1\nh 2 4 lock 16384 as ok\nh 2 4 look no\nh 2 4 look no\nh 2 4 scan attlist 16384 rows 1\nh 2 5 look no\nh 2 5 scan attname 16384 a rows 1\nh 2 6 look no\nh 2 6 scan reloid 16384 rows 1\nh 2 7 release 3\nh 1 2 look yes\nh 1 2 fetch 4\nh 1 2 write 2 +class(16385,u,r,-) +att(16385,1,b,int4,-1,l)\nh 1 2 visible 2\nh 1 2 publish 3\nh 1 2 publish 1\nh 1 2 release 2\nh 2 8 look yes\nh 2 8 fetch 4\nh 2 8 lock 16384 as ok\nh 2 8 look no\nh 2 8 look no\nh 2 8 scan attlist 16384 rows 1\nh 2 8 release 8\nl 1 1 ok\nl 1 2 ok\nl 2 1 error 42P01 relation t does not exist as of 4\nl 2 2 error 42P01 relation t does not exist as of 4\nl 2 3 ok\nl 2 4 columns a:int4\nl 2 5 column 1 int4\nl 2 6 regclass t as of 26\nl 2 7 ok\nl 2 8 columns a:int4\nend\n"
+columns_of_a_later_table_text = codes "h 2 0 start\nh 2 1 look no\nh 2 1 look no\nh 2 1 scan relname t rows 0\nh 2 1 look no\nh 2 1 release 1\nh 2 2 look no\nh 2 2 look no\nh 2 2 release 2\nh 1 0 start\nh 1 1 look no\nh 1 1 write 1 +class(16384,t,r,-) +att(16384,1,a,int4,-1,l)\nh 1 1 visible 1\nh 1 1 publish 3\nh 1 1 publish 1\nh 1 1 release 1\nh 2 3 look yes\nh 2 3 fetch 4\nh 2 4 look no\nh 2 4 scan relname t rows 1\nh 2 4 lock 16384 as ok\nh 2 4 look no\nh 2 4 look no\nh 2 4 scan attlist 16384 rows 1\nh 2 5 look no\nh 2 5 scan attname 16384 a rows 1\nh 2 6 look no\nh 2 6 scan reloid 16384 rows 1\nh 2 7 release 3\nh 1 2 look yes\nh 1 2 fetch 4\nh 1 2 write 2 +class(16385,u,r,-) +att(16385,1,b,int4,-1,l)\nh 1 2 visible 2\nh 1 2 publish 3\nh 1 2 publish 1\nh 1 2 release 2\nh 2 8 look yes\nh 2 8 fetch 4\nh 2 8 lock 16384 as ok\nh 2 8 look no\nh 2 8 look no\nh 2 8 scan attlist 16384 rows 1\nh 2 8 release 8\nl 1 1 ok\nl 1 2 ok\nl 2 1 error 42P01 relation t does not exist as of 4\nl 2 2 error 42P01 relation t does not exist as of 4\nl 2 3 ok\nl 2 4 columns a:int4\nl 2 5 column 1 int4\nl 2 6 regclass t as of 28\nl 2 7 ok\nl 2 8 columns a:int4\nend\n"
 
 pub columns_of_a_later_table_spelled : text_of listed (lines_of columns_of_a_later_table listed) ≡ columns_of_a_later_table_text
 unfolding digits
@@ -256,9 +262,17 @@ cached_name_unasked h = search arith
 pub cached_name_serves : IsNext columns_of_a_later_table name_kept (entry 2 8 (LockOk (oid 16384) AccessShare))
 cached_name_serves = search arith
 
--- the reader looks once more for a name that is cached as absent
+-- the transaction's start, where the name is cached as absent
+abbrev pub absent_cached : List Entry
+absent_cached = absent_ended ++ entry 2 2 (Look false) ∷ []
+
+-- the command ends without an accept of its lookup
+pub absent_name_unaccepted : IsNext columns_of_a_later_table absent_cached (entry 2 2 (Release 2)) → ⊥
+absent_name_unaccepted h = search arith
+
+-- an accept that brings nothing
 abbrev pub absent_kept : List Entry
-absent_kept = absent_ended ++ entry 2 2 (Look false) ∷ entry 2 2 (Look false) ∷ []
+absent_kept = absent_cached ++ entry 2 2 (Look false) ∷ []
 
 -- the absent name is scanned again
 pub absent_name_scanned : ScansOnlyIfNeeded absent_kept 2 (Scan (scans.RelName (codes "t")) 0) → ⊥
@@ -272,8 +286,8 @@ absent_name_unasked h = search arith
 pub absent_name_serves : IsNext columns_of_a_later_table absent_kept (entry 2 2 (Release 2))
 absent_name_serves = search arith
 
--- a command ends by the absent name, though the messages of the table of that name have been fetched
-pub absent_after_its_message : IsNext columns_of_a_later_table name_fetched (entry 2 4 (Release 3)) → ⊥
+-- a command ends by the absent name after an accept that brings nothing, though the messages of the table of that name have been fetched
+pub absent_after_its_message : IsNext columns_of_a_later_table (name_fetched ++ entry 2 4 (Look false) ∷ []) (entry 2 4 (Release 3)) → ⊥
 absent_after_its_message h = search arith
 
 -- a command ends by the list that a message for a column of another table has taken away

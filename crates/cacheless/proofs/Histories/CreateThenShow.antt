@@ -130,7 +130,7 @@ abbrev pub locked : List Entry
 locked = name_scanned ++ entry 1 2 (LockOk (oid 16384) AccessShare) ∷ []
 
 locked_plays : IsNext create_then_show name_scanned (entry 1 2 (LockOk (oid 16384) AccessShare))
-locked_plays = ((at_least_1, at_most_1), (refl, (refl, (refl, refl))))
+locked_plays = ((at_least_1, at_most_1), (refl, (refl, refl, (refl, refl))))
 
 locked_comes : MayComeNext name_scanned (entry 1 2 (LockOk (oid 16384) AccessShare))
 locked_comes = record { follows = record { life = omega arith; visible = tt; gone = tt; event = (refl, refl) }; orderly = omega arith }

@@ -68,13 +68,22 @@ scanned_plays = ((at_least_1, at_most_1), (refl, (refl, refl, refl)))
 scanned_comes : MayComeNext looked (entry 1 3 (Scan (scans.RelName (codes "nosuch")) 0))
 scanned_comes = record { follows = record { life = omega arith; visible = tt; gone = tt; event = refl }; orderly = tt }
 
-abbrev pub taken_back : List Entry
-taken_back = scanned ++ entry 1 3 (Gone 1) ∷ []
+abbrev pub accepted : List Entry
+accepted = scanned ++ entry 1 3 (Look false) ∷ []
 
-taken_back_plays : IsNext failed_block scanned (entry 1 3 (Gone 1))
+accepted_plays : IsNext failed_block scanned (entry 1 3 (Look false))
+accepted_plays = ((at_least_1, at_most_1), (refl, refl))
+
+accepted_comes : MayComeNext scanned (entry 1 3 (Look false))
+accepted_comes = record { follows = record { life = omega arith; visible = tt; gone = tt; event = refl }; orderly = tt }
+
+abbrev pub taken_back : List Entry
+taken_back = accepted ++ entry 1 3 (Gone 1) ∷ []
+
+taken_back_plays : IsNext failed_block accepted (entry 1 3 (Gone 1))
 taken_back_plays = ((at_least_1, at_most_1), (refl, (refl, refl)))
 
-taken_back_comes : MayComeNext scanned (entry 1 3 (Gone 1))
+taken_back_comes : MayComeNext accepted (entry 1 3 (Gone 1))
 taken_back_comes = record { follows = record { life = omega arith; visible = tt; gone = tt; event = refl }; orderly = tt }
 
 abbrev pub released : List Entry
@@ -96,28 +105,28 @@ stopped_comes : MayComeNext released (entry 1 6 Stop)
 stopped_comes = record { follows = record { life = omega arith; visible = tt; gone = tt; event = refl }; orderly = tt }
 
 pub failed_block_plays : Plays failed_block stopped
-failed_block_plays = (begun_plays_1, (begun_plays_2, (written_plays, (looked_plays, (scanned_plays, (taken_back_plays, (released_plays, (stopped_plays, tt))))))))
+failed_block_plays = (begun_plays_1, (begun_plays_2, (written_plays, (looked_plays, (scanned_plays, (accepted_plays, (taken_back_plays, (released_plays, (stopped_plays, tt)))))))))
 
 pub failed_block_sound : IsSound stopped
-failed_block_sound = (begun_comes_1, (begun_comes_2, (written_comes, (looked_comes, (scanned_comes, (taken_back_comes, (released_comes, (stopped_comes, tt))))))))
+failed_block_sound = (begun_comes_1, (begun_comes_2, (written_comes, (looked_comes, (scanned_comes, (accepted_comes, (taken_back_comes, (released_comes, (stopped_comes, tt)))))))))
 
 pub failed_block_queue : FollowsQueue 4096 stopped
-failed_block_queue = (tt, (tt, (tt, (tt, (tt, (tt, (tt, (tt, tt))))))))
+failed_block_queue = (tt, (tt, (tt, (tt, (tt, (tt, (tt, (tt, (tt, tt)))))))))
 
 pub failed_block_economical : IsEconomical stopped
-failed_block_economical = (tt, (tt, (tt, (tt, (refl, (tt, (tt, (tt, tt))))))))
+failed_block_economical = (tt, (tt, (tt, (tt, (refl, (tt, (tt, (tt, (tt, tt)))))))))
 
 pub failed_block_follows : FollowsSchedule failed_block stopped
-failed_block_follows = (refl, (refl, (refl, (refl, (refl, (refl, (refl, (refl, tt))))))))
+failed_block_follows = (refl, (refl, (refl, (refl, (refl, (refl, (refl, (refl, (refl, tt)))))))))
 
 pub failed_block_looks : AreLooksTrue stopped
-failed_block_looks = (tt, (refl, (tt, (refl, (tt, (tt, (tt, (tt, tt))))))))
+failed_block_looks = (tt, (refl, (tt, (refl, (tt, (refl, (tt, (tt, (tt, tt)))))))))
 
 pub failed_block_complete : IsComplete failed_block stopped
 failed_block_complete = refl
 
 abbrev pub failed_block_text : List ℕ
-failed_block_text = codes "h 1 0 start\nh 1 1 look no\nh 1 2 write 1 +class(16384,t,r,-) +att(16384,1,a,int4,-1,l)\nh 1 3 look no\nh 1 3 scan relname nosuch rows 0\nh 1 3 gone 1\nh 1 3 release 1\nh 1 6 stop\nl 1 1 ok\nl 1 2 ok\nl 1 3 error 42P01 relation nosuch does not exist as of 5\nl 1 4 error 25P02 the transaction block has failed\nl 1 5 rolled back\nend\n"
+failed_block_text = codes "h 1 0 start\nh 1 1 look no\nh 1 2 write 1 +class(16384,t,r,-) +att(16384,1,a,int4,-1,l)\nh 1 3 look no\nh 1 3 scan relname nosuch rows 0\nh 1 3 look no\nh 1 3 gone 1\nh 1 3 release 1\nh 1 6 stop\nl 1 1 ok\nl 1 2 ok\nl 1 3 error 42P01 relation nosuch does not exist as of 5\nl 1 4 error 25P02 the transaction block has failed\nl 1 5 rolled back\nend\n"
 
 pub failed_block_spelled : text_of stopped (lines_of failed_block stopped) ≡ failed_block_text
 unfolding digits

@@ -30,7 +30,7 @@ at_most_2 : 2 ≤ 2
 at_most_2 = omega arith
 
 abbrev pub fetch_of_exactly_32 : Scenario
-fetch_of_exactly_32 = script 2 (placed 1 (commands.CreateTable (codes "w") (wide_columns 29)) ∷ placed 2 (commands.Show (codes "u") None) ∷ []) ((turns 2 1 ∷ turns 1 7 ∷ turns 2 7 ∷ turns 1 1 ∷ []) ∷ [])
+fetch_of_exactly_32 = script 2 (placed 1 (commands.CreateTable (codes "w") (wide_columns 29)) ∷ placed 2 (commands.Show (codes "u") None) ∷ []) ((turns 2 1 ∷ turns 1 7 ∷ turns 2 8 ∷ turns 1 1 ∷ []) ∷ [])
 
 abbrev pub started : List Entry
 started = entry 2 0 Start ∷ entry 1 0 Start ∷ []
@@ -140,13 +140,22 @@ name_scanned_plays = ((at_least_2, at_most_2), (refl, (refl, refl, refl)))
 name_scanned_comes : MayComeNext looked_before_name (entry 2 1 (Scan (scans.RelName (codes "u")) 0))
 name_scanned_comes = record { follows = record { life = omega arith; visible = tt; gone = tt; event = refl }; orderly = tt }
 
-abbrev pub ended : List Entry
-ended = name_scanned ++ entry 2 1 (Release 1) ∷ []
+abbrev pub accepted : List Entry
+accepted = name_scanned ++ entry 2 1 (Look false) ∷ []
 
-ended_plays : IsNext fetch_of_exactly_32 name_scanned (entry 2 1 (Release 1))
+accepted_plays : IsNext fetch_of_exactly_32 name_scanned (entry 2 1 (Look false))
+accepted_plays = ((at_least_2, at_most_2), (refl, refl))
+
+accepted_comes : MayComeNext name_scanned (entry 2 1 (Look false))
+accepted_comes = record { follows = record { life = omega arith; visible = tt; gone = tt; event = refl }; orderly = tt }
+
+abbrev pub ended : List Entry
+ended = accepted ++ entry 2 1 (Release 1) ∷ []
+
+ended_plays : IsNext fetch_of_exactly_32 accepted (entry 2 1 (Release 1))
 ended_plays = ((at_least_2, at_most_2), (refl, (refl, refl)))
 
-ended_comes : MayComeNext name_scanned (entry 2 1 (Release 1))
+ended_comes : MayComeNext accepted (entry 2 1 (Release 1))
 ended_comes = record { follows = record { life = omega arith; visible = tt; gone = tt; event = (omega arith, refl) }; orderly = tt }
 
 abbrev pub stopped : List Entry
@@ -168,28 +177,28 @@ writer_stopped_comes : MayComeNext stopped (entry 1 2 Stop)
 writer_stopped_comes = record { follows = record { life = omega arith; visible = tt; gone = tt; event = refl }; orderly = tt }
 
 pub fetch_of_exactly_32_plays : Plays fetch_of_exactly_32 writer_stopped
-fetch_of_exactly_32_plays = (started_plays_1, (started_plays_2, (written_plays_1, (written_plays_2, (visible_plays, (published_plays_1, (published_plays_2, (released_plays, (looked_plays, (fetched_plays, (looked_again_plays, (looked_before_name_plays, (name_scanned_plays, (ended_plays, (stopped_plays, (writer_stopped_plays, tt))))))))))))))))
+fetch_of_exactly_32_plays = (started_plays_1, (started_plays_2, (written_plays_1, (written_plays_2, (visible_plays, (published_plays_1, (published_plays_2, (released_plays, (looked_plays, (fetched_plays, (looked_again_plays, (looked_before_name_plays, (name_scanned_plays, (accepted_plays, (ended_plays, (stopped_plays, (writer_stopped_plays, tt)))))))))))))))))
 
 pub fetch_of_exactly_32_sound : IsSound writer_stopped
-fetch_of_exactly_32_sound = (started_comes_1, (started_comes_2, (written_comes_1, (written_comes_2, (visible_comes, (published_comes_1, (published_comes_2, (released_comes, (looked_comes, (fetched_comes, (looked_again_comes, (looked_before_name_comes, (name_scanned_comes, (ended_comes, (stopped_comes, (writer_stopped_comes, tt))))))))))))))))
+fetch_of_exactly_32_sound = (started_comes_1, (started_comes_2, (written_comes_1, (written_comes_2, (visible_comes, (published_comes_1, (published_comes_2, (released_comes, (looked_comes, (fetched_comes, (looked_again_comes, (looked_before_name_comes, (name_scanned_comes, (accepted_comes, (ended_comes, (stopped_comes, (writer_stopped_comes, tt)))))))))))))))))
 
 pub fetch_of_exactly_32_queue : FollowsQueue 4096 writer_stopped
-fetch_of_exactly_32_queue = (tt, (tt, (tt, (tt, (tt, (tt, (tt, (tt, (tt, (refl, (tt, (tt, (tt, (tt, (tt, (tt, tt))))))))))))))))
+fetch_of_exactly_32_queue = (tt, (tt, (tt, (tt, (tt, (tt, (tt, (tt, (tt, (refl, (tt, (tt, (tt, (tt, (tt, (tt, (tt, tt)))))))))))))))))
 
 pub fetch_of_exactly_32_economical : IsEconomical writer_stopped
-fetch_of_exactly_32_economical = (tt, (tt, (tt, (tt, (tt, (tt, (tt, (tt, (tt, (tt, (tt, (tt, (refl, (tt, (tt, (tt, tt))))))))))))))))
+fetch_of_exactly_32_economical = (tt, (tt, (tt, (tt, (tt, (tt, (tt, (tt, (tt, (tt, (tt, (tt, (refl, (tt, (tt, (tt, (tt, tt)))))))))))))))))
 
 pub fetch_of_exactly_32_follows : FollowsSchedule fetch_of_exactly_32 writer_stopped
-fetch_of_exactly_32_follows = (refl, (refl, (refl, (refl, (refl, (refl, (refl, (refl, (refl, (refl, (refl, (refl, (refl, (refl, (refl, (refl, tt))))))))))))))))
+fetch_of_exactly_32_follows = (refl, (refl, (refl, (refl, (refl, (refl, (refl, (refl, (refl, (refl, (refl, (refl, (refl, (refl, (refl, (refl, (refl, tt)))))))))))))))))
 
 pub fetch_of_exactly_32_looks : AreLooksTrue writer_stopped
-fetch_of_exactly_32_looks = (tt, (tt, (refl, (tt, (tt, (tt, (tt, (tt, (tt, (tt, (refl, (refl, (tt, (tt, (tt, (tt, tt))))))))))))))))
+fetch_of_exactly_32_looks = (tt, (tt, (refl, (tt, (tt, (tt, (tt, (tt, (tt, (tt, (refl, (refl, (tt, (refl, (tt, (tt, (tt, tt)))))))))))))))))
 
 pub fetch_of_exactly_32_complete : IsComplete fetch_of_exactly_32 writer_stopped
 fetch_of_exactly_32_complete = refl
 
 abbrev pub fetch_of_exactly_32_text : List ℕ
-fetch_of_exactly_32_text = codes "h 2 0 start\nh 1 0 start\nh 1 1 look no\nh 1 1 write 1 +class(16384,w,r,-) +att(16384,1,aa,int4,-1,l) +att(16384,2,ab,int4,-1,l) +att(16384,3,ac,int4,-1,l) +att(16384,4,ad,int4,-1,l) +att(16384,5,ae,int4,-1,l) +att(16384,6,af,int4,-1,l) +att(16384,7,ag,int4,-1,l) +att(16384,8,ah,int4,-1,l) +att(16384,9,ai,int4,-1,l) +att(16384,10,aj,int4,-1,l) +att(16384,11,ak,int4,-1,l) +att(16384,12,al,int4,-1,l) +att(16384,13,am,int4,-1,l) +att(16384,14,an,int4,-1,l) +att(16384,15,ao,int4,-1,l) +att(16384,16,ap,int4,-1,l) +att(16384,17,aq,int4,-1,l) +att(16384,18,ar,int4,-1,l) +att(16384,19,as,int4,-1,l) +att(16384,20,at,int4,-1,l) +att(16384,21,au,int4,-1,l) +att(16384,22,av,int4,-1,l) +att(16384,23,aw,int4,-1,l) +att(16384,24,ax,int4,-1,l) +att(16384,25,ay,int4,-1,l) +att(16384,26,az,int4,-1,l) +att(16384,27,ba,int4,-1,l) +att(16384,28,bb,int4,-1,l) +att(16384,29,bc,int4,-1,l)\nh 1 1 visible 1\nh 1 1 publish 31\nh 1 1 publish 1\nh 1 1 release 1\nh 2 1 look yes\nh 2 1 fetch 32\nh 2 1 look no\nh 2 1 look no\nh 2 1 scan relname u rows 0\nh 2 1 release 1\nh 2 2 stop\nh 1 2 stop\nl 1 1 ok\nl 2 1 error 42P01 relation u does not exist as of 13\nend\n"
+fetch_of_exactly_32_text = codes "h 2 0 start\nh 1 0 start\nh 1 1 look no\nh 1 1 write 1 +class(16384,w,r,-) +att(16384,1,aa,int4,-1,l) +att(16384,2,ab,int4,-1,l) +att(16384,3,ac,int4,-1,l) +att(16384,4,ad,int4,-1,l) +att(16384,5,ae,int4,-1,l) +att(16384,6,af,int4,-1,l) +att(16384,7,ag,int4,-1,l) +att(16384,8,ah,int4,-1,l) +att(16384,9,ai,int4,-1,l) +att(16384,10,aj,int4,-1,l) +att(16384,11,ak,int4,-1,l) +att(16384,12,al,int4,-1,l) +att(16384,13,am,int4,-1,l) +att(16384,14,an,int4,-1,l) +att(16384,15,ao,int4,-1,l) +att(16384,16,ap,int4,-1,l) +att(16384,17,aq,int4,-1,l) +att(16384,18,ar,int4,-1,l) +att(16384,19,as,int4,-1,l) +att(16384,20,at,int4,-1,l) +att(16384,21,au,int4,-1,l) +att(16384,22,av,int4,-1,l) +att(16384,23,aw,int4,-1,l) +att(16384,24,ax,int4,-1,l) +att(16384,25,ay,int4,-1,l) +att(16384,26,az,int4,-1,l) +att(16384,27,ba,int4,-1,l) +att(16384,28,bb,int4,-1,l) +att(16384,29,bc,int4,-1,l)\nh 1 1 visible 1\nh 1 1 publish 31\nh 1 1 publish 1\nh 1 1 release 1\nh 2 1 look yes\nh 2 1 fetch 32\nh 2 1 look no\nh 2 1 look no\nh 2 1 scan relname u rows 0\nh 2 1 look no\nh 2 1 release 1\nh 2 2 stop\nh 1 2 stop\nl 1 1 ok\nl 2 1 error 42P01 relation u does not exist as of 13\nend\n"
 
 pub fetch_of_exactly_32_spelled : text_of writer_stopped (lines_of fetch_of_exactly_32 writer_stopped) ≡ fetch_of_exactly_32_text
 unfolding digits

@@ -64,7 +64,7 @@ found_plays_4 : IsNext full_fetch_in_build (created ++ entry 2 0 Start ∷ entry
 found_plays_4 = ((at_least_2, at_most_2), (refl, (refl, refl, refl)))
 
 found_plays_5 : IsNext full_fetch_in_build (created ++ entry 2 0 Start ∷ entry 2 1 (Look false) ∷ entry 2 1 (Look false) ∷ entry 2 1 (Scan (scans.RelName (codes "t")) 1) ∷ []) (entry 2 1 (LockOk (oid 16384) AccessShare))
-found_plays_5 = ((at_least_2, at_most_2), (refl, (refl, (refl, refl))))
+found_plays_5 = ((at_least_2, at_most_2), (refl, (refl, refl, (refl, refl))))
 
 abbrev pub begun : List Entry
 begun = found ++ entry 2 1 (Look false) ∷ entry 2 1 (Look false) ∷ entry 2 1 (Scan (scans.Class (oid 16384)) 1) ∷ []

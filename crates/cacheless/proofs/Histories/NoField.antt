@@ -107,7 +107,7 @@ abbrev pub locked : List Entry
 locked = scanned ++ entry 1 2 (LockOk (oid 16384) AccessShare) ∷ entry 1 2 (Look false) ∷ []
 
 locked_plays_1 : IsNext no_field scanned (entry 1 2 (LockOk (oid 16384) AccessShare))
-locked_plays_1 = ((at_least_1, at_most_1), (refl, (refl, (refl, refl))))
+locked_plays_1 = ((at_least_1, at_most_1), (refl, (refl, refl, (refl, refl))))
 
 locked_comes_1 : MayComeNext scanned (entry 1 2 (LockOk (oid 16384) AccessShare))
 locked_comes_1 = record { follows = record { life = omega arith; visible = tt; gone = tt; event = (refl, refl) }; orderly = omega arith }

@@ -94,7 +94,7 @@ abbrev pub refused : List Entry
 refused = scanned ++ entry 2 1 (LockHeld (oid 16384) AccessShare 1 AccessExclusive) ∷ []
 
 refused_plays : IsNext refused_lock scanned (entry 2 1 (LockHeld (oid 16384) AccessShare 1 AccessExclusive))
-refused_plays = ((at_least_2, at_most_2), (refl, (refl, (refl, refl))))
+refused_plays = ((at_least_2, at_most_2), (refl, (refl, refl, (refl, refl))))
 
 refused_comes : MayComeNext scanned (entry 2 1 (LockHeld (oid 16384) AccessShare 1 AccessExclusive))
 refused_comes = record { follows = record { life = omega arith; visible = tt; gone = tt; event = (refl, refl) }; orderly = omega arith }

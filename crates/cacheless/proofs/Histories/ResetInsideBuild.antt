@@ -113,7 +113,7 @@ abbrev pub locked : List Entry
 locked = name_scanned ++ entry 2 1 (LockOk (oid 16384) AccessShare) ∷ []
 
 locked_plays : IsNext reset_inside_build name_scanned (entry 2 1 (LockOk (oid 16384) AccessShare))
-locked_plays = ((at_least_2, at_most_2), (refl, (refl, (refl, refl))))
+locked_plays = ((at_least_2, at_most_2), (refl, (refl, refl, (refl, refl))))
 
 locked_comes : MayComeNext name_scanned (entry 2 1 (LockOk (oid 16384) AccessShare))
 locked_comes = record { follows = record { life = omega arith; visible = tt; gone = tt; event = (refl, refl) }; orderly = omega arith }

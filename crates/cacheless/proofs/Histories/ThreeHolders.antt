@@ -118,7 +118,7 @@ abbrev pub first_locked : List Entry
 first_locked = first_scanned ++ entry 1 3 (LockOk (oid 16384) Share) ∷ entry 1 3 (Look false) ∷ []
 
 first_locked_plays_1 : IsNext holders_in_order_of_grant first_scanned (entry 1 3 (LockOk (oid 16384) Share))
-first_locked_plays_1 = ((at_least_1, at_most_1), (refl, (refl, (refl, refl))))
+first_locked_plays_1 = ((at_least_1, at_most_1), (refl, (refl, refl, (refl, refl))))
 
 first_locked_comes_1 : MayComeNext first_scanned (entry 1 3 (LockOk (oid 16384) Share))
 first_locked_comes_1 = record { follows = record { life = omega arith; visible = tt; gone = tt; event = (refl, refl) }; orderly = omega arith }
@@ -163,7 +163,7 @@ abbrev pub second_locked : List Entry
 second_locked = second_scanned ++ entry 2 2 (LockOk (oid 16384) AccessShare) ∷ entry 2 2 (Look false) ∷ []
 
 second_locked_plays_1 : IsNext holders_in_order_of_grant second_scanned (entry 2 2 (LockOk (oid 16384) AccessShare))
-second_locked_plays_1 = ((at_least_2, at_most_2), (refl, (refl, (refl, refl))))
+second_locked_plays_1 = ((at_least_2, at_most_2), (refl, (refl, refl, (refl, refl))))
 
 second_locked_comes_1 : MayComeNext second_scanned (entry 2 2 (LockOk (oid 16384) AccessShare))
 second_locked_comes_1 = record { follows = record { life = omega arith; visible = tt; gone = tt; event = (refl, refl) }; orderly = omega arith }
@@ -208,7 +208,7 @@ abbrev pub third_refused : List Entry
 third_refused = third_scanned ++ entry 3 2 (LockHeld (oid 16384) AccessExclusive 1 Share) ∷ []
 
 third_refused_plays : IsNext holders_in_order_of_grant third_scanned (entry 3 2 (LockHeld (oid 16384) AccessExclusive 1 Share))
-third_refused_plays = ((at_least_3, at_most_3), (refl, (refl, (refl, refl))))
+third_refused_plays = ((at_least_3, at_most_3), (refl, (refl, refl, (refl, refl))))
 
 third_refused_comes : MayComeNext third_scanned (entry 3 2 (LockHeld (oid 16384) AccessExclusive 1 Share))
 third_refused_comes = record { follows = record { life = omega arith; visible = tt; gone = tt; event = (refl, refl) }; orderly = omega arith }

@@ -22,6 +22,7 @@ use Rattle.cacheless.proofs.Histories.NewOids as oids
 use Rattle.cacheless.proofs.Histories.CreateThenShow as show
 use Rattle.cacheless.proofs.Histories.RefusedLock as refused
 use Rattle.cacheless.proofs.Histories.ThreeHolders as three
+use Rattle.cacheless.proofs.Histories.CatalogCaches as caches
 
 -- a foreign key of the second table: whether it is known to hold, and the column of the first to which it refers
 abbrev pub foreign_key : Bool → ℕ → Row
@@ -341,9 +342,25 @@ foreign_key_added = creators.first_written
 pub referred_table_passed_over : MayFollow foreign_key_added (entry 1 5 (Write (xid 1) (Put (foreign_key true 2) ∷ []))) → ⊥
 referred_table_passed_over h = search arith
 
--- unlocking isn't built
-pub unlock_not_built : MayFollow show.locked (entry 1 2 (Unlock (oid 16384) AccessShare)) → ⊥
-unlock_not_built h = search arith
+-- a lock is given back that isn't held
+pub unlocked_without_lock : MayFollow show.name_scanned (entry 1 2 (Unlock (oid 16384) AccessShare)) → ⊥
+unlocked_without_lock h = search arith
+
+-- a lock is given back in another mode
+pub unlocked_in_other_mode : MayFollow show.locked (entry 1 2 (Unlock (oid 16384) AccessExclusive)) → ⊥
+unlocked_in_other_mode h = search arith
+
+-- a lock is given back twice
+pub unlocked_twice : MayFollow (show.locked ++ entry 1 2 (Unlock (oid 16384) AccessShare) ∷ []) (entry 1 2 (Unlock (oid 16384) AccessShare)) → ⊥
+unlocked_twice h = search arith
+
+-- a lock that an earlier command was granted is given back
+pub earlier_lock_unlocked : MayFollow caches.column_scanned (entry 2 5 (Unlock (oid 16384) AccessShare)) → ⊥
+earlier_lock_unlocked h = search arith
+
+-- a lock is given back under which the command has written
+pub unlocked_after_write : MayFollow (weakly_locked ++ entry 2 2 (Write (xid 2) (column_put (codes "a") (pos 100))) ∷ []) (entry 2 2 (Unlock (oid 16384) ShareUpdateExclusive)) → ⊥
+unlocked_after_write h = search arith
 
 -- a refusal of memory isn't built
 pub fail_not_built : MayFollow show.locked (entry 1 2 Fail) → ⊥
@@ -388,6 +405,14 @@ needless_scan h = search arith
 -- a backend's own locks don't conflict
 pub own_lock_no_conflict : MayFollow creators.first_written (entry 1 3 (LockOk (oid 16384) AccessShare))
 own_lock_no_conflict = search arith
+
+-- a lock that the running command was granted is given back
+pub lock_given_back : MayFollow show.locked (entry 1 2 (Unlock (oid 16384) AccessShare))
+lock_given_back = search arith
+
+-- and granted again
+pub lock_granted_again : MayFollow (show.locked ++ entry 1 2 (Unlock (oid 16384) AccessShare) ∷ []) (entry 1 2 (LockOk (oid 16384) AccessShare))
+lock_granted_again = search arith
 
 -- a statistics target is set under a weak mode
 pub target_set_weakly : MayFollow weakly_locked (entry 2 2 (Write (xid 2) (column_put (codes "a") (pos 100))))

@@ -1,11 +1,11 @@
 -- What no command does, and at the end what it may do: a worked example up to a place, and one entry there.
-use Rattle.std.proofs.Common.{List, ◌≡◌, ◌++◌, true, false, None, Some, [], ◌∷◌, slice_get, codes, arith}
+use Rattle.std.proofs.Common.{List, ◌≡◌, ◌++◌, true, false, None, Some, [], ◌∷◌, slice_get, codes, refl, arith}
 use Rattle.base_types.specs.declared.mode.Mode.TheVariants.{AccessShare, Share}
 use Rattle.base_types.specs.declared.kind.Kind.TheVariants.{Table}
 use Rattle.base_types.specs.declared.row.Row.TheVariants.{Class}
 use Rattle.base_types.specs.declared.scan.Purpose.TheVariants as scans
 use Rattle.base_types.specs.declared.field.Field.TheVariants as fields
-use Rattle.event_kinds.specs.declared.entry.Event.TheVariants.{Start, Look, Fetch, LockOk, Scan, Write, ClashRow, ClashRunning, Visible, Publish, Release, Gone, Stop}
+use Rattle.event_kinds.specs.declared.entry.Event.TheVariants.{Start, Look, Fetch, LockOk, Unlock, Scan, Write, ClashRow, ClashRunning, Visible, Publish, Release, Gone, Stop}
 use Rattle.event_kinds.specs.declared.entry.Entry.{Entry}
 use Rattle.event_kinds.specs.declared.entry.Item.TheVariants.{Put}
 use Rattle.cacheless.specs.Plays.{IsNext}
@@ -105,7 +105,7 @@ pub rollback_of_its_own_command : IsNext oids.oids_are_not_drawn_again oids.writ
 rollback_of_its_own_command h = search arith
 
 -- an error in a block takes back its own command alone
-pub error_takes_back_its_own_command : IsNext failed.failed_block failed.scanned (entry 1 3 (Release 3)) → ⊥
+pub error_takes_back_its_own_command : IsNext failed.failed_block failed.accepted (entry 1 3 (Release 3)) → ⊥
 error_takes_back_its_own_command h = search arith
 
 -- a block goes on after an error
@@ -121,7 +121,7 @@ pub commit_after_error : IsNext failed.failed_block failed.released (entry 1 5 (
 commit_after_error h = search arith
 
 -- a stop before the end of a failed command
-pub stop_in_failed_command : IsNext failed.failed_block failed.scanned (entry 1 6 Stop) → ⊥
+pub stop_in_failed_command : IsNext failed.failed_block failed.accepted (entry 1 6 Stop) → ⊥
 stop_in_failed_command h = search arith
 
 -- a begun block's command is finished
@@ -183,8 +183,44 @@ name_appeared = another.started
     ∷ entry 1 1 (Visible (xid 1)) ∷ entry 1 1 (Publish 3) ∷ entry 1 1 (Publish 1) ∷ entry 1 1 (Release 1) ∷ entry 2 1 (Look true) ∷ entry 2 1 (Fetch 4) ∷ []
 
 -- the lookup ends by the scan made before
-pub absent_after_its_message : IsNext another.show_of_anothers_table name_appeared (entry 2 1 (Release 1)) → ⊥
+pub absent_after_its_message : IsNext another.show_of_anothers_table (name_appeared ++ entry 2 1 (Look false) ∷ []) (entry 2 1 (Release 1)) → ⊥
 absent_after_its_message h = search arith
+
+-- a name that isn't there
+abbrev pub name_absent : List Entry
+name_absent = another.started ++ entry 2 1 (Look false) ∷ entry 2 1 (Scan (scans.RelName (codes "t")) 0) ∷ []
+
+-- an absent name is answered without an accept
+pub absent_without_accept : IsNext another.show_of_anothers_table name_absent (entry 2 1 (Release 1)) → ⊥
+absent_without_accept h = search arith
+
+-- a table of another name, whose messages are waiting
+abbrev pub other_table_made : List Entry
+other_table_made = name_absent
+    ++ entry 1 0 Start ∷ entry 1 1 (Look false) ∷ entry 1 1 (Write (xid 1) (new_table 16384 (codes "u") (codes "a")))
+    ∷ entry 1 1 (Visible (xid 1)) ∷ entry 1 1 (Publish 3) ∷ entry 1 1 (Publish 1) ∷ entry 1 1 (Release 1) ∷ entry 2 1 (Look true) ∷ []
+
+-- an absent name is answered before they are fetched
+pub absent_before_fetch : IsNext another.show_of_anothers_table other_table_made (entry 2 1 (Release 1)) → ⊥
+absent_before_fetch h = search arith
+
+-- they are fetched
+abbrev pub other_table_fetched : List Entry
+other_table_fetched = other_table_made ++ entry 2 1 (Fetch 4) ∷ []
+
+-- an absent name is answered after an accept that brought messages
+pub absent_after_fetch : IsNext another.show_of_anothers_table other_table_fetched (entry 2 1 (Release 1)) → ⊥
+absent_after_fetch h = search arith
+
+-- an accept that brought nothing, and the table of that name fetched after it
+abbrev pub appeared_after_accept : List Entry
+appeared_after_accept = name_absent
+    ++ entry 2 1 (Look false) ∷ entry 1 0 Start ∷ entry 1 1 (Look false) ∷ entry 1 1 (Write (xid 1) (new_table 16384 (codes "t") (codes "a")))
+    ∷ entry 1 1 (Visible (xid 1)) ∷ entry 1 1 (Publish 3) ∷ entry 1 1 (Publish 1) ∷ entry 1 1 (Release 1) ∷ entry 2 1 (Look true) ∷ entry 2 1 (Fetch 4) ∷ []
+
+-- the lookup stays ended by the accept before
+pub absent_by_earlier_accept : IsNext another.show_of_anothers_table (appeared_after_accept ++ entry 2 1 (Look false) ∷ []) (entry 2 1 (Release 1)) → ⊥
+absent_by_earlier_accept h = search arith
 
 -- the table renamed, and that fetched between the scan of its name and the lock
 abbrev pub name_went_away : List Entry
@@ -194,6 +230,20 @@ name_went_away = another.name_scanned
 -- the lock is taken by the scan made before
 pub lock_after_its_message : IsNext another.show_of_anothers_table name_went_away (entry 2 1 (LockOk (oid 16384) AccessShare)) → ⊥
 lock_after_its_message h = search arith
+
+-- the relation that a lookup found is unlocked
+pub found_relation_unlocked : IsNext show.create_then_show show.looked_after_lock (entry 1 2 (Unlock (oid 16384) AccessShare)) → ⊥
+found_relation_unlocked h = search arith
+
+-- the table renamed between the scan of its name and the lock, and the name scanned again
+abbrev pub locked_under_old_name : List Entry
+locked_under_old_name = another.name_scanned
+    ++ entry 1 2 (Write (xid 2) (Put (Class (oid 16384) (codes "u") Table None) ∷ [])) ∷ entry 1 2 (Visible (xid 2)) ∷ entry 1 2 (Publish 3) ∷ entry 1 2 (Publish 1) ∷ entry 1 2 (Release 2)
+    ∷ entry 2 1 (LockOk (oid 16384) AccessShare) ∷ entry 2 1 (Look true) ∷ entry 2 1 (Fetch 4) ∷ entry 2 1 (Look false) ∷ entry 2 1 (Scan (scans.RelName (codes "t")) 0) ∷ []
+
+-- an absent name is answered while the lock is held that its lookup took
+pub absent_while_locked : IsNext another.show_of_anothers_table (locked_under_old_name ++ entry 2 1 (Look false) ∷ []) (entry 2 1 (Release 1)) → ⊥
+absent_while_locked h = search arith
 
 -- a scan for the descriptor before the lock
 pub build_before_lock : IsNext show.create_then_show (show.name_scanned ++ entry 1 2 (Look false) ∷ []) (entry 1 2 (Scan (scans.Class (oid 16384)) 1)) → ⊥
@@ -280,14 +330,24 @@ pub name_scanned_again : IsNext another.show_of_anothers_table name_appeared (en
 name_scanned_again = search arith
 
 -- messages of another name leave what the lookup found
-pub absent_after_other_messages : IsNext another.show_of_anothers_table (another.started
-    ++ entry 2 1 (Look false) ∷ entry 2 1 (Scan (scans.RelName (codes "t")) 0) ∷ entry 1 0 Start ∷ entry 1 1 (Look false) ∷ entry 1 1 (Write (xid 1) (new_table 16384 (codes "u") (codes "a")))
-    ∷ entry 1 1 (Visible (xid 1)) ∷ entry 1 1 (Publish 3) ∷ entry 1 1 (Publish 1) ∷ entry 1 1 (Release 1) ∷ entry 2 1 (Look true) ∷ entry 2 1 (Fetch 4) ∷ []) (entry 2 1 (Release 1))
+pub absent_after_other_messages : IsNext another.show_of_anothers_table (other_table_fetched ++ entry 2 1 (Look false) ∷ []) (entry 2 1 (Release 1))
 absent_after_other_messages = search arith
+
+-- a lookup that had ended goes on after a fetch
+pub lookup_goes_on : IsNext another.show_of_anothers_table appeared_after_accept (entry 2 1 (Scan (scans.RelName (codes "t")) 1))
+lookup_goes_on = search arith
 
 -- also before the relation is locked
 pub name_scanned_again_before_lock : IsNext another.show_of_anothers_table name_went_away (entry 2 1 (Scan (scans.RelName (codes "t")) 0))
 name_scanned_again_before_lock = search arith
+
+-- a lookup unlocks a relation that has the name no longer
+pub unlocked_without_name : IsNext another.show_of_anothers_table locked_under_old_name (entry 2 1 (Unlock (oid 16384) AccessShare))
+unlocked_without_name = search arith
+
+-- the absent name is answered after that
+pub absent_after_unlock : IsNext another.show_of_anothers_table (locked_under_old_name ++ entry 2 1 (Unlock (oid 16384) AccessShare) ∷ entry 2 1 (Look false) ∷ []) (entry 2 1 (Release 1))
+absent_after_unlock = ((omega arith, omega arith), (refl, (refl, refl)))
 
 -- a new table is protected for its writer at once
 pub protected_by_own_table : is_protected creators.clash_of_two_creators creators.first_written 1 (oid 16384) Table fields.Statistics ≡ true

@@ -90,7 +90,7 @@ name_appeared = another.started
     ∷ entry 1 1 (Visible (xid 1)) ∷ entry 1 1 (Publish 3) ∷ entry 1 1 (Publish 1) ∷ entry 1 1 (Release 1) ∷ entry 2 1 (Look true) ∷ entry 2 1 FetchReset ∷ []
 
 -- the lookup ends by the scan made before
-pub absent_after_reset : IsNext another.show_of_anothers_table name_appeared (entry 2 1 (Release 1)) → ⊥
+pub absent_after_reset : IsNext another.show_of_anothers_table (name_appeared ++ entry 2 1 (Look false) ∷ []) (entry 2 1 (Release 1)) → ⊥
 absent_after_reset h = search arith
 
 -- a command ends though a reset took its descriptor away

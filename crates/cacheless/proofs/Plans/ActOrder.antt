@@ -18,11 +18,11 @@ use Rattle.base_types.specs.declared.scan.Purpose.TheVariants as scans
 use Rattle.command_answers.specs.declared.error.CommandError.TheVariants as errors
 use Rattle.ddl_effect.specs.declared.told.Told.TheVariants as tells
 use Rattle.ddl_effect.specs.Plans.{Plan, Done, Fails, Absent, NotBuilt, Do, Lookup, Open, Search, Read, Lock, Write, is_built}
-use Rattle.ddl_effect.specs.Commands.{plan_of, found, looking_up, if_passes, if_no_column, first_twice, writing, opening, showing, showing_field, is_table, locking, new_table, altering, column_there, with_column, column_free, reading, changing, adding, add_column, dropping, drop_column, with_name, renaming, rename_column, targeting, set_statistics, filling, set_fillfactor, live_column, listing_columns, telling_column, finding_column}
+use Rattle.ddl_effect.specs.Commands.{plan_of, found, looking_up, if_passes, if_no_column, first_twice, writing, opening, showing, showing_field, is_table, locking, new_table, altering, drop_table, renaming_table, rename_table, column_there, with_column, column_free, reading, changing, adding, add_column, dropping, drop_column, with_name, renaming, rename_column, targeting, set_statistics, filling, set_fillfactor, live_column, listing_columns, telling_column, finding_column}
 use Rattle.history_model.proofs.FixedRows.{fixed}
-use Rattle.history_model.proofs.ColumnsKept.{IsOfColumn, IsOfColumns}
 use Rattle.cacheless.specs.Types.{Oid, Mode, AccessExclusive, Kind, Row, Purpose, Command, CommandError, Draft, Opening, Told}
 use Rattle.cacheless.specs.ActsDone.{after_given, reached, made_first, made_in, opening_by, relation_by}
+use Rattle.history_model.proofs.ColumnsKept.{IsOfColumn, IsOfColumns}
 use Rattle.cacheless.proofs.Plans.EffectAlong.{plain_row, GoesByRelation}
 use Rattle.cacheless.proofs.Plans.Ways.{acts}
 
@@ -188,6 +188,16 @@ open_adding : (most : ℕ) (rel : Oid) (passes : Bool) (changes : List Change) �
 open_adding most rel passes changes some = open_if_passes most rel Table passes errors.TooManyColumns (changing changes) (open_changing most rel changes some)
 
 -- the alterations, once the descriptor is open
+open_drop_table : (rel : Oid) → FollowsOpen 3 rel Table (drop_table rel)
+open_drop_table rel = (omega arith, (1, omega arith, refl), λ given. (omega arith, record { changes = _; is = refl }, refl, λ wrote. refl))
+
+open_renaming_table : (most : ℕ) (rel : Oid) (to : List ℕ) → 0 < most → (given : List Row) → FollowsOpen most rel Table (renaming_table to given)
+open_renaming_table most rel to some [] = tt
+open_renaming_table most rel to some (row ∷ more) = (some, record { changes = _; is = refl }, refl, λ given. refl)
+
+open_rename_table : (to : List ℕ) (rel : Oid) → FollowsOpen 3 rel Table (rename_table to rel)
+open_rename_table to rel = (omega arith, (0, omega arith, refl), open_renaming_table 2 rel to (omega arith))
+
 open_add_column : (column : List ℕ) (col_type : ColType) (rel : Oid) → FollowsOpen 3 rel Table (add_column column col_type rel)
 open_add_column column col_type rel = (
   omega arith,
@@ -240,6 +250,8 @@ follows_order held (commands.Column name column) built = order_looking_up name A
 follows_order held (commands.Regclass oid) built = (oid, refl, λ given. refl)
 follows_order held (commands.LockTable name mode) built = order_looking_up name mode (locking name) (λ rel kind. found_if_passes mode rel kind (is_table kind) (errors.NotTable name) (Done tells.Ok) tt)
 follows_order held (commands.CreateTable name columns) built = order_creating (nat_le (length columns) MOST_COLUMNS) (first_twice [] (map (λ (c : NewColumn). c.name) columns)) name columns
+follows_order held (commands.DropTable name) built = order_altering name AccessExclusive drop_table refl open_drop_table
+follows_order held (commands.RenameTable name to) built = order_altering name AccessExclusive (rename_table to) refl (open_rename_table to)
 follows_order held (commands.AddColumn name column col_type) built = order_altering name AccessExclusive (add_column column col_type) refl (open_add_column column col_type)
 follows_order held (commands.DropColumn name column) built = order_altering name AccessExclusive (drop_column column) refl (open_drop_column column)
 follows_order held (commands.RenameColumn name column to) built = order_altering name AccessExclusive (rename_column column to) refl (open_rename_column column to)

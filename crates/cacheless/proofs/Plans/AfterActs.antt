@@ -75,6 +75,15 @@ after_lookup name mode rest given follows absent = by_rows given (follows.0 give
         absurd (let both : true ≡ false = sym unfound ∙ ap is_absent is ∙ found_there mode rel kind (rest (plain_row rel kind)) (follows.1 rel kind) in cc both)
     by_rows (row ∷ more) is unfound = record { is = is; none = refl }
 
+-- where a lookup found none, the command says so
+pub lookup_lost : (name : List ℕ) (mode : Mode) (rest : List Row → Plan) (given : List Row) → FollowsOrder (Do (Lookup name mode) rest) → class_oid given ≡ None → is_absent (rest given) ≡ true
+lookup_lost name mode rest given follows none = ap is_absent (follows.0 given) ∙ by_rows given none
+  where
+    by_rows : (l : List Row) → class_oid l ≡ None → is_absent (found name (λ rel kind. rest (plain_row rel kind)) l) ≡ true
+    by_rows [] is = refl
+    by_rows (rows.Class rel own kind fill ∷ more) is = absurd (cc is)
+    by_rows (row ∷ more) is = refl
+
 -- after a lookup no other comes
 lookup_once : (own : List ℕ) (as_mode : Mode) (more : List Row → Plan) (given : List Row) (gave : List (List Row)) (name : List ℕ) (mode : Mode) (rest : List Row → Plan) → FollowsOrder (Do (Lookup own as_mode) more) → reached gave (more given) ≡ Do (Lookup name mode) rest → ⊥
 lookup_once own as_mode more given gave name mode rest follows on = by_rows given (follows.0 given) on

@@ -18,17 +18,17 @@ use Rattle.history_model.specs.Orderly.{MayComeNext, IsSound}
 use Rattle.history_model.specs.Prefixes.{EachEntry}
 use Rattle.history_model.specs.Read.{place_read, rows_read, is_usable}
 use Rattle.history_model.specs.Versions.{answer_of}
+use Rattle.history_model.proofs.ColumnsKept.{IsOfColumns, by_number, columns_leave}
 use Rattle.history_model.proofs.Every.{every}
 use Rattle.history_model.proofs.FixedRows.{fixed}
 use Rattle.history_model.proofs.Locked.{changing_modes}
 use Rattle.history_model.proofs.Prefixes.{EachEntry-weaker, EachEntry-prefix}
-use Rattle.history_model.proofs.ColumnsKept.{IsOfColumns, by_number, columns_leave}
 use Rattle.cacheless.specs.Types.{Oid, Mode, Kind, Row, Purpose, OwnLock, Entry, Opening}
 use Rattle.cacheless.specs.ActsDone.{LockedRelation, locked_relation_by, reached, made_in, opening_by, relation_by, IsHeld, WayHolds}
 use Rattle.cacheless.specs.Plays.{Plays}
 use Rattle.cacheless.specs.Session.{Session}
 use Rattle.cacheless.specs.Sessions.{session_of}
-use Rattle.cacheless.specs.TableWrites.{WritesTables}
+use Rattle.cacheless.specs.TableWrites.{WritesColumns}
 use Rattle.cacheless.proofs.Answers.ReadPlaces.{read_at_place}
 use Rattle.cacheless.proofs.ColumnAnswers.{numbered_same}
 use Rattle.cacheless.proofs.Plans.ActOrder.{FollowsOrder}
@@ -100,10 +100,10 @@ lock_keeps_out scenario history b s rel mode is clear has =
     ap (λ o. list_any (conflicts AccessExclusive) (option_map_or (λ x. clear_modes x.locks rel) o []) && true) is ∙ ap (λ t. t && true) (clear_conflict AccessExclusive rel mode s.locks (all_conflict mode) clear has)
 
 -- so what was read of a relation's columns by a usable scan is the scan's answer, but for what a weak mode may change
-pub columns_answer : (scenario : Scenario) (history : List Entry) (b : ℕ) (s : Session) (rel : Oid) (mode : Mode) (scan : Purpose) → IsSound history → EachEntry WritesTables history → Plays scenario history → session_of scenario history b ≡ Some s → map cleared s.locks ≡ s.locks
+pub columns_answer : (scenario : Scenario) (history : List Entry) (b : ℕ) (s : Session) (rel : Oid) (mode : Mode) (scan : Purpose) → IsSound history → EachEntry WritesColumns history → Plays scenario history → session_of scenario history b ≡ Some s → map cleared s.locks ≡ s.locks
     → has_lock s.locks rel mode ≡ true → IsOfColumns rel scan → is_usable history b scan ≡ true → map fixed (answer_of history b scan) ≡ map fixed (rows_read history b scan)
-columns_answer scenario history b s rel mode scan sound tables plays is clear has of usable =
-    numbered_same before history b rel scan of (EachEntry-prefix MayComeNext before rest (subst IsSound whole sound)) (EachEntry-prefix WritesTables before rest (subst (EachEntry WritesTables) whole tables)) sound tables (same ∙ ap (by_number rel) (sym read)) ∙ ap (map fixed) read
+columns_answer scenario history b s rel mode scan sound columns plays is clear has of usable =
+    numbered_same before history b rel scan of (EachEntry-prefix MayComeNext before rest (subst IsSound whole sound)) (EachEntry-prefix WritesColumns before rest (subst (EachEntry WritesColumns) whole columns)) sound columns (same ∙ ap (by_number rel) (sym read)) ∙ ap (map fixed) read
   where
     before : List Entry
     before = take (place_read history b scan) history
@@ -144,8 +144,8 @@ late_answers scenario history b s gave plan act rest one scan sound plays is cle
     alone_answers scenario history b s one.rel one.kind lock.mode scan sound plays is clear (sym (session_holds scenario history b s sound is one.rel lock.mode) ∙ lock.held) lock.such of usable
 
 -- and where it searches for columns before that, what it goes by of their rows is the answer's
-pub found_columns : (scenario : Scenario) (history : List Entry) (b : ℕ) (s : Session) (gave : List (List Row)) (plan : Plan) (one : Opening) (scan : Purpose) → IsSound history → EachEntry WritesTables history → Plays scenario history → session_of scenario history b ≡ Some s → map cleared s.locks ≡ s.locks
+pub found_columns : (scenario : Scenario) (history : List Entry) (b : ℕ) (s : Session) (gave : List (List Row)) (plan : Plan) (one : Opening) (scan : Purpose) → IsSound history → EachEntry WritesColumns history → Plays scenario history → session_of scenario history b ≡ Some s → map cleared s.locks ≡ s.locks
     → WayHolds history b gave plan → made_in relation_by gave plan ≡ one ∷ [] → IsOfColumns one.rel scan → is_usable history b scan ≡ true → map fixed (answer_of history b scan) ≡ map fixed (rows_read history b scan)
-found_columns scenario history b s gave plan one scan sound tables plays is clear way found of usable =
+found_columns scenario history b s gave plan one scan sound columns plays is clear way found of usable =
     let lock = the_lock history b one (λ mode. ⊤) (made_in locked_relation_by gave plan) (locked_are_found gave plan ∙ found) way.locked (every (λ o. ⊤) (λ o. tt) (made_in locked_relation_by gave plan)) in
-    columns_answer scenario history b s one.rel lock.mode scan sound tables plays is clear (sym (session_holds scenario history b s sound is one.rel lock.mode) ∙ lock.held) of usable
+    columns_answer scenario history b s one.rel lock.mode scan sound columns plays is clear (sym (session_holds scenario history b s sound is one.rel lock.mode) ∙ lock.held) of usable

@@ -1,5 +1,5 @@
 -- An act whose rows are at hand keeps a command on its way.
-use Rattle.std.proofs.Common.{◌≡◌, ◌⊎◌, ◌∙◌, inl, inr, ℕ, Bool, true, false, not, Option, Some, None, List, [], ◌∷◌, ◌++◌, cond, refl, sym, ap, subst, map, length}
+use Rattle.std.proofs.Common.{◌≡◌, ◌⊎◌, ◌∙◌, inl, inr, ℕ, Bool, true, false, not, Option, Some, None, List, [], ◌∷◌, ◌++◌, ◌&&◌, cond, refl, sym, ap, subst, map, length}
 use Rattle.std.specs.List.{AllByRecursion}
 use Rattle.base_types.specs.declared.kind.Kind.TheVariants.{Table}
 use Rattle.base_types.specs.declared.row.Row.TheVariants as rows
@@ -9,8 +9,6 @@ use Rattle.ddl_effect.specs.declared.told.Told.TheVariants as tells
 use Rattle.ddl_effect.specs.Plans.{Act, Lookup, Open, Search, Read, Lock, Write, Plan, Done, Fails, Absent, NotBuilt, Do}
 use Rattle.ddl_effect.specs.Commands.{plan_of}
 use Rattle.ddl_effect.specs.Effects.{effect_at}
-use Rattle.history_model.specs.Orderly.{IsSound}
-use Rattle.history_model.specs.Prefixes.{EachEntry}
 use Rattle.history_model.specs.Read.{rows_read, is_usable}
 use Rattle.history_model.specs.Versions.{answer_of}
 use Rattle.history_model.specs.Writes.{is_empty}
@@ -19,17 +17,16 @@ use Rattle.history_model.proofs.FixedRows.{fixed}
 use Rattle.cacheless.specs.Types.{Mode, Row, Purpose, Opening, Scenario, Command, CommandError, OwnLock, Entry}
 use Rattle.cacheless.specs.ActsDone.{after_given, reached, made_in, made_first, opening_by, relation_by, locked_relation_by, IsHeld, ComeAlike, IsFirstStill}
 use Rattle.cacheless.specs.Facts.{Facts, facts_of}
-use Rattle.cacheless.specs.OnCourse.{is_absent, OnItsWay, Way, Begun, Wrote, Unbuilt, Over, GaveNow, IsFirstSeen, NamedFits, WasSought, FollowsPlan}
+use Rattle.cacheless.specs.OnCourse.{is_absent, OnItsWay, Way, Begun, Wrote, Unbuilt, Over, GaveNow, NamedFits, WasSought, FollowsPlan}
 use Rattle.cacheless.specs.Owed.{builds_owed, act_owed}
 use Rattle.cacheless.specs.Played.{IsPlayed}
 use Rattle.cacheless.specs.Session.{Session, none_open, outcome_of, is_settled}
 use Rattle.cacheless.specs.Sessions.{session_of}
-use Rattle.cacheless.specs.Settled.{class_oid, if_locked, looked_up, gives, opened_by, found_by, act_done, done_here}
-use Rattle.cacheless.specs.TableWrites.{WritesTables}
-use Rattle.cacheless.proofs.NamedSeen.{usable_named_seen}
+use Rattle.cacheless.specs.Settled.{class_oid, if_locked, has_taken_no_other, has_accepted, looked_up, gives, opened_by, found_by, act_done, done_here}
+use Rattle.cacheless.proofs.FoundKept.{lookup_ends}
 use Rattle.cacheless.proofs.Plans.ActOrder.{HasCome, ReadsOpen, FollowsOrder, follows_order, has_come, at_lookup, SearchesOpen, SearchesFound, SearchesOid, at_search, at_read}
-use Rattle.cacheless.proofs.Plans.AfterActs.{IsUnfound, after_opening, after_search, after_reading, after_lookup, lookup_first, no_lock, opening_alike}
-use Rattle.cacheless.proofs.Plans.AloneLocks.{late_answers, found_columns, session_holds}
+use Rattle.cacheless.proofs.Plans.AfterActs.{IsUnfound, after_opening, after_search, after_reading, after_lookup, lookup_lost, lookup_first, no_lock, opening_alike}
+use Rattle.cacheless.proofs.Plans.AloneLocks.{late_answers, found_columns}
 use Rattle.cacheless.proofs.Plans.StillAfter.{still-push}
 use Rattle.cacheless.proofs.Plans.Ways.{acts, none_reached, reached-push, made_in-push}
 
@@ -71,16 +68,22 @@ pub its_place : (seen : List Entry) (b : ℕ) (s : Session) (command : Command) 
 its_place seen b s command act rest way at = subst (HasCome (made_in relation_by way.gave (plan_of none_open command)) (made_in opening_by way.gave (plan_of none_open command))) (sym way.plan ∙ at)
     (has_come way.gave (plan_of none_open command) (its_order seen b s command way))
 
+-- before a lookup no descriptor is open
+pub lookup_opens_none : (seen : List Entry) (b : ℕ) (s : Session) (command : Command) (name : List ℕ) (mode : Mode) (rest : List Row → Plan) → FollowsPlan seen b s command → s.left ≡ Do (Lookup name mode) rest → s.opened ≡ []
+lookup_opens_none seen b s command name mode rest follows at = way.opened ∙ ap (λ g. made_in opening_by g (plan_of none_open command)) (lookup_first way.gave (plan_of none_open command) name mode rest (its_order seen b s command way) (sym way.plan ∙ at))
+  where
+    way : OnItsWay seen b s command
+    way = on_its_way seen b s command (Lookup name mode) rest follows at
+
+-- where it finds no relation the command says so
+pub lookup_says : (seen : List Entry) (b : ℕ) (s : Session) (command : Command) (name : List ℕ) (mode : Mode) (rest : List Row → Plan) (given : List Row) → FollowsPlan seen b s command → s.left ≡ Do (Lookup name mode) rest → class_oid given ≡ None → is_absent (rest given) ≡ true
+lookup_says seen b s command name mode rest given follows at none =
+    lookup_lost name mode rest given (at_lookup _ _ name mode rest (its_place seen b s command (Lookup name mode) rest (on_its_way seen b s command (Lookup name mode) rest follows at) at)).2 none
+
 -- a scan that isn't owed is usable
-kept_already : (t : Bool) (scan : Purpose) → cond (not t) (scan ∷ []) [] ≡ [] → t ≡ true
+pub kept_already : (t : Bool) (scan : Purpose) → cond (not t) (scan ∷ []) [] ≡ [] → t ≡ true
 kept_already true scan none = refl
 kept_already false scan none = absurd (cc none)
-
--- so a lookup that goes on sees the relation that the last scan of its name gave, and one whose lock is granted does so anyway
-pub lookup_seen : (history : List Entry) (b : ℕ) (name : List ℕ) (mode : Mode) (rest : List Row → Plan) (granted : Bool) → IsSound history → EachEntry WritesTables history → act_owed (facts_of history b) granted (Do (Lookup name mode) rest) ≡ []
-    → NamedFits history b (Do (Lookup name mode) rest) granted → IsFirstSeen history b (rows_read history b (scans.RelName name))
-lookup_seen history b name mode rest true sound tables none fits = fits
-lookup_seen history b name mode rest false sound tables none fits = usable_named_seen history b name sound tables (kept_already (is_usable history b (scans.RelName name)) (scans.RelName name) none)
 
 -- a played history in which the session of a backend has these locks, which are clear
 pub record HoldsClear (scenario : Scenario) (seen : List Entry) (b : ℕ) (locks : List OwnLock) : Type 0 where
@@ -90,58 +93,49 @@ pub record HoldsClear (scenario : Scenario) (seen : List Entry) (b : ℕ) (locks
   pub holds : session.locks ≡ locks
   pub clear : map cleared locks ≡ locks
 
--- what a lookup gave that is done here
-lookup_gave : (scenario : Scenario) (seen : List Entry) (b : ℕ) (locks : List OwnLock) (name : List ℕ) (mode : Mode) (read given : List Row) → HoldsClear scenario seen b locks → IsFirstSeen seen b read → looked_up locks mode read ≡ Some given → (rest : List Row → Plan) → GaveNow seen b (Lookup name mode) rest given
-lookup_gave scenario seen b locks name mode [] given holds sees gave rest = subst (GaveNow seen b (Lookup name mode) rest) (some_is [] given gave) (record { locked = tt; still = tt })
-lookup_gave scenario seen b locks name mode (rows.Class rel own kind fill ∷ more) given holds sees gave rest = by_lock (has_lock locks rel mode) refl gave
-  where
-    by_lock : (t : Bool) → has_lock locks rel mode ≡ t → if_locked t (rows.Class rel own kind fill ∷ []) ≡ Some given → GaveNow seen b (Lookup name mode) rest given
-    by_lock true has is = subst (GaveNow seen b (Lookup name mode) rest) (some_is (rows.Class rel own kind fill ∷ []) given is) (record {
-      locked = (session_holds scenario seen b holds.session holds.played.sound holds.is rel mode ∙ ap (λ l. has_lock l rel mode) holds.holds ∙ has, tt);
-      still = record { name = sees.name; fill = sees.fill; more = []; are = sees.row };
-    })
-    by_lock false has is = absurd (cc is)
-lookup_gave scenario seen b locks name mode (row ∷ more) given holds sees gave rest = subst (GaveNow seen b (Lookup name mode) rest) (some_is (row ∷ []) given gave) (record { locked = tt; still = tt })
+class_first : (row : Row) (more : List Row) → class_oid (row ∷ more) ≡ class_oid (row ∷ [])
+class_first (rows.Class rel own kind fill) more = refl
+class_first row more = refl
+
+if_gives : (t : Bool) (read given : List Row) → if_locked t read ≡ Some given → class_oid read ≡ class_oid given
+if_gives true read given is = ap class_oid (some_is read given is)
+if_gives false read given is = absurd (cc is)
 
 -- a lookup gives the relation of its scan
-gives_class : (locks : List OwnLock) (mode : Mode) (read given : List Row) → looked_up locks mode read ≡ Some given → class_oid read ≡ class_oid given
-gives_class locks mode [] given is = ap class_oid (some_is [] given is)
-gives_class locks mode (rows.Class rel own kind fill ∷ more) given is = by_lock (has_lock locks rel mode) is
-  where
-    by_lock : (t : Bool) → if_locked t (rows.Class rel own kind fill ∷ []) ≡ Some given → Some rel ≡ class_oid given
-    by_lock true gave = ap class_oid (some_is (rows.Class rel own kind fill ∷ []) given gave)
-    by_lock false gave = absurd (cc gave)
-gives_class locks mode (row ∷ more) given is = ap class_oid (some_is (row ∷ []) given is)
+pub gives_class : (facts : Facts) (s : Session) (mode : Mode) (read given : List Row) → looked_up facts s mode read ≡ Some given → class_oid read ≡ class_oid given
+gives_class facts s mode [] given is = if_gives (has_accepted facts s) [] given is
+gives_class facts s mode (rows.Class rel own kind fill ∷ more) given is = if_gives (has_lock s.locks rel mode && has_taken_no_other s.taken rel) (rows.Class rel own kind fill ∷ []) given is
+gives_class facts s mode (row ∷ more) given is = class_first row more ∙ if_gives (has_accepted facts s) (row ∷ []) given is
 
 -- an act that is done here: nothing is owed before it, and it gives these rows
 pub record IsDoneHere (facts : Facts) (s : Session) (act : Act) (rest : List Row → Plan) (given : List Row) : Type 0 where
   pub builds : builds_owed facts s.opened ≡ []
-  pub owed : act_owed facts s.granted (Do act rest) ≡ []
-  pub gave : gives facts s.locks act ≡ Some given
+  pub owed : act_owed facts (Do act rest) ≡ []
+  pub gave : gives facts s act ≡ Some given
 
 pub is_done_here : (facts : Facts) (s : Session) (act : Act) (rest : List Row → Plan) (given : List Row) → done_here facts s act (Do act rest) ≡ Some given → IsDoneHere facts s act rest given
-is_done_here facts s act rest given is = by_test (is_empty (builds_owed facts s.opened ++ act_owed facts s.granted (Do act rest))) refl is
+is_done_here facts s act rest given is = by_test (is_empty (builds_owed facts s.opened ++ act_owed facts (Do act rest))) refl is
   where
-    by_test : (t : Bool) → is_empty (builds_owed facts s.opened ++ act_owed facts s.granted (Do act rest)) ≡ t → elim t as (λ x. Option (List Row)) [ true ↦ gives facts s.locks act | false ↦ None ] ≡ Some given → IsDoneHere facts s act rest given
-    by_test true none gave = let both = both_empty (builds_owed facts s.opened) (act_owed facts s.granted (Do act rest)) (empty_list _ none) in record { builds = both.0; owed = both.1; gave = gave }
+    by_test : (t : Bool) → is_empty (builds_owed facts s.opened ++ act_owed facts (Do act rest)) ≡ t → elim t as (λ x. Option (List Row)) [ true ↦ gives facts s act | false ↦ None ] ≡ Some given → IsDoneHere facts s act rest given
+    by_test true none gave = let both = both_empty (builds_owed facts s.opened) (act_owed facts (Do act rest)) (empty_list _ none) in record { builds = both.0; owed = both.1; gave = gave }
     by_test false some gave = absurd (cc gave)
 
 -- it isn't a write
-passes_it : (facts : Facts) (locks : List OwnLock) (act : Act) (rest : List Row → Plan) (given : List Row) → gives facts locks act ≡ Some given → after_given given (Do act rest) ≡ rest given
-passes_it facts locks (Write draft) rest given gave = absurd (cc gave)
-passes_it facts locks act rest given gave = refl
+passes_it : (facts : Facts) (s : Session) (act : Act) (rest : List Row → Plan) (given : List Row) → gives facts s act ≡ Some given → after_given given (Do act rest) ≡ rest given
+passes_it facts s (Write draft) rest given gave = absurd (cc gave)
+passes_it facts s act rest given gave = refl
 
 -- where a scan gave the rows of now, the rest of a plan makes of them the same
 alike_now : (now : Purpose → List Row) (scan : Purpose) (rest : List Row → Plan) (given : List Row) → now scan ≡ given → ComeAlike (rest given) (rest (now scan))
 alike_now now scan rest given is = λ rows found. ap (λ l. effect_at rows found (rest l)) (sym is)
 
 -- what an act gave that is done here is so
-act_gave : (scenario : Scenario) (seen : List Entry) (b : ℕ) (s : Session) (command : Command) (act : Act) (rest : List Row → Plan) (given : List Row) → HoldsClear scenario seen b s.locks → (way : OnItsWay seen b s command) → s.left ≡ Do act rest → NamedFits seen b (Do act rest) s.granted
+act_gave : (scenario : Scenario) (seen : List Entry) (b : ℕ) (s : Session) (command : Command) (act : Act) (rest : List Row → Plan) (given : List Row) → HoldsClear scenario seen b s.locks → (way : OnItsWay seen b s command) → s.left ≡ Do act rest
     → IsDoneHere (facts_of seen b) s act rest given → GaveNow seen b act rest given
-act_gave scenario seen b s command (Lookup name mode) rest given holds way at named done =
-    lookup_gave scenario seen b s.locks name mode (rows_read seen b (scans.RelName name)) given holds (lookup_seen seen b name mode rest s.granted holds.played.sound holds.played.tables done.owed named) done.gave rest
-act_gave scenario seen b s command (Open rel kind) rest given holds way at named done = record { locked = tt; still = tt }
-act_gave scenario seen b s command (Search scan) rest given holds way at named done = record {
+act_gave scenario seen b s command (Lookup name mode) rest given holds way at done = lookup_ends scenario seen b holds.session s (facts_of seen b) name mode rest given holds.played.sound holds.played.plays holds.is holds.holds holds.clear
+    (kept_already (is_usable seen b (scans.RelName name)) (scans.RelName name) done.owed) done.gave
+act_gave scenario seen b s command (Open rel kind) rest given holds way at done = record { locked = tt; still = tt }
+act_gave scenario seen b s command (Search scan) rest given holds way at done = record {
   locked = tt;
   still = by_place (at_search relations opened scan rest (its_place seen b s command (Search scan) rest way at));
 }
@@ -166,10 +160,10 @@ act_gave scenario seen b s command (Search scan) rest given holds way at named d
         (ap rest (sym gave) ∙ columns.by_fixed (rows_read seen b scan) ∙ ap rest (sym same) ∙ sym (columns.by_fixed (answer_of seen b scan)))
       where
         same : map fixed (answer_of seen b scan) ≡ map fixed (rows_read seen b scan)
-        same = found_columns scenario seen b holds.session way.gave (plan_of none_open command) (record { rel = columns.rel; kind = Table }) scan holds.played.sound holds.played.tables holds.played.plays holds.is
+        same = found_columns scenario seen b holds.session way.gave (plan_of none_open command) (record { rel = columns.rel; kind = Table }) scan holds.played.sound holds.played.columns holds.played.plays holds.is
             (subst (λ l. map cleared l ≡ l) (sym holds.holds) holds.clear) way.holds columns.found_is columns.of (kept_already _ scan done.owed)
     by_place (inr (inr oid)) = λ rows found. ap (effect_at rows found) (oid.told given ∙ sym (oid.told (answer_of seen b scan)))
-act_gave scenario seen b s command (Read scan) rest given holds way at named done = record { locked = tt; still = alike_now (answer_of seen b) scan rest given (late ∙ gave) }
+act_gave scenario seen b s command (Read scan) rest given holds way at done = record { locked = tt; still = alike_now (answer_of seen b) scan rest given (late ∙ gave) }
   where
     come : HasCome (made_in relation_by way.gave (plan_of none_open command)) (made_in opening_by way.gave (plan_of none_open command)) (Do (Read scan) rest)
     come = its_place seen b s command (Read scan) rest way at
@@ -184,8 +178,8 @@ act_gave scenario seen b s command (Read scan) rest given holds way at named don
     late = late_answers scenario seen b holds.session way.gave (plan_of none_open command) (Read scan) rest (record { rel = reads.rel; kind = reads.kind }) scan holds.played.sound holds.played.plays holds.is
         (subst (λ l. map cleared l ≡ l) (sym holds.holds) holds.clear) (its_order seen b s command way) way.holds (sym way.plan ∙ at) reads.found_is reads.opened_is (inr reads.of)
         (kept_already _ scan done.owed)
-act_gave scenario seen b s command (Lock rel mode) rest given holds way at named done = absurd (no_lock _ _ rel mode rest (its_place seen b s command (Lock rel mode) rest way at))
-act_gave scenario seen b s command (Write draft) rest given holds way at named done = absurd (let no : None ≡ Some given = done.gave in cc no)
+act_gave scenario seen b s command (Lock rel mode) rest given holds way at done = absurd (no_lock _ _ rel mode rest (its_place seen b s command (Lock rel mode) rest way at))
+act_gave scenario seen b s command (Write draft) rest given holds way at done = absurd (let no : None ≡ Some given = done.gave in cc no)
 
 -- one more act on the way of a command
 pub way-act : (seen : List Entry) (b : ℕ) (s : Session) (command : Command) (act : Act) (rest : List Row → Plan) (given : List Row) → s.left ≡ Do act rest → after_given given (Do act rest) ≡ rest given → GaveNow seen b act rest given
@@ -206,12 +200,10 @@ way-act seen b s command act rest given at passes now way = record {
     made : {X : Type 0} (makes : Act → List Row → List X) → made_in makes (way.gave ++ given ∷ []) (plan_of none_open command) ≡ made_in makes way.gave (plan_of none_open command) ++ makes act given
     made makes = made_in-push makes way.gave given (plan_of none_open command) ∙ ap (λ p. made_in makes way.gave (plan_of none_open command) ++ made_first makes given p) (sym way.plan ∙ at)
 
--- where no lock is granted for the next act, nothing is said of a scan
-pub named_ungranted : (seen : List Entry) (b : ℕ) (plan : Plan) → is_absent plan ≡ false → NamedFits seen b plan false
-named_ungranted seen b (Absent name) there = absurd (cc there)
-named_ungranted seen b (Do (Lookup name mode) rest) there = tt
-named_ungranted seen b (Do act rest) there = tt
-named_ungranted seen b plan there = tt
+-- where no lookup has failed, nothing is said of a scan
+pub named_there : (seen : List Entry) (b : ℕ) (plan : Plan) → is_absent plan ≡ false → NamedFits seen b plan
+named_there seen b (Absent name) there = absurd (cc there)
+named_there seen b plan there = tt
 
 -- what is left of a plan after an act: where it failed to find a relation, the act was its first one, and gave none
 record FailsToFind (seen : List Entry) (b : ℕ) (s : Session) (command : Command) (act : Act) (rest : List Row → Plan) (given : List Row) : Type 0 where
@@ -231,7 +223,7 @@ there_or_fails seen b s command (Lookup name mode) rest given way at done absent
   mode = mode;
   lookup = refl;
   is = unfound.is;
-  none = gives_class s.locks mode (rows_read seen b (scans.RelName name)) given done.gave ∙ unfound.none;
+  none = gives_class (facts_of seen b) s mode (rows_read seen b (scans.RelName name)) given done.gave ∙ unfound.none;
   first = way.plan ∙ ap (λ g. reached g (plan_of none_open command)) none_gave;
   found = way.found ∙ ap (λ g. made_in found_by g (plan_of none_open command)) none_gave;
   opened = way.opened ∙ ap (λ g. made_in opening_by g (plan_of none_open command)) none_gave;
@@ -260,7 +252,7 @@ pub act_follows : (scenario : Scenario) (seen : List Entry) (b : ℕ) (s : Sessi
     → FollowsPlan seen b (act_done act given (rest given) s) command
 act_follows scenario seen b s command act rest given holds at done follows = record {
   refused = λ error is. absurd (let both : None ≡ Some error = sym (unrefused seen b s command act rest follows at) ∙ is in cc both);
-  way = λ none. Begun (way-act seen b s command act rest given at (passes_it (facts_of seen b) s.locks act rest given done.gave) gave way);
+  way = λ none. Begun (way-act seen b s command act rest given at (passes_it (facts_of seen b) s act rest given done.gave) gave way);
   named = by_test (is_absent (rest given)) refl;
   sought = λ name is. was_sought name is (there_or_fails seen b s command act rest given way at done (absent_name name (rest given) is));
   plain = λ told none. absurd (none_reached way.gave (plan_of none_open command) act rest (ap acts none) (sym way.plan ∙ at));
@@ -270,11 +262,11 @@ act_follows scenario seen b s command act rest given holds at done follows = rec
     way = on_its_way seen b s command act rest follows at
 
     gave : GaveNow seen b act rest given
-    gave = act_gave scenario seen b s command act rest given holds way at (subst (λ p. NamedFits seen b p s.granted) at follows.named) done
+    gave = act_gave scenario seen b s command act rest given holds way at done
 
-    by_test : (t : Bool) → is_absent (rest given) ≡ t → NamedFits seen b (rest given) false
-    by_test true absent = let fails = there_or_fails seen b s command act rest given way at done absent in subst (λ p. NamedFits seen b p false) (sym fails.is) fails.none
-    by_test false there = named_ungranted seen b (rest given) there
+    by_test : (t : Bool) → is_absent (rest given) ≡ t → NamedFits seen b (rest given)
+    by_test true absent = let fails = there_or_fails seen b s command act rest given way at done absent in subst (NamedFits seen b) (sym fails.is) fails.none
+    by_test false there = named_there seen b (rest given) there
 
     was_sought : (name : List ℕ) → rest given ≡ Absent name → FailsToFind seen b s command act rest given → WasSought seen b (act_done act given (rest given) s) command name
     was_sought name is fails = subst (λ a. WasSought seen b (act_done a given (rest given) s) command name) (sym fails.lookup) (record {

@@ -10,9 +10,9 @@ use Rattle.ddl_effect.specs.Commands.{found}
 use Rattle.ddl_effect.specs.Effects.{effect_at}
 use Rattle.history_model.proofs.Every.{every-append}
 use Rattle.history_model.proofs.FixedRows.{fixed}
-use Rattle.history_model.proofs.ColumnsKept.{IsOfColumn, IsOfColumns}
 use Rattle.cacheless.specs.Types.{Oid, Mode, Kind, Row, Purpose, Opening}
 use Rattle.cacheless.specs.ActsDone.{LockedRelation, locked_relation_by, after_given, reached, made_first, made_in, relation_by, BeginWith, ComeAlike, IsStill, IsFirstStill, AreStill}
+use Rattle.history_model.proofs.ColumnsKept.{IsOfColumn, IsOfColumns}
 use Rattle.cacheless.proofs.Plans.EffectAlong.{plain_row}
 use Rattle.cacheless.proofs.Plans.Ways.{acts}
 use Rattle.cacheless.proofs.Plans.ActOrder.{OpensUnder, FollowsOpen, FollowsFound, FollowsOrder, ended_acts}

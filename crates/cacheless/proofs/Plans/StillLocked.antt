@@ -13,6 +13,7 @@ use Rattle.ddl_effect.specs.Plans.{Plan}
 use Rattle.lock_modes.specs.Grants.{is_lock, holds}
 use Rattle.history_model.specs.Held.{held_of}
 use Rattle.history_model.specs.Orderly.{MayComeNext, IsSound}
+use Rattle.history_model.specs.Prefixes.{EachEntry}
 use Rattle.history_model.specs.Versions.{answer_of}
 use Rattle.history_model.proofs.Answers.{other_answers}
 use Rattle.history_model.proofs.Every.{every-weaker}
@@ -27,11 +28,17 @@ use Rattle.history_model.proofs.WeakChanges.{AsksOf, asks_of, column_apart, fixe
 use Rattle.history_model.proofs.ColumnsKept.{IsOfColumns}
 use Rattle.cacheless.specs.Types.{Oid, Mode, Kind, Row, Purpose, Entry, Event}
 use Rattle.cacheless.specs.ActsDone.{LockedRelation, locked_relation_by, made_in, IsHeld, WayHolds}
-use Rattle.cacheless.specs.TableWrites.{WritesTables}
-use Rattle.cacheless.proofs.StillSeen.{MayCome}
+use Rattle.cacheless.specs.TableWrites.{WritesColumns}
 use Rattle.cacheless.proofs.ColumnAnswers.{columns_stay}
 use Rattle.cacheless.proofs.Plans.ActOrder.{FollowsOrder}
 use Rattle.cacheless.proofs.Plans.StillAfter.{IsOf, RowsStay, still_after}
+
+-- an entry that may come next, after a sound history of which each write keeps the columns of tables, as it does itself, and takes no relation away
+pub record MayCome (history : List Entry) (e : Entry) : Type 0 where
+  pub sound : IsSound history
+  pub comes : MayComeNext history e
+  pub columns : EachEntry WritesColumns history
+  pub keeps : WritesColumns history e
 
 -- a mode that no two backends may hold conflicts with all under which rows are changed
 pub excludes_changing : (mode : Mode) → conflicts mode mode ≡ true → list_all (λ writer. conflicts writer mode) changing_modes ≡ true
@@ -53,7 +60,7 @@ scans_ask rel kind scan (inl (name, is)) = subst (λ d. AsksOf d rel) (sym is) (
 scans_ask rel kind scan (inr among) = All-contains (λ d. AsksOf d rel) (build_scans kind rel) scan (All-from_recursion (λ d. AsksOf d rel) (build_scans kind rel) (builds_ask kind rel)) among
 
 -- it is held still after one more entry that is no release of the backend's own
-held_stays : (history : List Entry) (e : Entry) (b : ℕ) (o : LockedRelation) → IsIdle b history e → IsHeld history b o → IsHeld (history ++ e ∷ []) b o
+pub held_stays : (history : List Entry) (e : Entry) (b : ℕ) (o : LockedRelation) → IsIdle b history e → IsHeld history b o → IsHeld (history ++ e ∷ []) b o
 held_stays history e b o idle held = ap (λ l. holds l b o.rel o.mode) (held-more history e) ∙ grant_kept e.backend e.command e.event (held_of history) b (is_lock b o.rel o.mode) (λ g is. (lock_parts b o.rel o.mode g is).0) idle held
 
 -- the columns of a relation that a backend has locked stay after another's entry, but for what a weak mode may change
@@ -79,7 +86,7 @@ rows_stay history e b o may idle held = record {
 
     columns_by : (scan : Purpose) → IsOfColumns o.rel scan → (t : Bool) → (e.backend == b) ≡ t → map fixed (answer_of (history ++ e ∷ []) b scan) ≡ map fixed (answer_of history b scan)
     columns_by scan of true own = ap (map fixed) (unchanged_answers history e b scan may.sound may.comes own (unchanged own))
-    columns_by scan of false other = columns_stay history (history ++ e ∷ []) b o.rel scan of may.sound may.tables (EachEntry-more MayComeNext history e may.sound may.comes) (EachEntry-more WritesTables history e may.tables may.keeps)
+    columns_by scan of false other = columns_stay history (history ++ e ∷ []) b o.rel scan of may.sound may.columns (EachEntry-more MayComeNext history e may.sound may.comes) (EachEntry-more WritesColumns history e may.columns may.keeps)
         (columns_held history e.backend e.command e.event b o.rel o.mode may.sound may.comes other held)
 
     by_owner : conflicts o.mode o.mode ≡ true → (scan : Purpose) → AsksOf scan o.rel → (t : Bool) → (e.backend == b) ≡ t → answer_of (history ++ e ∷ []) b scan ≡ answer_of history b scan

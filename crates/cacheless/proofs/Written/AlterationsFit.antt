@@ -3,7 +3,6 @@ use Rattle.std.proofs.Common.{◌≡◌, ◌∙◌, ◌+◌, ◌-◌, ◌⊎◌,
 use Rattle.std.specs.Prelude.{⊤, if◌then◌else◌}
 use Rattle.std.specs.Int.{int_min}
 use Rattle.std.specs.List.{AllByRecursion, find, flat_map, list_any}
-use Rattle.std.specs.Option.{IfSome}
 use Rattle.std.proofs.Math.Bool.{and-false}
 use Rattle.std.proofs.Math.Dec.{leb-suc-zero}
 use Rattle.std.proofs.lemmas.Bool.{or_left, eq-eqb}
@@ -27,27 +26,30 @@ use Rattle.lock_modes.specs.Grants.{holds}
 use Rattle.history_model.specs.Changes.{item_of}
 use Rattle.history_model.specs.Drawn.{next_oid}
 use Rattle.history_model.specs.Held.{held_of}
-use Rattle.history_model.specs.Names.{new_name, new_names}
+use Rattle.history_model.specs.Names.{new_name}
 use Rattle.history_model.specs.Orderly.{IsSound}
 use Rattle.history_model.specs.Prefixes.{EachEntry}
 use Rattle.history_model.specs.Sent.{cats_by, rels_by, messages_written}
 use Rattle.history_model.specs.Versions.{rows_of, answer_of, old_row}
 use Rattle.history_model.specs.Writes.{has_row, modes_enough}
 use Rattle.history_model.proofs.Asking.{oid_eq}
-use Rattle.history_model.proofs.InOrder.{IsIn}
-use Rattle.history_model.proofs.Locked.{changing_modes, held_bars_all}
 use Rattle.history_model.proofs.GivenRows.{given_seen}
+use Rattle.history_model.proofs.InOrder.{IsIn}
+use Rattle.history_model.proofs.Locked.{changing_modes, held_bars_all, found_first}
 use Rattle.cacheless.specs.Types.{Oid, Mode, AccessExclusive, Row, Command, Draft, Opening, Entry, Item}
 use Rattle.cacheless.specs.Locks.{locked_by}
 use Rattle.cacheless.specs.Plays.{drafted}
-use Rattle.cacheless.specs.TableWrites.{HaveOneName, gives_key, IsCalledApart, KeepsTables, WritesTables}
+use Rattle.cacheless.specs.TableWrites.{gives_key, IsCalledApart, WritesColumns}
 use Rattle.cacheless.proofs.Plans.ActOrder.{rows_draft}
-use Rattle.cacheless.proofs.Written.FitToWrite.{IsFit, all_fit, IsOfTable, same_bytes, strong_enough, weak_enough_fill, weak_enough_stat, put_fits, remove_fits, add_fits, table_told, no_default}
+use Rattle.cacheless.proofs.Written.FitToWrite.{IsFit, KeepsAll, all_fit, IsOfTable, same_bytes, strong_enough, weak_enough_fill, weak_enough_stat, put_fits, removed_fits, add_fits, table_told, no_default}
+use Rattle.cacheless.proofs.Written.NamesGiven.{AreNamesGiven, names_none, renamed_given}
 use Rattle.cacheless.proofs.Written.NewNames.{class_called, kept_called, free_called, dropped_called}
 use Rattle.cacheless.proofs.Written.NewTableItems.{next_number}
-use Rattle.cacheless.proofs.NumberedColumns.{AreNumbered, numbered_columns}
+use Rattle.cacheless.proofs.NumberedColumns.{AreNumbered}
+use Rattle.cacheless.proofs.WholeColumns.{whole_columns}
 use Rattle.cacheless.proofs.Written.SeenRows.{IsGiven, first_given, found_holds, seen_is_old, ColumnSeen, column_seen}
-use Rattle.cacheless.proofs.Written.WrittenBy.{AddsColumn, DropsColumn, RenamesColumn, SetsStatistics, SetsFillfactor, WritesBy}
+use Rattle.cacheless.proofs.Written.TableDropped.{DropsTable, table_removed, table_removed_fits, names_nothing, locks_nothing}
+use Rattle.cacheless.proofs.Written.WrittenBy.{RemovesTable, RenamesTable, AddsColumn, DropsColumn, RenamesColumn, SetsStatistics, SetsFillfactor, WritesBy}
 use Rattle.cacheless.proofs.Written.WrittenMessages.{Tell, written_tell}
 
 none_new : (n : ℕ) → (nat_le 1 n && nat_le n 0) ≡ false
@@ -76,42 +78,41 @@ undrawn first (Delete key ∷ changes) = ap (λ items. forms.Remove key ∷ item
 pub rows_drafted : (next : ℕ) (changes : List Change) → drafted next (rows_draft changes) ≡ map item_of changes
 rows_drafted next changes = append-nil (map item_of (map (drawn_change next 0) changes)) ∙ undrawn next changes
 
--- items that may be written, but for that their write is the first of its command: they keep tables, give no relation a new name and lock no new one
-pub record MayAlter (before : List Entry) (b count : ℕ) (items : List Item) : Type 0 where
+-- items that may be written, but for that their write is the first of its command, which found these relations: they keep tables, give no relation a new name but one that their plan names, and lock no new one
+pub record MayAlter (before : List Entry) (b : ℕ) (relations : List Opening) (count : ℕ) (items : List Item) : Type 0 where
   pub fit : IsFit before b count items
-  pub keeps : KeepsTables before b items
-  pub nameless : new_names before b items ≡ []
+  pub keeps : KeepsAll before b items
+  pub named : AreNamesGiven before b relations items
   pub lockless : (c : ℕ) → flat_map (locked_by c) items ≡ []
   pub some : 0 < length items
 
 -- the items of a draft are such
-abbrev pub MayBeWritten : List Entry → ℕ → Draft → Type 0
-MayBeWritten before b draft = MayAlter before b draft.new_oids (drafted (next_oid before) draft)
+abbrev pub MayBeWritten : List Entry → ℕ → List Opening → Draft → Type 0
+MayBeWritten before b relations draft = MayAlter before b relations draft.new_oids (drafted (next_oid before) draft)
 
-by_items : (before : List Entry) (b : ℕ) (changes : List Change) → MayAlter before b 0 (map item_of changes) → MayBeWritten before b (rows_draft changes)
-by_items before b changes may = subst (MayAlter before b 0) (sym (rows_drafted (next_oid before) changes)) may
+by_items : (before : List Entry) (b : ℕ) (relations : List Opening) (changes : List Change) → MayAlter before b relations 0 (map item_of changes) → MayBeWritten before b relations (rows_draft changes)
+by_items before b relations changes may = subst (MayAlter before b relations 0) (sym (rows_drafted (next_oid before) changes)) may
 
--- a row of a table or of its column is replaced by one that stays so, and keeps the name and the kind of a relation, under a mode that is enough
+-- a row of a table or of its column is replaced by one that stays so, under a mode that is enough
 record Replaces (before : List Entry) (b : ℕ) (rel : Oid) (old new : Row) : Type 0 where
   was : old_row before b (forms.Put new) ≡ Some old
   of : IsOfTable rel old
   stays : IsOfTable rel new
-  named : HaveOneName old new
   nameless : new_name (Some old) (Some new) ≡ []
   called : IsCalledApart before b new
   enough : list_any (holds (held_of before) b rel) (modes_enough (Some old) (forms.Put new)) ≡ true
 
-name_kept : (before : List Entry) (b : ℕ) (rel : Oid) (old new : Row) → Replaces before b rel old new → IfSome (old_row before b (forms.Put new)) (λ was. HaveOneName was new)
-name_kept before b rel old new r = subst (λ o. IfSome o (λ was. HaveOneName was new)) (sym r.was) r.named
-
 none_named : (before : List Entry) (b : ℕ) (rel : Oid) (old new : Row) → Replaces before b rel old new → new_name (old_row before b (forms.Put new)) (Some new) ≡ []
 none_named before b rel old new r = ap (λ o. new_name o (Some new)) r.was ∙ r.nameless
 
-replaced : (before : List Entry) (b : ℕ) (rel : Oid) (old new : Row) → Replaces before b rel old new → MayBeWritten before b (rows_draft (Replace new ∷ []))
-replaced before b rel old new r = by_items before b (Replace new ∷ []) (record {
+replaced : (before : List Entry) (b : ℕ) (relations : List Opening) (rel : Oid) (old new : Row) → Replaces before b rel old new → MayBeWritten before b relations (rows_draft (Replace new ∷ []))
+replaced before b relations rel old new r = by_items before b relations (Replace new ∷ []) (record {
   fit = all_fit before b (forms.Put new ∷ []) refl (put_fits before b rel _ old new r.was r.of r.stays r.enough (written_tell before b (forms.Put new ∷ [])).0, tt);
-  keeps = record { stay = refl; names = (name_kept before b rel old new r, tt); columns = refl; called = (r.called, tt); apart = (tt, tt); named = (tt, tt) };
-  nameless = ap (λ l. l ++ []) (none_named before b rel old new r);
+  keeps = record {
+    columns = record { whole = refl; columns = refl; called = (r.called, tt); apart = (tt, tt) };
+    names = (tt, tt);
+  };
+  named = names_none before b relations (forms.Put new ∷ []) (ap (λ l. l ++ []) (none_named before b rel old new r));
   lockless = λ c. refl;
   some = omega arith;
 })
@@ -136,7 +137,6 @@ column_replaced before b rel row f sound column leaves calls enough = subst (λ 
   was = seen_is_old before b (forms.Put (f was)) was sound (ap Some (leaves column.num column.name column.col_type column.stat column.live).0) column.seen;
   of = refl;
   stays = (leaves column.num column.name column.col_type column.stat column.live).1;
-  named = tt;
   nameless = (leaves column.num column.name column.col_type column.stat column.live).2;
   called = calls column.num column.name column.col_type column.stat column.live column.seen;
   enough = enough column.num column.name column.col_type column.stat column.live;
@@ -147,28 +147,27 @@ column_replaced before b rel row f sound column leaves calls enough = subst (λ 
 
 -- what `rename column` writes may be written
 renamed_fits : (before : List Entry) (b : ℕ) (relations : List Opening) (column to : List ℕ) (draft : Draft) → IsSound before → IsName to → (writes : RenamesColumn (answer_of before b) relations column to draft) → holds (held_of before) b writes.rel AccessExclusive ≡ true
-    → MayBeWritten before b draft
-renamed_fits before b relations column to draft sound spelled writes has = subst (MayBeWritten before b) (sym writes.is) (replaced before b writes.rel writes.row (with_name to writes.row)
+    → MayBeWritten before b relations draft
+renamed_fits before b relations column to draft sound spelled writes has = subst (MayBeWritten before b relations) (sym writes.is) (replaced before b relations writes.rel writes.row (with_name to writes.row)
     (column_replaced before b writes.rel writes.row (with_name to) sound (column_seen before b writes.rel column writes.row writes.more writes.there) (λ num name col_type stat live. (refl, refl, refl))
     (λ num name col_type stat live seen. free_called before b writes.rel num to col_type stat live spelled writes.free)
     (λ num name col_type stat live. strong_enough (holds (held_of before) b writes.rel) (Some (rows.Att writes.rel num name col_type stat live)) (forms.Put (rows.Att writes.rel num to col_type stat live)) has)))
 
 -- and so what `set statistics` writes
-targeted_fits : (before : List Entry) (b : ℕ) (relations : List Opening) (column : List ℕ) (target : ℤ) (draft : Draft) → IsSound before → EachEntry WritesTables before → (writes : SetsStatistics (answer_of before b) relations column target draft)
-    → holds (held_of before) b writes.rel ShareUpdateExclusive ≡ true → MayBeWritten before b draft
-targeted_fits before b relations column target draft sound tables writes has = subst (MayBeWritten before b) (sym writes.is) (replaced before b writes.rel writes.row (with_stat (int_min target most_stat) writes.row)
+targeted_fits : (before : List Entry) (b : ℕ) (relations : List Opening) (column : List ℕ) (target : ℤ) (draft : Draft) → IsSound before → EachEntry WritesColumns before → (writes : SetsStatistics (answer_of before b) relations column target draft)
+    → holds (held_of before) b writes.rel ShareUpdateExclusive ≡ true → MayBeWritten before b relations draft
+targeted_fits before b relations column target draft sound kept writes has = subst (MayBeWritten before b relations) (sym writes.is) (replaced before b relations writes.rel writes.row (with_stat (int_min target most_stat) writes.row)
     (column_replaced before b writes.rel writes.row (with_stat (int_min target most_stat)) sound (column_seen before b writes.rel column writes.row writes.more writes.there) (λ num name col_type stat live. (refl, refl, refl))
-    (λ num name col_type stat live seen. kept_called before b writes.rel num name col_type col_type stat (int_min target most_stat) live live sound tables seen)
+    (λ num name col_type stat live seen. kept_called before b writes.rel num name col_type col_type stat (int_min target most_stat) live live sound kept seen)
     (λ num name col_type stat live. weak_enough_stat (holds (held_of before) b writes.rel) writes.rel num name col_type stat (int_min target most_stat) live has)))
 
 -- and what `set (fillfactor = N)` writes
 filled_fits : (before : List Entry) (b : ℕ) (relations : List Opening) (fill : ℕ) (draft : Draft) → IsSound before → (writes : SetsFillfactor (answer_of before b) relations fill draft) → holds (held_of before) b writes.rel ShareUpdateExclusive ≡ true
-    → MayBeWritten before b draft
-filled_fits before b relations fill draft sound writes has = subst (MayBeWritten before b) (sym writes.is) (replaced before b rel was (with_fill fill was) (record {
+    → MayBeWritten before b relations draft
+filled_fits before b relations fill draft sound writes has = subst (MayBeWritten before b relations) (sym writes.is) (replaced before b relations rel was (with_fill fill was) (record {
   was = seen_is_old before b (forms.Put (with_fill fill was)) was sound refl (first_given before b (scans.Class rel) was writes.begins.more writes.begins.are).0;
   of = (refl, refl);
   stays = (refl, refl);
-  named = (refl, refl);
   nameless = ap (λ t. if t then [] else writes.begins.name ∷ []) (same_bytes writes.begins.name);
   called = class_called before b rel writes.begins.name Table (Some fill);
   enough = weak_enough_fill (holds (held_of before) b rel) rel writes.begins.name Table writes.begins.fill (Some fill) has;
@@ -182,18 +181,19 @@ filled_fits before b relations fill draft sound writes has = subst (MayBeWritten
 
 -- so may what `add column` writes
 added_fits : (before : List Entry) (b : ℕ) (relations : List Opening) (column : List ℕ) (col_type : ColType) (draft : Draft) → IsName column → (writes : AddsColumn (answer_of before b) relations column col_type draft) → holds (held_of before) b writes.rel AccessExclusive ≡ true
-    → AreNumbered before b writes.rel → MayBeWritten before b draft
-added_fits before b relations column col_type draft spelled writes has numbered = subst (MayBeWritten before b) (sym writes.is) (by_items before b (Insert new ∷ []) (record {
+    → AreNumbered before b writes.rel → MayBeWritten before b relations draft
+added_fits before b relations column col_type draft spelled writes has numbered = subst (MayBeWritten before b relations) (sym writes.is) (by_items before b relations (Insert new ∷ []) (record {
   fit = all_fit before b (forms.Add new ∷ []) refl (add_fits before b writes.rel _ (count + 1) column col_type (negsuc 0) true numbered.free has (written_tell before b (forms.Add new ∷ [])).0, tt);
   keeps = record {
-    stay = refl;
+    columns = record {
+      whole = refl;
+      columns = ap (λ t. t && true) (next_number count is_there (of numbered.last));
+      called = (free_called before b writes.rel (count + 1) column col_type (negsuc 0) true spelled writes.free, tt);
+      apart = (tt, tt);
+    };
     names = (tt, tt);
-    columns = ap (λ t. t && true) (next_number count is_there (of numbered.last));
-    called = (free_called before b writes.rel (count + 1) column col_type (negsuc 0) true spelled writes.free, tt);
-    apart = (tt, tt);
-    named = (tt, tt);
   };
-  nameless = refl;
+  named = names_none before b relations (forms.Add new ∷ []) refl;
   lockless = λ c. refl;
   some = omega arith;
 }))
@@ -212,9 +212,9 @@ added_fits before b relations column col_type draft spelled writes has numbered 
     of (inr seen) = inr (or_left (has_row before b (keys.Att writes.rel count)) _ seen)
 
 -- and what `drop column` writes
-dropped_fits : (before : List Entry) (b : ℕ) (relations : List Opening) (column : List ℕ) (draft : Draft) → IsSound before → EachEntry WritesTables before → (writes : DropsColumn (answer_of before b) relations column draft) → holds (held_of before) b writes.rel AccessExclusive ≡ true
-    → MayBeWritten before b draft
-dropped_fits before b relations column draft sound tables writes has = subst (MayBeWritten before b) (sym writes.is) (of (find (is_default_of (column_number writes.row)) defaults) refl)
+dropped_fits : (before : List Entry) (b : ℕ) (relations : List Opening) (column : List ℕ) (draft : Draft) → IsSound before → EachEntry WritesColumns before → (writes : DropsColumn (answer_of before b) relations column draft) → holds (held_of before) b writes.rel AccessExclusive ≡ true
+    → MayBeWritten before b relations draft
+dropped_fits before b relations column draft sound kept writes has = subst (MayBeWritten before b relations) (sym writes.is) (of (find (is_default_of (column_number writes.row)) defaults) refl)
   where
     rel : Oid
     rel = writes.rel
@@ -227,17 +227,21 @@ dropped_fits before b relations column draft sound tables writes has = subst (Ma
 
     r : Replaces before b rel writes.row new
     r = column_replaced before b rel writes.row as_dropped sound (column_seen before b rel column writes.row writes.more writes.there) (λ num name col_type stat live. (refl, refl, refl))
-        (λ num name col_type stat live seen. dropped_called before b rel num name col_type stat live sound tables seen)
+        (λ num name col_type stat live seen. dropped_called before b rel num name col_type stat live sound kept seen)
         (λ num name col_type stat live. strong_enough (holds (held_of before) b rel) (Some (rows.Att rel num name col_type stat live)) (forms.Put (as_dropped (rows.Att rel num name col_type stat live))) has)
 
-    with_default : (oid own : Oid) (num : ℕ) (word : List ℕ) → IsGiven before b (scans.AttrDef rel) (rows.Def oid own num word) → MayBeWritten before b (rows_draft (Delete (keys.Def oid) ∷ Replace new ∷ []))
-    with_default oid own num word given = by_items before b (Delete (keys.Def oid) ∷ Replace new ∷ []) (record {
+    with_default : (oid own : Oid) (num : ℕ) (word : List ℕ) → IsGiven before b (scans.AttrDef rel) (rows.Def oid own num word) → MayBeWritten before b relations (rows_draft (Delete (keys.Def oid) ∷ Replace new ∷ []))
+    with_default oid own num word given = by_items before b relations (Delete (keys.Def oid) ∷ Replace new ∷ []) (record {
       fit = all_fit before b items (ap (λ t. not (t || false) && true) (no_default rel new oid r.stays)) (
-        remove_fits before b messages oid own num word was (ap (λ o. holds (held_of before) b o AccessExclusive) of_table ∙ has) (table_told before b rel messages new (scans.AttrDef own) r.stays tells.1.0 (eq-eqb rel.0 own.0 (ap (λ o. o.0) (sym of_table)))),
+        removed_fits before b messages (rows.Def oid own num word) sound given.0 (ap (λ o. holds (held_of before) b o AccessExclusive) of_table ∙ has, tt)
+            (ap (λ t. t && true) (table_told before b rel messages new (scans.AttrDef own) r.stays tells.1.0 (eq-eqb rel.0 own.0 (ap (λ o. o.0) (sym of_table))))),
         (put_fits before b rel messages writes.row new r.was r.of r.stays r.enough tells.1.0, tt),
       );
-      keeps = record { stay = refl; names = (tt, (name_kept before b rel writes.row new r, tt)); columns = refl; called = (tt, (r.called, tt)); apart = ((tt, tt), (tt, tt)); named = ((tt, tt), (tt, tt)) };
-      nameless = (λ i. new_name (was i) None ++ (none_named before b rel writes.row new r i ++ []));
+      keeps = record {
+        columns = record { whole = refl; columns = refl; called = (tt, (r.called, tt)); apart = ((tt, tt), (tt, tt)) };
+        names = ((tt, tt), (tt, tt));
+      };
+      named = names_none before b relations items (λ i. new_name (was i) None ++ (none_named before b rel writes.row new r i ++ []));
       lockless = λ c. refl;
       some = omega arith;
     })
@@ -257,16 +261,67 @@ dropped_fits before b relations column draft sound tables writes has = subst (Ma
         tells : AllByRecursion (λ item. Tell messages (cats_by before b item ++ rels_by before b item)) items
         tells = written_tell before b items
 
-    by_row : (row : Row) → IsGiven before b (scans.AttrDef rel) row → MayBeWritten before b (rows_draft (Delete (key_of row) ∷ Replace new ∷ []))
+    by_row : (row : Row) → IsGiven before b (scans.AttrDef rel) row → MayBeWritten before b relations (rows_draft (Delete (key_of row) ∷ Replace new ∷ []))
     by_row (rows.Def oid own num word) given = with_default oid own num word given
     by_row row given = absurd (cc given.1)
 
-    of : (o : Option Row) → find (is_default_of (column_number writes.row)) defaults ≡ o → MayBeWritten before b (rows_draft (deleting o ++ Replace new ∷ []))
-    of None is = replaced before b rel writes.row new r
+    of : (o : Option Row) → find (is_default_of (column_number writes.row)) defaults ≡ o → MayBeWritten before b relations (rows_draft (deleting o ++ Replace new ∷ []))
+    of None is = replaced before b relations rel writes.row new r
     of (Some row) is = by_row row (found_holds (IsGiven before b (scans.AttrDef rel)) (is_default_of (column_number writes.row)) row defaults (given_seen before b (scans.AttrDef rel)) is)
+
+-- so may what `drop table` writes
+table_removes : (before : List Entry) (b : ℕ) (relations : List Opening) (draft : Draft) → IsSound before → (writes : RemovesTable (answer_of before b) relations draft) → holds (held_of before) b writes.rel AccessExclusive ≡ true → MayBeWritten before b relations draft
+table_removes before b relations draft sound writes has = subst (MayBeWritten before b relations) (sym writes.is) (by_items before b relations (table_removed rel columns) (record {
+  fit = drops.fit;
+  keeps = record { columns = drops.keeps; names = drops.named };
+  named = names_none before b relations (map item_of (table_removed rel columns)) (names_nothing before b rel columns);
+  lockless = locks_nothing rel columns;
+  some = drops.some;
+}))
+  where
+    rel : Oid
+    rel = writes.rel
+
+    columns : List Row
+    columns = answer_of before b (scans.Attribute rel)
+
+    drops : DropsTable before b (map item_of (table_removed rel columns))
+    drops = table_removed_fits before b rel writes.begins.name writes.begins.fill writes.begins.more sound has writes.begins.are
+
+-- and what `rename to` writes
+table_renames : (before : List Entry) (b : ℕ) (relations : List Opening) (to : List ℕ) (draft : Draft) → IsSound before → (writes : RenamesTable (answer_of before b) relations to draft) → holds (held_of before) b writes.rel AccessExclusive ≡ true → MayBeWritten before b relations draft
+table_renames before b relations to draft sound writes has = subst (MayBeWritten before b relations) (sym writes.is) (by_items before b relations (Replace new ∷ []) (record {
+  fit = all_fit before b (forms.Put new ∷ []) refl
+      (put_fits before b rel _ own new was (refl, refl) (refl, refl) (strong_enough (holds (held_of before) b rel) (Some own) (forms.Put new) has) (written_tell before b (forms.Put new ∷ [])).0, tt);
+  keeps = record {
+    columns = record { whole = refl; columns = refl; called = (class_called before b rel to Table fill, tt); apart = (tt, tt) };
+    names = (tt, tt);
+  };
+  named = subst (λ l. AreNamesGiven before b l (forms.Put new ∷ [])) (sym writes.found_is) (renamed_given before b rel writes.begins.name to Table fill fill
+      (found_first before b (scans.Class rel) rel writes.begins.name Table fill writes.begins.more sound writes.begins.are) was);
+  lockless = λ c. refl;
+  some = omega arith;
+}))
+  where
+    rel : Oid
+    rel = writes.rel
+
+    fill : Option ℕ
+    fill = writes.begins.fill
+
+    own : Row
+    own = rows.Class rel writes.begins.name Table fill
+
+    new : Row
+    new = rows.Class rel to Table fill
+
+    was : old_row before b (forms.Put new) ≡ Some own
+    was = seen_is_old before b (forms.Put new) own sound refl (first_given before b (scans.Class rel) own writes.begins.more writes.begins.are).0
 
 -- the command alters a table
 abbrev pub IsAlteration : Command → Type 0
+IsAlteration (commands.DropTable name) = ⊤
+IsAlteration (commands.RenameTable name to) = ⊤
 IsAlteration (commands.AddColumn name column col_type) = ⊤
 IsAlteration (commands.DropColumn name column) = ⊤
 IsAlteration (commands.RenameColumn name column to) = ⊤
@@ -284,16 +339,19 @@ altering_mode command = AccessExclusive
 abbrev pub IsHeldIn : List Entry → ℕ → Mode → Opening → Type 0
 IsHeldIn before b mode o = holds (held_of before) b o.rel mode ≡ true
 
--- what each alteration writes may be written, where its table is locked in its mode and all writes before kept tables
-pub alteration_fits : (before : List Entry) (b : ℕ) (relations : List Opening) (command : Command) (draft : Draft) → IsSound before → EachEntry WritesTables before → IsCommand command → IsAlteration command → WritesBy (answer_of before b) relations command draft
-    → AllByRecursion (IsHeldIn before b (altering_mode command)) relations → MayBeWritten before b draft
-alteration_fits before b relations (commands.AddColumn name column col_type) draft sound tables spelled alters writes locked =
+-- what each alteration writes may be written, where its table is locked in its mode and all writes before kept the columns of tables
+pub alteration_fits : (before : List Entry) (b : ℕ) (relations : List Opening) (command : Command) (draft : Draft) → IsSound before → EachEntry WritesColumns before → IsCommand command → IsAlteration command → WritesBy (answer_of before b) relations command draft
+    → AllByRecursion (IsHeldIn before b (altering_mode command)) relations → MayBeWritten before b relations draft
+alteration_fits before b relations (commands.DropTable name) draft sound kept spelled alters writes locked = table_removes before b relations draft sound writes (subst (AllByRecursion (IsHeldIn before b AccessExclusive)) writes.found_is locked).0
+alteration_fits before b relations (commands.RenameTable name to) draft sound kept spelled alters writes locked = table_renames before b relations to draft sound writes (subst (AllByRecursion (IsHeldIn before b AccessExclusive)) writes.found_is locked).0
+alteration_fits before b relations (commands.AddColumn name column col_type) draft sound kept spelled alters writes locked =
     let has = (subst (AllByRecursion (IsHeldIn before b AccessExclusive)) writes.found_is locked).0 in
-    added_fits before b relations column col_type draft spelled.1 writes has (numbered_columns before b writes.rel sound tables (held_bars_all (held_of before) b writes.rel AccessExclusive changing_modes has refl))
-alteration_fits before b relations (commands.DropColumn name column) draft sound tables spelled alters writes locked = dropped_fits before b relations column draft sound tables writes (subst (AllByRecursion (IsHeldIn before b AccessExclusive)) writes.found_is locked).0
-alteration_fits before b relations (commands.RenameColumn name column to) draft sound tables spelled alters writes locked = renamed_fits before b relations column to draft sound spelled.2 writes (subst (AllByRecursion (IsHeldIn before b AccessExclusive)) writes.found_is locked).0
-alteration_fits before b relations (commands.SetStatistics name column stat) draft sound tables spelled alters writes locked =
-    targeted_fits before b relations column stat draft sound tables writes (subst (AllByRecursion (IsHeldIn before b ShareUpdateExclusive)) writes.found_is locked).0
-alteration_fits before b relations (commands.SetFillfactor name fill) draft sound tables spelled alters writes locked =
+    added_fits before b relations column col_type draft spelled.1 writes has (whole_columns before b writes.rel writes.begins.name Table sound kept
+    (found_first before b (scans.Class writes.rel) writes.rel writes.begins.name Table writes.begins.fill writes.begins.more sound writes.begins.are) (held_bars_all (held_of before) b writes.rel AccessExclusive changing_modes has refl))
+alteration_fits before b relations (commands.DropColumn name column) draft sound kept spelled alters writes locked = dropped_fits before b relations column draft sound kept writes (subst (AllByRecursion (IsHeldIn before b AccessExclusive)) writes.found_is locked).0
+alteration_fits before b relations (commands.RenameColumn name column to) draft sound kept spelled alters writes locked = renamed_fits before b relations column to draft sound spelled.2 writes (subst (AllByRecursion (IsHeldIn before b AccessExclusive)) writes.found_is locked).0
+alteration_fits before b relations (commands.SetStatistics name column stat) draft sound kept spelled alters writes locked =
+    targeted_fits before b relations column stat draft sound kept writes (subst (AllByRecursion (IsHeldIn before b ShareUpdateExclusive)) writes.found_is locked).0
+alteration_fits before b relations (commands.SetFillfactor name fill) draft sound kept spelled alters writes locked =
     filled_fits before b relations fill draft sound writes (subst (AllByRecursion (IsHeldIn before b ShareUpdateExclusive)) writes.found_is locked).0
-alteration_fits before b relations command draft sound tables spelled alters writes locked = absurd alters
+alteration_fits before b relations command draft sound kept spelled alters writes locked = absurd alters

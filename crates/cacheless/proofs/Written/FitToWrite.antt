@@ -16,7 +16,6 @@ use Rattle.base_types.specs.declared.kind.Kind.TheVariants.{Table}
 use Rattle.base_types.specs.declared.mode.Mode.TheVariants.{ShareUpdateExclusive}
 use Rattle.base_types.specs.declared.row.Row.TheVariants as rows
 use Rattle.base_types.specs.declared.row_key.RowKey.TheVariants as keys
-use Rattle.base_types.specs.declared.scan.Purpose.TheVariants as scans
 use Rattle.event_kinds.specs.declared.entry.Item.TheVariants as forms
 use Rattle.inval_messages.specs.declared.message.Message.{Message}
 use Rattle.inval_messages.specs.declared.message.Message.TheVariants.{Rel}
@@ -27,14 +26,17 @@ use Rattle.lock_modes.specs.Grants.{holds}
 use Rattle.history_model.specs.Covered.{scans_of, is_covered, same_row}
 use Rattle.history_model.specs.Drawn.{drawn_by, made_by, next_oid}
 use Rattle.history_model.specs.Held.{held_of}
-use Rattle.history_model.specs.Orderly.{main_rel, has_key, is_fresh, keeps_relation, IsOrderlyWrite}
+use Rattle.history_model.specs.Orderly.{main_rel, has_key, is_fresh, keeps_relation, IsOrderlyWrite, IsSound}
 use Rattle.history_model.specs.Sent.{cats_by, rels_by, messages_written}
-use Rattle.history_model.specs.Versions.{ended_key, old_row}
+use Rattle.history_model.specs.Versions.{ended_key, rows_of, old_row}
 use Rattle.history_model.specs.Writes.{changed_key, has_row, relations_of, rows_named, enough_where, modes_enough, is_guarded, same_kind, keeps_kind}
 use Rattle.history_model.proofs.Covering.{flat_all}
 use Rattle.history_model.proofs.Every.{every-weaker, any-right}
+use Rattle.history_model.proofs.InOrder.{IsIn}
 use Rattle.cacheless.specs.Types.{Oid, Mode, AccessExclusive, Row, Purpose, Entry, Item}
+use Rattle.cacheless.specs.TableWrites.{KeepsColumns, AreNamedApart}
 use Rattle.cacheless.proofs.Written.WrittenMessages.{Tell}
+use Rattle.cacheless.proofs.Written.SeenRows.{seen_is_old}
 
 -- what a write asks of its items, but for new names and that it is the first of its command: so many new oids, no key twice, rows that are seen, the kinds of relations, locks, and what the commands keep
 pub record IsFit (before : List Entry) (b count : ℕ) (items : List Item) : Type 0 where
@@ -44,6 +46,11 @@ pub record IsFit (before : List Entry) (b count : ℕ) (items : List Item) : Typ
   pub kinds : list_all (keeps_kind before b) items ≡ true
   pub guarded : list_all (is_guarded before b (flat_map made_by items)) items ≡ true
   pub orderly : IsOrderlyWrite before b items
+
+-- what a write keeps of tables
+pub record KeepsAll (before : List Entry) (b : ℕ) (items : List Item) : Type 0 where
+  pub columns : KeepsColumns before b items
+  pub names : AreNamedApart items
 
 -- what it asks of one that draws no oid, where these messages are sent
 pub record Fits (before : List Entry) (b : ℕ) (messages : List Message) (item : Item) : Type 0 where
@@ -201,19 +208,30 @@ put_fits before b rel messages old new was of also enough tell = record {
     same_relation : option_to_list (rel_for new) ≡ option_to_list (rel_for old)
     same_relation = ap option_to_list (tells_table rel new also ∙ sym (tells_table rel old of))
 
--- a default that is deleted fits, where a message for its table is sent
-pub remove_fits : (before : List Entry) (b : ℕ) (messages : List Message) (oid rel : Oid) (num : ℕ) (word : List ℕ) → old_row before b (forms.Remove (keys.Def oid)) ≡ Some (rows.Def oid rel num word) → holds (held_of before) b rel AccessExclusive ≡ true
-    → is_covered messages (scans.AttrDef rel) ≡ true → Fits before b messages (forms.Remove (keys.Def oid))
-remove_fits before b messages oid rel num word was has covered = record {
+-- the change that takes a row away
+abbrev pub taking : Row → Item
+taking row = forms.Remove (key_of row)
+
+-- it fits for a row that is seen, of any kind, where the relations that the row names are locked and the scans that give it are covered
+pub removed_fits : (before : List Entry) (b : ℕ) (messages : List Message) (row : Row) → IsSound before → IsIn row (rows_of before b) → AllByRecursion (λ r. holds (held_of before) b r AccessExclusive ≡ true) (relations_of row)
+    → list_all (is_covered messages) (scans_of row) ≡ true → Fits before b messages (taking row)
+removed_fits before b messages row sound seen locked covered = record {
   drawn = refl;
   made = refl;
   there = ap (λ o. option_map_or (λ row. true) o false) was;
   kinds = refl;
-  guarded = subst (λ o. list_all (λ r. list_any (holds (held_of before) b r) (modes_enough o (forms.Remove (keys.Def oid)))) (flat_map relations_of (rows_named (forms.Remove (keys.Def oid)) o)) ≡ true) (sym was) (ap (λ t. (t || false) && true) has);
+  guarded = subst (λ o. list_all (λ r. list_any (holds (held_of before) b r) (modes_enough o (taking row))) (flat_map relations_of (rows_named (taking row) o)) ≡ true) (sym was)
+      (flat_all guard relations_of (row ∷ []) (all_pass guard (relations_of row) (every-weaker (λ r. holds (held_of before) b r AccessExclusive ≡ true) (λ r. guard r ≡ true) (λ r has. strong_enough (holds (held_of before) b r) (Some row) (taking row) has) (relations_of row) locked), tt));
   fresh = refl;
   keeps = refl;
-  named = subst (λ o. list_all (is_covered messages) (flat_map scans_of (rows_named (forms.Remove (keys.Def oid)) o)) ≡ true) (sym was) (ap (λ t. t && true) covered);
+  named = subst (λ o. list_all (is_covered messages) (flat_map scans_of (rows_named (taking row) o)) ≡ true) (sym was) (flat_all (is_covered messages) scans_of (row ∷ []) (covered, tt));
 }
+  where
+    was : old_row before b (taking row) ≡ Some row
+    was = seen_is_old before b (taking row) row sound refl seen
+
+    guard : Oid → Bool
+    guard r = list_any (holds (held_of before) b r) (modes_enough (Some row) (taking row))
 
 -- a column that is added fits, where no version has its number
 pub add_fits : (before : List Entry) (b : ℕ) (rel : Oid) (messages : List Message) (num : ℕ) (name : List ℕ) (col_type : ColType) (stat : ℤ) (live : Bool) → has_key before (keys.Att rel num) ≡ false → holds (held_of before) b rel AccessExclusive ≡ true

@@ -22,12 +22,13 @@ use Rattle.history_model.specs.Orderly.{main_rel, IsSound}
 use Rattle.history_model.specs.Prefixes.{EachEntry}
 use Rattle.history_model.specs.Versions.{versions_of, sees, added_row, rows_of, answer_of}
 use Rattle.history_model.proofs.Every.{every-weaker, every, every-map, every-filter, SomeOf, from_some}
+use Rattle.history_model.proofs.GivenRows.{row_given}
 use Rattle.history_model.proofs.InOrder.{IsIn}
 use Rattle.history_model.proofs.WeakChanges.{every_self}
-use Rattle.history_model.proofs.GivenRows.{row_given}
 use Rattle.cacheless.specs.Types.{Oid, Row, Entry}
-use Rattle.cacheless.specs.TableWrites.{AreNamesakes, IsCalledWell, IsCalledApart, CallsApart, AreCalledApart, WritesTables}
-use Rattle.cacheless.proofs.NamedColumns.{seen_apart, seen_called, apart_from}
+use Rattle.cacheless.specs.TableWrites.{AreNamesakes, IsCalledWell, IsCalledApart, CallsApart, AreCalledApart, WritesColumns}
+use Rattle.cacheless.proofs.NamedColumns.{apart_from}
+use Rattle.cacheless.proofs.WholeColumns.{whole_apart, whole_called}
 use Rattle.cacheless.proofs.Written.NewTableItems.{column_item}
 
 -- the row of a relation has no namesake
@@ -46,12 +47,12 @@ namesakes_like (rows.Att own n called t s l) rel num name col_type to stat stat'
 namesakes_like seen rel num name col_type to stat stat' live live' are = absurd are
 
 -- a column that keeps its number and its name
-pub kept_called : (before : List Entry) (b : ℕ) (rel : Oid) (num : ℕ) (name : List ℕ) (col_type to : ColType) (stat stat' : ℤ) (live live' : Bool) → IsSound before → EachEntry WritesTables before → IsIn (rows.Att rel num name col_type stat live) (rows_of before b)
+pub kept_called : (before : List Entry) (b : ℕ) (rel : Oid) (num : ℕ) (name : List ℕ) (col_type to : ColType) (stat stat' : ℤ) (live live' : Bool) → IsSound before → EachEntry WritesColumns before → IsIn (rows.Att rel num name col_type stat live) (rows_of before b)
     → IsCalledApart before b (rows.Att rel num name to stat' live')
-kept_called before b rel num name col_type to stat stat' live live' sound tables seen = (
-  of_seen IsCalledWell (rows.Att rel num name col_type stat live) (rows_of before b) (seen_called before b sound tables) seen,
+kept_called before b rel num name col_type to stat stat' live live' sound writes seen = (
+  of_seen IsCalledWell (rows.Att rel num name col_type stat live) (rows_of before b) (whole_called before b sound writes) seen,
   every-weaker (λ other. AreNamesakes other (rows.Att rel num name col_type stat live) → ⊥) (λ other. AreNamesakes other (rows.Att rel num name to stat' live') → ⊥)
-      (λ other apart are. apart (namesakes_like other rel num name col_type to stat stat' live live' are)) (rows_of before b) (apart_from (rows.Att rel num name col_type stat live) (rows_of before b) (seen_apart before b sound tables) seen),
+      (λ other apart are. apart (namesakes_like other rel num name col_type to stat stat' live live' are)) (rows_of before b) (apart_from (rows.Att rel num name col_type stat live) (rows_of before b) (whole_apart before b sound writes) seen),
 )
 
 -- a column with a name that none has which the backend sees
@@ -80,16 +81,16 @@ dropped_alone (rows.Att own n called t s l) rel num col_type stat dropped (inr o
 dropped_alone seen rel num col_type stat dropped called are = absurd are
 
 -- a column that is dropped
-pub dropped_called : (before : List Entry) (b : ℕ) (rel : Oid) (num : ℕ) (name : List ℕ) (col_type : ColType) (stat : ℤ) (live : Bool) → IsSound before → EachEntry WritesTables before → IsIn (rows.Att rel num name col_type stat live) (rows_of before b)
+pub dropped_called : (before : List Entry) (b : ℕ) (rel : Oid) (num : ℕ) (name : List ℕ) (col_type : ColType) (stat : ℤ) (live : Bool) → IsSound before → EachEntry WritesColumns before → IsIn (rows.Att rel num name col_type stat live) (rows_of before b)
     → IsCalledApart before b (as_dropped (rows.Att rel num name col_type stat live))
-dropped_called before b rel num name col_type stat live sound tables seen = by_test (nat_le 1 num && nat_le num MOST_COLUMNS) refl
+dropped_called before b rel num name col_type stat live sound writes seen = by_test (nat_le 1 num && nat_le num MOST_COLUMNS) refl
   where
     by_test : (t : Bool) → (nat_le 1 num && nat_le num MOST_COLUMNS) ≡ t → IsCalledApart before b (rows.Att rel num (if t then dropped_name num else name) col_type stat false)
     by_test true is =
         let parts = and_parts (nat_le 1 num) (nat_le num MOST_COLUMNS) is in
         let dropped : IsDropped num (dropped_name num) = record { some = omega (arith, leb-true 1 num parts.0); most = leb-true num MOST_COLUMNS parts.1; is = refl } in
-        (inr dropped, every-weaker IsCalledWell (λ other. AreNamesakes other (rows.Att rel num (dropped_name num) col_type stat false) → ⊥) (λ other called. dropped_alone other rel num col_type stat dropped called) (rows_of before b) (seen_called before b sound tables))
-    by_test false is = kept_called before b rel num name col_type col_type stat stat live false sound tables seen
+        (inr dropped, every-weaker IsCalledWell (λ other. AreNamesakes other (rows.Att rel num (dropped_name num) col_type stat false) → ⊥) (λ other called. dropped_alone other rel num col_type stat dropped called) (rows_of before b) (whole_called before b sound writes))
+    by_test false is = kept_called before b rel num name col_type col_type stat stat live false sound writes seen
 
 -- no backend sees a column of a relation whose oid is still to be drawn
 undrawn_apart : (before : List Entry) (b : ℕ) (rel : Oid) (num : ℕ) (name : List ℕ) (col_type : ColType) (stat : ℤ) (live : Bool) → AllByRecursion (λ v. (main_rel v.row).0 < rel.0) (versions_of before)

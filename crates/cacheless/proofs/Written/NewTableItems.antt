@@ -1,10 +1,10 @@
 -- The items of a new table; and that they keep tables.
-use Rattle.std.proofs.Common.{◌≡◌, ◌∙◌, ◌+◌, ◌-◌, ◌⊎◌, inl, inr, ℕ, zero, suc, ℤ, negsuc, Bool, true, None, List, [], ◌∷◌, ◌==◌, ◌||◌, ◌&&◌, refl, ap, map, nat_lt, arith, append-nil}
+use Rattle.std.proofs.Common.{◌≡◌, ◌∙◌, ◌+◌, ◌-◌, ◌⊎◌, inl, inr, ℕ, zero, suc, negsuc, Bool, true, None, List, [], ◌∷◌, ◌==◌, ◌||◌, ◌&&◌, refl, ap, map, nat_lt, arith, append-nil, ℤ}
 use Rattle.std.specs.List.{AllByRecursion, list_any, list_all, enumerate_from}
 use Rattle.std.specs.Option.{IfSome}
 use Rattle.std.proofs.lemmas.Bool.{and_from, or_left, or_right, eq-eqb, le-leb}
-use Rattle.base_types.specs.declared.col_type.ColType.{ColType}
 use Rattle.base_types.specs.declared.command.NewColumn.{NewColumn}
+use Rattle.base_types.specs.declared.col_type.ColType.{ColType}
 use Rattle.base_types.specs.declared.kind.Kind.TheVariants.{Table}
 use Rattle.base_types.specs.declared.row.Row.TheVariants as rows
 use Rattle.base_types.specs.declared.row_key.RowKey.TheVariants as keys
@@ -14,9 +14,9 @@ use Rattle.ddl_effect.specs.Drawing.{drawn_change}
 use Rattle.history_model.specs.Changes.{item_of}
 use Rattle.history_model.specs.Versions.{added_row}
 use Rattle.history_model.specs.Writes.{has_row}
-use Rattle.cacheless.specs.Types.{Oid, Row, Entry, Item}
+use Rattle.cacheless.specs.Types.{Oid, Entry, Item, Row}
 use Rattle.cacheless.specs.Plays.{drafted}
-use Rattle.cacheless.specs.TableWrites.{takes_no_table, KeepsName, gives_key, is_next_column, ShareName, AreNamedApart}
+use Rattle.cacheless.specs.TableWrites.{takes_whole, gives_key, is_next_column, AreNamedApart, ShareName}
 
 -- the item of a column
 abbrev pub column_item : Oid → ℕ × NewColumn → Item
@@ -44,9 +44,25 @@ next_number zero test (inr is) = refl
 next_number (suc n) test (inr is) = or_right (suc n + 1 == 1) _
     (and_from (nat_lt 1 (suc n + 1)) _ (le-leb 2 (suc n + 1) (omega arith)) (let e : suc n + 1 - 1 ≡ suc n = omega arith in ap test e ∙ is))
 
-columns_stay : (before : List Entry) (b : ℕ) (rel : Oid) (numbered : List (ℕ × NewColumn)) → (list_all takes_no_table (map (column_item rel) numbered) ≡ true) × AllByRecursion (KeepsName before b) (map (column_item rel) numbered)
-columns_stay before b rel [] = (refl, tt)
-columns_stay before b rel (column ∷ numbered) = let rest = columns_stay before b rel numbered in (rest.0, (tt, rest.1))
+columns_whole : (items : List Item) (rel : Oid) (numbered : List (ℕ × NewColumn)) → list_all (takes_whole items) (map (column_item rel) numbered) ≡ true
+columns_whole items rel [] = refl
+columns_whole items rel (column ∷ numbered) = columns_whole items rel numbered
+
+-- no change gives a row that shares its name with this one
+abbrev GiveNot : Row → List Item → Type 0
+GiveNot row items = AllByRecursion (λ later. IfSome (added_row later) (λ other. ShareName row other → ⊥)) items
+
+columns_nameless : (rel : Oid) (row : Row) (numbered : List (ℕ × NewColumn)) → ((of : Oid) (num : ℕ) (name : List ℕ) (col_type : ColType) (stat : ℤ) (live : Bool) → ShareName row (rows.Att of num name col_type stat live) → ⊥) → GiveNot row (map (column_item rel) numbered)
+columns_nameless rel row [] none = tt
+columns_nameless rel row ((num, column) ∷ numbered) none = (none rel num column.name column.col_type (negsuc 0) true, columns_nameless rel row numbered none)
+
+columns_named : (rel : Oid) (numbered : List (ℕ × NewColumn)) → AreNamedApart (map (column_item rel) numbered)
+columns_named rel [] = tt
+columns_named rel ((num, column) ∷ numbered) = (columns_nameless rel (rows.Att rel num column.name column.col_type (negsuc 0) true) numbered (λ of n name col_type stat live share. share), columns_named rel numbered)
+
+-- the items of a table give no name to two relations
+pub table_named : (rel : Oid) (name : List ℕ) (numbered : List (ℕ × NewColumn)) → AreNamedApart (table_items rel name numbered)
+table_named rel name numbered = (columns_nameless rel (rows.Class rel name Table None) numbered (λ of num own col_type stat live share. share), columns_named rel numbered)
 
 -- a column of this number is seen, or given by these items
 abbrev is_there : List Entry → ℕ → Oid → List Item → ℕ → Bool
@@ -60,36 +76,16 @@ columns_next before b rel items n (column ∷ columns) last among = and_from (is
     (inr (or_right (has_row before b (keys.Att rel (n + 1))) _ (among (gives_key (keys.Att rel (n + 1))) (or_left (gives_key (keys.Att rel (n + 1)) (column_item rel (n + 1, column))) _ (and_from (rel.0 == rel.0) (n + 1 == n + 1) (eq-eqb rel.0 rel.0 refl) (eq-eqb (n + 1) (n + 1) refl))))))
     (λ p is. among p (or_right (p (column_item rel (n + 1, column))) _ is)))
 
--- a column has no name of a relation
-no_name : (row : Row) (rel : Oid) (num : ℕ) (name : List ℕ) (col_type : ColType) (stat : ℤ) (live : Bool) → ShareName row (rows.Att rel num name col_type stat live) → ⊥
-no_name (rows.Class oid own kind fill) rel num name col_type stat live share = share
-no_name row rel num name col_type stat live share = share
-
-no_names : (rel : Oid) (row : Row) (numbered : List (ℕ × NewColumn)) → AllByRecursion (λ later. IfSome (added_row later) (λ other. ShareName row other → ⊥)) (map (column_item rel) numbered)
-no_names rel row [] = tt
-no_names rel row ((num, column) ∷ numbered) = (no_name row rel num column.name column.col_type (negsuc 0) true, no_names rel row numbered)
-
-columns_apart : (rel : Oid) (numbered : List (ℕ × NewColumn)) → AreNamedApart (map (column_item rel) numbered)
-columns_apart rel [] = tt
-columns_apart rel ((num, column) ∷ numbered) = (no_names rel (rows.Att rel num column.name column.col_type (negsuc 0) true) numbered, columns_apart rel numbered)
-
 -- what the items of a new table keep of tables, but for its columns' names
 pub record TableKeeps (before : List Entry) (b : ℕ) (items : List Item) : Type 0 where
-  pub stay : list_all takes_no_table items ≡ true
-  pub names : AllByRecursion (KeepsName before b) items
+  pub whole : list_all (takes_whole items) items ≡ true
   pub columns : list_all (is_next_column before b items) items ≡ true
-  pub named : AreNamedApart items
 
 pub new_table_keeps : (before : List Entry) (b : ℕ) (rel : Oid) (name : List ℕ) (columns : List NewColumn) → TableKeeps before b (table_items rel name (enumerate_from 1 columns))
 new_table_keeps before b rel name columns = record {
-  stay = stay.0;
-  names = (tt, stay.1);
+  whole = columns_whole items rel (enumerate_from 1 columns);
   columns = columns_next before b rel items 0 columns (inl refl) (λ p is. or_right (p (forms.Add (rows.Class rel name Table None))) _ is);
-  named = (no_names rel (rows.Class rel name Table None) (enumerate_from 1 columns), columns_apart rel (enumerate_from 1 columns));
 }
   where
     items : List Item
     items = table_items rel name (enumerate_from 1 columns)
-
-    stay : (list_all takes_no_table (map (column_item rel) (enumerate_from 1 columns)) ≡ true) × AllByRecursion (KeepsName before b) (map (column_item rel) (enumerate_from 1 columns))
-    stay = columns_stay before b rel (enumerate_from 1 columns)

@@ -8,11 +8,13 @@ use Rattle.std.proofs.lemmas.Bool.{eq-eqb, leb-true, false_from_ne_true}
 use Rattle.std.proofs.lemmas.List.Folds.{list_any-append}
 use Rattle.base_types.specs.Fields.{has_field}
 use Rattle.base_types.specs.Scans.{same_oid, selects}
-use Rattle.base_types.specs.declared.change.Change.TheVariants.{Insert, Replace}
+use Rattle.base_types.specs.declared.change.Change.TheVariants.{Insert, Replace, Delete}
 use Rattle.base_types.specs.declared.command.Command.TheVariants as commands
 use Rattle.base_types.specs.declared.command.NewColumn.{NewColumn}
 use Rattle.base_types.specs.declared.dropped.TheConstants.{MOST_COLUMNS}
 use Rattle.base_types.specs.declared.row.Row.TheVariants as rows
+use Rattle.base_types.specs.declared.row_key.RowKey.{RowKey}
+use Rattle.base_types.specs.declared.row_key.RowKey.TheVariants as keys
 use Rattle.base_types.specs.declared.scan.Purpose.TheVariants as scans
 use Rattle.command_answers.specs.declared.error.CommandError.TheVariants as errors
 use Rattle.ddl_effect.specs.declared.alteration.Alteration.TheVariants as alterations
@@ -23,7 +25,7 @@ use Rattle.ddl_effect.specs.declared.told.Told.TheVariants as tells
 use Rattle.txn_blocks.specs.Blocks.{Blocks, refused_by}
 use Rattle.ddl_effect.specs.Drawing.{drawn_oid}
 use Rattle.ddl_effect.specs.Plans.{Plan, Done}
-use Rattle.ddl_effect.specs.Commands.{plan_of, found, if_passes, if_no_column, first_twice, writing, opening, searching, showing, telling_columns, telling_column, is_table, new_column, new_table, altering, column_there, with_column, column_free, reading, changing, adding, as_dropped, deleting, is_default_of, column_number, dropping, with_name, renaming, with_stat, most_stat, targeting, with_fill, filling}
+use Rattle.ddl_effect.specs.Commands.{plan_of, found, if_passes, if_no_column, first_twice, writing, opening, searching, showing, telling_columns, telling_column, is_table, new_column, new_table, altering, with_own_name, renaming_table, removing, drop_table, column_there, with_column, column_free, reading, changing, adding, as_dropped, deleting, is_default_of, column_number, dropping, with_name, renaming, with_stat, most_stat, targeting, with_fill, filling}
 use Rattle.ddl_effect.specs.Stages.{plan_at, plan_again, altering_at, altering_again, altered, name_sought, plan_found}
 use Rattle.ddl_effect.specs.declared.alteration.Alteration.{Alteration}
 use Rattle.ddl_effect.specs.declared.altering.Altering.{Altering}
@@ -99,8 +101,25 @@ puts_filling : (opened : List Opening) (rel : Oid) (fill : ℕ) → is_opened op
 puts_filling opened rel fill opens [] asked = tt
 puts_filling opened rel fill opens (row ∷ more) asked = puts_replacing opened None (with_fill fill row) (puts_filled opened rel fill row opens asked.0)
 
+puts_renamed : (opened : List Opening) (rel : Oid) (to : List ℕ) (row : Row) → is_opened opened rel ≡ true → selects (scans.Class rel) row ≡ true → PutOpened opened 0 (Replace (with_own_name to row))
+puts_renamed opened rel to (rows.Class oid own kind fill) opens asked = (ap (is_opened opened) (oid_eq oid rel asked) ∙ opens, λ next. none_drawn next oid)
+puts_renamed opened rel to row opens asked = absurd (cc)
+
+puts_renaming : (opened : List Opening) (rel : Oid) (to : List ℕ) → is_opened opened rel ≡ true → (given : List Row) → AreGivenBy (scans.Class rel) given → PutsOpened opened (renaming_table to given)
+puts_renaming opened rel to opens [] asked = tt
+puts_renaming opened rel to opens (row ∷ more) asked = puts_replacing opened None (with_own_name to row) (puts_renamed opened rel to row opens asked.0)
+
+-- a write that takes rows away puts none
+puts_removing : (opened : List Opening) (key : RowKey) (given : List Row) → AllByRecursion (PutOpened opened 0) (removing given ++ Delete key ∷ [])
+puts_removing opened key [] = (tt, tt)
+puts_removing opened key (row ∷ given) = (tt, puts_removing opened key given)
+
+puts_dropping : (opened : List Opening) (name : List ℕ) (rel : Oid) (kind : Kind) → PutsOpened opened (altering name drop_table rel kind)
+puts_dropping opened name rel kind = puts_if_passes opened (is_table kind) (errors.NotTable name) (opening rel kind (drop_table rel)) (λ given. λ columns asked. (puts_removing (opened ++ record { rel = rel; kind = kind } ∷ []) (keys.Class rel) columns, λ wrote. tt))
+
 -- an alteration, once the table's descriptor is open
 pub puts_altered : (opened : List Opening) (alteration : Alteration) (rel : Oid) → is_opened opened rel ≡ true → PutsOpened opened (altered alteration rel)
+puts_altered opened (alterations.RenameTable to) rel opens = puts_renaming opened rel to opens
 puts_altered opened (alterations.AddColumn column col_type) rel opens = λ given asked. puts_free opened column (reading (scans.Attribute rel) (adding rel column col_type))
     (λ columns all. puts_if_passes opened (nat_lt (length columns) MOST_COLUMNS) errors.TooManyColumns (changing (Insert (rows.Att rel (length columns + 1) column col_type (negsuc 0) true) ∷ [])) (puts_inserting opened (rows.Att rel (length columns + 1) column col_type (negsuc 0) true))) given
 puts_altered opened (alterations.DropColumn column) rel opens = puts_there opened (scans.AttName rel column) column (λ row. reading (scans.AttrDef rel) (dropping row))
@@ -127,6 +146,7 @@ puts_found_by : (opened : List Opening) (finding : Finding) (rel : Oid) (kind : 
 puts_found_by opened (findings.Show name) rel kind = λ given. tt
 puts_found_by opened (findings.ShowField name field) rel kind = puts_if_passes opened (has_field kind field) (errors.NoField name field) (showing (Some field) rel kind) (λ given. tt)
 puts_found_by opened (findings.LockTable name mode) rel kind = puts_if_passes opened (is_table kind) (errors.NotTable name) (Done tells.Ok) tt
+puts_found_by opened (findings.DropTable name) rel kind = puts_dropping opened name rel kind
 puts_found_by opened (findings.Columns name) rel kind = puts_if_passes opened (is_table kind) (errors.NotTable name) (searching (scans.AttList rel) telling_columns) (λ given asked. tt)
 puts_found_by opened (findings.Column name column) rel kind = puts_if_passes opened (is_table kind) (errors.NotTable name) (searching (scans.AttName rel column) (telling_column column)) (λ given asked. puts_told opened column given)
 
@@ -164,6 +184,8 @@ puts_plan opened (commands.Column name column) = puts_sought opened (findings.Co
 puts_plan opened (commands.Regclass oid) = λ given asked. tt
 puts_plan opened (commands.LockTable name mode) = puts_sought opened (findings.LockTable name mode)
 puts_plan opened (commands.CreateTable name columns) = puts_creating opened name columns (nat_le (length columns) MOST_COLUMNS) (first_twice [] (map (λ c. c.name) columns))
+puts_plan opened (commands.DropTable name) = puts_sought opened (findings.DropTable name)
+puts_plan opened (commands.RenameTable name to) = puts_finding opened name (alterations.RenameTable to)
 puts_plan opened (commands.AddColumn name column col_type) = puts_finding opened name (alterations.AddColumn column col_type)
 puts_plan opened (commands.DropColumn name column) = puts_finding opened name (alterations.DropColumn column)
 puts_plan opened (commands.RenameColumn name column to) = puts_finding opened name (alterations.RenameColumn column to)

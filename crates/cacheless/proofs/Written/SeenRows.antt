@@ -12,12 +12,12 @@ use Rattle.history_model.specs.Orderly.{IsSound}
 use Rattle.history_model.specs.Versions.{versions_of, sees, ends, ended_key, rows_of, answer_of, old_row}
 use Rattle.history_model.proofs.Asking.{oid_eq}
 use Rattle.history_model.proofs.Every.{every-weaker, from_some}
+use Rattle.history_model.proofs.GivenRows.{given_seen}
 use Rattle.history_model.proofs.Guards.{key_refl}
 use Rattle.history_model.proofs.InOrder.{IsIn}
 use Rattle.history_model.proofs.Ordered.{ended_named, one_version}
-use Rattle.history_model.proofs.GivenRows.{given_seen}
 use Rattle.cacheless.specs.Types.{Oid, Row, Purpose, Entry, Item}
-use Rattle.cacheless.proofs.StillSeen.{version_seen}
+use Rattle.cacheless.proofs.VersionsStay.{version_seen}
 
 -- the backend sees the row, and the scan asks for it
 abbrev pub IsGiven : List Entry → ℕ → Purpose → Row → Type 0

@@ -1,8 +1,7 @@
 -- What `drop table` writes, for a table of which nothing but columns is seen, may be written, and takes the columns with the table.
-use Rattle.std.proofs.Common.{◌≡◌, ◌<◌, ◌∙◌, ℕ, Bool, true, false, Option, Some, None, List, [], ◌∷◌, ◌++◌, refl, sym, ap, subst, map, length, arith}
+use Rattle.std.proofs.Common.{◌≡◌, ◌<◌, ◌∙◌, ℕ, true, Option, Some, None, List, [], ◌∷◌, ◌++◌, refl, sym, ap, subst, map, length, arith}
 use Rattle.std.specs.Prelude.{⊤}
 use Rattle.std.specs.List.{AllByRecursion, flat_map, list_any, list_all}
-use Rattle.std.specs.Option.{option_map_or}
 use Rattle.std.proofs.lemmas.Bool.{and_from, eq-eqb, or_left, or_right}
 use Rattle.base_types.specs.RowKeys.{key_of, are_distinct_keys}
 use Rattle.base_types.specs.Scans.{same_oid, selects}
@@ -25,9 +24,8 @@ use Rattle.history_model.specs.Names.{new_name, new_names}
 use Rattle.history_model.specs.Orderly.{IsSound}
 use Rattle.history_model.specs.Sent.{cats_by, rels_by, messages_written}
 use Rattle.history_model.specs.Versions.{rows_of, answer_of, old_row}
-use Rattle.history_model.specs.Writes.{changed_key, relations_of, rows_named, modes_enough}
+use Rattle.history_model.specs.Writes.{changed_key}
 use Rattle.history_model.proofs.Asking.{oid_eq}
-use Rattle.history_model.proofs.Covering.{flat_all}
 use Rattle.history_model.proofs.DistinctKeys.{HaveTwoKeys, given_keys, keys_distinct}
 use Rattle.history_model.proofs.Every.{every-weaker, every, every-append}
 use Rattle.history_model.proofs.GivenRows.{given_seen}
@@ -35,36 +33,10 @@ use Rattle.history_model.proofs.InOrder.{IsIn}
 use Rattle.history_model.proofs.Seen.{pair-push}
 use Rattle.cacheless.specs.Types.{Oid, AccessExclusive, Row, Entry, Item}
 use Rattle.cacheless.specs.Locks.{locked_by}
-use Rattle.cacheless.specs.TableWrites.{is_next_column, CallsApart, AreCalledApart, AreNamedApart}
-use Rattle.cacheless.specs.WholeTables.{takes_relation, takes_whole, KeepsColumns}
-use Rattle.cacheless.proofs.Written.FitToWrite.{IsFit, Fits, IsOfTable, IsSent, all_fit, all_pass, strong_enough, names_table, sent_itself}
+use Rattle.cacheless.specs.TableWrites.{is_next_column, CallsApart, AreCalledApart, takes_relation, takes_whole, KeepsColumns, AreNamedApart}
+use Rattle.cacheless.proofs.Written.FitToWrite.{IsFit, Fits, IsOfTable, IsSent, all_fit, all_pass, names_table, sent_itself, taking, removed_fits}
 use Rattle.cacheless.proofs.Written.SeenRows.{IsGiven, first_given, seen_is_old}
 use Rattle.cacheless.proofs.Written.WrittenMessages.{Tell, written_tell}
-
--- the change that takes a row away
-abbrev pub taking : Row → Item
-taking row = forms.Remove (key_of row)
-
--- it fits for a row that is seen, of any kind, where the relations that the row names are locked and the scans that give it are covered
-pub removed_fits : (before : List Entry) (b : ℕ) (messages : List Message) (row : Row) → IsSound before → IsIn row (rows_of before b) → AllByRecursion (λ r. holds (held_of before) b r AccessExclusive ≡ true) (relations_of row)
-    → list_all (is_covered messages) (scans_of row) ≡ true → Fits before b messages (taking row)
-removed_fits before b messages row sound seen locked covered = record {
-  drawn = refl;
-  made = refl;
-  there = ap (λ o. option_map_or (λ row. true) o false) was;
-  kinds = refl;
-  guarded = subst (λ o. list_all (λ r. list_any (holds (held_of before) b r) (modes_enough o (taking row))) (flat_map relations_of (rows_named (taking row) o)) ≡ true) (sym was)
-      (flat_all guard relations_of (row ∷ []) (all_pass guard (relations_of row) (every-weaker (λ r. holds (held_of before) b r AccessExclusive ≡ true) (λ r. guard r ≡ true) (λ r has. strong_enough (holds (held_of before) b r) (Some row) (taking row) has) (relations_of row) locked), tt));
-  fresh = refl;
-  keeps = refl;
-  named = subst (λ o. list_all (is_covered messages) (flat_map scans_of (rows_named (taking row) o)) ≡ true) (sym was) (flat_all (is_covered messages) scans_of (row ∷ []) (covered, tt));
-}
-  where
-    was : old_row before b (taking row) ≡ Some row
-    was = seen_is_old before b (taking row) row sound refl seen
-
-    guard : Oid → Bool
-    guard r = list_any (holds (held_of before) b r) (modes_enough (Some row) (taking row))
 
 -- the row is that of the table or of a column of it, and is seen
 abbrev IsSeenOf : List Entry → ℕ → Oid → Row → Type 0

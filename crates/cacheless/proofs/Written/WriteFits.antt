@@ -31,24 +31,25 @@ use Rattle.cacheless.specs.Facts.{Facts}
 use Rattle.cacheless.specs.Locks.{locked_by, locks_written}
 use Rattle.cacheless.specs.Plays.{names_of, drafted}
 use Rattle.cacheless.specs.Session.{none_open}
-use Rattle.cacheless.specs.TableWrites.{AreNamesakes, WritesTables, KeepsTables}
+use Rattle.cacheless.specs.TableWrites.{AreNamesakes, WritesColumns}
 use Rattle.cacheless.proofs.Plans.ActOrder.{IsTableDraft, IsRowsDraft, HasCome, WritesTable, WritesRows, follows_order, has_come, at_write}
 use Rattle.cacheless.proofs.Written.AlterationsFit.{MayBeWritten, IsAlteration}
 use Rattle.cacheless.proofs.Written.AlteringLocks.{one_found, alteration_may_write}
+use Rattle.cacheless.proofs.Written.NamesGiven.{AreReadAsNow}
 use Rattle.cacheless.proofs.Written.NewNames.{class_called, table_called, table_apart}
-use Rattle.cacheless.proofs.Written.NewTableItems.{column_item, table_items, drafted_is, TableKeeps, new_table_keeps}
+use Rattle.cacheless.proofs.Written.NewTableItems.{column_item, table_items, drafted_is, table_named, TableKeeps, new_table_keeps}
 use Rattle.cacheless.proofs.Written.WrittenBy.{writes_by}
 use Rattle.cacheless.proofs.Plans.Ways.{NeverWrites, never_reaches, none_reached, write_stays, made_in-over}
 use Rattle.cacheless.specs.Types.{Oid, Mode, Kind, Row, Command, CommandError, Draft, Entry, Item, Opening, OwnLock}
-use Rattle.cacheless.proofs.Written.FitToWrite.{IsFit}
+use Rattle.cacheless.proofs.Written.FitToWrite.{IsFit, KeepsAll}
 use Rattle.cacheless.proofs.Written.NewTable.{new_table_fits, new_table_locks, new_table_names}
 
--- a draft may be written, but for its names and that its command has written nothing yet; it changes something; it keeps tables; the names that the history sees in it are those of its plan; and it takes the lock of the relation that it makes, if it makes one
-pub record WriteFits (history : List Entry) (b c : ℕ) (facts : Facts) (draft : Draft) : Type 0 where
+-- the draft of a command that found these relations may be written, but for its names and that its command has written nothing yet; it changes something; it keeps tables; the names that the history sees in it are those of its plan, where the rows of the relations were read as they are; and it takes the lock of the relation that it makes, if it makes one
+pub record WriteFits (history : List Entry) (b c : ℕ) (facts : Facts) (relations : List Opening) (draft : Draft) : Type 0 where
   pub fit : IsFit history b draft.new_oids (drafted (next_oid history) draft)
   pub some : 0 < length (drafted (next_oid history) draft)
-  pub keeps : KeepsTables history b (drafted (next_oid history) draft)
-  pub names : (name : List ℕ) → list_any (bytes_eq name) (new_names history b (drafted (next_oid history) draft)) ≡ true → list_any (bytes_eq name) (flat_map (names_of facts) (drafted (next_oid history) draft)) ≡ true
+  pub keeps : KeepsAll history b (drafted (next_oid history) draft)
+  pub names : AreReadAsNow history b facts relations → (name : List ℕ) → list_any (bytes_eq name) (new_names history b (drafted (next_oid history) draft)) ≡ true → list_any (bytes_eq name) (flat_map (names_of facts) (drafted (next_oid history) draft)) ≡ true
   pub locks : (rel : Oid) (locks : List OwnLock) → rel.0 ≡ next_oid history → locks ++ flat_map (locked_by c) (drafted (next_oid history) draft) ≡ locks_written draft.new_oids rel c locks
 
 -- the command makes a new table, and this is its draft
@@ -57,14 +58,15 @@ MakesTable (commands.CreateTable name columns) draft = (draft ≡ new_table name
 MakesTable command draft = ⊥
 
 table_keeps : (history : List Entry) (b : ℕ) (name : List ℕ) (columns : List NewColumn) → IsSound history → AllByRecursion (λ column. IsName column.name) columns → first_twice [] (map (λ column. column.name) columns) ≡ None
-    → KeepsTables history b (drafted (next_oid history) (new_table name columns))
-table_keeps history b name columns sound spelled distinct = subst (KeepsTables history b) (sym (drafted_is (next_oid history) name columns)) (record {
-  stay = keeps.stay;
-  names = keeps.names;
-  columns = keeps.columns;
-  called = (class_called history b rel name Table None, table_called history b rel 1 columns (rows_drawn history sound) spelled);
-  apart = (alone (map (column_item rel) (enumerate_from 1 columns)), table_apart rel 1 [] columns distinct);
-  named = keeps.named;
+    → KeepsAll history b (drafted (next_oid history) (new_table name columns))
+table_keeps history b name columns sound spelled distinct = subst (KeepsAll history b) (sym (drafted_is (next_oid history) name columns)) (record {
+  columns = record {
+    whole = keeps.whole;
+    columns = keeps.columns;
+    called = (class_called history b rel name Table None, table_called history b rel 1 columns (rows_drawn history sound) spelled);
+    apart = (alone (map (column_item rel) (enumerate_from 1 columns)), table_apart rel 1 [] columns distinct);
+  };
+  names = table_named rel name (enumerate_from 1 columns);
 })
   where
     rel : Oid
@@ -82,12 +84,12 @@ table_keeps history b name columns sound spelled distinct = subst (KeepsTables h
     alone (item ∷ items) = (any_row (added_row item), alone items)
 
 -- a new table
-table_fits : (history : List Entry) (b c : ℕ) (facts : Facts) (command : Command) (draft : Draft) → IsSound history → IsCommand command → MakesTable command draft → WriteFits history b c facts draft
-table_fits history b c facts (commands.CreateTable name columns) draft sound spelled makes = record {
+table_fits : (history : List Entry) (b c : ℕ) (facts : Facts) (relations : List Opening) (command : Command) (draft : Draft) → IsSound history → IsCommand command → MakesTable command draft → WriteFits history b c facts relations draft
+table_fits history b c facts relations (commands.CreateTable name columns) draft sound spelled makes = record {
   fit = new_table_fits history b draft sound table;
   some = subst (λ d. 0 < length (drafted (next_oid history) d)) (sym table.is) (omega arith);
-  keeps = subst (λ d. KeepsTables history b (drafted (next_oid history) d)) (sym table.is) (table_keeps history b name columns sound spelled.1 makes.1);
-  names = λ name is. ap (list_any (bytes_eq name)) (sym (new_table_names history b facts draft table)) ∙ is;
+  keeps = subst (λ d. KeepsAll history b (drafted (next_oid history) d)) (sym table.is) (table_keeps history b name columns sound spelled.1 makes.1);
+  names = λ read name is. ap (list_any (bytes_eq name)) (sym (new_table_names history b facts draft table)) ∙ is;
   locks = λ rel locks first.
       ap (λ l. locks ++ l) (new_table_locks c (next_oid history) draft table ∙ (λ i. record { rel = record { 0 = sym first i }; mode = AccessExclusive; command = c; clear = true } ∷ []))
       ∙ sym (ap (λ d. locks_written d.new_oids rel c locks) table.is);
@@ -95,15 +97,15 @@ table_fits history b c facts (commands.CreateTable name columns) draft sound spe
   where
     table : IsTableDraft draft
     table = record { name = name; columns = columns; is = makes.0 }
-table_fits history b c facts command draft sound spelled makes = absurd makes
+table_fits history b c facts relations command draft sound spelled makes = absurd makes
 
 -- an alteration
-rows_fit : (history : List Entry) (b c : ℕ) (facts : Facts) (draft : Draft) → IsRowsDraft draft → MayBeWritten history b draft → WriteFits history b c facts draft
-rows_fit history b c facts draft drawn may = record {
+rows_fit : (history : List Entry) (b c : ℕ) (facts : Facts) (relations : List Opening) (draft : Draft) → IsRowsDraft draft → MayBeWritten history b relations draft → WriteFits history b c facts relations draft
+rows_fit history b c facts relations draft drawn may = record {
   fit = may.fit;
   some = may.some;
   keeps = may.keeps;
-  names = λ name is. absurd (let no : false ≡ true = sym (ap (list_any (bytes_eq name)) may.nameless) ∙ is in cc no);
+  names = may.named facts;
   locks = λ rel locks first. ap (λ l. locks ++ l) (may.lockless c) ∙ append-nil locks ∙ sym (ap (λ d. locks_written d.new_oids rel c locks) drawn.is);
 }
 
@@ -158,6 +160,8 @@ alters_or_makes (commands.Regclass oid) gave draft rest built on = absurd (never
 alters_or_makes (commands.LockTable name mode) gave draft rest built on =
     absurd (never_reaches gave (looking_up name mode (locking name)) draft rest (lookup_never name mode (locking name) (λ rel kind. passes_never (is_table kind) (errors.NotTable name) (Done tells.Ok) tt)) on)
 alters_or_makes (commands.CreateTable name columns) gave draft rest built on = inr (creates_table gave (nat_le (length columns) MOST_COLUMNS) (first_twice [] (map (λ (c : NewColumn). c.name) columns)) (new_table name columns) draft rest on)
+alters_or_makes (commands.DropTable name) gave draft rest built on = inl tt
+alters_or_makes (commands.RenameTable name to) gave draft rest built on = inl tt
 alters_or_makes (commands.AddColumn name column col_type) gave draft rest built on = inl tt
 alters_or_makes (commands.DropColumn name column) gave draft rest built on = inl tt
 alters_or_makes (commands.RenameColumn name column to) gave draft rest built on = inl tt
@@ -171,8 +175,8 @@ makes_finds_none (commands.CreateTable name columns) gave draft makes = creates_
 makes_finds_none command gave draft makes = absurd makes
 
 -- what a command is about to write, by its way
-pub write_fits : (history : List Entry) (b c : ℕ) (facts : Facts) (command : Command) (gave : List (List Row)) (draft : Draft) (rest : List Row → Plan) → IsSound history → EachEntry WritesTables history → IsCommand command → runs command ≡ true → WayHolds history b gave (plan_of none_open command)
-    → reached gave (plan_of none_open command) ≡ Do (Write draft) rest → WriteFits history b c facts draft
+pub write_fits : (history : List Entry) (b c : ℕ) (facts : Facts) (command : Command) (gave : List (List Row)) (draft : Draft) (rest : List Row → Plan) → IsSound history → EachEntry WritesColumns history → IsCommand command → runs command ≡ true → WayHolds history b gave (plan_of none_open command)
+    → reached gave (plan_of none_open command) ≡ Do (Write draft) rest → WriteFits history b c facts (made_in relation_by gave (plan_of none_open command)) draft
 write_fits history b c facts command gave draft rest sound kept spelled built way on = by_write
     (at_write relations opened draft rest (subst (HasCome relations opened) on (has_come gave (plan_of none_open command) (follows_order none_open command built)))).1 (alters_or_makes command gave draft rest built on)
   where
@@ -182,9 +186,9 @@ write_fits history b c facts command gave draft rest sound kept spelled built wa
     opened : List Opening
     opened = made_in opening_by gave (plan_of none_open command)
 
-    by_write : WritesTable relations opened draft ⊎ WritesRows relations opened draft → IsAlteration command ⊎ MakesTable command draft → WriteFits history b c facts draft
-    by_write (inl table) (inr makes) = table_fits history b c facts command draft sound spelled makes
-    by_write (inr altered) (inl alters) = rows_fit history b c facts draft altered.rows_are (alteration_may_write history b none_open command gave draft rest sound kept spelled alters way on)
+    by_write : WritesTable relations opened draft ⊎ WritesRows relations opened draft → IsAlteration command ⊎ MakesTable command draft → WriteFits history b c facts relations draft
+    by_write (inl table) (inr makes) = table_fits history b c facts relations command draft sound spelled makes
+    by_write (inr altered) (inl alters) = rows_fit history b c facts relations draft altered.rows_are (alteration_may_write history b none_open command gave draft rest sound kept spelled alters way on)
     by_write (inl table) (inl alters) =
         let one = one_found (answer_of history b) relations command draft alters (writes_by (answer_of history b) none_open command gave draft rest way.still on) in
         absurd (let no : [] ≡ one.0 ∷ [] = sym table.unfound ∙ one.1 in cc no)

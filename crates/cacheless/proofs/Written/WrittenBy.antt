@@ -4,18 +4,19 @@ use Rattle.std.specs.Prelude.{⊤}
 use Rattle.std.specs.Int.{int_min}
 use Rattle.std.specs.List.{find}
 use Rattle.base_types.specs.declared.change.Change.{Change}
-use Rattle.base_types.specs.declared.change.Change.TheVariants.{Insert, Replace}
+use Rattle.base_types.specs.declared.change.Change.TheVariants.{Insert, Replace, Delete}
 use Rattle.base_types.specs.declared.col_type.ColType.{ColType}
 use Rattle.base_types.specs.declared.command.Command.TheVariants as commands
 use Rattle.base_types.specs.declared.dropped.TheConstants.{MOST_COLUMNS}
 use Rattle.base_types.specs.declared.kind.Kind.TheVariants.{Table, Index}
 use Rattle.base_types.specs.declared.mode.Mode.TheVariants.{ShareUpdateExclusive}
 use Rattle.base_types.specs.declared.row.Row.TheVariants as rows
+use Rattle.base_types.specs.declared.row_key.RowKey.TheVariants as keys
 use Rattle.base_types.specs.declared.scan.Purpose.TheVariants as scans
 use Rattle.command_answers.specs.declared.error.CommandError.TheVariants as errors
 use Rattle.ddl_effect.specs.Plans.{Plan, Fails, Absent, Do, Write}
 use Rattle.ddl_effect.specs.Effects.{Effect, Writes, effect_at, no_changes}
-use Rattle.ddl_effect.specs.Commands.{plan_of, found as found_rows, looking_up, if_passes, altering, column_there, with_column, column_free, without_column, reading, changing, adding, add_column, is_default_of, column_number, deleting, as_dropped, dropping, drop_column, with_name, renaming, rename_column, most_stat, with_stat, targeting, set_statistics, with_fill, filling, set_fillfactor}
+use Rattle.ddl_effect.specs.Commands.{plan_of, found as found_rows, looking_up, if_passes, altering, removing, drop_table, renaming_table, rename_table, column_there, with_column, column_free, without_column, reading, changing, adding, add_column, is_default_of, column_number, deleting, as_dropped, dropping, drop_column, with_name, renaming, rename_column, most_stat, with_stat, targeting, set_statistics, with_fill, filling, set_fillfactor}
 use Rattle.cacheless.specs.Types.{Oid, Mode, AccessExclusive, Row, Purpose, Command, CommandError, Draft, Opening}
 use Rattle.cacheless.specs.ActsDone.{reached, made_in, opening_by, relation_by, BeginWith, AreStill}
 use Rattle.cacheless.specs.Settled.{found_by}
@@ -103,6 +104,20 @@ only_one gave plan draft rest relation others follows on first = by_write
     by_write (inl table) = absurd (let both : [] ≡ relation ∷ others = sym table.unfound ∙ first in cc both)
     by_write (inr altered) = first ∙ ap (λ l. relation ∷ l) (ap others_of (sym first ∙ altered.found_is))
 
+-- what `drop table` writes
+pub record RemovesTable (now : Purpose → List Row) (relations : List Opening) (draft : Draft) : Type 0 where
+  pub rel : Oid
+  pub found_is : relations ≡ record { rel = rel; kind = Table } ∷ []
+  pub begins : BeginWith rel Table (now (scans.Class rel))
+  pub is : draft ≡ rows_draft (removing (now (scans.Attribute rel)) ++ Delete (keys.Class rel) ∷ [])
+
+-- what `rename to` writes
+pub record RenamesTable (now : Purpose → List Row) (relations : List Opening) (to : List ℕ) (draft : Draft) : Type 0 where
+  pub rel : Oid
+  pub found_is : relations ≡ record { rel = rel; kind = Table } ∷ []
+  pub begins : BeginWith rel Table (now (scans.Class rel))
+  pub is : draft ≡ rows_draft (Replace (rows.Class rel to Table begins.fill) ∷ [])
+
 -- what `add column` writes
 pub record AddsColumn (now : Purpose → List Row) (relations : List Opening) (column : List ℕ) (col_type : ColType) (draft : Draft) : Type 0 where
   pub rel : Oid
@@ -154,12 +169,38 @@ pub record SetsFillfactor (now : Purpose → List Row) (relations : List Opening
 
 -- what an alteration writes
 abbrev pub WritesBy : (Purpose → List Row) → List Opening → Command → Draft → Type 0
+WritesBy now relations (commands.DropTable name) draft = RemovesTable now relations draft
+WritesBy now relations (commands.RenameTable name to) draft = RenamesTable now relations to draft
 WritesBy now relations (commands.AddColumn name column col_type) draft = AddsColumn now relations column col_type draft
 WritesBy now relations (commands.DropColumn name column) draft = DropsColumn now relations column draft
 WritesBy now relations (commands.RenameColumn name column to) draft = RenamesColumn now relations column to draft
 WritesBy now relations (commands.SetStatistics name column stat) draft = SetsStatistics now relations column stat draft
 WritesBy now relations (commands.SetFillfactor name fill) draft = SetsFillfactor now relations fill draft
 WritesBy now relations command draft = ⊤
+
+removes_table : (now : Purpose → List Row) (held : List Oid) (name : List ℕ) (gave : List (List Row)) (draft : Draft) (rest : List Row → Plan)
+    → AreStill now (plan_of held (commands.DropTable name)) gave → reached gave (plan_of held (commands.DropTable name)) ≡ Do (Write draft) rest
+    → RemovesTable now (made_in relation_by gave (plan_of held (commands.DropTable name))) draft
+removes_table now held name gave draft rest still on =
+    let table = table_was_found now name AccessExclusive drop_table gave draft rest (goes_by_relation held (commands.DropTable name) refl) still on in
+    record {
+      rel = table.rel;
+      found_is = only_one gave (plan_of held (commands.DropTable name)) draft rest (record { rel = table.rel; kind = Table }) table.others (follows_order held (commands.DropTable name) refl) on table.first;
+      begins = table.begins;
+      is = draft_is (rows_draft (removing (now (scans.Attribute table.rel)) ++ Delete (keys.Class table.rel) ∷ [])) draft table.comes;
+    }
+
+renames_table : (now : Purpose → List Row) (held : List Oid) (name to : List ℕ) (gave : List (List Row)) (draft : Draft) (rest : List Row → Plan)
+    → AreStill now (plan_of held (commands.RenameTable name to)) gave → reached gave (plan_of held (commands.RenameTable name to)) ≡ Do (Write draft) rest
+    → RenamesTable now (made_in relation_by gave (plan_of held (commands.RenameTable name to))) to draft
+renames_table now held name to gave draft rest still on =
+    let table = table_was_found now name AccessExclusive (rename_table to) gave draft rest (goes_by_relation held (commands.RenameTable name to) refl) still on in
+    record {
+      rel = table.rel;
+      found_is = only_one gave (plan_of held (commands.RenameTable name to)) draft rest (record { rel = table.rel; kind = Table }) table.others (follows_order held (commands.RenameTable name to) refl) on table.first;
+      begins = table.begins;
+      is = draft_is (rows_draft (Replace (rows.Class table.rel to Table table.begins.fill) ∷ [])) draft (sym (ap (λ l. effect_at now table.found (renaming_table to l)) table.begins.are) ∙ table.comes);
+    }
 
 adds_column : (now : Purpose → List Row) (held : List Oid) (name column : List ℕ) (col_type : ColType) (gave : List (List Row)) (draft : Draft) (rest : List Row → Plan)
     → AreStill now (plan_of held (commands.AddColumn name column col_type)) gave → reached gave (plan_of held (commands.AddColumn name column col_type)) ≡ Do (Write draft) rest
@@ -257,6 +298,8 @@ sets_fillfactor now held name fill gave draft rest still on =
 -- each alteration writes what it has to by the rows of now
 pub writes_by : (now : Purpose → List Row) (held : List Oid) (command : Command) (gave : List (List Row)) (draft : Draft) (rest : List Row → Plan)
     → AreStill now (plan_of held command) gave → reached gave (plan_of held command) ≡ Do (Write draft) rest → WritesBy now (made_in relation_by gave (plan_of held command)) command draft
+writes_by now held (commands.DropTable name) gave draft rest still on = removes_table now held name gave draft rest still on
+writes_by now held (commands.RenameTable name to) gave draft rest still on = renames_table now held name to gave draft rest still on
 writes_by now held (commands.AddColumn name column col_type) gave draft rest still on = adds_column now held name column col_type gave draft rest still on
 writes_by now held (commands.DropColumn name column) gave draft rest still on = drops_column now held name column gave draft rest still on
 writes_by now held (commands.RenameColumn name column to) gave draft rest still on = renames_column now held name column to gave draft rest still on

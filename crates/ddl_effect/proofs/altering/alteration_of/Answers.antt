@@ -24,3 +24,6 @@ returns-in-SetStatistics c =
 
 pub returns-in-SetFillfactor : goal.returns-in-SetFillfactor
 returns-in-SetFillfactor c = ap altering_at c.alters-in-SetFillfactor.ensures ∙ sym (ap (plan_of []) c.in-SetFillfactor.is)
+
+pub returns-in-RenameTable : goal.returns-in-RenameTable
+returns-in-RenameTable c = ap altering_at c.alters-in-RenameTable.ensures ∙ sym (ap (plan_of []) c.in-RenameTable.is)

@@ -1,4 +1,4 @@
-use Rattle.std.proofs.Common.{◌≡◌, ◌∙◌, ◌∷◌, ◌++◌, [], Some, None, ap, sym, rules}
+use Rattle.std.proofs.Common.{◌∙◌, ◌∷◌, ◌++◌, [], ap, sym}
 use Rattle.ddl_effect.specs.Commands.{live_column}
 use Rattle.ddl_effect.proofs.Listing.{taken_some, taken_none}
 use Rattle.ddl_effect.proofs.exec.live_columns.Goals as goal

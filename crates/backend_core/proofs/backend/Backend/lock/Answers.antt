@@ -1,7 +1,7 @@
 use Rattle.std.proofs.Common.{arith}
 use Rattle.backend_core.proofs.Entries.Alike.{reserved_id, reserved_awaits, reserved_lock}
 use Rattle.backend_core.proofs.Fitting.Entered.{has_room, is_few}
-use Rattle.backend_core.proofs.Entries.Locking.{lock_request, lock_asked, lock_whole, lock_free, lock_new, lock_drawn, held_appends, granted_enters, refused_enters}
+use Rattle.backend_core.proofs.Entries.Locking.{lock_request, lock_free, lock_new, lock_drawn, held_appends, granted_enters, refused_enters}
 use Rattle.backend_core.proofs.backend.Backend.lock.Goals as goal
 
 pub lock-requires-clause-call : goal.lock-requires-clause-call
@@ -18,12 +18,6 @@ enter_lock-requires-clause-few g c = is_few _ _ _ (reserved_awaits _ _ c.args.se
 
 pub enter_lock-requires-clause-room : goal.enter_lock-requires-clause-room
 enter_lock-requires-clause-room g c = has_room _ _ _ (reserved_awaits _ _ c.args.self.now _ c.reserve_lock.ensures.same c.requires.ready.waits) (omega (arith, g.met.L.Seg.short c.args.seg.now))
-
-pub enter_lock-requires-clause-next : goal.enter_lock-requires-clause-next
-enter_lock-requires-clause-next g c = lock_asked _ _ _ (reserved_awaits _ _ c.args.self.now _ c.reserve_lock.ensures.same c.requires.ready.waits) c.requires.ready.played c.requires.ready.course _ _ (reserved_lock _ _ _ _ c.reserve_lock.ensures.same c.requires.next)
-
-pub enter_lock-requires-clause-whole : goal.enter_lock-requires-clause-whole
-enter_lock-requires-clause-whole g c = lock_whole _ _ _ (reserved_awaits _ _ c.args.self.now _ c.reserve_lock.ensures.same c.requires.ready.waits) c.requires.ready.played c.requires.ready.course _ _ (reserved_lock _ _ _ _ c.reserve_lock.ensures.same c.requires.next)
 
 pub enter_lock-requires-clause-new : goal.enter_lock-requires-clause-new
 enter_lock-requires-clause-new g c = lock_free _ _ _ (reserved_awaits _ _ c.args.self.now _ c.reserve_lock.ensures.same c.requires.ready.waits) c.requires.ready.played c.requires.ready.course _ _ (reserved_lock _ _ _ _ c.reserve_lock.ensures.same c.requires.next)

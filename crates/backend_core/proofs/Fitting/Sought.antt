@@ -1,0 +1,194 @@
+-- What a look was made for, and the lock that a lookup took.
+use Rattle.std.proofs.Common.{◌≡◌, ◌+◌, ◌∙◌, ◌==◌, ◌&&◌, ◌||◌, ◌⊎◌, inl, inr, ℕ, Bool, true, false, not, Option, Some, None, List, [], ◌∷◌, ◌++◌, refl, sym, ap, subst, map, filter, is_none, is_some, slice_get, cond, if◌then◌else◌}
+use Rattle.std.specs.Option.{option_map_or}
+use Rattle.std.specs.List.{list_any, find}
+use Rattle.std.proofs.Math.Bool.{and-false, or-false}
+use Rattle.std.proofs.lemmas.Bool.{and_parts, both_ways, or_cases, eq-eqb, and_from}
+use Rattle.base_types.specs.Scans.{same_scan, is_build_scan, build_scans}
+use Rattle.base_types.proofs.SameScan.{same_scan-true}
+use Rattle.base_types.specs.declared.row.Row.TheVariants as rows
+use Rattle.base_types.specs.declared.scan.Purpose.TheVariants as scans
+use Rattle.event_kinds.specs.declared.entry.Event.TheVariants as events
+use Rattle.ddl_effect.specs.declared.told.Told.TheVariants as tells
+use Rattle.lock_modes.specs.Own.{is_own, cleared}
+use Rattle.ddl_effect.specs.Plans.{Plan, Act, Done, Fails, Absent, NotBuilt, Do, Lookup, Open, Search, Read, Lock, Write, told_rests_on}
+use Rattle.ddl_effect.specs.Stages.{plan_at}
+use Rattle.history_model.specs.Writes.{is_empty}
+use Rattle.history_model.proofs.Every.{any-right}
+use Rattle.base_types.specs.Modes.{mode_number, same_mode}
+use Rattle.base_types.specs.Scans.{same_oid}
+use Rattle.cacheless.specs.Facts.{Facts}
+use Rattle.cacheless.specs.Session.{Outcome, Badly, outcome_of, is_settled}
+use Rattle.cacheless.specs.Owed.{unusable, owed_after, act_owed}
+use Rattle.cacheless.specs.Plays.{IsLock}
+use Rattle.cacheless.specs.Settled.{class_oid}
+use Rattle.cacheless.specs.Holds.{FactsFit}
+use Rattle.cacheless.specs.May.{is_first_missing, is_missing, is_next_of_act, is_next_at, has_failed, lacks_opened, lacks_any}
+use Rattle.cacheless.specs.State.{is_absent, kept_at, is_kept, Kept, rows_kept, row_sought, act_missing}
+use Rattle.cacheless.proofs.Resting.{kept_rows}
+use Rattle.cacheless.proofs.Entries.EnteredScans.{opened_lacks, first_lacks}
+use Rattle.cacheless.proofs.Plans.SilentActs.{kept_already}
+use Rattle.cacheless.proofs.ReadsBuilds.{ReadsBuilds}
+use Rattle.backend_core.specs.Types.{Oid, Mode, Row, Purpose, Event, OwnLock, Opening, Progress}
+use Rattle.backend_core.specs.Fits.{TakesFit, IsLookedFor, Lacks, Unfound, Said, lacks_name, finds_no_name, is_look}
+use Rattle.backend_core.specs.Words.{relation_named, is_unfound, finds_none}
+
+-- the first row is no relation's
+pub no_class : (given : List Row) → is_none (relation_named (slice_get given 0)) ≡ true → class_oid given ≡ None
+no_class [] is = refl
+no_class (rows.Class oid name kind fill ∷ more) is = absurd (cc is)
+no_class (row ∷ more) is = refl
+
+-- a lock that becomes clear is the same lock
+own_cleared : (rel : Oid) (mode : Mode) (number : ℕ) (locks : List OwnLock) → list_any (λ lock. is_own rel mode lock && (lock.command == number)) (map cleared locks) ≡ list_any (λ lock. is_own rel mode lock && (lock.command == number)) locks
+own_cleared rel mode number [] = refl
+own_cleared rel mode number (lock ∷ locks) = ap (λ t. (is_own rel mode lock && (lock.command == number)) || t) (own_cleared rel mode number locks)
+
+pub takes_cleared : (t : Bool) (number : ℕ) (locks : List OwnLock) (taken : Option Oid) (p : Plan) → TakesFit number locks taken p → TakesFit number (elim t as (λ x. List OwnLock) [ true ↦ locks | false ↦ map cleared locks ]) taken p
+takes_cleared true number locks taken p takes = takes
+takes_cleared false number locks None p takes = tt
+takes_cleared false number locks (Some rel) (Do (Lookup name mode) rest) takes = own_cleared rel mode number locks ∙ takes
+takes_cleared false number locks (Some rel) (Absent name) takes = takes
+takes_cleared false number locks (Some rel) (Do (Open of kind) rest) takes = tt
+takes_cleared false number locks (Some rel) (Do (Search scan) rest) takes = tt
+takes_cleared false number locks (Some rel) (Do (Read scan) rest) takes = tt
+takes_cleared false number locks (Some rel) (Do (Lock of mode) rest) takes = tt
+takes_cleared false number locks (Some rel) (Do (Write draft) rest) takes = tt
+takes_cleared false number locks (Some rel) (Done told) takes = tt
+takes_cleared false number locks (Some rel) (Fails error) takes = tt
+takes_cleared false number locks (Some rel) NotBuilt takes = tt
+
+-- a look more leaves what one was made for
+pub sought_looked : (facts later : Facts) (taken : Option Oid) (p : Plan) → later.usable ≡ facts.usable → later.rows ≡ facts.rows → is_look later.last ≡ true → IsLookedFor facts taken p → IsLookedFor later taken p
+sought_looked facts later taken p usable rows look (Lacks is) = Lacks (ap (λ u. lacks_name (record facts { usable = u }) p) usable ∙ is)
+sought_looked facts later taken p usable rows look (Unfound is last) = Unfound ((λ i. finds_no_name (record facts { usable = usable i; rows = rows i }) taken p) ∙ is) look
+sought_looked facts later taken p usable rows look (Said is) = Said is
+
+-- what the code holds to have found no relation has found none
+pub unfound_facts : (facts : Facts) (s : Progress) (p : Plan) → FactsFit facts s → is_unfound s p ≡ true → finds_no_name facts s.taken p ≡ true
+unfound_facts facts s (Do (Lookup name mode) rest) fits is =
+    let first = and_parts (is_none s.taken && is_kept (kept_at s) (scans.RelName name)) (is_none (relation_named (row_sought s name))) is in
+    let second = and_parts (is_none s.taken) (is_kept (kept_at s) (scans.RelName name)) first.0 in
+    (λ i. second.0 i && (fits.usable (scans.RelName name) ∙ second.1) i && is_none (relation_named (slice_get (kept_rows facts.rows (kept_at s) (scans.RelName name) fits.kept second.1 i) 0))) ∙ first.1
+unfound_facts facts s (Do (Open of kind) rest) fits is = absurd (cc is)
+unfound_facts facts s (Do (Search scan) rest) fits is = absurd (cc is)
+unfound_facts facts s (Do (Read scan) rest) fits is = absurd (cc is)
+unfound_facts facts s (Do (Lock of mode) rest) fits is = absurd (cc is)
+unfound_facts facts s (Do (Write draft) rest) fits is = absurd (cc is)
+unfound_facts facts s p fits is = absurd (cc is)
+
+-- and the other way
+pub unfound_held : (facts : Facts) (s : Progress) (p : Plan) → FactsFit facts s → finds_no_name facts s.taken p ≡ true → is_unfound s p ≡ true
+unfound_held facts s (Do (Lookup name mode) rest) fits is =
+    let first = and_parts (is_none s.taken && facts.usable (scans.RelName name)) (is_none (relation_named (slice_get (facts.rows (scans.RelName name)) 0))) is in
+    let second = and_parts (is_none s.taken) (facts.usable (scans.RelName name)) first.0 in
+    let kept = sym (fits.usable (scans.RelName name)) ∙ second.1 in
+    (λ i. second.0 i && kept i && is_none (relation_named (slice_get (sym (kept_rows facts.rows (kept_at s) (scans.RelName name) fits.kept kept) i) 0))) ∙ first.1
+unfound_held facts s (Do (Open of kind) rest) fits is = absurd (cc is)
+unfound_held facts s (Do (Search scan) rest) fits is = absurd (cc is)
+unfound_held facts s (Do (Read scan) rest) fits is = absurd (cc is)
+unfound_held facts s (Do (Lock of mode) rest) fits is = absurd (cc is)
+unfound_held facts s (Do (Write draft) rest) fits is = absurd (cc is)
+unfound_held facts s p fits is = absurd (cc is)
+
+-- a look before the scan of a catalog cache is made for what comes next
+pub next_name : (facts : Facts) (s : Progress) (scan : Purpose) → FactsFit facts s → is_next_at scan s ≡ true → is_build_scan scan ≡ false → lacks_name facts (plan_at s.exec) ≡ true
+next_name facts s scan fits is named = by_side (or_cases _ _ (and_parts (not (has_failed s)) _ is).1)
+  where
+    missing_is : (wanted : Purpose) → is_missing scan (kept_at s) wanted ≡ true → not (facts.usable wanted) ≡ true
+    missing_is wanted lacks = ap not (fits.usable wanted) ∙ (and_parts (not (is_kept (kept_at s) wanted)) (same_scan scan wanted) lacks).0
+
+    by_act : (p : Plan) → is_next_of_act scan s p ≡ true → lacks_name facts p ≡ true
+    by_act (Do (Lookup name mode) rest) lacks = missing_is (scans.RelName name) lacks
+    by_act (Do (Search wanted) rest) lacks = missing_is wanted lacks
+    by_act (Do (Open rel kind) rest) lacks = absurd (both_ways _ named (first_lacks (kept_at s) scan kind rel lacks).1)
+    by_act (Done (tells.Regclass oid)) lacks = missing_is (scans.RelOid oid) lacks
+    by_act p lacks = absurd (cc lacks)
+
+    by_side : (list_any (λ (o : Opening). is_first_missing scan (kept_at s) o.kind o.rel) s.opened ≡ true) ⊎ (is_next_of_act scan s (plan_at s.exec) ≡ true) → lacks_name facts (plan_at s.exec) ≡ true
+    by_side (inl opened) = absurd (both_ways _ named (opened_lacks (kept_at s) scan s.opened opened).1)
+    by_side (inr act) = by_act (plan_at s.exec) act
+
+-- a scan for a descriptor leaves it lacking
+pub built_leaves : (facts later : Facts) (scan : Purpose) (p : Plan) → ReadsBuilds p → is_build_scan scan ≡ true → ((other : Purpose) → later.usable other ≡ (same_scan scan other || facts.usable other)) → lacks_name facts p ≡ true → lacks_name later p ≡ true
+built_leaves facts later scan p reads builds usable = by_plan p reads
+  where
+    other_stays : (other : Purpose) → is_build_scan other ≡ false → not (facts.usable other) ≡ true → not (later.usable other) ≡ true
+    other_stays other named lacks = ap not (usable other) ∙ by_same (same_scan scan other) refl
+      where
+        by_same : (t : Bool) → same_scan scan other ≡ t → not (t || facts.usable other) ≡ true
+        by_same true same = absurd (both_ways _ named (sym (ap is_build_scan (same_scan-true scan other same)) ∙ builds))
+        by_same false differs = lacks
+
+    by_plan : (q : Plan) → ReadsBuilds q → lacks_name facts q ≡ true → lacks_name later q ≡ true
+    by_plan (Do (Lookup name mode) rest) of lacks = other_stays (scans.RelName name) refl lacks
+    by_plan (Do (Search wanted) rest) of lacks = other_stays wanted of lacks
+    by_plan (Done (tells.Regclass oid)) of lacks = other_stays (scans.RelOid oid) refl lacks
+    by_plan q of lacks = absurd (cc lacks)
+
+-- a scan that isn't owed isn't lacked
+pub act_serves : (facts : Facts) (act : Act) (rest : List Row → Plan) → act_owed facts (Do act rest) ≡ [] → lacks_name facts (Do act rest) ≡ false
+act_serves facts (Lookup name mode) rest none = ap not (kept_already (facts.usable (scans.RelName name)) (scans.RelName name) none)
+act_serves facts (Search scan) rest none = ap not (kept_already (facts.usable scan) scan none)
+act_serves facts act rest none = refl
+
+-- no look was made where nothing is lacked, no lookup has failed, and none says so
+pub no_look : (facts : Facts) (taken : Option Oid) (p : Plan) → lacks_name facts p ≡ false → finds_no_name facts taken p ≡ false → is_absent p ≡ false → {X : Type 0} → IsLookedFor facts taken p → X
+no_look facts taken p serves found there (Lacks is) = absurd (both_ways _ serves is)
+no_look facts taken p serves found there (Unfound is look) = absurd (both_ways _ found is)
+no_look facts taken p serves found there (Said is) = absurd (both_ways _ there is)
+
+-- a lookup that asks for a lock has found a relation
+pub lock_found : (facts : Facts) (taken : Option Oid) (p : Plan) (rel : Oid) (mode : Mode) → IsLock facts p rel mode → finds_no_name facts taken p ≡ false
+lock_found facts taken (Do (Lookup name wanted) rest) rel mode asks = by_test _ refl
+  where
+    by_test : (t : Bool) → (is_none taken && facts.usable (scans.RelName name) && is_none (relation_named (slice_get (facts.rows (scans.RelName name)) 0))) ≡ t → t ≡ false
+    by_test true is = absurd (let both : None ≡ Some rel = sym (no_class (facts.rows (scans.RelName name)) (and_parts (is_none taken && facts.usable (scans.RelName name)) _ is).1) ∙ asks.0 in cc both)
+    by_test false is = refl
+lock_found facts taken (Do (Lock of wanted) rest) rel mode asks = refl
+lock_found facts taken (Do (Open of kind) rest) rel mode asks = absurd asks
+lock_found facts taken (Do (Search scan) rest) rel mode asks = absurd asks
+lock_found facts taken (Do (Read scan) rest) rel mode asks = absurd asks
+lock_found facts taken (Do (Write draft) rest) rel mode asks = absurd asks
+lock_found facts taken p rel mode asks = absurd asks
+
+-- the lock that an entry grants is held by a grant of the command
+pub takes_granted : (facts : Facts) (number c : ℕ) (locks : List OwnLock) (p : Plan) (rel : Oid) (mode : Mode) → c ≡ number → IsLock facts p rel mode → TakesFit number (locks ++ record { rel = rel; mode = mode; command = c; clear = false } ∷ []) (Some rel) p
+takes_granted facts number c locks (Do (Lookup name wanted) rest) rel mode same asks = any-right (λ (lock : OwnLock). is_own rel wanted lock && (lock.command == number)) locks (new ∷ [])
+    (ap (λ t. t || false) (and_from (is_own rel wanted new) (c == number) (and_from (rel.0 == rel.0) (same_mode mode wanted) (eq-eqb rel.0 rel.0 refl) (eq-eqb (mode_number mode) (mode_number wanted) (ap mode_number asks.1))) (eq-eqb c number same)))
+  where
+    new : OwnLock
+    new = record { rel = rel; mode = mode; command = c; clear = false }
+takes_granted facts number c locks (Do (Lock of wanted) rest) rel mode same asks = tt
+takes_granted facts number c locks (Do (Open of kind) rest) rel mode same asks = absurd asks
+takes_granted facts number c locks (Do (Search scan) rest) rel mode same asks = absurd asks
+takes_granted facts number c locks (Do (Read scan) rest) rel mode same asks = absurd asks
+takes_granted facts number c locks (Do (Write draft) rest) rel mode same asks = absurd asks
+takes_granted facts number c locks (Done told) rel mode same asks = absurd asks
+takes_granted facts number c locks (Fails error) rel mode same asks = absurd asks
+takes_granted facts number c locks (Absent name) rel mode same asks = absurd asks
+takes_granted facts number c locks NotBuilt rel mode same asks = absurd asks
+
+-- a lookup that took a lock has a relation to give back
+pub unlock_found : (facts : Facts) (taken : Option Oid) (p : Plan) (rel : Oid) → taken ≡ Some rel → finds_no_name facts taken p ≡ false
+unlock_found facts taken (Do (Lookup name wanted) rest) rel took = ap (λ o. is_none o && facts.usable (scans.RelName name) && is_none (relation_named (slice_get (facts.rows (scans.RelName name)) 0))) took
+unlock_found facts taken (Do (Open of kind) rest) rel took = refl
+unlock_found facts taken (Do (Search scan) rest) rel took = refl
+unlock_found facts taken (Do (Read scan) rest) rel took = refl
+unlock_found facts taken (Do (Lock of mode) rest) rel took = refl
+unlock_found facts taken (Do (Write draft) rest) rel took = refl
+unlock_found facts taken p rel took = refl
+
+-- where a lookup has found no relation its scan isn't lacked
+pub finds_serves : (facts : Facts) (taken : Option Oid) (p : Plan) → finds_no_name facts taken p ≡ true → (lacks_name facts p ≡ false) × (is_absent p ≡ false) × (is_settled (outcome_of p) ≡ false) × (taken ≡ None)
+finds_serves facts taken (Do (Lookup name mode) rest) is = let parts = and_parts (is_none taken) (facts.usable (scans.RelName name)) (and_parts (is_none taken && facts.usable (scans.RelName name)) _ is).0 in (ap not parts.1, refl, refl, none_of taken parts.0)
+  where
+    none_of : (o : Option Oid) → is_none o ≡ true → o ≡ None
+    none_of None none = refl
+    none_of (Some rel) none = absurd (cc none)
+finds_serves facts taken (Do (Open of kind) rest) is = absurd (cc is)
+finds_serves facts taken (Do (Search scan) rest) is = absurd (cc is)
+finds_serves facts taken (Do (Read scan) rest) is = absurd (cc is)
+finds_serves facts taken (Do (Lock of mode) rest) is = absurd (cc is)
+finds_serves facts taken (Do (Write draft) rest) is = absurd (cc is)
+finds_serves facts taken p is = absurd (cc is)

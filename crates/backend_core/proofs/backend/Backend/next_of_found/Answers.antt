@@ -1,0 +1,12 @@
+use Rattle.std.proofs.lemmas.Bool.{eq-eqb, ne_eqb}
+use Rattle.backend_core.proofs.Choosing.NextActs.{lock_next, unlock_other, locked_ends}
+use Rattle.backend_core.proofs.backend.Backend.next_of_found.Goals as goal
+
+pub unreachable-requires : goal.unreachable-requires
+unreachable-requires c = locked_ends c.args.self.now _ c.requires.still c.requires.chosen c.requires.free c.args.name c.args.mode c.requires.want c.requires.owes c.args.rel _ c.requires.found c.in-Some.is (eq-eqb _ _ c.if-taken-rel.true)
+
+pub returns-in-None : goal.returns-in-None
+returns-in-None c = lock_next c.args.self.now _ c.requires.still c.requires.chosen c.requires.free c.args.name c.args.mode c.requires.want c.requires.owes c.args.rel c.requires.found c.in-None.is
+
+pub returns-else-taken-rel : goal.returns-else-taken-rel
+returns-else-taken-rel c = unlock_other c.args.self.now _ c.requires.still c.requires.chosen c.requires.free c.args.name c.args.mode c.requires.want c.requires.owes c.args.rel _ c.requires.found c.in-Some.is (ne_eqb _ _ c.if-taken-rel.false)

@@ -1,0 +1,15 @@
+use Rattle.backend_core.proofs.Fitting.Entered.{is_few}
+use Rattle.backend_core.proofs.Entries.Unlocking.{unlock_call, unlock_held, unlock_enters}
+use Rattle.backend_core.proofs.backend.Backend.unlock.Goals as goal
+
+pub unlock-requires-clause-call : goal.unlock-requires-clause-call
+unlock-requires-clause-call g c = unlock_call _ _ c.args.self.now c.requires.ready.waits c.requires.ready.played c.requires.ready.course _ _ c.requires.next
+
+pub enter_unlock-requires-clause-few : goal.enter_unlock-requires-clause-few
+enter_unlock-requires-clause-few g c = is_few _ _ c.args.self.now c.requires.ready.waits
+
+pub enter_unlock-requires-clause-held : goal.enter_unlock-requires-clause-held
+enter_unlock-requires-clause-held g c = unlock_held _ _ c.args.self.now c.requires.ready.waits c.requires.ready.played c.requires.ready.course _ _ c.requires.next
+
+pub returns-clause-enters : goal.returns-clause-enters
+returns-clause-enters g c = unlock_enters _ _ c.args.self.now c.requires.ready.waits c.requires.ready.played c.requires.ready.course _ _ c.requires.next _ _ _ _ (c.enter_unlock.ensures.holds _ _ c.requires.ready.waits.rests) c.enter_unlock.ensures.kept c.enter_unlock.ensures.answer c.unlock.ensures.appends

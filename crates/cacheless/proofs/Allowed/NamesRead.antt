@@ -1,0 +1,66 @@
+-- A command that is about to write has read the rows of the relation that it found as they are: so its new names are those that its plan names.
+use Rattle.std.proofs.Common.{◌≡◌, ◌∙◌, ◌⊎◌, inl, inr, ℕ, Bool, true, false, not, Some, List, [], ◌∷◌, ◌++◌, cond, refl, sym, ap, subst, map, length, slice_get, arith}
+use Rattle.base_types.specs.declared.kind.Kind.TheVariants.{Table}
+use Rattle.base_types.specs.declared.scan.Purpose.TheVariants as scans
+use Rattle.lock_modes.specs.Own.{cleared}
+use Rattle.ddl_effect.specs.Plans.{Plan, Do, Write}
+use Rattle.ddl_effect.specs.Commands.{plan_of, commands_of}
+use Rattle.history_model.specs.Read.{is_usable}
+use Rattle.history_model.specs.Writes.{is_empty}
+use Rattle.cacheless.specs.Types.{Row, Purpose, Command, Draft, Opening, Scenario, Entry}
+use Rattle.cacheless.specs.ActsDone.{made_in, opening_by, relation_by}
+use Rattle.cacheless.specs.Facts.{Facts, facts_of}
+use Rattle.cacheless.specs.OnCourse.{OnItsWay, IsOnCourse, ClearUnlessOwed}
+use Rattle.cacheless.specs.Owed.{OwesScan, owed_at_start, owed_after, builds_owed, act_owed, scans_owed, owed_of}
+use Rattle.cacheless.specs.Played.{IsPlayed}
+use Rattle.cacheless.specs.Session.{Session, Badly, none_open, outcome_of}
+use Rattle.cacheless.specs.Sessions.{session_of}
+use Rattle.cacheless.proofs.Allowed.SettledCourse.{builds_done}
+use Rattle.cacheless.proofs.Plans.ActOrder.{WritesTable, WritesRows, at_write}
+use Rattle.cacheless.proofs.Plans.AloneLocks.{late_answers}
+use Rattle.cacheless.proofs.Plans.SilentActs.{both_empty, its_order, its_place}
+use Rattle.cacheless.proofs.Written.NamesGiven.{AreReadAsNow}
+
+none_mapped : {X Y : Type 0} (f : X → Y) (xs : List X) → map f xs ≡ [] → xs ≡ []
+none_mapped f [] none = refl
+none_mapped f (x ∷ xs) none = absurd (cc none)
+
+-- so it is where nothing is owed, and the backend is on its course
+pub read_as_now : (scenario : Scenario) (history : List Entry) (b : ℕ) (s : Session) (command : Command) (draft : Draft) (rest : List Row → Plan) → IsPlayed scenario history → session_of scenario history b ≡ Some s → IsOnCourse scenario history b s → slice_get (commands_of scenario b) (length s.finished) ≡ Some command
+    → s.left ≡ Do (Write draft) rest → owed_of (facts_of history b) command s ≡ [] → (way : OnItsWay history b s command) → AreReadAsNow history b (facts_of history b) (made_in relation_by way.gave (plan_of none_open command))
+read_as_now scenario history b s command draft rest played is course here at none way = by_write (at_write relations opened draft rest (its_place history b s command (Write draft) rest way at)).1
+  where
+    facts : Facts
+    facts = facts_of history b
+
+    relations : List Opening
+    relations = made_in relation_by way.gave (plan_of none_open command)
+
+    opened : List Opening
+    opened = made_in opening_by way.gave (plan_of none_open command)
+
+    start : owed_at_start facts command s ++ owed_after facts.last ≡ []
+    start = (both_empty (owed_at_start facts command s ++ owed_after facts.last) (map OwesScan (scans_owed facts s)) none).0
+
+    same : scans_owed facts s ≡ builds_owed facts s.opened ++ act_owed facts (Do (Write draft) rest)
+    same = ap (λ p. elim (outcome_of p) as (λ x. List Purpose) [ Badly ↦ [] | other ↦ builds_owed facts s.opened ++ act_owed facts p ]) at
+
+    builds : builds_owed facts s.opened ≡ []
+    builds = (both_empty (builds_owed facts s.opened) (act_owed facts (Do (Write draft) rest))
+        (none_mapped OwesScan _ (sym (ap (map OwesScan) same) ∙ (both_empty (owed_at_start facts command s ++ owed_after facts.last) (map OwesScan (scans_owed facts s)) none).1))).0
+
+    clear : map cleared s.locks ≡ s.locks
+    clear = subst (λ o. ClearUnlessOwed facts o s) here course.clear (builds_done facts command s builds (ap is_empty start))
+
+    first_usable : (t : Bool) (scan : Purpose) (more : List Purpose) → cond (not t) (scan ∷ more) more ++ [] ≡ [] → t ≡ true
+    first_usable true scan more owed = refl
+    first_usable false scan more owed = absurd (cc owed)
+
+    by_write : WritesTable relations opened draft ⊎ WritesRows relations opened draft → AreReadAsNow history b facts relations
+    by_write (inl table) = subst (AreReadAsNow history b facts) (sym table.unfound) tt
+    by_write (inr altered) = subst (AreReadAsNow history b facts) (sym altered.found_is) (
+      sym (late_answers scenario history b s way.gave (plan_of none_open command) (Write draft) rest (record { rel = altered.rel; kind = Table }) (scans.Class altered.rel)
+          played.sound played.plays is clear (its_order history b s command way) way.holds (sym way.plan ∙ at) altered.found_is altered.opened_is (inr (0, omega arith, refl))
+          (first_usable (is_usable history b (scans.Class altered.rel)) (scans.Class altered.rel) _ (sym (ap (builds_owed facts) (way.opened ∙ altered.opened_is)) ∙ builds))),
+      tt,
+    )

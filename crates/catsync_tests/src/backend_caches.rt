@@ -1,0 +1,184 @@
+ghost use Rattle.std.specs.Prelude.{◌≤◌, length, IfSome};
+
+use crate::values::name;
+use base_types::{CacheId, Kind, Oid, Purpose, Row};
+use inval_messages::Message;
+use local_caches::LocalCaches;
+use std::alloc::Global;
+
+const REL: Oid = Oid(16384);
+
+const OTHER: Oid = Oid(16385);
+
+// A name, the cache and the hash of a message, and at which entry a scan for the name is kept after it, or 0; two names
+// have one hash.
+const NAMES: &[(&[u8], CacheId, u32, u64)] = &[
+    (b"an", CacheId::RelName, 4078, 0),
+    (b"c0", CacheId::RelName, 4078, 0),
+    (b"an", CacheId::RelName, 4079, 4),
+    (b"an", CacheId::RelOid, 4078, 4),
+];
+
+fn cat(cache: CacheId, hash: u32) -> Message {
+    Message::Cat { cache, hash }
+}
+
+fn rel(rel: Oid) -> Message {
+    Message::Rel { rel }
+}
+
+fn by_name(text: &[u8]) -> Purpose {
+    Purpose::RelName(name(text))
+}
+
+fn by_column(text: &[u8]) -> Purpose {
+    Purpose::AttName(REL, name(text))
+}
+
+// At which entry a scan was made that is kept, or 0.
+fn at(caches: &LocalCaches, scan: &Purpose) -> u64 {
+    match caches.at(scan) {
+        Some(at) => at,
+        None => 0,
+    }
+}
+
+// At which entry a scan is kept before it is put, after it, and after a message; it gave nothing at entry 4.
+fn left(alloc: Global, scan: Purpose, message: Message) -> [u64; 3] {
+    let mut caches = LocalCaches::new(alloc);
+    let before = at(&caches, &scan);
+    let Ok(()) = caches.put(&scan, Vec::new(alloc), 4) else {
+        return [9; 3];
+    };
+    let after = at(&caches, &scan);
+    caches.execute(&[message]);
+    [before, after, at(&caches, &scan)]
+}
+
+// The row that a scan gave.
+fn one_row(alloc: Global) -> Option<Vec<Row>>
+    ensures { IfSome result (λ rows. length rows.items ≤ 1) }
+{
+    let row = Row::Class {
+        oid: REL,
+        name: name(b"an"),
+        kind: Kind::Table,
+        fill: None,
+    };
+    Vec::from_slice(alloc, &[row]).ok()
+}
+
+// How many rows are kept of a scan that gave one, after it and after a reset. (Rattle cannot prove a function that has
+// both a row and caches of rows, so one makes it and another one puts it there.)
+fn row_counts(alloc: Global, scan: Purpose) -> [usize; 2] {
+    match one_row(alloc) {
+        Some(rows) => row_counts_of(alloc, scan, rows),
+        None => [9; 2],
+    }
+}
+
+// The same of a scan that gave these rows; its descriptor is pinned meanwhile, if there is one.
+fn row_counts_of(alloc: Global, scan: Purpose, rows: Vec<Row>) -> [usize; 2]
+    requires { length rows.items ≤ 1 }
+{
+    let mut caches = LocalCaches::new(alloc);
+    let Ok(()) = caches.put(&scan, rows, 4) else {
+        return [9; 2];
+    };
+    let Ok(()) = caches.pin(REL) else {
+        return [9; 2];
+    };
+    let after = count(&caches, &scan);
+    caches.reset();
+    caches.unpin_all();
+    [after, count(&caches, &scan)]
+}
+
+fn count(caches: &LocalCaches, scan: &Purpose) -> usize {
+    match caches.rows(scan) {
+        Some(rows) => rows.len(),
+        None => 0,
+    }
+}
+
+// Whether the columns are what a table's descriptor lacks first once its own row is read, and an index's its row.
+fn missing(alloc: Global) -> [bool; 2] {
+    let mut caches = LocalCaches::new(alloc);
+    let Ok(()) = caches.put(&Purpose::Class(REL), Vec::new(alloc), 4) else {
+        return [false; 2];
+    };
+    [
+        matches!(
+            caches.first_missing(Kind::Table, REL),
+            Some(Purpose::Attribute(_))
+        ),
+        matches!(
+            caches.first_missing(Kind::Index, REL),
+            Some(Purpose::IndexRow(_))
+        ),
+    ]
+}
+
+// A pinned descriptor that a message covers: whether its scans are gone, whether one that is put then is kept, and
+// whether the old one is back (it isn't).
+fn built_anew(alloc: Global) -> [bool; 3] {
+    let mut caches = LocalCaches::new(alloc);
+    let Ok(()) = caches.put(&Purpose::Attribute(REL), Vec::new(alloc), 4) else {
+        return [false; 3];
+    };
+    let Ok(()) = caches.pin(REL) else {
+        return [false; 3];
+    };
+    caches.execute(&[rel(REL)]);
+    let gone = !caches.has(&Purpose::Class(REL)) && !caches.has(&Purpose::Attribute(REL));
+    let anew = put_again(&mut caches, alloc);
+    [gone, anew, caches.has(&Purpose::Attribute(REL))]
+}
+
+// Whether a relation's own row is kept once it is put.
+fn put_again(caches: &mut LocalCaches, alloc: Global) -> bool {
+    let scan = Purpose::Class(REL);
+    if caches.at(&scan).is_some() {
+        return false;
+    }
+    caches.put(&scan, Vec::new(alloc), 9).is_ok() && caches.at(&scan) == Some(9)
+}
+
+#[test]
+fn a_message_for_a_hash_takes_out_what_has_it(rt: HostRuntime) {
+    for &(text, cache, hash, there) in NAMES {
+        assert!(rt; left(rt.alloc(), by_name(text), cat(cache, hash)) == [0, 4, there]);
+    }
+    assert!(rt; left(rt.alloc(), by_column(b"a"), cat(CacheId::RelName, 85949054)) == [0, 4, 4]);
+    assert!(rt; left(rt.alloc(), by_column(b"a"), cat(CacheId::AttName, 85949054)) == [0, 4, 0]);
+}
+
+#[test]
+fn a_message_for_any_column_takes_out_lists(rt: HostRuntime) {
+    assert!(rt; left(rt.alloc(), Purpose::AttList(REL), cat(CacheId::AttName, 0)) == [0, 4, 0]);
+    assert!(rt; left(rt.alloc(), Purpose::AttList(REL), cat(CacheId::RelName, 0)) == [0, 4, 4]);
+    assert!(rt; left(rt.alloc(), Purpose::Class(REL), cat(CacheId::RelOid, 0)) == [0, 4, 4]);
+}
+
+#[test]
+fn a_message_for_a_relation_takes_out_its_descriptor(rt: HostRuntime) {
+    assert!(rt; left(rt.alloc(), Purpose::Class(REL), rel(REL)) == [0, 4, 0]);
+    assert!(rt; left(rt.alloc(), Purpose::Trigger(REL), rel(REL)) == [0, 4, 0]);
+    assert!(rt; left(rt.alloc(), Purpose::IndexRow(REL), rel(OTHER)) == [0, 4, 4]);
+    assert!(rt; left(rt.alloc(), Purpose::RelOid(REL), rel(REL)) == [0, 4, 4]);
+    assert!(rt; left(rt.alloc(), by_name(b"an"), rel(REL)) == [0, 4, 4]);
+}
+
+#[test]
+fn what_scans_gave_is_kept_until_a_reset(rt: HostRuntime) {
+    assert!(rt; row_counts(rt.alloc(), by_name(b"an")) == [1, 0]);
+    assert!(rt; row_counts(rt.alloc(), Purpose::RelOid(REL)) == [1, 0]);
+    assert!(rt; row_counts(rt.alloc(), Purpose::AttList(REL)) == [1, 0]);
+    assert!(rt; row_counts(rt.alloc(), Purpose::Class(REL)) == [1, 0]);
+}
+
+#[test]
+fn descriptors_are_built_scan_by_scan(rt: HostRuntime) {
+    assert!(rt; missing(rt.alloc()) == [true, true]);
+    assert!(rt; built_anew(rt.alloc()) == [true, true, false]);
+}
