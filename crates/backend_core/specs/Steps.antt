@@ -16,7 +16,7 @@ use Rattle.backend_core.specs.declared.next.Next.TheVariants as nexts
 use Rattle.backend_core.specs.Agrees.{AgreesNow, Stands}
 use Rattle.backend_core.specs.Coherent.{IsCoherent}
 use Rattle.backend_core.specs.Fits.{TakesFit}
-use Rattle.backend_core.specs.Words.{is_unfound, build_first, is_looked_for}
+use Rattle.backend_core.specs.Words.{is_unfound, build_first, is_looked_for, accepts_again}
 
 -- one entry of the backend is appended, which the history and the script allow; of the places that are promised it takes at most one, of its own, and none is promised
 pub record MakesEntry (scenario : Scenario) (old new : List Entry) (had has : ℕ → ℕ) (b : ℕ) : Type 0 where
@@ -98,10 +98,10 @@ pub record IsWriteNext (s : Progress) : Type 0 where
   pub owes : owes_nothing command s ≡ true
   pub wants : want_of (plan_at s.exec) ≡ wants.Write
 
--- this entry of the end of a command that has come out comes next, or after the last command of taking back what still runs
-pub data EndsNext (s : Progress) (event : Event) : Type 0 where
-  InCommand : (command : Command) → IsFree s command → is_out s ≡ true → owes_nothing command s ≡ true → may_end_at command s event ≡ true → EndsNext s event
-  AfterAll : slice_get s.commands s.finished ≡ None → is_next_of_end s event (end_of_running s.running) ≡ true → EndsNext s event
+-- this entry of the end of a command that has come out comes next, where no lookup looks once more, or after the last command of taking back what still runs
+pub data EndsNext (s : Backend) (event : Event) : Type 0 where
+  InCommand : (command : Command) → IsFree s.progress command → is_out s.progress ≡ true → owes_nothing command s.progress ≡ true → accepts_again s ≡ false → may_end_at command s.progress event ≡ true → EndsNext s event
+  AfterAll : slice_get s.progress.commands s.progress.finished ≡ None → is_next_of_end s.progress event (end_of_running s.progress.running) ≡ true → EndsNext s event
 
 -- a scan of this kind comes next, for which no look was made
 pub record IsLookNext (builds : Bool) (s : Backend) : Type 0 where
@@ -133,7 +133,7 @@ IsNextOf s (nexts.Lock rel mode) = IsLockNext s.progress rel mode
 IsNextOf s (nexts.Unlock rel mode) = IsUnlockNext s.progress rel mode
 IsNextOf s nexts.Write = IsWriteNext s.progress
 IsNextOf s nexts.Leave = (slice_get s.progress.commands s.progress.finished ≡ None) × (s.progress.running ≡ None)
-IsNextOf s next = IsSomeAnd (end_event s.progress next) (EndsNext s.progress)
+IsNextOf s next = IsSomeAnd (end_event s.progress next) (EndsNext s)
 
 -- the next entry of a commit of the transaction with this first command
 abbrev pub ComesOfCommit : ℕ → Progress → Next → Type 0

@@ -8,7 +8,7 @@ use Rattle.base_types.specs.declared.scan.Purpose.TheVariants as scans
 use Rattle.inval_messages.specs.Messages.{covers}
 use Rattle.ddl_effect.specs.Plans.{Plan, Do, Lookup, Open}
 use Rattle.ddl_effect.specs.Stages.{plan_at}
-use Rattle.cacheless.specs.State.{kept_at, is_kept, is_absent, row_sought}
+use Rattle.cacheless.specs.State.{kept_at, is_kept, is_absent, is_quiet, row_sought}
 use Rattle.backend_core.specs.Types.{Oid, Message, Purpose, Row, Opening, Kept, Life, Progress, Backend}
 use Rattle.backend_core.specs.declared.life.Life.TheVariants as lives
 
@@ -64,3 +64,7 @@ marks_build s messages = option_map_or (λ rel. is_kept (kept_at s) (scans.Class
 -- messages came since the lookup began, after a fetch: one that had found no relation begins again; to one that looked before its scan they came, unless they mark a descriptor
 abbrev pub told_after : Backend → Bool → Bool → Bool
 told_after s unfound marked = (s.told || (s.looked && not marked)) && not unfound
+
+-- it has found no relation, but messages came since the lookup began, or since it looked whether some wait: it looks once more before it says so
+abbrev pub accepts_again : Backend → Bool
+accepts_again s = is_absent (plan_at s.progress.exec) && is_quiet s.progress.due && (not s.looked || s.told)

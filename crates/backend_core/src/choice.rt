@@ -1,14 +1,13 @@
 // Which entry comes next: the program's choice among those that may come. Where something is owed, a look,
 // a fetch or a scan, it comes first; then the act of the plan, or the next entry of the command's end.
 
-ghost use Rattle.std.specs.Prelude.{◌≡◌, ◌≤◌, ◌&&◌, ◌||◌, [], None, Some, true, false, not, slice_get};
+ghost use Rattle.std.specs.Prelude.{◌≡◌, ◌≤◌, [], None, Some, true, false, slice_get};
 ghost use Rattle.ddl_effect.specs.Stages.{plan_at, want_of};
 ghost use Rattle.cacheless.specs.OpenedReads.{ReadsOpened};
 ghost use Rattle.cacheless.specs.Silently.{IsAtRest};
-ghost use Rattle.cacheless.specs.OnCourse.{is_absent};
-ghost use Rattle.cacheless.specs.State.{owed_at, is_quiet, is_out, row_sought};
+ghost use Rattle.cacheless.specs.State.{owed_at, is_out, row_sought};
 ghost use Rattle.cacheless.specs.May.{has_failed, lacks_opened, lacks_any, owes_nothing};
-ghost use Rattle.backend_core.specs.Words.{relation_named, build_first};
+ghost use Rattle.backend_core.specs.Words.{relation_named, build_first, accepts_again as accepts_once_more};
 ghost use Rattle.backend_core.specs.Steps.{IsNextOf, IsChoiceSound, IsFree, IsScanNext, ComesOfBack, ComesOfCommit};
 
 use crate::{Backend, Next};
@@ -91,7 +90,7 @@ impl Backend {
     // Whether its lookup has found no relation, but messages came since it began, or since it looked
     // whether some wait: it looks once more before it says so.
     fn accepts_again(&self) -> bool
-        ensures { result ≡ (is_absent (plan_at self.now.progress.exec) && is_quiet self.now.progress.due && (not self.now.looked || self.now.told)) }
+        ensures { result ≡ accepts_once_more self.now }
     {
         matches!(self.progress.exec.next(), Want::Absent(_))
             && matches!(self.progress.due, Due::Quiet)
@@ -252,6 +251,7 @@ impl Backend {
         requires free { IsFree self.now.progress command.now }
         requires out { is_out self.now.progress ≡ true }
         requires whole { lacks_any self.now.progress ≡ false }
+        requires accepted { accepts_once_more self.now ≡ false }
         ensures { IsNextOf self.now result }
     {
         match self.progress.end(command) {

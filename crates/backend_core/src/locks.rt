@@ -40,6 +40,7 @@ impl Backend {
         requires next { IsNextOf self.old (nexts.Unlock rel mode) }
         ensures script { L.script seg.new ≡ L.script seg.old }
         ensures enters { Enters (L.script seg.old) (L.history seg.old) (L.history seg.new) (L.promised seg.old) (L.promised seg.new) self.old self.new }
+        ensures told { self.new.told ≡ self.old.told }
     {
         seg.unlock(self.progress.id, self.progress.finished + 1, rel, mode);
         self.progress.enter_unlock(rel, mode);

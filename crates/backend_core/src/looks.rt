@@ -38,6 +38,7 @@ impl Backend {
         requires next { IsNextOf self.old (nexts.Look) }
         ensures script { L.script seg.new ≡ L.script seg.old }
         ensures enters { Enters (L.script seg.old) (L.history seg.old) (L.history seg.new) (L.promised seg.old) (L.promised seg.new) self.old self.new }
+        ensures told { self.new.told ≡ self.old.told }
     {
         let some_wait = seg.waits(self.progress.id);
         seg.looked(self.progress.id, self.progress.finished + 1, some_wait);
@@ -51,6 +52,7 @@ impl Backend {
         requires next { IsNextOf self.old (nexts.LookBeforeScan builds) }
         ensures script { L.script seg.new ≡ L.script seg.old }
         ensures enters { Enters (L.script seg.old) (L.history seg.old) (L.history seg.new) (L.promised seg.old) (L.promised seg.new) self.old self.new }
+        ensures told { self.new.told ≡ self.old.told }
     {
         let some_wait = seg.waits(self.progress.id);
         seg.looked(self.progress.id, self.progress.finished + 1, some_wait);
@@ -68,6 +70,7 @@ impl Backend {
         requires next { IsNextOf self.old (nexts.LookBeforeAbsent) }
         ensures script { L.script seg.new ≡ L.script seg.old }
         ensures enters { Enters (L.script seg.old) (L.history seg.old) (L.history seg.new) (L.promised seg.old) (L.promised seg.new) self.old self.new }
+        ensures told { self.new.told ≡ (self.old.told && not self.old.looked) }
     {
         let some_wait = seg.waits(self.progress.id);
         seg.looked(self.progress.id, self.progress.finished + 1, some_wait);

@@ -22,6 +22,7 @@ impl Backend {
         requires next { IsNextOf self.old (nexts.Scan scan.now builds) }
         ensures script { L.script seg.new ≡ L.script seg.old }
         ensures enters { OnOk result (Enters (L.script seg.old) (L.history seg.old) (L.history seg.new) (L.promised seg.old) (L.promised seg.new) self.old self.new) }
+        ensures told { OnOk result (self.new.told ≡ self.old.told) }
         ensures refused { OnErr result (IsRefused (L.script seg.old) (L.history seg.old) (L.history seg.new) (L.promised seg.old) (L.promised seg.new) self.old.progress.id) }
     {
         let scanned = seg.scan(self.progress.id, self.progress.finished + 1, scan)?;

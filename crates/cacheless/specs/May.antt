@@ -121,7 +121,7 @@ is_unlock_at s plan rel mode = false
 abbrev pub may_lock_at : Command → Oid → Mode → Progress → Bool
 may_lock_at command rel mode s = owes_nothing command s && is_none s.taken && is_lock_at s (plan_at s.exec) rel mode
 
--- the lock may be given back next
+-- the relation may be unlocked next
 abbrev pub may_unlock_at : Command → Oid → Mode → Progress → Bool
 may_unlock_at command rel mode s = owes_nothing command s && is_unlock_at s (plan_at s.exec) rel mode
 

@@ -28,7 +28,7 @@ pub record Tally : Type 0 where
 --   refused    the error that the blocks or an entry showed
 --   blocked    that error is the blocks'
 --   opened     the descriptors that the command has opened, until its write
---   taken      the relation that the running lookup has newly locked, and hasn't given back
+--   taken      the relation that the running lookup has newly locked, and hasn't unlocked
 --   found      the relations with which its lookups ended
 --   sought     what was left of it before its last lookup
 --   ended      its release is made

@@ -188,7 +188,7 @@ impl Progress {
         self.owes_nothing(command) && self.taken.is_none() && self.is_lock(rel, mode)
     }
 
-    // Whether the lock may be given back next.
+    // Whether the relation may be unlocked next.
     fn may_unlock(&self, command: &Command, rel: Oid, mode: Mode) -> bool
         ensures { result ≡ may_unlock_at command.now rel mode self.now }
     {

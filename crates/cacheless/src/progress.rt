@@ -75,7 +75,7 @@ pub struct Progress {
     pub blocks: TxnBlocks,
     pub running: Option<RunningTransaction>,
     pub lists: InvalLists,
-    // the relation that the running lookup has newly locked, and hasn't given back
+    // the relation that the running lookup has newly locked, and hasn't unlocked
     pub taken: Option<Oid>,
     // the descriptors that it has opened
     pub opened: Listed<Opening>,

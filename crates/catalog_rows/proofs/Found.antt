@@ -1,19 +1,19 @@
 -- The versions that are looked for are among the listed ones, and the store is what its slots say.
-use Rattle.std.proofs.Common.{◌≡◌, ◌∙◌, ◌&&◌, ℕ, Bool, true, false, Result, Ok, Err, IfOk, Vec, Option, List, ◌++◌, length, fold, take, map, find, filter_map, sym, ap}
-use Rattle.std.specs.Option.{option_map}
+use Rattle.std.proofs.Common.{◌≡◌, ◌∙◌, ◌&&◌, ◌==◌, ◌⊎◌, inl, inr, ℕ, Bool, true, false, Result, Ok, Err, IfOk, Vec, Option, Some, None, List, is_some, slice_get, ◌++◌, length, fold, take, map, find, filter, filter_map, sym, ap}
+use Rattle.std.specs.Option.{option_map, option_map_or}
 use Rattle.std.specs.Global.{Global}
-use Rattle.std.proofs.lemmas.Bool.{and_parts}
+use Rattle.std.proofs.lemmas.Bool.{and_parts, or_cases, or_left, or_right}
 use Rattle.base_types.specs.declared.memory.NoMemory.{NoMemory}
 use Rattle.base_types.specs.RowKeys.{key_of, same_key}
 use Rattle.row_visibility.specs.Seen.{seen_by, sees_version}
 use Rattle.catalog_rows.specs.Types.{Xid, Row, RowKey, Purpose, Change, Stamp, Version, Reader}
-use Rattle.catalog_rows.specs.Store.{Store, has_committed, row_of_key, rows_of_scan, is_named, is_claimed, counts, clash_by, clash_of, after_write, after_undo, with_place, is_back}
+use Rattle.catalog_rows.specs.Store.{Store, has_committed, row_of_key, rows_with_key, has_user, is_user, is_user_stamp, is_running_other, rows_of_scan, is_named, is_claimed, counts, clash_by, clash_of, after_write, after_undo, with_place, is_back}
 use Rattle.catalog_rows.specs.Places.{key_place, scan_place, relation_place}
 use Rattle.catalog_rows.specs.Slots.{version_numbered, versions_in, numbers_in, slot_back, new_slots, after_slots}
 use Rattle.catalog_rows.specs.Index.{is_dead, Serves}
 use Rattle.catalog_rows.proofs.EndedEach.{versions_written, slots_written, numbers_written}
-use Rattle.catalog_rows.proofs.Given.{given}
-use Rattle.catalog_rows.proofs.Serving.{given_served, find_served, alive_sees, alive_counts, alive_claimed}
+use Rattle.catalog_rows.proofs.Given.{given, get-map}
+use Rattle.catalog_rows.proofs.Serving.{given_served, served, find_served, alive_sees, alive_counts, alive_claimed}
 use Rattle.catalog_rows.proofs.Grown.{take_front}
 use Rattle.catalog_rows.proofs.TakenBack.{versions_left, slots_left, numbers_left}
 use Rattle.catalog_rows.proofs.Under.{key_under, name_under}
@@ -49,6 +49,35 @@ pub clash_found : (store : Store) (own : Option Xid) (name : List ℕ) (slots : 
 clash_found store own name slots committed list is_store serves =
     (λ i. clash_by committed own (named_found (is_claimed committed own) name slots committed list (alive_claimed committed own) serves i) (named_found (seen_by (counts committed own)) name slots committed list (alive_counts committed own) serves i))
     ∙ sym (ap (λ (s : Store). clash_of s own name) is_store)
+
+-- the rows of a key
+pub row_at_found : (store : Store) (key : RowKey) (reader : Reader) (slots : List (Option Version)) (committed : List Bool) (list : List ℕ) (index : ℕ) (found : Option Version) → store ≡ store_of slots committed → Serves committed slots (key_place key) list
+    → found ≡ slice_get (filter (λ v. sees_version (has_committed committed) reader v && same_key (key_of v.row) key) (filter_map (version_numbered slots) list)) index → option_map {U = Row} (λ v. v.row) found ≡ slice_get (rows_with_key store key reader) index
+row_at_found store key reader slots committed list index found is_store serves at =
+    ap (option_map {U = Row} (λ v. v.row))
+    (at ∙ ap (λ (vs : List Version). slice_get vs index) (served committed slots (key_place key) list (λ v. sees_version (has_committed committed) reader v && same_key (key_of v.row) key)
+    (λ v asked. let parts = and_parts (sees_version (has_committed committed) reader v) (same_key (key_of v.row) key) asked in (alive_sees committed reader v parts.0, key_under key v.row parts.1)) serves))
+    ∙ sym (get-map (λ (v : Version). v.row) (filter (λ v. sees_version (has_committed committed) reader v && same_key (key_of v.row) key) (versions_in slots)) index)
+    ∙ sym (ap (λ (s : Store). slice_get (rows_with_key s key reader) index) is_store)
+
+-- who uses a version claims it
+user_claims : (committed : List Bool) (own : Option Xid) (user : Xid) (v : Version) → is_user committed own user v ≡ true → is_claimed committed own v ≡ true
+user_claims committed own user v uses = by (or_cases (is_user_stamp committed own user v.by) _ uses)
+  where
+    ender : (o : Option Stamp) → option_map_or (is_user_stamp committed own user) o false ≡ true → option_map_or (is_running_other committed own) o false ≡ true
+    ender None is = is
+    ender (Some s) is = (and_parts (is_running_other committed own s) (s.xid.0 == user.0) is).0
+
+    by : (is_user_stamp committed own user v.by ≡ true) ⊎ (option_map_or (is_user_stamp committed own user) v.ended false ≡ true) → is_claimed committed own v ≡ true
+    by (inl wrote) = or_left (is_running_other committed own v.by) _ (and_parts (is_running_other committed own v.by) (v.by.xid.0 == user.0) wrote).0
+    by (inr ended) = or_right (is_running_other committed own v.by) _ (ender v.ended ended)
+
+-- the first version of a relation with a name that a transaction uses
+pub user_found : (store : Store) (own : Option Xid) (name : List ℕ) (user : Xid) (slots : List (Option Version)) (committed : List Bool) (list : List ℕ) → store ≡ store_of slots committed → Serves committed slots (relation_place name) list
+    → is_some (find (λ v. is_named name v.row && is_user committed own user v) (filter_map (version_numbered slots) list)) ≡ has_user store own name user
+user_found store own name user slots committed list is_store serves =
+    ap is_some (named_found (is_user committed own user) name slots committed list (λ v uses. alive_claimed committed own v (user_claims committed own user v uses)) serves)
+    ∙ sym (ap (λ (s : Store). has_user s own name user) is_store)
 
 -- after a write
 pub write_done : (slots grown after : List (Option Version)) (committed now : List Bool) (xid : Xid) (command : ℕ) (changes : List Change) (first : ℕ) → first ≡ length slots → grown ≡ slots ++ new_slots (record { xid = xid; command = command }) changes

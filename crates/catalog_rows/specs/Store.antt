@@ -1,5 +1,5 @@
 -- The versions of the rows of all catalogs: what a scan gives of them, and what a transaction changes.
-use Rattle.std.specs.Prelude.{ℕ, Bool, true, false, not, Option, Some, None, List, [], ◌∷◌, ◌++◌, ◌+◌, ◌-◌, ◌==◌, ◌||◌, ◌&&◌, zero, suc, nat_le, map, filter, fold, length, replicate, slice_get, slice_set, unwrap_or, if◌then◌else◌}
+use Rattle.std.specs.Prelude.{ℕ, Bool, true, false, not, Option, Some, None, List, [], ◌∷◌, ◌++◌, ◌+◌, ◌-◌, ◌==◌, ◌||◌, ◌&&◌, zero, suc, nat_le, map, filter, fold, length, replicate, slice_get, slice_set, unwrap_or, is_some, if◌then◌else◌}
 use Rattle.std.specs.Option.{option_map, option_map_or}
 use Rattle.std.specs.List.{find, flat_map}
 use Rattle.std.specs.Str.{bytes_eq}
@@ -47,6 +47,10 @@ rows_of_scan store purpose reader = scan_of purpose (rows_seen store reader)
 -- the row of a key that a reader sees
 abbrev pub row_of_key : Store → RowKey → Reader → Option Row
 row_of_key store key reader = option_map (λ v. v.row) (find (λ v. sees_version (has_committed store.committed) reader v && same_key (key_of v.row) key) store.versions)
+
+-- the rows with a key that a reader sees
+abbrev pub rows_with_key : Store → RowKey → Reader → List Row
+rows_with_key store key reader = map (λ v. v.row) (filter (λ v. sees_version (has_committed store.committed) reader v && same_key (key_of v.row) key) store.versions)
 
 -- what counts for a writer: what is committed, and all that its own transaction did
 abbrev pub counts : List Bool → Option Xid → Stamp → Bool
@@ -144,6 +148,18 @@ is_running_other committed own stamp = not (counts committed own stamp)
 -- another transaction, which still runs, wrote or ended the version
 abbrev pub is_claimed : List Bool → Option Xid → Version → Bool
 is_claimed committed own version = is_running_other committed own version.by || option_map_or (is_running_other committed own) version.ended false
+
+-- the transaction with this Xid, another that still runs, left the stamp
+abbrev pub is_user_stamp : List Bool → Option Xid → Xid → Stamp → Bool
+is_user_stamp committed own user stamp = is_running_other committed own stamp && (stamp.xid.0 == user.0)
+
+-- that transaction wrote or ended the version
+abbrev pub is_user : List Bool → Option Xid → Xid → Version → Bool
+is_user committed own user version = is_user_stamp committed own user version.by || option_map_or (is_user_stamp committed own user) version.ended false
+
+-- that transaction has the name of a relation in use
+abbrev pub has_user : Store → Option Xid → List ℕ → Xid → Bool
+has_user store own name user = is_some (find (λ v. is_named name v.row && is_user store.committed own user v) store.versions)
 
 -- the transaction that claims a version: its writer, or else the one that ended it
 abbrev pub claimant_of : List Bool → Option Xid → Version → Xid

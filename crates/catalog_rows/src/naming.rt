@@ -1,7 +1,7 @@
 ghost use Rattle.std.specs.Prelude.{◌≡◌, ◌&&◌};
 ghost use Rattle.std.specs.List.{find, filter_map};
 ghost use Rattle.row_visibility.specs.Seen.{seen_by};
-ghost use Rattle.catalog_rows.specs.Store.{counts, is_named as has_name, is_claimed as does_claim, is_running_other as runs_elsewhere, claimant_of, relation_of as relation_in, row_clash as clash_with, clash_by};
+ghost use Rattle.catalog_rows.specs.Store.{counts, is_named as has_name, is_claimed as does_claim, is_running_other as runs_elsewhere, is_user as does_use, is_user_stamp as is_stamp_of_user, claimant_of, relation_of as relation_in, row_clash as clash_with, clash_by};
 ghost use Rattle.catalog_rows.specs.Slots.{version_numbered};
 
 use crate::slots::version_at;
@@ -55,6 +55,22 @@ fn first_standing(
         .find(|version| is_named(version, name) && is_standing(version, committed, own))
 }
 
+// The first listed version of a relation of this name that the other transaction claims.
+pub(crate) fn first_used(
+    slots: &[Option<Version>],
+    list: &[u64],
+    committed: &[bool],
+    name: &Name,
+    own: Option<Xid>,
+    user: Xid,
+) -> Option<Version>
+    ensures { result ≡ find (λ v. has_name name.now v.row && does_use committed.now own user v) (filter_map (version_numbered slots.now) list.now) }
+{
+    list.iter()
+        .filter_map(|number| version_at(slots, *number).copied())
+        .find(|version| is_named(version, name) && is_used_by(version, committed, own, user))
+}
+
 // The clash with the row of this version.
 fn row_clash(standing: Option<Version>) -> Option<Clash>
     ensures { result ≡ clash_with standing }
@@ -84,6 +100,24 @@ fn is_claimed(version: &Version, committed: &[bool], own: Option<Xid>) -> bool
             Some(ended) => is_running_other(ended, committed, own),
             None => false,
         }
+}
+
+// Whether the running transaction with this Xid, other than the writer's, wrote or ended the version.
+fn is_used_by(version: &Version, committed: &[bool], own: Option<Xid>, user: Xid) -> bool
+    ensures { result ≡ does_use committed.now own user version.now }
+{
+    is_user_stamp(version.by, committed, own, user)
+        || match version.ended {
+            Some(ended) => is_user_stamp(ended, committed, own, user),
+            None => false,
+        }
+}
+
+// Whether that transaction left the stamp.
+fn is_user_stamp(stamp: Stamp, committed: &[bool], own: Option<Xid>, user: Xid) -> bool
+    ensures { result ≡ is_stamp_of_user committed.now own user stamp }
+{
+    is_running_other(stamp, committed, own) && stamp.xid.0 == user.0
 }
 
 // The transaction that claims a version: its writer, or else the one that ended it.

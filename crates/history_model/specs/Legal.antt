@@ -50,7 +50,7 @@ MayRelease false before b from = has_write_from from (lists_of before b) ≡ fal
 abbrev pub is_lock_of : ℕ → ℕ → Oid → Mode → Grant → Bool
 is_lock_of b c rel mode g = is_lock b rel mode g && (g.command == c)
 
--- a backend gives back a lock that it was granted in the command that runs, of which no write stands
+-- a backend unlocks what it locked in the command that runs, of which no write stands
 abbrev pub AllowsUnlock : List Entry → ℕ → ℕ → Oid → Mode → Type 0
 AllowsUnlock before b c rel mode = (list_any (is_lock_of b c rel mode) (held_of before) ≡ true) × (has_write_from c (lists_of before b) ≡ false)
 

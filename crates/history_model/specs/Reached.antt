@@ -11,7 +11,7 @@ use Rattle.history_model.specs.Log.{log_of}
 abbrev pub is_writer : List Entry → ℕ → Oid → Mode → Bool
 is_writer history a rel mode = is_visible (running_transaction_of history a) && holds (held_of history) a rel mode
 
--- how far the log reached, after an event of a backend, by the entries before it; an unlock gives back a lock of a command of which no write stands
+-- how far the log reached, after an event of a backend, by the entries before it; an unlock is of a lock of a command of which no write stands
 abbrev pub reached_by : List Entry → ℕ → Oid → Mode → Event → ℕ → ℕ
 reached_by before a rel mode (Release from) old = elim (is_writer before a rel mode) [ true ↦ length (log_of before) | false ↦ old ]
 reached_by before a rel mode event old = old

@@ -28,6 +28,14 @@ holds_there rels backends held list b rel mode answer kept is_list is =
     ∙ any-filter (is_lock b rel mode) (λ g. g.rel.0 == rel.0)
     (λ g seek. (and_parts (g.backend == b) (g.rel.0 == rel.0) (and_parts ((g.backend == b) && same_oid g.rel rel) (same_mode g.mode mode) seek).0).1) held
 
+-- whether a backend was granted a lock in a command
+pub granted_there : (rels backends : GrantLists) (held list : List Grant) (b c : ℕ) (rel : Oid) (mode : Mode) (answer : Bool) → Holds rels backends held → list ≡ grants_at rels rel.0 → answer ≡ list_any (λ g. is_lock b rel mode g && (g.command == c)) list
+    → answer ≡ list_any (λ g. is_lock b rel mode g && (g.command == c)) held
+granted_there rels backends held list b c rel mode answer kept is_list is =
+    is ∙ ap (list_any (λ g. is_lock b rel mode g && (g.command == c))) (is_list ∙ kept.rels rel.0)
+    ∙ any-filter (λ g. is_lock b rel mode g && (g.command == c)) (λ g. g.rel.0 == rel.0)
+    (λ g seek. (and_parts (g.backend == b) (g.rel.0 == rel.0) (and_parts ((g.backend == b) && same_oid g.rel rel) (same_mode g.mode mode) (and_parts (is_lock b rel mode g) (g.command == c) seek).0).0).1) held
+
 -- the first grant in the way
 pub conflict_there : (rels backends : GrantLists) (held list : List Grant) (b : ℕ) (rel : Oid) (mode : Mode) (found : Option Grant) → Holds rels backends held → list ≡ grants_at rels rel.0 → found ≡ first_conflict list b rel mode
     → found ≡ first_conflict held b rel mode

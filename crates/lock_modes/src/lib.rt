@@ -6,6 +6,7 @@
 //! modes are never in its way. [`OwnLocks`] are the locks of one backend, each with a mark (the
 //! `LOCALLOCK`s of the same file): a lock is clear once the backend has taken all messages that were
 //! sent before the grant. What it has cached of the relation may be older than the lock until then.
+//! A [`GrantTable`] keeps grants that were read somewhere, whether they exclude each other or not.
 //!
 //! The promise to the layers above: contracts see a table as the list of all grants in the order in
 //! which they were given, and own locks as their list. Each call does to that list exactly what the words
@@ -37,12 +38,14 @@ mod change;
 mod grant;
 mod grant_list;
 mod grant_lists;
+mod grant_table;
 mod granted;
 mod lock_table;
 mod own_lock;
 mod own_locks;
 
 pub use grant::Grant;
+pub use grant_table::GrantTable;
 pub use granted::{Granted, LockRefusal};
 pub use lock_table::LockTable;
 pub use own_lock::OwnLock;

@@ -173,14 +173,19 @@ impl LockTable {
 }
 
 // Whether one of these grants is of the mode on the relation to the backend.
-fn is_held(grants: &[Grant], backend: u32, rel: Oid, mode: Mode) -> bool
+pub(crate) fn is_held(grants: &[Grant], backend: u32, rel: Oid, mode: Mode) -> bool
     ensures { result ≡ do_hold grants.now backend rel mode }
 {
     grants.iter().any(|grant| is_of(grant, backend, rel, mode))
 }
 
 // The first of these grants that is another backend's and keeps the mode from being granted.
-fn first_in_the_way(grants: &[Grant], backend: u32, rel: Oid, mode: Mode) -> Option<Grant>
+pub(crate) fn first_in_the_way(
+    grants: &[Grant],
+    backend: u32,
+    rel: Oid,
+    mode: Mode,
+) -> Option<Grant>
     ensures { result ≡ first_conflict grants.now backend rel mode }
 {
     grants
@@ -197,7 +202,7 @@ fn is_in_the_way(grant: &Grant, backend: u32, rel: Oid, mode: Mode) -> bool
 }
 
 // Makes room for these grants.
-fn reserve(
+pub(crate) fn reserve(
     by_rel: &mut GrantLists,
     by_backend: &mut GrantLists,
     grants: &[Grant],
@@ -214,7 +219,7 @@ fn reserve(
 }
 
 // Adds these grants, for which there is room.
-fn add(
+pub(crate) fn add(
     by_rel: &mut GrantLists,
     by_backend: &mut GrantLists,
     changes: &mut GhostList<LockChange>,
@@ -233,14 +238,14 @@ fn add(
 }
 
 // Notes a change of the grants.
-fn note(changes: &mut GhostList<LockChange>, change: &LockChange)
+pub(crate) fn note(changes: &mut GhostList<LockChange>, change: &LockChange)
     ensures { held_after changes.new.items ≡ changed change.now (held_after changes.old.items) }
 {
     changes.push(change);
 }
 
 // Takes what is released out of the lists of the relations on which a backend has these locks.
-fn take_out_each(by_rel: &mut GrantLists, own: &[Grant], released: &Released)
+pub(crate) fn take_out_each(by_rel: &mut GrantLists, own: &[Grant], released: &Released)
     ensures { (rel : ℕ) → grants_at by_rel.new rel ≡ cond (list_any (is_out released.now rel) own.now) (filter (is_kept released.now) (grants_at by_rel.old rel)) (grants_at by_rel.old rel) }
 {
     for grant in own {

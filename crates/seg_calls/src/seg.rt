@@ -85,8 +85,8 @@ pub trait Seg {
         ensures script { script self.new ≡ script self.old }
         ensures locks { Locks (history self.old) (history self.new) (promised self.old) (promised self.new) b c rel mode result };
 
-    /// It gives back a lock on a relation that it was granted in this command, as a lookup does whose
-    /// name means another relation by then (`UnlockRelationOid` in `src/backend/storage/lmgr/lmgr.c`,
+    /// It unlocks a relation: the lock was granted in this command, by a lookup whose name means another
+    /// relation by now, or none (`UnlockRelationOid` in `src/backend/storage/lmgr/lmgr.c`,
     /// for `RangeVarGetRelidExtended` in `src/backend/catalog/namespace.c`). No write of the command
     /// stands.
     fn unlock(&mut self, b: u32, c: u32, rel: Oid, mode: Mode)

@@ -10,7 +10,8 @@ use Rattle.base_types.proofs.SameScan.{same_scan-itself}
 use Rattle.txn_blocks.specs.Blocks.{Inside}
 use Rattle.ddl_effect.specs.Commands.{plan_of, commands_of}
 use Rattle.ddl_effect.specs.Plans.{Plan, Act, Done, Fails, Absent, NotBuilt, Do, Lookup, Open, Search, Read, Lock, Write}
-use Rattle.ddl_effect.specs.Stages.{plan_at}
+use Rattle.ddl_effect.specs.Stages.{plan_at, want_of}
+use Rattle.ddl_effect.specs.declared.want.Want.TheVariants as wants
 use Rattle.history_model.specs.Writes.{is_empty}
 use Rattle.cacheless.specs.ActsDone.{reached, made_in, opening_by}
 use Rattle.cacheless.specs.Ends.{End, Commits, TakesBack}
@@ -21,18 +22,18 @@ use Rattle.cacheless.specs.Runs.{runs}
 use Rattle.cacheless.specs.Settled.{opened_by}
 use Rattle.cacheless.specs.Session.{none_open}
 use Rattle.cacheless.specs.Silently.{is_ends, IsAtRest}
-use Rattle.cacheless.specs.State.{owed_at, kept_at, is_kept, act_missing, is_out, end_at}
+use Rattle.cacheless.specs.State.{owed_at, kept_at, is_kept, is_absent, is_quiet, act_missing, is_out, end_at}
 use Rattle.cacheless.proofs.Answers.OpenedReads.{reads_out, reads_first, reads_after}
 use Rattle.cacheless.proofs.Tests.{both_true, not_both}
 use Rattle.backend_core.specs.Types.{Oid, Kind, Event, Row, Purpose, Command, CommandError, Opening, Kept, Scenario, Entry, Next, Progress, Backend}
 use Rattle.backend_core.specs.declared.next.Next.TheVariants as nexts
 use Rattle.backend_core.specs.Agrees.{command_at, AwaitsEntry}
 use Rattle.backend_core.specs.Steps.{IsFree, IsScanNext, EndsNext, InCommand, end_event, IsNextOf, ComesOfCommit, ComesOfBack}
-use Rattle.backend_core.specs.Words.{lacking_first, build_first}
+use Rattle.backend_core.specs.Words.{lacking_first, build_first, accepts_again}
 use Rattle.backend_core.proofs.Own.{waiting, waiting_course}
 
 -- an end's entry comes next
-ends_next : (s : Backend) (next : Next) → IsSomeAnd (end_event s.progress next) (EndsNext s.progress) → IsNextOf s next
+ends_next : (s : Backend) (next : Next) → IsSomeAnd (end_event s.progress next) (EndsNext s) → IsNextOf s next
 ends_next s nexts.Look ends = absurd ends
 ends_next s (nexts.LookBeforeScan builds) ends = absurd ends
 ends_next s nexts.LookBeforeAbsent ends = absurd ends
@@ -64,14 +65,22 @@ end_is p command end still free out lacks is = by_tests p.ended (is_ends end) re
     by_tests true y a b none = absurd (not_both _ (both_true (is_out p && (p.ended || is_ends end)) (owes_nothing command p) (both_true (is_out p) (p.ended || is_ends end) out (ap (λ t. t || is_ends end) a)) (out_owes p command free lacks)) none)
     by_tests false true a b none = absurd (not_both _ (both_true (is_out p && (p.ended || is_ends end)) (owes_nothing command p) (both_true (is_out p) (p.ended || is_ends end) out (λ i. a i || b i)) (out_owes p command free lacks)) none)
 
-pub commits_next : (s : Backend) (command : Command) (next : Next) (first : ℕ) → IsAtRest s.progress → IsFree s.progress command → is_out s.progress ≡ true → lacks_any s.progress ≡ false → end_at s.progress command ≡ Commits first → ComesOfCommit first s.progress next → IsNextOf s next
-commits_next s command next first still free out lacks end comes = ends_next s next (some_weaker (end_event s.progress next) _ (EndsNext s.progress) (λ event is. InCommand command free out (out_owes s.progress command free lacks)
+-- a command whose plan is carried out doesn't say that there is no relation
+pub done_accepted : (s : Backend) (scan : Option Purpose) → want_of (plan_at s.progress.exec) ≡ wants.Done scan → accepts_again s ≡ false
+done_accepted s scan is = by_plan (plan_at s.progress.exec) is
+  where
+    by_plan : (p : Plan) → want_of p ≡ wants.Done scan → (is_absent p && is_quiet s.progress.due && (not s.looked || s.told)) ≡ false
+    by_plan (Absent name) done = absurd (cc done)
+    by_plan p done = refl
+
+pub commits_next : (s : Backend) (command : Command) (next : Next) (first : ℕ) → IsAtRest s.progress → IsFree s.progress command → is_out s.progress ≡ true → lacks_any s.progress ≡ false → accepts_again s ≡ false → end_at s.progress command ≡ Commits first → ComesOfCommit first s.progress next → IsNextOf s next
+commits_next s command next first still free out lacks accepted end comes = ends_next s next (some_weaker (end_event s.progress next) _ (EndsNext s) (λ event is. InCommand command free out (out_owes s.progress command free lacks) accepted
     (both_true (not s.progress.ended && owes_no_end command s.progress (end_at s.progress command)) (is_next_of_end s.progress event (end_at s.progress command))
     (both_true (not s.progress.ended) (owes_no_end command s.progress (end_at s.progress command)) (ap not (end_is s.progress command (Commits first) still free out lacks end).0) (ap (owes_no_end command s.progress) end ∙ out_owes s.progress command free lacks))
     (ap (is_next_of_end s.progress event) end ∙ is))) comes)
 
-pub takes_back_next : (s : Backend) (command : Command) (next : Next) (from : ℕ) → IsAtRest s.progress → IsFree s.progress command → is_out s.progress ≡ true → lacks_any s.progress ≡ false → end_at s.progress command ≡ TakesBack from → ComesOfBack from s.progress next → IsNextOf s next
-takes_back_next s command next from still free out lacks end comes = ends_next s next (some_weaker (end_event s.progress next) _ (EndsNext s.progress) (λ event is. InCommand command free out (out_owes s.progress command free lacks)
+pub takes_back_next : (s : Backend) (command : Command) (next : Next) (from : ℕ) → IsAtRest s.progress → IsFree s.progress command → is_out s.progress ≡ true → lacks_any s.progress ≡ false → accepts_again s ≡ false → end_at s.progress command ≡ TakesBack from → ComesOfBack from s.progress next → IsNextOf s next
+takes_back_next s command next from still free out lacks accepted end comes = ends_next s next (some_weaker (end_event s.progress next) _ (EndsNext s) (λ event is. InCommand command free out (out_owes s.progress command free lacks) accepted
     (both_true (not s.progress.ended && owes_no_end command s.progress (end_at s.progress command)) (is_next_of_end s.progress event (end_at s.progress command))
     (both_true (not s.progress.ended) (owes_no_end command s.progress (end_at s.progress command)) (ap not (end_is s.progress command (TakesBack from) still free out lacks end).0) (ap (owes_no_end command s.progress) end ∙ ap is_empty free.due))
     (ap (is_next_of_end s.progress event) end ∙ is))) comes)

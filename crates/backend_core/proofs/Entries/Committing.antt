@@ -65,7 +65,7 @@ module _ (facts : Facts) (o : Option Command) (s : Session) (looked to_build tol
       by_command (Some command) may own = owes_no_scan facts command s well (sym (ap (λ e. elim e as (λ x. List Owes) [ TakesBack from ↦ owed_after facts.last | end ↦ owed_of facts command s ]) own.is) ∙ (is_end next facts command s event ends may).0)
 
 -- it may be entered
-pub commit_call : (scenario : Scenario) (seen : List Entry) (s : Backend) (xid : Xid) → AwaitsEntry scenario seen s → EndsNext s.progress (events.Visible xid) → MayCall scenario seen (entry_of s.progress.id (s.progress.finished + 1) (events.Visible xid))
+pub commit_call : (scenario : Scenario) (seen : List Entry) (s : Backend) (xid : Xid) → AwaitsEntry scenario seen s → EndsNext s (events.Visible xid) → MayCall scenario seen (entry_of s.progress.id (s.progress.finished + 1) (events.Visible xid))
 commit_call scenario seen s xid waits next = end_call scenario seen s waits (events.Visible xid) refl next (subst (λ v. FollowsVisible v (events.Visible xid)) (sym now.hidden) tt)
     (none_gone facts (command_at s) (waiting waits) s.looked s.looked_to_build s.told (events.Visible xid) waits.fits now.commit)
     (xid_own facts.running xid.0 (waits.fits.written (write_from_first now.commit.first facts.lists now.commit.written)) now.xid_is, write_from_first now.commit.first facts.lists now.commit.written)
@@ -94,9 +94,9 @@ shown true count = tt
 shown false count = tt
 
 -- the messages of a publish that comes next
-module _ (scenario : Scenario) (seen : List Entry) (s : Backend) (messages : List Message) (waits : AwaitsEntry scenario seen s) (next : EndsNext s.progress (events.Publish (length (take 64 (unsent_at s.progress))))) (is : messages ≡ take 64 (unsent_at s.progress)) where
-  publish_next : EndsNext s.progress (events.Publish (length messages))
-  publish_next = subst (λ l. EndsNext s.progress (events.Publish (length l))) (sym is) next
+module _ (scenario : Scenario) (seen : List Entry) (s : Backend) (messages : List Message) (waits : AwaitsEntry scenario seen s) (next : EndsNext s (events.Publish (length (take 64 (unsent_at s.progress))))) (is : messages ≡ take 64 (unsent_at s.progress)) where
+  publish_next : EndsNext s (events.Publish (length messages))
+  publish_next = subst (λ l. EndsNext s (events.Publish (length l))) (sym is) next
 
   abbrev facts : Facts
   facts = facts_of seen s.progress.id
@@ -118,7 +118,7 @@ module _ (scenario : Scenario) (seen : List Entry) (s : Backend) (messages : Lis
   publish_these = is ∙ sym (take_min 64 (unsent_at s.progress)) ∙ ap (λ n. take n (unsent_at s.progress)) (sym (ap length is ∙ length-take 64 (unsent_at s.progress))) ∙ ap (take (length messages)) (sym unsent_same)
 
 -- an entry of a commit, which leaves its messages and its scans
-module _ (scenario : Scenario) (old : List Entry) (was : Backend) (event : Event) (waits : AwaitsEntry scenario old was) (ends : ends_command event ≡ true) (next : EndsNext was.progress event)
+module _ (scenario : Scenario) (old : List Entry) (was : Backend) (event : Event) (waits : AwaitsEntry scenario old was) (ends : ends_command event ≡ true) (next : EndsNext was event)
     (commit : IsCommit (facts_of old was.progress.id) (end_by (facts_of old was.progress.id) (command_at was) (waiting waits))) (published : ℕ) (visible : Bool) where
   abbrev before : Facts
   before = facts_of old was.progress.id
@@ -144,7 +144,7 @@ module _ (scenario : Scenario) (old : List Entry) (was : Backend) (event : Event
       goes = record { runs = runs_it; some = refl; same = goes_first (was.progress.finished + 1) before.running runs_it; free = free }
 
 -- the state after its visibility step
-pub commit_enters : (scenario : Scenario) (old new : List Entry) (had has : ℕ → ℕ) (was : Backend) (xid : Xid) (p : Progress) (waits : AwaitsEntry scenario old was) → IsPlayed scenario old → AllOnCourse scenario old → EndsNext was.progress (events.Visible xid)
+pub commit_enters : (scenario : Scenario) (old new : List Entry) (had has : ℕ → ℕ) (was : Backend) (xid : Xid) (p : Progress) (waits : AwaitsEntry scenario old was) → IsPlayed scenario old → AllOnCourse scenario old → EndsNext was (events.Visible xid)
     → HasEntered scenario old was.progress (events.Visible xid) waits.rests p → kept_at p ≡ kept_at was.progress → p.answer ≡ was.progress.answer → Appends old new had has (entry_of was.progress.id (was.progress.finished + 1) (events.Visible xid)) → Enters scenario old new had has was (record was { progress = p })
 commit_enters scenario old new had has was xid p waits played courses next goes kept same appends =
     end_enters scenario old new had has was event p waits refl played courses next goes (subst (AreLastScans old was.progress.id) (sym kept) waits.keeps.places.kept)
@@ -162,7 +162,7 @@ commit_enters scenario old new had has was xid p waits played courses next goes 
 
 -- the state after a publish
 pub publish_enters : (scenario : Scenario) (old new : List Entry) (had has : ℕ → ℕ) (was : Backend) (messages : List Message) (p : Progress) (waits : AwaitsEntry scenario old was) → IsPlayed scenario old → AllOnCourse scenario old
-    → EndsNext was.progress (events.Publish (length (take 64 (unsent_at was.progress)))) → messages ≡ take 64 (unsent_at was.progress)
+    → EndsNext was (events.Publish (length (take 64 (unsent_at was.progress)))) → messages ≡ take 64 (unsent_at was.progress)
     → HasEntered scenario old was.progress (events.Publish (length messages)) waits.rests p → kept_at p ≡ kept_at was.progress → p.answer ≡ was.progress.answer
     → Appends old new had has (entry_of was.progress.id (was.progress.finished + 1) (events.Publish (length messages))) → Enters scenario old new had has was (record was { progress = p })
 publish_enters scenario old new had has was messages p waits played courses next is goes kept same appends =
@@ -176,5 +176,5 @@ publish_enters scenario old new had has was messages p waits played courses next
     facts : Facts
     facts = facts_of old was.progress.id
 
-    now_next : EndsNext was.progress event
+    now_next : EndsNext was event
     now_next = publish_next scenario old was messages waits next is

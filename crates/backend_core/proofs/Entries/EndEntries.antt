@@ -78,12 +78,12 @@ is_plain scenario old b c (events.Gone from) ends = record { truly = tt; queue =
 is_plain scenario old b c (events.Release from) ends = record { truly = tt; queue = tt; lives = refl; unread = λ scan. refl; follows = λ last low. low }
 is_plain scenario old b c event ends = absurd (cc ends)
 
-module _ (scenario : Scenario) (seen : List Entry) (s : Backend) (waits : AwaitsEntry scenario seen s) (event : Event) (ends : ends_command event ≡ true) (next : EndsNext s.progress event) where
+module _ (scenario : Scenario) (seen : List Entry) (s : Backend) (waits : AwaitsEntry scenario seen s) (event : Event) (ends : ends_command event ≡ true) (next : EndsNext s event) where
   may_now : may_play_now (next_oid seen) s.progress event ≡ true
   may_now = by_case next
     where
-      by_case : EndsNext s.progress event → may_play_now (next_oid seen) s.progress event ≡ true
-      by_case (InCommand command free out owes may) = ap (λ o. elim o as (λ x. Bool) [ Some c ↦ may_play_at (next_oid seen) c s.progress event | None ↦ may_last_at s.progress event ]) free.at ∙ may_end (next_oid seen) command s.progress event ends may
+      by_case : EndsNext s event → may_play_now (next_oid seen) s.progress event ≡ true
+      by_case (InCommand command free out owes accepted may) = ap (λ o. elim o as (λ x. Bool) [ Some c ↦ may_play_at (next_oid seen) c s.progress event | None ↦ may_last_at s.progress event ]) free.at ∙ may_end (next_oid seen) command s.progress event ends may
       by_case (AfterAll past comes) = ap (λ o. elim o as (λ x. Bool) [ Some c ↦ may_play_at (next_oid seen) c s.progress event | None ↦ may_last_at s.progress event ]) past
           ∙ may_last s.progress event ends (sym waits.rests.holds.facts.owed ∙ (waits.fits.past past).free) comes
 
@@ -98,8 +98,8 @@ module _ (scenario : Scenario) (seen : List Entry) (s : Backend) (waits : Awaits
   end_answered : (command : Command) → command_at s ≡ Some command → is_some s.progress.answer ≡ true
   end_answered command at = by_case next
     where
-      by_case : EndsNext s.progress event → is_some s.progress.answer ≡ true
-      by_case (InCommand c free out owes may) = waits.answered (ap (λ o. elim o as (λ x. Bool) [ Some x ↦ is_to_answer x s.progress | None ↦ false ]) free.at ∙ both_true (is_out s.progress) (has_failed s.progress || owes_nothing c s.progress) out (ap (λ t. has_failed s.progress || t) owes ∙ or-true (has_failed s.progress)))
+      by_case : EndsNext s event → is_some s.progress.answer ≡ true
+      by_case (InCommand c free out owes accepted may) = waits.answered (ap (λ o. elim o as (λ x. Bool) [ Some x ↦ is_to_answer x s.progress | None ↦ false ]) free.at ∙ both_true (is_out s.progress) (has_failed s.progress || owes_nothing c s.progress) out (ap (λ t. has_failed s.progress || t) owes ∙ or-true (has_failed s.progress)))
       by_case (AfterAll past comes) = absurd (let no : Some command ≡ None = sym at ∙ past in cc no)
 
   -- it may be called for
@@ -120,7 +120,7 @@ pub built_at : (scenario : Scenario) (seen : List Entry) (s : Backend) → Await
 built_at scenario seen s waits command at = subst (λ c. runs c ≡ true) (get_or_from_slice_get s.progress.commands s.progress.finished command command at) (waits.keeps.built s.progress.finished command (slice_get_within s.progress.commands s.progress.finished command at))
 
 -- after an entry of an end the backend agrees
-pub end_enters : (scenario : Scenario) (old new : List Entry) (had has : ℕ → ℕ) (was : Backend) (event : Event) (p : Progress) (waits : AwaitsEntry scenario old was) → ends_command event ≡ true → IsPlayed scenario old → AllOnCourse scenario old → EndsNext was.progress event
+pub end_enters : (scenario : Scenario) (old new : List Entry) (had has : ℕ → ℕ) (was : Backend) (event : Event) (p : Progress) (waits : AwaitsEntry scenario old was) → ends_command event ≡ true → IsPlayed scenario old → AllOnCourse scenario old → EndsNext was event
     → HasEntered scenario old was.progress event waits.rests p → AreLastScans old was.progress.id (kept_at p) → KeepsAbsent (with_own old was.progress event) p → p.answer ≡ was.progress.answer
     → Fits (facts_by old was.progress.id (was.progress.finished + 1) event (facts_of old was.progress.id)) (command_at was)
     (entered (facts_of (with_own old was.progress event) was.progress.id) (drop was.progress.finished was.progress.commands) (length old + 1) (was.progress.finished + 1) event (waiting waits)) was.looked was.looked_to_build was.told

@@ -79,7 +79,7 @@ released : (v : Bool) (from : ℕ) → FollowsVisible v (events.Release from)
 released true from = tt
 released false from = tt
 
-module _ (scenario : Scenario) (old : List Entry) (was : Backend) (from : ℕ) (waits : AwaitsEntry scenario old was) (next : EndsNext was.progress (events.Release from)) where
+module _ (scenario : Scenario) (old : List Entry) (was : Backend) (from : ℕ) (waits : AwaitsEntry scenario old was) (next : EndsNext was (events.Release from)) where
   abbrev facts : Facts
   facts = facts_of old was.progress.id
 
@@ -147,7 +147,7 @@ module _ (scenario : Scenario) (old : List Entry) (was : Backend) (from : ℕ) (
           same = kept_running facts.running (was.progress.finished + 1) from runs above
 
 -- the state after it
-pub release_enters : (scenario : Scenario) (old new : List Entry) (had has : ℕ → ℕ) (was : Backend) (from : ℕ) (p : Progress) (waits : AwaitsEntry scenario old was) → IsPlayed scenario old → AllOnCourse scenario old → EndsNext was.progress (events.Release from)
+pub release_enters : (scenario : Scenario) (old new : List Entry) (had has : ℕ → ℕ) (was : Backend) (from : ℕ) (p : Progress) (waits : AwaitsEntry scenario old was) → IsPlayed scenario old → AllOnCourse scenario old → EndsNext was (events.Release from)
     → HasEntered scenario old was.progress (events.Release from) waits.rests p → kept_at p ≡ kept_at was.progress → p.answer ≡ was.progress.answer → Appends old new had has (entry_of was.progress.id (was.progress.finished + 1) (events.Release from)) → Enters scenario old new had has was (record was { progress = p })
 release_enters scenario old new had has was from p waits played courses next goes kept same appends =
     end_enters scenario old new had has was (events.Release from) p waits refl played courses next goes (subst (AreLastScans old was.progress.id) (sym kept) waits.keeps.places.kept)

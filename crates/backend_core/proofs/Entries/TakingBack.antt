@@ -50,7 +50,7 @@ not_gone facts o s looked to_build told from fits back written = by_last facts.l
         both_ways _ (subst (λ k. has_write_from k facts.lists ≡ false) same (fits.taken n is).none) written)
     by_last last is = tt
 
-module _ (scenario : Scenario) (old : List Entry) (was : Backend) (from : ℕ) (waits : AwaitsEntry scenario old was) (next : EndsNext was.progress (events.Gone from)) where
+module _ (scenario : Scenario) (old : List Entry) (was : Backend) (from : ℕ) (waits : AwaitsEntry scenario old was) (next : EndsNext was (events.Gone from)) where
   abbrev facts : Facts
   facts = facts_of old was.progress.id
 
@@ -96,7 +96,7 @@ module _ (scenario : Scenario) (old : List Entry) (was : Backend) (from : ℕ) (
       takes_back_on facts later (command_at was) s was.looked was.looked_to_build was.told (events.Gone from) locks at waits.fits now n goes_on (takes.0 ∙ ap TakesBack same) (subst (λ k. has_write_from k later.lists ≡ false) same (none_from from facts.lists)) (takes_free courses locks at))
 
 -- the state after it
-pub take_back_enters : (scenario : Scenario) (old new : List Entry) (had has : ℕ → ℕ) (was : Backend) (from : ℕ) (p : Progress) (waits : AwaitsEntry scenario old was) → IsPlayed scenario old → AllOnCourse scenario old → EndsNext was.progress (events.Gone from)
+pub take_back_enters : (scenario : Scenario) (old new : List Entry) (had has : ℕ → ℕ) (was : Backend) (from : ℕ) (p : Progress) (waits : AwaitsEntry scenario old was) → IsPlayed scenario old → AllOnCourse scenario old → EndsNext was (events.Gone from)
     → HasEntered scenario old was.progress (events.Gone from) waits.rests p → kept_at p ≡ kept_spared (rels_in (lists_from from (lists_at was.progress))) (kept_spared (cats_in (lists_from from (lists_at was.progress))) (kept_at was.progress)) → p.answer ≡ was.progress.answer
     → Appends old new had has (entry_of was.progress.id (was.progress.finished + 1) (events.Gone from)) → Enters scenario old new had has was (record was { progress = p })
 take_back_enters scenario old new had has was from p waits played courses next goes kept same appends =

@@ -1,4 +1,4 @@
--- An allowed history is sound, its writes keep tables, and each of its backends is on its course.
+-- An allowed history is sound, its writes keep columns in order and names apart, and each of its backends is on its course.
 use Rattle.std.proofs.Common.{ℕ, List, [], ◌∷◌, ◌++◌, refl}
 use Rattle.history_model.specs.Legal.{MayFollow, IsLegal}
 use Rattle.history_model.specs.Orderly.{MayComeNext, IsSound}

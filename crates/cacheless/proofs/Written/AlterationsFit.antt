@@ -1,4 +1,4 @@
--- What an alteration of a table writes may be written, and keeps tables.
+-- What an alteration of a table writes may be written, and keeps columns in order and names apart.
 use Rattle.std.proofs.Common.{◌≡◌, ◌∙◌, ◌+◌, ◌-◌, ◌⊎◌, inl, inr, ℕ, zero, suc, ℤ, negsuc, Bool, true, false, Option, Some, None, List, [], ◌∷◌, ◌++◌, ◌||◌, ◌&&◌, refl, sym, ap, subst, map, length, not, nat_le, append-nil, ◌<◌, arith}
 use Rattle.std.specs.Prelude.{⊤, if◌then◌else◌}
 use Rattle.std.specs.Int.{int_min}
@@ -78,7 +78,7 @@ undrawn first (Delete key ∷ changes) = ap (λ items. forms.Remove key ∷ item
 pub rows_drafted : (next : ℕ) (changes : List Change) → drafted next (rows_draft changes) ≡ map item_of changes
 rows_drafted next changes = append-nil (map item_of (map (drawn_change next 0) changes)) ∙ undrawn next changes
 
--- items that may be written, but for that their write is the first of its command, which found these relations: they keep tables, give no relation a new name but one that their plan names, and lock no new one
+-- items that may be written, but for that their write is the first of its command, which found these relations: they keep columns in order, give no relation a new name but one that their plan names, and lock no new one
 pub record MayAlter (before : List Entry) (b : ℕ) (relations : List Opening) (count : ℕ) (items : List Item) : Type 0 where
   pub fit : IsFit before b count items
   pub keeps : KeepsAll before b items

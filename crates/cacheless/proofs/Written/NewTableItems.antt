@@ -1,4 +1,4 @@
--- The items of a new table; and that they keep tables.
+-- The items of a new table; and that they keep columns in order and names apart.
 use Rattle.std.proofs.Common.{◌≡◌, ◌∙◌, ◌+◌, ◌-◌, ◌⊎◌, inl, inr, ℕ, zero, suc, negsuc, Bool, true, None, List, [], ◌∷◌, ◌==◌, ◌||◌, ◌&&◌, refl, ap, map, nat_lt, arith, append-nil, ℤ}
 use Rattle.std.specs.List.{AllByRecursion, list_any, list_all, enumerate_from}
 use Rattle.std.specs.Option.{IfSome}

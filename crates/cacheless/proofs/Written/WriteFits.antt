@@ -44,7 +44,7 @@ use Rattle.cacheless.specs.Types.{Oid, Mode, Kind, Row, Command, CommandError, D
 use Rattle.cacheless.proofs.Written.FitToWrite.{IsFit, KeepsAll}
 use Rattle.cacheless.proofs.Written.NewTable.{new_table_fits, new_table_locks, new_table_names}
 
--- the draft of a command that found these relations may be written, but for its names and that its command has written nothing yet; it changes something; it keeps tables; the names that the history sees in it are those of its plan, where the rows of the relations were read as they are; and it takes the lock of the relation that it makes, if it makes one
+-- the draft of a command that found these relations may be written, but for its names and that its command has written nothing yet; it changes something; it keeps columns in order and names apart; the names that the history sees in it are those of its plan, where the rows of the relations were read as they are; and it takes the lock of the relation that it makes, if it makes one
 pub record WriteFits (history : List Entry) (b c : ℕ) (facts : Facts) (relations : List Opening) (draft : Draft) : Type 0 where
   pub fit : IsFit history b draft.new_oids (drafted (next_oid history) draft)
   pub some : 0 < length (drafted (next_oid history) draft)

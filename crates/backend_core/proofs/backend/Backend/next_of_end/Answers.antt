@@ -4,7 +4,7 @@ use Rattle.backend_core.proofs.Choosing.Nexting.{commits_next, takes_back_next}
 use Rattle.backend_core.proofs.backend.Backend.next_of_end.Goals as goal
 
 pub returns-in-Commits : goal.returns-in-Commits
-returns-in-Commits c = commits_next c.args.self.now _ _ _ c.requires.still c.requires.free c.requires.out c.requires.whole (sym c.end.ensures ∙ ap end_of_ending c.in-Commits.is) c.next_of_commit.ensures
+returns-in-Commits c = commits_next c.args.self.now _ _ _ c.requires.still c.requires.free c.requires.out c.requires.whole c.requires.accepted (sym c.end.ensures ∙ ap end_of_ending c.in-Commits.is) c.next_of_commit.ensures
 
 pub returns-in-TakesBack : goal.returns-in-TakesBack
-returns-in-TakesBack c = takes_back_next c.args.self.now _ _ _ c.requires.still c.requires.free c.requires.out c.requires.whole (sym c.end.ensures ∙ ap end_of_ending c.in-TakesBack.is) c.next_of_back.ensures
+returns-in-TakesBack c = takes_back_next c.args.self.now _ _ _ c.requires.still c.requires.free c.requires.out c.requires.whole c.requires.accepted (sym c.end.ensures ∙ ap end_of_ending c.in-TakesBack.is) c.next_of_back.ensures

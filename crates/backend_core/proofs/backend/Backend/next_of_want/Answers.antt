@@ -1,5 +1,6 @@
 use Rattle.std.proofs.Common.{◌∙◌, sym, refl, inl, inr}
 use Rattle.backend_core.proofs.Choosing.NextActs.{search_next, open_next, read_none, fails_none}
+use Rattle.backend_core.proofs.Choosing.Nexting.{done_accepted}
 use Rattle.backend_core.proofs.backend.Backend.next_of_want.Goals as goal
 
 pub next_of_build-requires : goal.next_of_build-requires
@@ -13,3 +14,6 @@ unreachable-requires-in-Read c = elim c.in-Read.is [
   | inl x ↦ read_none c.args.self.now.progress _ c.requires.still c.requires.free c.requires.whole x.0 (c.requires.want ∙ x.1) c.requires.reads
   | inr x ↦ elim x [ inl y ↦ fails_none c.args.self.now.progress _ c.requires.goes (c.requires.want ∙ y.1) refl | inr y ↦ fails_none c.args.self.now.progress _ c.requires.goes (c.requires.want ∙ y.1) refl ]
 ]
+
+pub next_of_end-requires-clause-accepted : goal.next_of_end-requires-clause-accepted
+next_of_end-requires-clause-accepted c = done_accepted c.args.self.now _ (c.requires.want ∙ c.in-Done.is)

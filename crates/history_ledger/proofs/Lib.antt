@@ -1,0 +1,15 @@
+mod Registering
+mod Mirrors
+mod Parts
+mod Stands
+mod Rows
+mod Entered
+mod Deciding
+mod ScanChanges
+mod Answers
+mod FreeNames
+mod WriteTests
+mod SeenAfter
+mod CoverTests
+mod MayFollow
+mod Readers

@@ -1,0 +1,7 @@
+use Rattle.std.proofs.Common.{◌-◌, length, take}
+use Rattle.command_lists.specs.Lists.{command_ended}
+use Rattle.history_ledger.proofs.Registering.{IsRegistering}
+use Rattle.history_ledger.proofs.own_entering.register.Given as goal
+
+abbrev pub invariant-loop-message : goal.invariant-loop-message
+invariant-loop-message l = IsRegistering (command_ended l.fn.lists.lists) l.command (take l.message-index l.messages) l.lists (length l.messages - l.message-index)

@@ -1,0 +1,302 @@
+ghost use Rattle.std.specs.Prelude.{◌≡◌, ◌||◌, Some, IfOk};
+ghost use Rattle.std.specs.List.{flat_map, list_any, list_all};
+ghost use Rattle.std.specs.Option.{option_to_list};
+ghost use Rattle.event_kinds.specs.declared.entry.Item.TheVariants as items;
+ghost use Rattle.base_types.specs.Scans.{same_oid};
+ghost use Rattle.lock_modes.specs.Grants.{holds as do_hold};
+ghost use Rattle.history_model.specs.Drawn.{made_by};
+ghost use Rattle.history_model.specs.Names.{new_name as names_changed};
+ghost use Rattle.history_model.specs.Versions.{added_row as row_added};
+ghost use Rattle.history_model.specs.Writes.{modes_enough, enough_where, relations_of as relations_in, same_kind as kinds_match};
+ghost use Rattle.history_ledger.specs.Writing.{is_there as finds_old, leaves_kind as does_leave_kind, frees_names as does_free_names, guards_rows as does_guard_rows, may_change as may_be_changed, changes_target as targets_differ, old_at};
+ghost use Rattle.history_ledger.specs.Follows.{reader_at};
+ghost use Rattle.history_ledger.specs.Standing.{standing_of, xid_in};
+
+use crate::following::reader;
+use crate::ledger::Ledger;
+use crate::own::Own;
+use crate::same::same_row;
+use base_types::{ConKind, Kind, Mode, Name, NoMemory, Oid, Row, Xid};
+use catalog_rows::RowStore;
+use event_kinds::Item;
+use lock_modes::GrantTable;
+use row_visibility::Reader;
+use std::alloc::Global;
+
+impl Ledger {
+    // Whether each change of a write is allowed by itself.
+    pub(crate) fn may_change_all(&self, own: &Own, b: u32, items: &[Item]) -> Result<bool, NoMemory>
+        ensures { IfOk result (λ yes. yes ≡ list_all (λ item. may_be_changed self.now.store self.now.locks (xid_in (standing_of own.now).running) b (flat_map made_by items.now) item (old_at self.now.store (reader_at (standing_of own.now)) item)) items.now) }
+    {
+        let made = relations_made(self.alloc, items)?;
+        let reader = reader(own);
+        let own = own.xid();
+        for item in items {
+            let old = old_row(&self.store, reader, item);
+            if !may_change(&self.store, &self.locks, own, b, &made, item, &old) {
+                return Ok(false);
+            }
+        }
+        Ok(true)
+    }
+}
+
+// The relations that a write makes.
+fn relations_made(alloc: Global, items: &[Item]) -> Result<Vec<Oid>, NoMemory>
+    ensures { IfOk result (λ made. made.items ≡ flat_map made_by items.now) }
+{
+    let mut made = Vec::new(alloc);
+    for item in items {
+        if let Item::Add(Row::Class { oid, .. }) = item {
+            made.push(*oid)?;
+        }
+    }
+    Ok(made)
+}
+
+// The row that a change replaces or takes away.
+fn old_row(store: &RowStore, reader: Reader, item: &Item) -> Option<Row>
+    ensures { result ≡ old_at store.now reader item.now }
+{
+    match item {
+        Item::Put(row) => store.row(&row.key(), reader),
+        Item::Remove(key) => store.row(key, reader),
+        Item::Add(_) | Item::Force(_) => None,
+    }
+}
+
+// Whether a change is allowed by itself, where this is the row that it replaces or takes away.
+fn may_change(
+    store: &RowStore,
+    locks: &GrantTable,
+    own: Option<Xid>,
+    b: u32,
+    made: &[Oid],
+    item: &Item,
+    old: &Option<Row>,
+) -> bool
+    ensures { result ≡ may_be_changed store.now locks.now own b made.now item.now old.now }
+{
+    is_there(item, old)
+        && leaves_kind(item, old)
+        && frees_names(store, own, item, old)
+        && guards_rows(locks, b, made, item, old)
+}
+
+// Whether what a change replaces or takes away is there.
+fn is_there(item: &Item, old: &Option<Row>) -> bool
+    ensures { result ≡ finds_old item.now old.now }
+{
+    match item {
+        Item::Put(_) | Item::Remove(_) => old.is_some(),
+        Item::Add(_) | Item::Force(_) => true,
+    }
+}
+
+// Whether a change leaves the kind of a relation.
+fn leaves_kind(item: &Item, old: &Option<Row>) -> bool
+    ensures { result ≡ does_leave_kind item.now old.now }
+{
+    match (item, old) {
+        (Item::Put(row), Some(had)) => same_kind(had, row),
+        _ => true,
+    }
+}
+
+// Whether two rows of relations are of one kind.
+fn same_kind(a: &Row, b: &Row) -> bool
+    ensures { result ≡ kinds_match a.now b.now }
+{
+    match (a, b) {
+        (
+            Row::Class {
+                kind: Kind::Table,
+                ..
+            },
+            Row::Class {
+                kind: Kind::Index,
+                ..
+            },
+        ) => false,
+        (
+            Row::Class {
+                kind: Kind::Index,
+                ..
+            },
+            Row::Class {
+                kind: Kind::Table,
+                ..
+            },
+        ) => false,
+        _ => true,
+    }
+}
+
+// Whether no new name of a change is in use.
+fn frees_names(store: &RowStore, own: Option<Xid>, item: &Item, old: &Option<Row>) -> bool
+    ensures { result ≡ does_free_names store.now own item.now old.now }
+{
+    match new_name(item, old) {
+        Some(name) => store.name_clash(&name, own).is_none(),
+        None => true,
+    }
+}
+
+// The name that a change gives a relation, unless the relation has it already.
+fn new_name(item: &Item, old: &Option<Row>) -> Option<Name>
+    ensures { option_to_list result ≡ names_changed old.now (row_added item.now) }
+{
+    match item {
+        Item::Add(row) | Item::Put(row) => changed_name(old, row),
+        Item::Remove(_) | Item::Force(_) => None,
+    }
+}
+
+// The name of a relation's new row, unless the old row has it.
+fn changed_name(old: &Option<Row>, row: &Row) -> Option<Name>
+    ensures { option_to_list result ≡ names_changed old.now (Some row.now) }
+{
+    match (old, row) {
+        (Some(Row::Class { name: had, .. }), Row::Class { name, .. }) => {
+            if had.as_bytes() == name.as_bytes() {
+                None
+            } else {
+                Some(*name)
+            }
+        }
+        (_, Row::Class { name, .. }) => Some(*name),
+        _ => None,
+    }
+}
+
+// Whether the backend holds a mode that is enough on each relation that the old row or the new one
+// names, but on those that the write makes.
+fn guards_rows(locks: &GrantTable, b: u32, made: &[Oid], item: &Item, old: &Option<Row>) -> bool
+    ensures { result ≡ does_guard_rows locks.now b made.now item.now old.now }
+{
+    let weak = is_weak(item, old);
+    let old_guarded = match old {
+        Some(row) => guards_row(locks, b, made, weak, row),
+        None => true,
+    };
+    let new_guarded = match item {
+        Item::Add(row) | Item::Put(row) => guards_row(locks, b, made, weak, row),
+        Item::Remove(_) | Item::Force(_) => true,
+    };
+    old_guarded && new_guarded
+}
+
+// Whether ShareUpdateExclusive is enough for a change: nothing but a fillfactor or a statistics target
+// changes.
+fn is_weak(item: &Item, old: &Option<Row>) -> bool
+    ensures { modes_enough old.now item.now ≡ enough_where result }
+{
+    match (old, item) {
+        (Some(had), Item::Put(row)) => changes_settings(had, row),
+        _ => false,
+    }
+}
+
+// Whether nothing but a fillfactor or a statistics target differs.
+fn changes_settings(had: &Row, row: &Row) -> bool
+    ensures { modes_enough (Some had.now) (items.Put row.now) ≡ enough_where result }
+{
+    match (had, row) {
+        (
+            Row::Class {
+                oid,
+                name,
+                kind,
+                ..
+            },
+            Row::Class { fill, .. },
+        ) => same_row(
+            &Row::Class {
+                oid: *oid,
+                name: *name,
+                kind: *kind,
+                fill: *fill,
+            },
+            row,
+        ),
+        _ => changes_target(had, row),
+    }
+}
+
+// Whether nothing but a column's statistics target differs.
+fn changes_target(had: &Row, row: &Row) -> bool
+    ensures { result ≡ targets_differ had.now row.now }
+{
+    match (had, row) {
+        (
+            Row::Att {
+                rel,
+                num,
+                name,
+                col_type,
+                live,
+                ..
+            },
+            Row::Att { stat, .. },
+        ) => same_row(
+            &Row::Att {
+                rel: *rel,
+                num: *num,
+                name: *name,
+                col_type: *col_type,
+                stat: *stat,
+                live: *live,
+            },
+            row,
+        ),
+        _ => false,
+    }
+}
+
+// Whether the backend holds a mode that is enough on each relation that a row names, but on those that
+// the write makes.
+fn guards_row(locks: &GrantTable, b: u32, made: &[Oid], weak: bool, row: &Row) -> bool
+    ensures { result ≡ list_all (λ rel. list_any (same_oid rel) made.now || list_any (do_hold locks.now b rel) (enough_where weak)) (relations_in row.now) }
+{
+    match row {
+        Row::Class { oid: rel, .. }
+        | Row::Att { rel, .. }
+        | Row::Def { rel, .. }
+        | Row::Trg { rel, .. } => guards(locks, b, made, weak, *rel),
+        Row::Ind { index, table, .. } => {
+            guards(locks, b, made, weak, *index) && guards(locks, b, made, weak, *table)
+        }
+        Row::Con {
+            rel,
+            what: ConKind::Foreign { refrel, .. },
+            ..
+        } => guards(locks, b, made, weak, *rel) && guards(locks, b, made, weak, *refrel),
+        Row::Con { rel, .. } => guards(locks, b, made, weak, *rel),
+    }
+}
+
+// Whether the backend holds a mode that is enough on the relation, or the write makes it.
+fn guards(locks: &GrantTable, b: u32, made: &[Oid], weak: bool, rel: Oid) -> bool
+    ensures { result ≡ (list_any (same_oid rel) made.now || list_any (do_hold locks.now b rel) (enough_where weak)) }
+{
+    is_among(made, rel) || holds_enough(locks, b, weak, rel)
+}
+
+// Whether the relation is one of these.
+fn is_among(relations: &[Oid], rel: Oid) -> bool
+    ensures { result ≡ list_any (same_oid rel) relations.now }
+{
+    relations.iter().any(|other| rel.0 == other.0)
+}
+
+// Whether the backend holds a mode that is enough on the relation.
+fn holds_enough(locks: &GrantTable, b: u32, weak: bool, rel: Oid) -> bool
+    ensures { result ≡ list_any (do_hold locks.now b rel) (enough_where weak) }
+{
+    if weak {
+        locks.holds(b, rel, Mode::ShareUpdateExclusive)
+            || locks.holds(b, rel, Mode::AccessExclusive)
+    } else {
+        locks.holds(b, rel, Mode::AccessExclusive)
+    }
+}

@@ -1,0 +1,76 @@
+ghost use Rattle.std.specs.Prelude.{[], OnOk};
+
+use crate::backends::Backends;
+use crate::entering::{
+    enter_locks, enter_log, enter_rows, last_xid_after, messages_sent, next_oid_after,
+};
+use crate::following::reader;
+use base_types::{FIRST_OID, NoMemory};
+use catalog_rows::RowStore;
+use event_kinds::Entry;
+use inval_messages::Message;
+use lock_modes::GrantTable;
+use std::alloc::Global;
+
+/// What the entries of a history leave, exactly.
+#[derive(Drop)]
+pub struct Ledger {
+    pub(crate) alloc: Global,
+    pub(crate) store: RowStore,
+    pub(crate) locks: GrantTable,
+    pub(crate) log: Vec<Message>,
+    pub(crate) next_oid: u64,
+    pub(crate) last_xid: u32,
+    pub(crate) backends: Backends,
+}
+
+impl Ledger {
+    ghost use Rattle.std.specs.Prelude.{◌++◌, ◌∷◌, List};
+    ghost use Rattle.event_kinds.specs.declared.entry.Entry.{Entry};
+    ghost use Rattle.history_model.specs.Legal.{MayFollow};
+    ghost use Rattle.history_ledger.specs.Enters.{CanEnter, HasEntered};
+    ghost use Rattle.history_ledger.specs.Reads.{Reads};
+
+    /// What the empty history leaves, which takes no memory.
+    pub fn new(alloc: Global) -> Ledger
+        ensures { Reads [] result }
+    {
+        Ledger {
+            alloc,
+            store: RowStore::new(alloc),
+            locks: GrantTable::new(alloc),
+            log: Vec::new(alloc),
+            next_oid: FIRST_OID as u64,
+            last_xid: 0,
+            backends: Backends::new(alloc),
+        }
+    }
+
+    /// One more entry, which may follow. Out of memory, it may not be used any more; entries whose
+    /// command has no successor, and numbers that can't be counted, are answered so too.
+    pub fn enter(&mut self, e: &Entry) -> Result<(), NoMemory>
+        requires { CanEnter self.old e.now }
+        ensures { OnOk result ((seen : List Entry) → Reads seen self.old → MayFollow seen e.now → Reads (seen ++ e.now ∷ []) self.new) }
+    {
+        self.enter_all(e)
+    }
+
+    // The same, by what is held.
+    fn enter_all(&mut self, e: &Entry) -> Result<(), NoMemory>
+        requires { CanEnter self.old e.now }
+        ensures { OnOk result (HasEntered self.old e.now self.new) }
+    {
+        if e.command == u32::MAX {
+            return Err(NoMemory);
+        }
+        let mut own = self.backends.take(e.backend);
+        let messages = messages_sent(self.alloc, &self.store, reader(&own), &e.event)?;
+        enter_rows(self.alloc, &mut self.store, own.xid(), e.command, &e.event)?;
+        enter_locks(&mut self.locks, e.backend, e.command, &e.event)?;
+        enter_log(&mut self.log, own.unsent(), &e.event)?;
+        self.next_oid = next_oid_after(self.next_oid, &e.event)?;
+        self.last_xid = last_xid_after(self.last_xid, &e.event);
+        own.enter(e.command, &e.event, &messages, self.log.len())?;
+        self.backends.put(e.backend, own)
+    }
+}
