@@ -1,79 +1,52 @@
 -- Another backend's entry changes nothing of where a backend is.
-use Rattle.std.proofs.Common.{◌≡◌, ◌∙◌, ◌==◌, ℕ, false, Option, Some, None, List, [], ◌∷◌, ◌++◌, sym, ap, subst, drop, refl}
-use Rattle.std.specs.Option.{option_map_or}
+use Rattle.std.proofs.Common.{◌≡◌, ◌∙◌, ◌==◌, false, List, [], ◌∷◌, ◌++◌, sym, subst}
 use Rattle.base_types.specs.Scenario.{Scenario}
-use Rattle.ddl_effect.specs.Commands.{commands_of}
-use Rattle.history_model.proofs.Reading.{life_of-other, last_event_of-other, place_read-other}
-use Rattle.cacheless.specs.Lines.{lines_from, lines_of_backend}
-use Rattle.cacheless.specs.Session.{Session}
-use Rattle.cacheless.specs.Sessions.{session_of}
-use Rattle.cacheless.specs.Settled.{settled}
-use Rattle.cacheless.proofs.Answers.JudgedLines.{session_placed, finished_lines-more, line_stays}
-use Rattle.cacheless.proofs.Entries.Others.{holds-other, not_started-other}
-use Rattle.cacheless.proofs.Reading.{facts_of-other, session_of-other}
-use Rattle.cacheless.proofs.Allowed.StaysOnCourse.{has_written-other}
+use Rattle.history_model.proofs.Reading.{life_of-other}
 use Rattle.cacheless.specs.State.{kept_at}
-use Rattle.backend_core.specs.Types.{Entry, Kept, Life, Backend}
+use Rattle.cacheless.proofs.Entries.Others.{holds-other}
+use Rattle.cacheless.proofs.Reading.{facts_of-other}
+use Rattle.session_laws.specs.Awaiting.{HasNoEntry, AwaitsEntry as SessionAwaits}
+use Rattle.session_laws.proofs.Others.{kept-other, awaits-other as session_awaits-other, no_entry-other, lines-other}
+use Rattle.backend_core.specs.Types.{Entry, Life, Backend}
 use Rattle.backend_core.specs.declared.life.Life.TheVariants as lives
-use Rattle.backend_core.specs.Agrees.{AreLastScans, command_at, AwaitsEntry, HasNotJoined, HasLeft, Stands}
+use Rattle.backend_core.specs.Agrees.{command_at, AwaitsEntry, HasNotJoined, HasLeft, Stands}
 use Rattle.backend_core.specs.Fits.{Fits}
-use Rattle.backend_core.proofs.Fitting.Entered.{kept_same}
-use Rattle.backend_core.proofs.Own.{waiting, waiting_is}
+use Rattle.backend_core.proofs.Own.{waiting, session_waits, no_entry}
 
--- the places of the scans that are kept
-kept-other : (history : List Entry) (e : Entry) (b : ℕ) (kept : Kept) → (e.backend == b) ≡ false → AreLastScans history b kept → AreLastScans (history ++ e ∷ []) b kept
-kept-other history e b kept other at = kept_same history (history ++ e ∷ []) b kept (λ scan. place_read-other history e b scan other) at
-
+-- a backend that waits for its next entry still waits for it
 awaits-other : (scenario : Scenario) (seen : List Entry) (e : Entry) (s : Backend) → (e.backend == s.progress.id) ≡ false → AwaitsEntry scenario seen s → AwaitsEntry scenario (seen ++ e ∷ []) s
+unfolding session_awaits-other
 awaits-other scenario seen e s other waits = record {
   keeps = let k = waits.keeps in record {
     alive = k.alive;
     life = record { last = k.life.last; alive = life_of-other seen e s.progress.id other ∙ k.life.alive; most = k.life.most };
     built = k.built;
-    places = record {
-      kept = kept-other seen e s.progress.id (kept_at s.progress) other k.places.kept;
-      absent = λ name missed whole. k.places.absent name missed (record { untaken = λ from gone. whole.untaken from (last_event_of-other seen e s.progress.id other ∙ gone); going = whole.going });
-    };
+    places = still.places;
   };
-  rests = record {
-    holds = let holds = waits.rests.holds in record (holds-other scenario seen e s.progress other holds) {
-      rest = holds.rest;
-      count = holds.count;
-      is = session_of-other scenario seen e s.progress.id other ∙ holds.is ∙ ap (λ f. Some (settled f (drop s.progress.finished s.progress.commands) (waiting waits))) (sym (facts_of-other seen e s.progress.id other));
-      sought = holds.sought;
-    };
-    still = waits.rests.still;
-  };
+  rests = still.rests;
   fits = subst (λ f. Fits f (command_at s) (waiting waits) s.looked s.looked_to_build s.told) (sym (facts_of-other seen e s.progress.id other)) waits.fits;
-  lines = waits.lines ∙ ap (lines_from scenario seen s.progress.id 1 (waiting waits).finished) waits.rests.holds.commands ∙ sym (finished_lines-more scenario seen e s.progress.id (waiting waits) (waiting_is scenario seen s waits))
-      ∙ ap (lines_from scenario (seen ++ e ∷ []) s.progress.id 1 (waiting waits).finished) (sym waits.rests.holds.commands);
-  tells = record {
-    answer = λ text command told at. waits.tells.answer text command told at
-        ∙ sym (line_stays scenario seen e s.progress.id _ (waiting waits) (waiting waits) command (session_placed scenario seen s.progress.id (waiting waits) (waiting_is scenario seen s waits)).judged refl);
-    out = waits.tells.out;
-  };
-  answered = waits.answered;
+  lines = still.lines_are;
+  tells = still.tells;
+  answered = still.answered;
 }
+  where
+    still : SessionAwaits scenario (seen ++ e ∷ []) s.progress s.lines
+    still = session_awaits-other scenario seen e s.progress s.lines other (session_waits waits)
 
 -- a backend that hasn't joined still has no entry
 not_joined-other : (scenario : Scenario) (seen : List Entry) (e : Entry) (s : Backend) → (e.backend == s.progress.id) ≡ false → HasNotJoined scenario seen s → HasNotJoined scenario (seen ++ e ∷ []) s
 not_joined-other scenario seen e s other before = record {
-  waits = not_started-other scenario seen e s.progress other before.waits;
+  waits = none.waits;
   built = before.built;
   new = before.new;
-  session = session_of-other scenario seen e s.progress.id other ∙ before.session;
-  facts = facts_of-other seen e s.progress.id other ∙ before.facts;
+  session = none.session;
+  facts = none.facts;
   life = life_of-other seen e s.progress.id other ∙ before.life;
-  unwritten = λ c. has_written-other seen e s.progress.id c other ∙ before.unwritten c;
+  unwritten = none.unwritten;
 }
-
--- the lines of a backend stay, with another's entry
-lines-other : (scenario : Scenario) (seen : List Entry) (e : Entry) (b : ℕ) → (e.backend == b) ≡ false → lines_of_backend scenario (seen ++ e ∷ []) b ≡ lines_of_backend scenario seen b
-lines-other scenario seen e b other = ap (λ o. lines_from scenario (seen ++ e ∷ []) b 1 (option_map_or (λ s. s.finished) o []) (commands_of scenario b)) (session_of-other scenario seen e b other) ∙ by_session (session_of scenario seen b) refl
   where
-    by_session : (o : Option Session) → session_of scenario seen b ≡ o → lines_from scenario (seen ++ e ∷ []) b 1 (option_map_or (λ s. s.finished) o []) (commands_of scenario b) ≡ lines_from scenario seen b 1 (option_map_or (λ s. s.finished) o []) (commands_of scenario b)
-    by_session None is = refl
-    by_session (Some s) is = finished_lines-more scenario seen e b s is
+    none : HasNoEntry scenario (seen ++ e ∷ []) s.progress
+    none = no_entry-other scenario seen e s.progress other (no_entry before)
 
 left-other : (scenario : Scenario) (seen : List Entry) (e : Entry) (s : Backend) → (e.backend == s.progress.id) ≡ false → HasLeft scenario seen s → HasLeft scenario (seen ++ e ∷ []) s
 left-other scenario seen e s other left = record {

@@ -30,6 +30,7 @@ impl Progress {
         ensures kept { kept_at self.new ≡ kept_at self.old }
         ensures answer { self.new.answer ≡ self.old.answer }
         ensures holds { (scenario : Scenario) (seen : List Entry) → HasNotStarted scenario seen self.old → HasStarted scenario seen self.old self.new }
+        ensures same { self.new.commands ≡ self.old.commands }
     {
         self.running = None;
         self.due = Due::Nothing;
@@ -41,6 +42,7 @@ impl Progress {
         ensures kept { kept_at self.new ≡ kept_at self.old }
         ensures answer { self.new.answer ≡ self.old.answer }
         ensures holds { (scenario : Scenario) (seen : List Entry) → (rests : Rests scenario seen self.old) → HasEntered scenario seen self.old Event.Stop rests self.new }
+        ensures same { self.new.commands ≡ self.old.commands }
     {
         self.due = Due::Nothing;
         let accepting = self.is_in_acceptance();
@@ -55,6 +57,7 @@ impl Progress {
         ensures kept { kept_at self.new ≡ kept_at self.old }
         ensures answer { self.new.answer ≡ None }
         ensures holds { (scenario : Scenario) (seen : List Entry) → (rests : Rests scenario seen self.old) → HasEntered scenario seen self.old (Event.Look some_wait) rests self.new }
+        ensures same { self.new.commands ≡ self.old.commands }
     {
         self.running = Some(RunningTransaction::begun(self.finished + 1, self.running));
         self.due = after_look(some_wait);
@@ -72,6 +75,7 @@ impl Progress {
         ensures kept { kept_at self.new ≡ kept_spared messages.now (kept_at self.old) }
         ensures answer { self.new.answer ≡ None }
         ensures holds { (scenario : Scenario) (seen : List Entry) → (rests : Rests scenario seen self.old) → messages.now ≡ fetched_by seen self.old.id (length messages.now) → HasEntered scenario seen self.old (Event.Fetch (length messages.now)) rests self.new }
+        ensures same { self.new.commands ≡ self.old.commands }
     {
         self.running = Some(RunningTransaction::begun(self.finished + 1, self.running));
         self.caches.execute(messages);
@@ -93,6 +97,7 @@ impl Progress {
         ensures kept { kept_at self.new ≡ nothing_kept }
         ensures answer { self.new.answer ≡ None }
         ensures holds { (scenario : Scenario) (seen : List Entry) → (rests : Rests scenario seen self.old) → HasEntered scenario seen self.old Event.FetchReset rests self.new }
+        ensures same { self.new.commands ≡ self.old.commands }
     {
         self.running = Some(RunningTransaction::begun(self.finished + 1, self.running));
         self.caches.reset();

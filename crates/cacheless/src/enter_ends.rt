@@ -26,6 +26,7 @@ impl Progress {
         ensures kept { kept_at self.new ≡ kept_at self.old }
         ensures answer { self.new.answer ≡ self.old.answer }
         ensures holds { (scenario : Scenario) (seen : List Entry) → (rests : Rests scenario seen self.old) → HasEntered scenario seen self.old (Event.Visible xid) rests self.new }
+        ensures same { self.new.commands ≡ self.old.commands }
     {
         let _xid = xid;
         self.running = Some(RunningTransaction {
@@ -45,6 +46,7 @@ impl Progress {
         ensures kept { kept_at self.new ≡ kept_at self.old }
         ensures answer { self.new.answer ≡ self.old.answer }
         ensures holds { (scenario : Scenario) (seen : List Entry) → (rests : Rests scenario seen self.old) → HasEntered scenario seen self.old (Event.Publish count) rests self.new }
+        ensures same { self.new.commands ≡ self.old.commands }
     {
         let own = RunningTransaction::begun(self.finished + 1, self.running);
         self.running = Some(RunningTransaction {
@@ -64,6 +66,7 @@ impl Progress {
         ensures kept { kept_at self.new ≡ kept_spared (rels_in (lists_from from (lists_at self.old))) (kept_spared (cats_in (lists_from from (lists_at self.old))) (kept_at self.old)) }
         ensures answer { self.new.answer ≡ self.old.answer }
         ensures holds { (scenario : Scenario) (seen : List Entry) → (rests : Rests scenario seen self.old) → HasEntered scenario seen self.old (Event.Gone from) rests self.new }
+        ensures same { self.new.commands ≡ self.old.commands }
     {
         self.running = Some(RunningTransaction::begun(self.finished + 1, self.running));
         self.caches.execute(self.lists.cats_from(from));
@@ -82,6 +85,7 @@ impl Progress {
         ensures kept { kept_at self.new ≡ kept_at self.old }
         ensures answer { self.new.answer ≡ self.old.answer }
         ensures holds { (scenario : Scenario) (seen : List Entry) → (rests : Rests scenario seen self.old) → HasEntered scenario seen self.old (Event.Release from) rests self.new }
+        ensures same { self.new.commands ≡ self.old.commands }
     {
         clear_if(
             &mut self.lists,

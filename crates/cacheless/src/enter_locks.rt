@@ -38,6 +38,7 @@ impl Progress {
         ensures kept { kept_at self.new ≡ kept_at self.old }
         ensures answer { self.new.answer ≡ None }
         ensures holds { (scenario : Scenario) (seen : List Entry) → (rests : Rests scenario seen self.old) → HasEntered scenario seen self.old (Event.LockOk rel mode) rests self.new }
+        ensures same { self.new.commands ≡ self.old.commands }
     {
         self.running = Some(RunningTransaction::begun(self.finished + 1, self.running));
         self.due = Due::Look;
@@ -54,6 +55,7 @@ impl Progress {
         ensures kept { kept_at self.new ≡ kept_at self.old }
         ensures answer { self.new.answer ≡ None }
         ensures holds { (scenario : Scenario) (seen : List Entry) → (rests : Rests scenario seen self.old) → HasEntered scenario seen self.old (Event.Unlock rel mode) rests self.new }
+        ensures same { self.new.commands ≡ self.old.commands }
     {
         self.running = Some(RunningTransaction::begun(self.finished + 1, self.running));
         self.due = Due::Nothing;
@@ -71,6 +73,7 @@ impl Progress {
         ensures kept { kept_at self.new ≡ kept_at self.old }
         ensures answer { self.new.answer ≡ None }
         ensures holds { (scenario : Scenario) (seen : List Entry) → (rests : Rests scenario seen self.old) → HasEntered scenario seen self.old (Event.LockHeld rel mode holder held) rests self.new }
+        ensures same { self.new.commands ≡ self.old.commands }
     {
         let _mode = mode;
         let error = CommandError::Locked {

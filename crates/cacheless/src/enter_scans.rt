@@ -29,6 +29,7 @@ impl Progress {
         ensures kept { OnOk result (kept_at self.new ≡ kept_with scan.now rows.items at (kept_at self.old)) }
         ensures answer { OnOk result (self.new.answer ≡ None) }
         ensures holds { OnOk result ((scenario : Scenario) (seen : List Entry) (count : ℕ) → (rests : Rests scenario seen self.old) → rows.items ≡ answer_of seen self.old.id scan.now → HasEntered scenario seen self.old (Event.Scan scan.now count) rests self.new) }
+        ensures same { OnOk result (self.new.commands ≡ self.old.commands) }
     {
         self.caches.put(scan, rows, at)?;
         self.running = Some(RunningTransaction::begun(self.finished + 1, self.running));

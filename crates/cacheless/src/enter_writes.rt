@@ -51,6 +51,7 @@ impl Progress {
         ensures kept { OnOk result (kept_at self.new ≡ kept_spared messages.now (kept_at self.old)) }
         ensures answer { OnOk result (self.new.answer ≡ None) }
         ensures holds { OnOk result ((scenario : Scenario) (seen : List Entry) (items : List Item) → (rests : Rests scenario seen self.old) → messages.now ≡ messages_in seen self.old.id items → flat_map (locked_by (self.old.finished + 1)) items ≡ locks_made new_oids first (self.old.finished + 1) → HasEntered scenario seen self.old (Event.Write xid items) rests self.new) }
+        ensures same { OnOk result (self.new.commands ≡ self.old.commands) }
     {
         let command = self.finished + 1;
         register(&mut self.lists, command, messages)?;
@@ -74,6 +75,7 @@ impl Progress {
         ensures kept { kept_at self.new ≡ kept_at self.old }
         ensures answer { self.new.answer ≡ None }
         ensures holds { (scenario : Scenario) (seen : List Entry) → (rests : Rests scenario seen self.old) → HasEntered scenario seen self.old (clash_event name clash) rests self.new }
+        ensures same { self.new.commands ≡ self.old.commands }
     {
         self.fail(clash_error(name, clash));
     }

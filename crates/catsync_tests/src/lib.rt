@@ -33,6 +33,8 @@ mod events;
 #[cfg(test)]
 mod faults;
 #[cfg(test)]
+mod judged;
+#[cfg(test)]
 mod ledgers;
 #[cfg(test)]
 mod locks;

@@ -2,12 +2,13 @@ ghost use Rattle.std.specs.Prelude.{◌≡◌, ◌≤◌, ◌<◌, [], ◌∷◌
 ghost use Rattle.event_kinds.specs.declared.entry.Event.TheVariants.{Start};
 ghost use Rattle.seg_calls.specs.Calls.{entry_of};
 ghost use Rattle.shared_seg.specs.Places.{promised_in};
-ghost use Rattle.walk_run.specs.Built.{is_built as is_built_scenario};
+ghost use Rattle.by_backend.specs.Built.{is_built as is_built_scenario};
 
 use crate::ends::{STEADY, sink_of};
 use crate::scripts::script_of;
 use backend_core::Backend;
 use base_types::{Mode, NoMemory, Oid};
+use by_backend::is_built;
 use event_kinds::Entry;
 use out_text::put_output;
 use script_text::Script;
@@ -15,7 +16,7 @@ use seg_calls::Seg;
 use shared_seg::Shared;
 use std::alloc::Global;
 use std::test::Fail;
-use walk_run::{is_built, walk_on};
+use walk_run::walk_on;
 
 // The calls of a segment that make an entry have conditions on the whole history before them, which
 // `backend_core` is proved to meet. So the backends make these calls here: two creators of one name, of whom

@@ -1,16 +1,17 @@
 ghost use Rattle.std.specs.Prelude.{◌≡◌, true};
-ghost use Rattle.walk_run.specs.Built.{is_built as is_built_scenario};
+ghost use Rattle.by_backend.specs.Built.{is_built as is_built_scenario};
 
 use crate::calls::walked;
 use crate::scripts::script_of;
 use crate::segments::walked_segment;
 use backend_core::Backend;
 use base_types::{Listed, NoMemory};
+use by_backend::is_built;
 use event_kinds::Line;
 use script_text::Script;
 use std::alloc::Global;
 use std::test::Fail;
-use walk_run::{is_built, walk};
+use walk_run::walk;
 
 // Of each backend its answers in order, and whether it stops.
 type Sessions = &'static [(&'static [&'static [u8]], bool)];

@@ -1,7 +1,7 @@
 -- Scripts that were read, of which not all is built.
 use Rattle.std.proofs.Common.{◌≡◌, ◌≤◌, ◌∙◌, ℕ, Bool, false, Option, Ok, List, length, sym, ap}
 use Rattle.edge_io.specs.Reads.{ReadsAll}
-use Rattle.walk_run.specs.Built.{is_built}
+use Rattle.by_backend.specs.Built.{is_built}
 use Rattle.script_text.specs.Grammar.{Reading, script_of}
 use Rattle.script_text.specs.declared.fault.Rest.TheVariants.{Refused}
 use Rattle.catsync_top.specs.Top.{IsNotYet}

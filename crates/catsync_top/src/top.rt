@@ -6,11 +6,12 @@ ghost use Rattle.catsync_top.specs.Top.{AreWalk, Ran, IsBad, IsTooLong, IsNotYet
 
 use crate::Status;
 use backend_core::Backend;
+use by_backend::is_built;
 use edge_io::{Gate, ReadRefusal, Sink, Source, read_all};
 use out_text::put_output;
 use script_text::{MOST_BACKENDS, Rest, ScriptFault, read_script};
 use std::alloc::Global;
-use walk_run::{World, is_built, walk};
+use walk_run::{World, walk};
 
 /// The most bytes of a script.
 pub const MOST_INPUT: usize = 1_048_576;

@@ -117,7 +117,7 @@ any-map p (v ∷ versions) some = by_first (p v.row) (any-map p versions) some
     by_first false rest h = rest h
 
 -- a version that counts and has the name is given
-named_some : (history : List Entry) (b : ℕ) (store : Store) (own : Option Xid) → Mirrors history b store own → (name : List ℕ) (v : Version) (rel : Oid) → stores.standing_version store own name ≡ Some v → relation_of v.row ≡ Some rel → is_named history b name rel ≡ true
+pub named_some : (history : List Entry) (b : ℕ) (store : Store) (own : Option Xid) → Mirrors history b store own → (name : List ℕ) (v : Version) (rel : Oid) → stores.standing_version store own name ≡ Some v → relation_of v.row ≡ Some rel → is_named history b name rel ≡ true
 named_some history b store own m name v rel some at =
     any_fold (is_row_of rel) (RelName name) [] (filter (selects (RelName name)) (map (λ x. x.row) (filter (sees history b) (versions_of history))))
     (ap (λ t. t || false) (any-weaker (λ row. selects (RelName name) row && is_row_of rel row) (is_row_of rel) (λ row is. (and_parts _ _ is).1) (filter (selects (RelName name)) (map (λ x. x.row) (filter (sees history b) (versions_of history))))

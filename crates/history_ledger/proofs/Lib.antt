@@ -1,15 +1,15 @@
 mod Registering
-mod Mirrors
+pub mod Mirrors
 mod Parts
 mod Stands
-mod Rows
+pub mod Rows
 mod Entered
 mod Deciding
 mod ScanChanges
 mod Answers
-mod FreeNames
+pub mod FreeNames
 mod WriteTests
 mod SeenAfter
 mod CoverTests
-mod MayFollow
+pub mod MayFollow
 mod Readers

@@ -30,14 +30,14 @@ use Rattle.history_ledger.specs.Standing.{xid_in, transaction_of}
 use Rattle.history_ledger.proofs.Mirrors.{Mirrors, version_same, runs_own}
 
 -- a mark set
-marked : (marks : List Bool) (xid x : ℕ) → xid < length marks → has_committed (slice_set marks xid true) x ≡ (has_committed marks x || (xid == x))
+pub marked : (marks : List Bool) (xid x : ℕ) → xid < length marks → has_committed (slice_set marks xid true) x ≡ (has_committed marks x || (xid == x))
 marked marks xid x within = unwrap_or-slice_get (slice_set marks xid true) x false ∙ by_cases (eqb_tells xid x) ∙ ap (λ b. b || (xid == x)) (sym (unwrap_or-slice_get marks x false))
   where
     by_cases : ((xid == x) ≡ true) × (xid ≡ x) ⊎ ((xid == x) ≡ false) × (xid ≢ x) → get_or (slice_set marks xid true) x false ≡ (get_or marks x false || (xid == x))
     by_cases (inl same) = get_or-set_at marks xid x true false (sym same.1) within ∙ sym (or-true (get_or marks x false)) ∙ ap (λ b. get_or marks x false || b) (sym same.0)
     by_cases (inr other) = get_or-set_other marks xid x true false (λ e. other.1 (sym e)) ∙ sym (or-false (get_or marks x false)) ∙ ap (λ b. get_or marks x false || b) (sym other.0)
 
-map-same : {X : Type 0} (xs : List X) → map (λ x. x) xs ≡ xs
+pub map-same : {X : Type 0} (xs : List X) → map (λ x. x) xs ≡ xs
 map-same [] = refl
 map-same (x ∷ xs) = ap (λ l. x ∷ l) (map-same xs)
 
@@ -63,16 +63,16 @@ eqb-turned m n = by_cases (eqb_tells m n)
     by_cases (inr other) = other.0 ∙ sym (ne_eqb n m (λ e. other.1 (sym e)))
 
 -- what is taken back
-undone_versions : (own : Option Xid) (from : ℕ) (store : Store) → (undone own from store).versions ≡ taken_back (λ s. is_own own s && nat_le from s.command) store.versions
+pub undone_versions : (own : Option Xid) (from : ℕ) (store : Store) → (undone own from store).versions ≡ taken_back (λ s. is_own own s && nat_le from s.command) store.versions
 undone_versions None from store = sym (taken_back-none store.versions)
 undone_versions (Some xid) from store = λ i. taken_back (λ s. eqb-turned s.xid.0 xid.0 i && nat_le from s.command) store.versions
 
-undone_committed : (own : Option Xid) (from : ℕ) (store : Store) → (undone own from store).committed ≡ store.committed
+pub undone_committed : (own : Option Xid) (from : ℕ) (store : Store) → (undone own from store).committed ≡ store.committed
 undone_committed None from store = refl
 undone_committed (Some xid) from store = refl
 
 -- the key of the row that a change is of
-abbrev change_key : Change → RowKey
+abbrev pub change_key : Change → RowKey
 change_key (Insert row) = key_of row
 change_key (Replace row) = key_of row
 change_key (Delete key) = key
@@ -81,7 +81,7 @@ change_key (Delete key) = key
 abbrev Alike : List Entry → ℕ → List Bool → Stamp → Version → Change → Type 0
 Alike history b committed stamp v change = is_ended committed stamp change v ≡ ends history b (item_of change) v
 
-abbrev AllAlike : List Entry → ℕ → List Bool → Stamp → List Change → Version → Type 0
+abbrev pub AllAlike : List Entry → ℕ → List Bool → Stamp → List Change → Version → Type 0
 AllAlike history b committed stamp changes v = AllByRecursion (Alike history b committed stamp v) changes
 
 no_end : (t x : Bool) → t ≡ false → (t && x) ≡ false
@@ -183,7 +183,7 @@ pub counts_same : (history : List Entry) (b : ℕ) (committed : List Bool) (xid 
 counts_same history b committed xid s are is bound = λ i. are s.xid.0 i || own_counts history b xid s is bound i
 
 -- a version whose stamps are drawn
-alike_drawn : (history : List Entry) (b : ℕ) (committed : List Bool) (stamp : Stamp) (v : Version) → OfStamps (λ s row. stores.counts committed (Some stamp.xid) s ≡ counts history b s) v → (changes : List Change) → AllAlike history b committed stamp changes v
+pub alike_drawn : (history : List Entry) (b : ℕ) (committed : List Bool) (stamp : Stamp) (v : Version) → OfStamps (λ s row. stores.counts committed (Some stamp.xid) s ≡ counts history b s) v → (changes : List Change) → AllAlike history b committed stamp changes v
 alike_drawn history b committed stamp v same changes = every (Alike history b committed stamp v) of changes
   where
     of : (change : Change) → Alike history b committed stamp v change

@@ -1,5 +1,8 @@
 ghost use Rattle.std.specs.Prelude.{◌≡◌, ◌++◌, Some, not, map, filter, fold, IfOk, OnOk};
 ghost use Rattle.std.specs.List.{flat_map, list_all};
+ghost use Rattle.std.specs.Option.{option_map_or};
+ghost use Rattle.base_types.specs.declared.key.CacheId.TheVariants.{AttName};
+ghost use Rattle.inval_messages.specs.declared.message.Message.{Message};
 ghost use Rattle.base_types.specs.Scans.{goes_before, IsInOrder};
 ghost use Rattle.catalog_rows.specs.Store.{rows_with_key};
 ghost use Rattle.inval_messages.specs.Messages.{covers as does_cover, same_message, message_for, is_for_cache as is_of_cache};
@@ -183,43 +186,50 @@ fn push_scans(scans: &mut Vec<Purpose>, row: &Row) -> Result<(), NoMemory>
 fn is_covered(messages: &[Message], scan: &Purpose) -> bool
     ensures { result ≡ has_message messages.now scan.now }
 {
-    messages.iter().any(|message| covers(scan, *message))
+    match covering(scan) {
+        Some(wanted) => messages.iter().any(|message| message.is_same(wanted)),
+        None => messages
+            .iter()
+            .any(|message| is_for_cache(*message, CacheId::AttName)),
+    }
 }
 
-// Whether a message covers the scan.
-fn covers(scan: &Purpose, message: Message) -> bool
-    ensures { result ≡ does_cover scan.now message }
+// The one message that covers the scan; none where each for the cache of columns does.
+fn covering(scan: &Purpose) -> Option<Message>
+    ensures { (message : Message) → does_cover scan.now message ≡ option_map_or (same_message message) result (is_of_cache AttName message) }
 {
     match scan {
         Purpose::RelName(name) => {
             let key = Key::new(&[KeyPart::Name(*name)]);
-            is_for(message, CacheId::RelName, &key)
+            Some(message_of(CacheId::RelName, &key))
         }
         Purpose::RelOid(rel) => {
             let key = Key::new(&[KeyPart::Oid(*rel)]);
-            is_for(message, CacheId::RelOid, &key)
+            Some(message_of(CacheId::RelOid, &key))
         }
         Purpose::AttName(rel, name) => {
             let key = Key::new(&[KeyPart::Oid(*rel), KeyPart::Name(*name)]);
-            is_for(message, CacheId::AttName, &key)
+            Some(message_of(CacheId::AttName, &key))
         }
-        Purpose::AttList(_) => is_for_cache(message, CacheId::AttName),
+        Purpose::AttList(_) => None,
         Purpose::Class(rel)
         | Purpose::Attribute(rel)
         | Purpose::AttrDef(rel)
         | Purpose::Constraint(rel)
         | Purpose::Index(rel)
         | Purpose::Trigger(rel)
-        | Purpose::IndexRow(rel) => message.is_same(Message::Rel { rel: *rel }),
+        | Purpose::IndexRow(rel) => Some(Message::Rel { rel: *rel }),
     }
 }
 
-// Whether the message is for this key of a catalog cache.
-fn is_for(message: Message, cache: CacheId, key: &Key) -> bool
-    ensures { result ≡ same_message message (message_for cache key.now) }
+// The message for this key of a catalog cache.
+fn message_of(cache: CacheId, key: &Key) -> Message
+    ensures { result ≡ message_for cache key.now }
 {
-    let hash = key_hash(cache, key);
-    message.is_same(Message::Cat { cache, hash })
+    Message::Cat {
+        cache,
+        hash: key_hash(cache, key),
+    }
 }
 
 // Whether the message is for a cache.

@@ -1,5 +1,5 @@
 -- The queue stays what the definitions read off the history, over one more entry.
-use Rattle.std.proofs.Common.{◌≡◌, ◌≤◌, ◌<◌, ◌+◌, ◌-◌, ◌^◌, ◌∙◌, ℕ, Bool, true, false, Option, Some, None, List, [], ◌∷◌, ◌++◌, ◌==◌, ◌&&◌, ◌||◌, if◌then◌else◌, nat_lt, length, take, replicate, refl, sym, ap, subst, arith}
+use Rattle.std.proofs.Common.{◌≡◌, ◌≤◌, ◌<◌, ◌+◌, ◌-◌, ◌∙◌, ℕ, Bool, true, false, Option, Some, None, List, [], ◌∷◌, ◌++◌, ◌==◌, ◌&&◌, ◌||◌, if◌then◌else◌, nat_lt, length, take, replicate, refl, sym, ap, subst, arith}
 use Rattle.std.proofs.lemmas.Bool.{eqb-true, eqb-false, eq-eqb, ltb-true, lt-ltb}
 use Rattle.std.proofs.lemmas.List.{get_or-set_other, length-set, length-map, length-replicate, length-append}
 use Rattle.std.proofs.lemmas.Grind.{get_or-set_at}
@@ -21,11 +21,11 @@ use Rattle.sinval_ring.specs.Cleaning.{must_clean, signal_of, swept_of, low_of, 
 use Rattle.sinval_ring.specs.Queues.{Queue, empty_queue, reader_of, with_reader}
 use Rattle.catalog_rows.specs.Store.{Store, no_rows}
 use Rattle.history_model.specs.Lapped.{is_lapped}
-use Rattle.history_model.specs.Legal.{AllowsEvent, MayFollow, IsLegal}
+use Rattle.history_model.specs.Legal.{AllowsEvent, MayFollow}
 use Rattle.history_model.specs.Lives.{Life, Unstarted, Alive, Stopped, FollowsLife, is_alive, life_by, life_of}
 use Rattle.history_model.specs.Log.{log_by, log_of, position_by, position_of, is_waiting}
 use Rattle.history_model.specs.Sent.{unsent_of}
-use Rattle.history_model.proofs.Lapped.{same_test, or_longer, not_lapped, leaves_lapped, other_lapped, publish_laps, log_of-few}
+use Rattle.history_model.proofs.Lapped.{same_test, or_longer, not_lapped, leaves_lapped, other_lapped, publish_laps}
 use Rattle.history_model.proofs.Reading.{life_of-own, life_of-other, log_of-more, position_of-own, position_of-other}
 use Rattle.seg_calls.specs.Calls.{entry_of, MayCall, MayRequest}
 use Rattle.seg_calls.specs.Queue.{queue_by, queue_of}

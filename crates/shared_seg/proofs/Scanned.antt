@@ -1,8 +1,7 @@
 -- What a scan gives is what the history answers.
-use Rattle.std.proofs.Common.{◌≡◌, ◌≤◌, ◌+◌, ◌∙◌, ◌||◌, ◌&&◌, ◌==◌, ◌⊎◌, inl, inr, ℕ, Bool, true, false, not, Option, Some, None, List, [], ◌∷◌, ◌++◌, length, map, filter, cond, refl, sym, ap, subst, arith}
+use Rattle.std.proofs.Common.{◌≡◌, ◌≤◌, ◌+◌, ◌∙◌, ◌||◌, ◌&&◌, ◌==◌, ◌⊎◌, inl, inr, ℕ, Bool, true, false, Option, List, [], ◌∷◌, ◌++◌, length, map, filter, refl, sym, ap, subst, arith}
 use Rattle.std.specs.Prelude.{nat_lt}
 use Rattle.std.specs.List.{AllByRecursion, list_any}
-use Rattle.std.specs.Option.{option_map_or, IfSome}
 use Rattle.std.proofs.lemmas.Bool.{or_cases, eqb-true, lt-ltb}
 use Rattle.base_types.specs.Scenario.{Scenario}
 use Rattle.base_types.specs.Scans.{scan_of}
@@ -13,7 +12,6 @@ use Rattle.event_kinds.specs.declared.entry.Entry.{Entry}
 use Rattle.event_kinds.specs.declared.entry.Event.TheVariants.{Scan}
 use Rattle.std.proofs.lemmas.List.{length_push}
 use Rattle.row_visibility.specs.declared.version.Stamp.{Stamp}
-use Rattle.row_visibility.specs.declared.version.Version.{Version}
 use Rattle.row_visibility.specs.Seen.{is_own, sees_stamp, sees_version}
 use Rattle.lock_modes.specs.declared.grant.Grant.{Grant}
 use Rattle.catalog_rows.specs.Store.{Store, has_committed, rows_of_scan}
@@ -26,6 +24,7 @@ use Rattle.history_model.proofs.Lives.{command_of}
 use Rattle.history_model.proofs.Ordered.{Ordered, sound_ordered}
 use Rattle.history_model.proofs.Touched.{OfStamps, Touch, HasWrite, stamps-weaker}
 use Rattle.seg_calls.specs.Calls.{entry_of, MayRequest, GivesRows}
+use Rattle.history_ledger.proofs.Mirrors.{filter_each, version_same}
 use Rattle.shared_seg.specs.Kept.{Kept, places_in}
 use Rattle.shared_seg.specs.Places.{promised_in}
 use Rattle.shared_seg.proofs.Asked.{request_inside, asked_appends}
@@ -33,11 +32,6 @@ use Rattle.txn_blocks.specs.declared.transaction.RunningTransaction.{RunningTran
 use Rattle.shared_seg.specs.KeepsFolds.{KeepsFolds}
 use Rattle.shared_seg.specs.Transactions.{own_reader, xid_at}
 use Rattle.shared_seg.proofs.Rows.{runs_own}
-
--- two tests that agree on each element keep the same
-pub filter_each : {X : Type 0} (p q : X → Bool) (xs : List X) → AllByRecursion (λ x. p x ≡ q x) xs → filter p xs ≡ filter q xs
-filter_each p q [] same = refl
-filter_each p q (x ∷ xs) same = λ i. cond (same.0 i) (x ∷ filter_each p q xs same.1 i) (filter_each p q xs same.1 i)
 
 by_place : (w : Written) (c n : ℕ) (There : Type 0) → w.command ≤ n → (There → c ≤ n) → ((w.command == c) ≡ true) ⊎ There → c ≤ n
 by_place w c n There low later (inl here) = omega (arith, eqb-true w.command c here, low)
@@ -67,14 +61,6 @@ stamp_same script history promised store locks transactions next last b c k requ
         let low : s.command ≤ c = early history script b c s row (sound_ordered history k.sound) request touch runs in
         ap (λ t. t && nat_lt s.command (c + 1)) (sym own ∙ runs) ∙ lt-ltb s.command (c + 1) (omega arith) ∙ sym runs
     by_own false runs = ap (λ t. t && nat_lt s.command (c + 1)) (sym own ∙ runs) ∙ sym runs
-
--- a version is seen by the reader where the backend sees it
-pub version_same : (p q : Stamp → Bool) (v : Version) → OfStamps (λ s row. p s ≡ q s) v → (p v.by && not (option_map_or p v.ended false)) ≡ (q v.by && not (option_map_or q v.ended false))
-version_same p q v same = λ i. same.0 i && not (ended v.ended same.1 i)
-  where
-    ended : (o : Option Stamp) → IfSome o (λ s. p s ≡ q s) → option_map_or p o false ≡ option_map_or q o false
-    ended None held = refl
-    ended (Some s) held = held
 
 -- the reader sees what the backend sees
 pub reads_same : (script : Scenario) (history : List Entry) (promised : List ℕ) (store : Store) (locks : List Grant) (transactions : List (Option RunningTransaction)) (next last b c : ℕ) → KeepsFolds script history promised store locks transactions next last → MayRequest script history b c

@@ -52,7 +52,8 @@ use Rattle.inval_messages.specs.declared.message.Message.{Message}
 use Rattle.shared_seg.specs.Announced.{messages_at}
 use Rattle.shared_seg.proofs.Announcing.{messages_same}
 use Rattle.shared_seg.proofs.Asked.{request_inside, asked_appends, asked_keeps, asked_quiet}
-use Rattle.shared_seg.proofs.Clashes.{row_same, Mirrors, all_free, names_same, clash_allowed}
+use Rattle.history_ledger.proofs.Mirrors.{row_same, Mirrors}
+use Rattle.shared_seg.proofs.Clashes.{all_free, names_same, clash_allowed}
 use Rattle.shared_seg.proofs.Entered.{within}
 use Rattle.shared_seg.proofs.Keeps.{Steps}
 use Rattle.shared_seg.proofs.NewLocks.{grants_free}
@@ -61,7 +62,8 @@ use Rattle.shared_seg.proofs.Own.{kept_set}
 use Rattle.shared_seg.proofs.Queue.{asked_still}
 use Rattle.shared_seg.proofs.Rows.{runs_own}
 use Rattle.shared_seg.proofs.Scanned.{reads_same}
-use Rattle.shared_seg.proofs.Written.{xid_drawn_is, versions_written, committed_written, place_written}
+use Rattle.history_ledger.proofs.Rows.{committed_written, place_written}
+use Rattle.shared_seg.proofs.Written.{xid_drawn_is, versions_written}
 
 -- what a write needs, of the parts
 write_inside : (k now : Kept) (b c : ℕ) (draft : Draft) → k ≡ now → MayWrite now.history b c draft → MayWrite k.history b c draft

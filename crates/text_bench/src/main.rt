@@ -3,6 +3,7 @@
 //! written of it (`walk`). Its exit status is 0, or 1 where an argument, a text, memory or the outside fails.
 #![tactic(auto)]
 
+use by_backend::is_built;
 use edge_io::{Sink, StdSink, StdSource, read_all, send};
 use event_kinds::{Entry, read_entry};
 use out_text::put_output;
@@ -11,7 +12,7 @@ use std::alloc::Global;
 use std::env;
 use std::process::ExitCode;
 use std::rt::Env;
-use walk_run::{is_built, walk};
+use walk_run::walk;
 
 // The most bytes that are read.
 const MOST_INPUT: usize = 268_435_456;

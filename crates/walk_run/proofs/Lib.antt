@@ -1,6 +1,5 @@
 pub mod ScheduleSteps
 pub mod OneAfterAnother
-pub mod OwnCommands
 pub mod Sessions
 pub mod NewBackends
 pub mod Walks

@@ -22,6 +22,7 @@ use Rattle.backend_core.specs.Words.{has_left}
 use Rattle.backend_core.specs.Agrees.{HasNotJoined, AwaitsEntry, HasLeft, Stands}
 use Rattle.backend_core.specs.Steps.{MakesEntry, Steps}
 use Rattle.backend_core.proofs.Others.{Stands-other}
+use Rattle.by_backend.proofs.Places.{get_of_set, get_beside_set}
 use Rattle.walk_run.specs.Walks.{AllStand, StandsAt, IsDue, Goes, HasSchedule, IsRunning, Makes}
 
 -- where a backend is, by its life
@@ -44,20 +45,6 @@ entered_more s h h' had has b entered makes = subst (EachEntry (MayEnter s)) (sy
 -- the entry of a step isn't another backend's
 entry_apart : (e : Entry) (was other : Backend) (i j : ℕ) → e.backend ≡ was.progress.id → was.progress.id ≡ i + 1 → other.progress.id ≡ j + 1 → i ≢ j → (e.backend == other.progress.id) ≡ false
 entry_apart e was other i j own mine theirs apart = ne_eqb e.backend other.progress.id (λ same. apart (omega arith))
-
--- what stands where a list was set
-get_of_set : {X : Type 0} (xs : List X) (i : ℕ) (now was found : X) → slice_get xs i ≡ Some was → slice_get (slice_set xs i now) i ≡ Some found → found ≡ now
-get_of_set [] i now was found is at = absurd (cc)
-get_of_set (x ∷ xs) zero now was found is at = cc
-get_of_set (x ∷ xs) (suc i) now was found is at = get_of_set xs i now was found is at
-
--- and what stands beside it
-get_beside_set : {X : Type 0} (xs : List X) (i j : ℕ) (now : X) → i ≢ j → slice_get (slice_set xs i now) j ≡ slice_get xs j
-get_beside_set [] i j now apart = refl
-get_beside_set (x ∷ xs) zero zero now apart = absurd (apart refl)
-get_beside_set (x ∷ xs) zero (suc j) now apart = refl
-get_beside_set (x ∷ xs) (suc i) zero now apart = refl
-get_beside_set (x ∷ xs) (suc i) (suc j) now apart = get_beside_set xs i j now (λ same. apart (ap (λ n. suc n) same))
 
 same_or_not : (i j : ℕ) → (i ≡ j) ⊎ (i ≢ j)
 same_or_not i j = of (eqb_tells i j)

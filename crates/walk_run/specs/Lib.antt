@@ -1,4 +1,2 @@
-pub mod Built
-pub mod OwnCommands
 pub mod Sessions
 pub mod Walks

@@ -21,10 +21,7 @@
 //! ```
 #![tactic(auto)]
 
-mod built;
 mod lines;
-mod own_commands;
 mod walking;
 
-pub use built::is_built;
 pub use walking::{World, walk, walk_on};

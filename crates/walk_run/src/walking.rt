@@ -3,14 +3,14 @@ ghost use Rattle.std.specs.List.{All, AllByRecursion};
 ghost use Rattle.base_types.specs.Scenario.{IsBackend, AreTurns, turns_of, schedule_of};
 ghost use Rattle.backend_core.specs.Agrees.{Stands};
 ghost use Rattle.backend_core.specs.Coherent.{IsCoherent};
-ghost use Rattle.walk_run.specs.Built.{is_built};
+ghost use Rattle.by_backend.specs.Built.{is_built};
 ghost use Rattle.walk_run.specs.Sessions.{transcripts_of, AreSessions};
 ghost use Rattle.walk_run.specs.Walks.{IsWalk};
 
 use crate::lines::all_lines;
-use crate::own_commands::commands_by_backend;
 use backend_core::Backend;
 use base_types::{Listed, NoMemory, Turns};
+use by_backend::commands_by_backend;
 use event_kinds::{Entry, Line};
 use script_text::Script;
 use seg_calls::Seg;

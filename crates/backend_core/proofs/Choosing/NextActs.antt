@@ -1,5 +1,5 @@
 -- What comes next of a command's acts, and of its end.
-use Rattle.std.proofs.Common.{◌≡◌, ◌∙◌, inl, ℕ, Bool, true, false, not, ◌&&◌, ◌||◌, Option, Some, None, List, [], ◌∷◌, cond, refl, sym, ap, subst, filter, is_some, if◌then◌else◌, is_none, ◌==◌, ◌+◌}
+use Rattle.std.proofs.Common.{◌≡◌, ◌∙◌, inl, ℕ, Bool, true, false, not, ◌&&◌, ◌||◌, Option, Some, None, List, [], ◌∷◌, cond, refl, sym, ap, subst, filter, is_some, is_none, ◌==◌, ◌+◌}
 use Rattle.std.specs.List.{find, list_any}
 use Rattle.std.specs.Option.{option_map_or}
 use Rattle.std.proofs.Math.Bool.{or-true}
@@ -19,12 +19,12 @@ use Rattle.cacheless.specs.May.{has_failed, names_relation, is_lock_at, is_first
 use Rattle.cacheless.specs.OpenedReads.{ReadsOpened}
 use Rattle.cacheless.specs.Session.{Badly, outcome_of}
 use Rattle.cacheless.specs.Silently.{gives_at, gives_next, IsAtRest, looks_up_at, has_accepted_at}
-use Rattle.cacheless.specs.State.{kept_at, is_kept, row_sought, missing, builds_missing, act_missing, owed_at, owed_first}
+use Rattle.cacheless.specs.State.{kept_at, is_kept, row_sought, builds_missing, act_missing, owed_at, owed_first}
 use Rattle.cacheless.proofs.ReadsBuilds.{ReadsBuilds, stage_reads}
 use Rattle.cacheless.proofs.Same.{lacks_opened_is}
 use Rattle.cacheless.proofs.Plans.SilentActs.{empty_list}
 use Rattle.cacheless.proofs.Tests.{both_true, not_true}
-use Rattle.backend_core.specs.Types.{Oid, Mode, Kind, Row, Purpose, Command, OwnLock, Progress, Backend}
+use Rattle.backend_core.specs.Types.{Oid, Mode, Kind, Row, Purpose, Command, Progress, Backend}
 use Rattle.backend_core.specs.Steps.{IsFree, IsScanNext, IsLockNext, IsUnlockNext, IsChoiceSound, Looks, IsAcceptNext}
 use Rattle.backend_core.specs.Words.{relation_named, is_unfound}
 use Rattle.cacheless.proofs.Answers.KeptReads.{kept_opened}

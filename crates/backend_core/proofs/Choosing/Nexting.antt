@@ -22,7 +22,7 @@ use Rattle.cacheless.specs.Runs.{runs}
 use Rattle.cacheless.specs.Settled.{opened_by}
 use Rattle.cacheless.specs.Session.{none_open}
 use Rattle.cacheless.specs.Silently.{is_ends, IsAtRest}
-use Rattle.cacheless.specs.State.{owed_at, kept_at, is_kept, is_absent, is_quiet, act_missing, is_out, end_at}
+use Rattle.cacheless.specs.State.{kept_at, is_kept, is_absent, is_quiet, act_missing, is_out, end_at}
 use Rattle.cacheless.proofs.Answers.OpenedReads.{reads_out, reads_first, reads_after}
 use Rattle.cacheless.proofs.Tests.{both_true, not_both}
 use Rattle.backend_core.specs.Types.{Oid, Kind, Event, Row, Purpose, Command, CommandError, Opening, Kept, Scenario, Entry, Next, Progress, Backend}

@@ -1,11 +1,11 @@
 -- What the choice of the next entry rests on.
-use Rattle.std.proofs.Common.{◌≡◌, ◌+◌, ◌∙◌, ◌&&◌, ℕ, Bool, true, false, Option, Some, None, List, [], ◌∷◌, refl, sym, ap, subst, is_none, length, arith}
+use Rattle.std.proofs.Common.{◌≡◌, ◌+◌, ◌∙◌, ◌&&◌, true, false, Option, Some, None, List, [], refl, sym, ap, subst, is_none, arith}
 use Rattle.std.proofs.lemmas.Bool.{both_ways, lt-ltb}
 use Rattle.event_kinds.specs.declared.entry.Event.TheVariants as events
 use Rattle.ddl_effect.specs.Stages.{plan_at}
 use Rattle.cacheless.specs.Facts.{Facts, facts_of}
 use Rattle.cacheless.specs.OnCourse.{AllOnCourse}
-use Rattle.cacheless.specs.Owed.{Owes, OwesFetch, owed_after, started_in, has_looked}
+use Rattle.cacheless.specs.Owed.{owed_after, started_in}
 use Rattle.cacheless.specs.Session.{number_of}
 use Rattle.cacheless.specs.Settled.{nothing_waits}
 use Rattle.cacheless.specs.Silently.{has_accepted_at}
@@ -16,7 +16,6 @@ use Rattle.backend_core.specs.Types.{Command, Scenario, Entry, Event, Backend}
 use Rattle.backend_core.specs.Agrees.{command_at, AwaitsEntry}
 use Rattle.backend_core.specs.Fits.{looks_due, LooksFit, TakesFit, IsLookedFor, Lacks, Unfound, Said, finds_no_name, is_look}
 use Rattle.backend_core.specs.Steps.{IsChoiceSound}
-use Rattle.backend_core.specs.Words.{is_unfound}
 use Rattle.backend_core.proofs.Fitting.Sought.{unfound_facts, finds_serves}
 use Rattle.backend_core.proofs.Own.{waiting, going}
 

@@ -22,13 +22,12 @@ use Rattle.cacheless.specs.Sessions.{ends_command}
 use Rattle.cacheless.specs.State.{kept_at, running_of, lists_at, unsent_at}
 use Rattle.cacheless.proofs.Allowed.Releases.{OwesNoScan, owes_no_scan}
 use Rattle.backend_core.specs.Types.{Xid, Command, Scenario, Entry, Event, Message, OwnLock, Progress, Backend}
-use Rattle.backend_core.specs.Agrees.{IsPlayed, AreLastScans, command_at, AwaitsEntry}
+use Rattle.backend_core.specs.Agrees.{IsPlayed, command_at, AwaitsEntry}
 use Rattle.backend_core.specs.Fits.{Fits}
 use Rattle.backend_core.specs.Steps.{EndsNext, Enters}
 use Rattle.backend_core.proofs.Entries.EndEntries.{end_plays, end_now, end_call, end_enters}
 use Rattle.backend_core.proofs.Choosing.EndsNow.{end_by, is_end, EndsBy, IsCommit, ShowsNow, PublishesNow, comes_now, back_end}
 use Rattle.backend_core.proofs.Fitting.FitsEnds.{later_at, GoesOn, fits_ending, commits_on, write_from_first, goes_first, begun_xid, written_runs}
-use Rattle.backend_core.proofs.Fitting.Entered.{absent_still}
 use Rattle.backend_core.proofs.Own.{waiting}
 
 -- the Xid of a transaction that has written
@@ -147,8 +146,7 @@ module _ (scenario : Scenario) (old : List Entry) (was : Backend) (event : Event
 pub commit_enters : (scenario : Scenario) (old new : List Entry) (had has : ℕ → ℕ) (was : Backend) (xid : Xid) (p : Progress) (waits : AwaitsEntry scenario old was) → IsPlayed scenario old → AllOnCourse scenario old → EndsNext was (events.Visible xid)
     → HasEntered scenario old was.progress (events.Visible xid) waits.rests p → kept_at p ≡ kept_at was.progress → p.answer ≡ was.progress.answer → Appends old new had has (entry_of was.progress.id (was.progress.finished + 1) (events.Visible xid)) → Enters scenario old new had has was (record was { progress = p })
 commit_enters scenario old new had has was xid p waits played courses next goes kept same appends =
-    end_enters scenario old new had has was event p waits refl played courses next goes (subst (AreLastScans old was.progress.id) (sym kept) waits.keeps.places.kept)
-    (absent_still scenario old was event waits p goes kept (ap (λ (x : Session). x.left) goes.session) (ap (λ (x : Session). x.ended) goes.session) (untaken facts (command_at was) (waiting waits) was.looked was.looked_to_build was.told waits.fits now.commit)) same
+    end_enters scenario old new had has was event p waits refl played courses next goes kept same
     (commit_fits scenario old was event waits refl next now.commit (begun (was.progress.finished + 1) facts.running).published true _ (length old + 1) refl (λ from is. cc is)) appends
   where
     event : Event
@@ -166,8 +164,7 @@ pub publish_enters : (scenario : Scenario) (old new : List Entry) (had has : ℕ
     → HasEntered scenario old was.progress (events.Publish (length messages)) waits.rests p → kept_at p ≡ kept_at was.progress → p.answer ≡ was.progress.answer
     → Appends old new had has (entry_of was.progress.id (was.progress.finished + 1) (events.Publish (length messages))) → Enters scenario old new had has was (record was { progress = p })
 publish_enters scenario old new had has was messages p waits played courses next is goes kept same appends =
-    end_enters scenario old new had has was event p waits refl played courses now_next goes (subst (AreLastScans old was.progress.id) (sym kept) waits.keeps.places.kept)
-    (absent_still scenario old was event waits p goes kept (ap (λ (x : Session). x.left) goes.session) (ap (λ (x : Session). x.ended) goes.session) (untaken facts (command_at was) (waiting waits) was.looked was.looked_to_build was.told waits.fits (publish_now scenario old was messages waits next is).commit)) same
+    end_enters scenario old new had has was event p waits refl played courses now_next goes kept same
     (commit_fits scenario old was event waits refl now_next (publish_now scenario old was messages waits next is).commit ((begun (was.progress.finished + 1) facts.running).published + length messages) (begun (was.progress.finished + 1) facts.running).visible _ (length old + 1) refl (λ from same. cc same)) appends
   where
     event : Event

@@ -1,38 +1,35 @@
 -- The entries of an end of a backend that waits.
-use Rattle.std.proofs.Common.{◌≡◌, ◌≤◌, ◌+◌, ◌∙◌, ◌&&◌, ◌||◌, ℕ, Bool, true, false, Option, Some, None, List, [], refl, sym, ap, subst, length, drop, is_some, arith}
+use Rattle.std.proofs.Common.{◌≡◌, ◌≢◌, ◌≤◌, ◌+◌, ◌∙◌, ◌&&◌, ℕ, Bool, true, false, Option, Some, None, List, [], refl, sym, ap, subst, length, drop, arith}
 use Rattle.std.specs.Option.{option_map_or}
-use Rattle.std.proofs.Math.Bool.{or-true}
-use Rattle.std.proofs.lemmas.Bool.{both_ways}
 use Rattle.std.proofs.lemmas.Option.{slice_get_within, get_or_from_slice_get}
 use Rattle.event_kinds.specs.declared.entry.Event.TheVariants as events
 use Rattle.history_model.specs.Drawn.{next_oid}
 use Rattle.history_model.specs.Lapped.{FetchesFrom}
 use Rattle.history_model.specs.Legal.{FollowsVisible, FollowsGone, AllowsEvent}
 use Rattle.history_model.specs.Lives.{Alive, FollowsLife, life_by, last_event_of}
-use Rattle.history_model.specs.Read.{is_scan_of}
 use Rattle.history_model.specs.Transactions.{is_visible, running_transaction_of}
 use Rattle.history_model.specs.Writes.{is_empty}
 use Rattle.seg_calls.specs.Calls.{entry_of, MayCall, Appends}
 use Rattle.txn_blocks.specs.declared.transaction.RunningTransaction.{RunningTransaction}
 use Rattle.cacheless.specs.Facts.{facts_of, facts_by}
 use Rattle.cacheless.specs.Holds.{HasEntered, with_own}
-use Rattle.cacheless.specs.May.{has_failed, is_next_of_back, is_next_of_end, owes_nothing, may_end_at, may_play_at, may_last_at, may_play_now}
+use Rattle.cacheless.specs.May.{is_next_of_back, is_next_of_end, may_end_at, may_play_at, may_last_at, may_play_now}
 use Rattle.cacheless.specs.OnCourse.{AllOnCourse}
 use Rattle.cacheless.specs.Plays.{MayPlayIn}
 use Rattle.cacheless.specs.Runs.{runs}
 use Rattle.cacheless.specs.Schedule.{LooksTruly}
 use Rattle.cacheless.specs.Sessions.{ends_command, entered}
-use Rattle.cacheless.specs.Silently.{is_to_answer}
-use Rattle.cacheless.specs.State.{kept_at, owed_at, has_write_since, is_out, end_of_running}
+use Rattle.cacheless.specs.State.{owed_at, has_write_since, end_of_running}
 use Rattle.cacheless.proofs.Deciding.{holds_decides}
 use Rattle.cacheless.proofs.Tests.{both_true}
-use Rattle.backend_core.specs.Types.{Purpose, Command, Scenario, Entry, Event, Progress, Backend}
-use Rattle.backend_core.specs.Agrees.{IsPlayed, AreLastScans, KeepsAbsent, command_at, AwaitsEntry}
+use Rattle.session_laws.specs.Awaiting.{KeepsScans, answer_after}
+use Rattle.backend_core.specs.Types.{Command, Scenario, Entry, Event, Progress, Backend}
+use Rattle.backend_core.specs.Agrees.{IsPlayed, command_at, AwaitsEntry}
 use Rattle.backend_core.specs.Fits.{Fits}
 use Rattle.backend_core.specs.Steps.{EndsNext, InCommand, AfterAll, Enters}
 use Rattle.backend_core.proofs.Choosing.EndsNow.{EndsBy, ends_by}
-use Rattle.backend_core.proofs.Fitting.Entered.{fits_at, keeps_still}
-use Rattle.backend_core.proofs.Own.{waiting, AtEnd, own_enters}
+use Rattle.backend_core.proofs.Fitting.Entered.{fits_at}
+use Rattle.backend_core.proofs.Own.{waiting, own_enters}
 
 may_end : (next : ℕ) (command : Command) (p : Progress) (event : Event) → ends_command event ≡ true → may_end_at command p event ≡ true → may_play_at next command p event ≡ true
 may_end next command p (events.Visible xid) ends may = may
@@ -68,14 +65,15 @@ record IsPlain (scenario : Scenario) (old : List Entry) (b c : ℕ) (event : Eve
   truly : LooksTruly old b event
   queue : FetchesFrom scenario.size old b event
   lives : life_by c event ≡ Alive c
-  unread : (scan : Purpose) → is_scan_of scan event ≡ false
   follows : (last : ℕ) → last ≤ c → FollowsLife (Alive last) c event
+  on : event ≢ events.Stop
+  answers : (answer : Option (List ℕ)) → answer_after event answer ≡ answer
 
 is_plain : (scenario : Scenario) (old : List Entry) (b c : ℕ) (event : Event) → ends_command event ≡ true → IsPlain scenario old b c event
-is_plain scenario old b c (events.Visible xid) ends = record { truly = tt; queue = tt; lives = refl; unread = λ scan. refl; follows = λ last low. low }
-is_plain scenario old b c (events.Publish count) ends = record { truly = tt; queue = tt; lives = refl; unread = λ scan. refl; follows = λ last low. low }
-is_plain scenario old b c (events.Gone from) ends = record { truly = tt; queue = tt; lives = refl; unread = λ scan. refl; follows = λ last low. low }
-is_plain scenario old b c (events.Release from) ends = record { truly = tt; queue = tt; lives = refl; unread = λ scan. refl; follows = λ last low. low }
+is_plain scenario old b c (events.Visible xid) ends = record { truly = tt; queue = tt; lives = refl; follows = λ last low. low; on = λ stop. cc stop; answers = λ answer. refl }
+is_plain scenario old b c (events.Publish count) ends = record { truly = tt; queue = tt; lives = refl; follows = λ last low. low; on = λ stop. cc stop; answers = λ answer. refl }
+is_plain scenario old b c (events.Gone from) ends = record { truly = tt; queue = tt; lives = refl; follows = λ last low. low; on = λ stop. cc stop; answers = λ answer. refl }
+is_plain scenario old b c (events.Release from) ends = record { truly = tt; queue = tt; lives = refl; follows = λ last low. low; on = λ stop. cc stop; answers = λ answer. refl }
 is_plain scenario old b c event ends = absurd (cc ends)
 
 module _ (scenario : Scenario) (seen : List Entry) (s : Backend) (waits : AwaitsEntry scenario seen s) (event : Event) (ends : ends_command event ≡ true) (next : EndsNext s event) where
@@ -93,14 +91,6 @@ module _ (scenario : Scenario) (seen : List Entry) (s : Backend) (waits : Awaits
 
   pub end_now : EndsBy (facts_of seen s.progress.id) (command_at s) (waiting waits) event
   end_now = ends_by (next_oid seen) (facts_of seen s.progress.id) (command_at s) (waiting waits) s.looked s.looked_to_build s.told event ends waits.fits end_plays
-
-  -- its command is answered
-  end_answered : (command : Command) → command_at s ≡ Some command → is_some s.progress.answer ≡ true
-  end_answered command at = by_case next
-    where
-      by_case : EndsNext s event → is_some s.progress.answer ≡ true
-      by_case (InCommand c free out owes accepted may) = waits.answered (ap (λ o. elim o as (λ x. Bool) [ Some x ↦ is_to_answer x s.progress | None ↦ false ]) free.at ∙ both_true (is_out s.progress) (has_failed s.progress || owes_nothing c s.progress) out (ap (λ t. has_failed s.progress || t) owes ∙ or-true (has_failed s.progress)))
-      by_case (AfterAll past comes) = absurd (let no : Some command ≡ None = sym at ∙ past in cc no)
 
   -- it may be called for
   pub end_call : FollowsVisible (is_visible (running_transaction_of seen s.progress.id)) event → FollowsGone (last_event_of seen s.progress.id) event → AllowsEvent seen s.progress.id (s.progress.finished + 1) event → MayCall scenario seen (entry_of s.progress.id (s.progress.finished + 1) event)
@@ -121,14 +111,13 @@ built_at scenario seen s waits command at = subst (λ c. runs c ≡ true) (get_o
 
 -- after an entry of an end the backend agrees
 pub end_enters : (scenario : Scenario) (old new : List Entry) (had has : ℕ → ℕ) (was : Backend) (event : Event) (p : Progress) (waits : AwaitsEntry scenario old was) → ends_command event ≡ true → IsPlayed scenario old → AllOnCourse scenario old → EndsNext was event
-    → HasEntered scenario old was.progress event waits.rests p → AreLastScans old was.progress.id (kept_at p) → KeepsAbsent (with_own old was.progress event) p → p.answer ≡ was.progress.answer
+    → HasEntered scenario old was.progress event waits.rests p → KeepsScans old was.progress event p → p.answer ≡ was.progress.answer
     → Fits (facts_by old was.progress.id (was.progress.finished + 1) event (facts_of old was.progress.id)) (command_at was)
     (entered (facts_of (with_own old was.progress event) was.progress.id) (drop was.progress.finished was.progress.commands) (length old + 1) (was.progress.finished + 1) event (waiting waits)) was.looked was.looked_to_build was.told
     → Appends old new had has (entry_of was.progress.id (was.progress.finished + 1) event) → Enters scenario old new had has was (record was { progress = p })
-end_enters scenario old new had has was event p waits ends played courses next goes kept absent same fits appends =
-    own_enters scenario old new had has was (record was { progress = p }) event waits played courses (record { plays = end_plays scenario old was waits event ends next; truly = plain.truly; queue = plain.queue }) goes
-    (keeps_still scenario old was event waits p goes (record was { progress = p }) refl plain.lives plain.unread kept absent)
-    (fits_at scenario old was event waits p goes was.looked was.looked_to_build was.told fits) refl (AtEnd ends (end_answered scenario old was waits event ends next) same) (λ inside. absurd (both_ways _ inside ends)) appends
+end_enters scenario old new had has was event p waits ends played courses next goes kept same fits appends =
+    own_enters scenario old new had has was (record was { progress = p }) event waits played courses (record { plays = end_plays scenario old was waits event ends next; truly = plain.truly; queue = plain.queue }) goes kept
+    (fits_at scenario old was event waits p goes was.looked was.looked_to_build was.told fits) refl plain.lives refl plain.on (same ∙ sym (plain.answers was.progress.answer)) appends
   where
     plain : IsPlain scenario old was.progress.id (was.progress.finished + 1) event
     plain = is_plain scenario old was.progress.id (was.progress.finished + 1) event ends

@@ -1,5 +1,5 @@
 -- An entry that shows an error, which ends its command: a lock or a write that is refused.
-use Rattle.std.proofs.Common.{◌≡◌, ◌+◌, ◌∙◌, ℕ, true, false, Some, None, List, [], refl, sym, ap, subst, length, drop, is_some, arith, Option}
+use Rattle.std.proofs.Common.{◌≡◌, ◌≢◌, ◌+◌, ◌∙◌, ℕ, true, false, Some, None, List, [], refl, sym, ap, subst, length, drop, is_some, arith, Option}
 use Rattle.std.proofs.lemmas.Bool.{both_ways}
 use Rattle.event_kinds.specs.declared.entry.Event.TheVariants as events
 use Rattle.row_visibility.specs.declared.clash.Clash.{Clash}
@@ -10,7 +10,6 @@ use Rattle.ddl_effect.specs.Stages.{plan_at}
 use Rattle.history_model.specs.Drawn.{next_oid}
 use Rattle.history_model.specs.Lapped.{FetchesFrom}
 use Rattle.history_model.specs.Lives.{Alive, life_by}
-use Rattle.history_model.specs.Read.{is_scan_of}
 use Rattle.history_model.specs.Transactions.{begun}
 use Rattle.seg_calls.specs.Calls.{entry_of, Appends}
 use Rattle.cacheless.specs.Facts.{Facts, facts_of, facts_by}
@@ -20,16 +19,17 @@ use Rattle.cacheless.specs.Owed.{owed_after, started_in}
 use Rattle.cacheless.specs.Plays.{MayPlayIn}
 use Rattle.cacheless.specs.Schedule.{LooksTruly}
 use Rattle.cacheless.specs.Session.{Session, Tally, number_of, outcome_of, is_settled}
-use Rattle.cacheless.specs.Sessions.{noted, ends_command, entered}
-use Rattle.cacheless.specs.State.{kept_at, is_absent, clash_event, error_of}
-use Rattle.backend_core.specs.Types.{Oid, Mode, Purpose, Command, CommandError, Scenario, Entry, Event, Progress, Backend}
-use Rattle.backend_core.specs.Agrees.{IsPlayed, command_at, AreLastScans, AwaitsEntry}
+use Rattle.cacheless.specs.Sessions.{entered}
+use Rattle.cacheless.specs.State.{kept_at, clash_event, error_of}
+use Rattle.session_laws.specs.Awaiting.{KeepsScans, answer_after}
+use Rattle.backend_core.specs.Types.{Oid, Mode, Command, CommandError, Scenario, Entry, Event, Progress, Backend}
+use Rattle.backend_core.specs.Agrees.{IsPlayed, command_at, AwaitsEntry}
 use Rattle.backend_core.specs.Fits.{looks_due, LooksFit, TakesFit}
 use Rattle.backend_core.specs.Steps.{Enters}
 use Rattle.backend_core.proofs.Choosing.Chosen.{Acts}
-use Rattle.backend_core.proofs.Fitting.Entered.{fits_at, keeps_at, kept_stays, keeps_none}
+use Rattle.backend_core.proofs.Fitting.Entered.{fits_at}
 use Rattle.backend_core.proofs.Entries.Inside.{runs_on, inside_fits}
-use Rattle.backend_core.proofs.Own.{waiting, going, Inside, own_enters}
+use Rattle.backend_core.proofs.Own.{waiting, going, own_enters}
 use Rattle.cacheless.specs.Types.{Oid}
 
 -- the facts and the session after such an entry
@@ -44,9 +44,9 @@ pub record ShowsError (scenario : Scenario) (old : List Entry) (was : Backend) (
   truly : LooksTruly old was.progress.id event
   queue : FetchesFrom scenario.size old was.progress.id event
   lives : life_by (was.progress.finished + 1) event ≡ Alive (was.progress.finished + 1)
-  others : (scan : Purpose) → is_scan_of scan event ≡ false
-  inside : ends_command event ≡ false
-  goes_on : (noted event s).ended ≡ s.ended
+  keeps : (now : Progress) → kept_at now ≡ kept_at was.progress → KeepsScans old was.progress event now
+  on : event ≢ events.Stop
+  unanswered : (answer : Option (List ℕ)) → answer_after event answer ≡ None
   running : (later_of old was event).running ≡ Some (begun (was.progress.finished + 1) (facts_of old was.progress.id).running)
   lists : (later_of old was event).lists ≡ (facts_of old was.progress.id).lists
   last : (from : ℕ) → Some event ≡ Some (events.Gone from) → ⊥
@@ -59,11 +59,11 @@ pub record ShowsError (scenario : Scenario) (old : List Entry) (was : Backend) (
   tally : (now_of old was event s).tally ≡ s.tally
 
 pub held_shows : (scenario : Scenario) (old : List Entry) (was : Backend) (s : Session) (rel : Oid) (mode : Mode) (holder : ℕ) (held : Mode) → ShowsError scenario old was s (events.LockHeld rel mode holder held) (errors.Locked rel holder held)
-held_shows scenario old was s rel mode holder held = record { truly = tt; queue = tt; lives = refl; others = λ scan. refl; inside = refl; goes_on = refl; running = refl; lists = refl; last = λ from is. cc is; owes = refl; blocks = refl; finished = refl; blocked = refl; ended = refl; left = refl; tally = refl }
+held_shows scenario old was s rel mode holder held = record { truly = tt; queue = tt; lives = refl; keeps = λ now kept. kept; on = λ stop. cc stop; unanswered = λ answer. refl; running = refl; lists = refl; last = λ from is. cc is; owes = refl; blocks = refl; finished = refl; blocked = refl; ended = refl; left = refl; tally = refl }
 
 pub clash_shows : (scenario : Scenario) (old : List Entry) (was : Backend) (s : Session) (name : List ℕ) (clash : Clash) → ShowsError scenario old was s (clash_event name clash) (error_of name clash)
-clash_shows scenario old was s name (clashes.Row rel) = record { truly = tt; queue = tt; lives = refl; others = λ scan. refl; inside = refl; goes_on = refl; running = refl; lists = refl; last = λ from is. cc is; owes = refl; blocks = refl; finished = refl; blocked = refl; ended = refl; left = refl; tally = refl }
-clash_shows scenario old was s name (clashes.Running xid) = record { truly = tt; queue = tt; lives = refl; others = λ scan. refl; inside = refl; goes_on = refl; running = refl; lists = refl; last = λ from is. cc is; owes = refl; blocks = refl; finished = refl; blocked = refl; ended = refl; left = refl; tally = refl }
+clash_shows scenario old was s name (clashes.Row rel) = record { truly = tt; queue = tt; lives = refl; keeps = λ now kept. kept; on = λ stop. cc stop; unanswered = λ answer. refl; running = refl; lists = refl; last = λ from is. cc is; owes = refl; blocks = refl; finished = refl; blocked = refl; ended = refl; left = refl; tally = refl }
+clash_shows scenario old was s name (clashes.Running xid) = record { truly = tt; queue = tt; lives = refl; keeps = λ now kept. kept; on = λ stop. cc stop; unanswered = λ answer. refl; running = refl; lists = refl; last = λ from is. cc is; owes = refl; blocks = refl; finished = refl; blocked = refl; ended = refl; left = refl; tally = refl }
 
 -- a backend before such an entry: an act of its command comes next
 pub record IsActing (scenario : Scenario) (old : List Entry) (was : Backend) (command : Command) : Type 0 where
@@ -78,13 +78,11 @@ pub failed_enters : (scenario : Scenario) (old new : List Entry) (had has : ℕ 
     → Appends old new had has (entry_of was.progress.id (was.progress.finished + 1) event) → Enters scenario old new had has was (record was { progress = p })
 failed_enters scenario old new had has was p event error command waits played courses acting unlooked shows plays goes kept none appends =
     own_enters scenario old new had has was (record was { progress = p }) event waits played courses (record { plays = plays; truly = shows.truly; queue = shows.queue }) goes
-    (keeps_at scenario old was event waits p goes (record was { progress = p }) refl shows.lives
-    (kept_stays old (entry_of was.progress.id (was.progress.finished + 1) event) was.progress.id (kept_at p) shows.others (subst (AreLastScans old was.progress.id) (sym kept) waits.keeps.places.kept))
-    (keeps_none (with_own old was.progress event) p (ap is_absent (ap (λ (x : Session). x.left) goes.session ∙ shows.left))))
+    (shows.keeps p kept)
     (fits_at scenario old was event waits p goes was.looked was.looked_to_build was.told
     (inside_fits scenario old was waits courses command acting.at later now was.looked was.looked_to_build was.told same shows.lists shows.last
     (record { blocks = shows.blocks; finished = ap length shows.finished; blocked = shows.blocked; ended = shows.ended; left = λ is there. absurd (both_ways _ acting.unsettled is) }) acting.runs (Acts acting.unsettled) looks (λ made. absurd (unlooked made)) (subst (TakesFit (number_of now) now.locks now.taken) (sym shows.left) (takes_none now.taken))))
-    refl (Inside shows.inside none) (λ inside. shows.goes_on) appends
+    refl shows.lives refl shows.on (none ∙ sym (shows.unanswered was.progress.answer)) appends
   where
     takes_none : (o : Option Oid) → TakesFit (number_of (now_of old was event (waiting waits))) (now_of old was event (waiting waits)).locks o (Fails error)
     takes_none None = tt

@@ -1,5 +1,5 @@
 -- The fetch of messages that wait, or of a reset.
-use Rattle.std.proofs.Common.{◌≡◌, ◌≤◌, ◌+◌, ◌-◌, ◌∙◌, ◌==◌, ◌&&◌, ℕ, Bool, true, false, ◌||◌, not, Option, Some, None, List, [], ◌∷◌, ◌++◌, refl, sym, ap, subst, length, drop, is_some, arith}
+use Rattle.std.proofs.Common.{◌≡◌, ◌≢◌, ◌≤◌, ◌+◌, ◌-◌, ◌∙◌, ◌==◌, ◌&&◌, ℕ, Bool, true, false, ◌||◌, not, Option, Some, None, List, [], ◌∷◌, refl, sym, ap, subst, length, drop, is_some, arith}
 use Rattle.std.specs.Option.{option_map_or}
 use Rattle.std.proofs.Math.Bool.{and-false, or-true, or-false, and-true}
 use Rattle.std.proofs.Math.Nat.{min-le_right}
@@ -14,32 +14,31 @@ use Rattle.history_model.specs.Drawn.{next_oid}
 use Rattle.history_model.specs.Lapped.{is_lapped}
 use Rattle.history_model.specs.Lives.{Alive, life_by, last_event_of}
 use Rattle.history_model.specs.Log.{log_of, position_of, fetched_by}
-use Rattle.history_model.specs.Read.{is_scan_of}
 use Rattle.history_model.specs.Transactions.{begun, is_visible}
 use Rattle.history_model.specs.Writes.{is_empty}
 use Rattle.seg_calls.specs.Calls.{entry_of, due_to, MayCall, Appends, Fetches}
 use Rattle.cacheless.specs.declared.progress.Due.TheVariants as dues
 use Rattle.cacheless.specs.Facts.{Facts, facts_of, facts_by}
 use Rattle.cacheless.specs.Holds.{HasEntered, with_own}
-use Rattle.cacheless.specs.OnCourse.{is_absent, WasSought, AllOnCourse}
+use Rattle.cacheless.specs.OnCourse.{is_absent, AllOnCourse}
 use Rattle.cacheless.specs.Owed.{Owes, OwesFetch, OwesLook, owed_after, owes_build_scan, started_in}
 use Rattle.cacheless.specs.Plays.{MayPlayIn}
 use Rattle.cacheless.specs.Session.{Session, Tally, number_of}
-use Rattle.cacheless.specs.Sessions.{resumed, noted, ends_command, placed_at, entered}
+use Rattle.cacheless.specs.Sessions.{resumed, placed_at, entered}
 use Rattle.cacheless.specs.State.{owed_at, one_if, kept_at, nothing_kept, kept_spared}
-use Rattle.cacheless.proofs.Allowed.NextOnCourse.{entered_noted}
+use Rattle.session_laws.specs.Awaiting.{KeepsScans, answer_after}
 use Rattle.backend_core.specs.Types.{Oid, Purpose, Command, Scenario, Entry, Event, Message, OwnLock, Progress, Backend}
-use Rattle.backend_core.specs.Agrees.{IsPlayed, command_at, AreLastScans, AwaitsEntry}
+use Rattle.backend_core.specs.Agrees.{IsPlayed, command_at, AwaitsEntry}
 use Rattle.backend_core.specs.Fits.{looks_due, LooksFit, TakesFit, IsLookedFor, Lacks, Unfound, Said, lacks_name, finds_no_name, Fits}
 use Rattle.backend_core.specs.Steps.{Enters}
 use Rattle.backend_core.specs.Words.{is_unfound, finds_none, has_begun, marks_build, told_after}
 use Rattle.backend_core.proofs.Choosing.Chosen.{Busy, due_busy, may_call, hidden, one_at_most, started_still}
-use Rattle.backend_core.proofs.Fitting.Entered.{fits_at, keeps_at, kept_stays, kept-spared, keeps_none}
+use Rattle.backend_core.proofs.Fitting.Entered.{fits_at}
 use Rattle.backend_core.proofs.Fitting.FitsEntries.{StaysAt, Goes, fits_inside}
 use Rattle.backend_core.proofs.Fitting.Sought.{takes_cleared, unfound_held}
 use Rattle.backend_core.proofs.Entries.Looking.{begun_written}
 use Rattle.cacheless.proofs.Tests.{not_true}
-use Rattle.backend_core.proofs.Own.{waiting, follows, going, OwnEntry, Inside as StaysWithin, own_enters}
+use Rattle.backend_core.proofs.Own.{waiting, going, OwnEntry, own_enters}
 use Rattle.inval_messages.specs.Messages.{is_spared}
 
 -- a backend whose fetch is due
@@ -96,14 +95,6 @@ takes_resumed locks (Absent name) s at takes = by_taken s.taken (subst (TakesFit
     by_taken None takes = tt
     by_taken (Some rel) takes = absurd takes
 takes_resumed locks p s at takes = takes
-
--- it has something left to do then
-found_again : (old : List Entry) (b : ℕ) (s : Session) (command : Command) → ((name : List ℕ) → s.left ≡ Absent name → WasSought old b s command name) → is_absent (resumed s.left s).left ≡ false
-found_again old b s command sought = by_plan s.left refl
-  where
-    by_plan : (p : Plan) → s.left ≡ p → is_absent (resumed p s).left ≡ false
-    by_plan (Absent name) is = ap is_absent (sought name is).looks
-    by_plan p is = ap is_absent is
 
 -- the session after a fetch: one more fetch, which is full at most where it asks for a look
 record IsFetched (s now : Session) (event : Event) : Type 0 where
@@ -186,9 +177,8 @@ fetch_fits facts o s now event usable command looked to_build told unfound marke
 record BringsBack (scenario : Scenario) (old : List Entry) (was : Backend) (event : Event) (waits : AwaitsEntry scenario old was) : Type 0 where
   own : OwnEntry scenario old was event waits
   lives : life_by (was.progress.finished + 1) event ≡ Alive (was.progress.finished + 1)
-  others : (scan : Purpose) → is_scan_of scan event ≡ false
-  inside : ends_command event ≡ false
-  notes : noted event (waiting waits) ≡ resumed (waiting waits).left (waiting waits)
+  on : event ≢ events.Stop
+  unanswered : (answer : Option (List ℕ)) → answer_after event answer ≡ None
   usable : Purpose → Bool
   spares : (scan : Purpose) → (facts_of old was.progress.id).usable scan ≡ false → usable scan ≡ false
   facts : facts_by old was.progress.id (was.progress.finished + 1) event (facts_of old was.progress.id) ≡ fetched_facts (facts_of old was.progress.id) (waiting waits) event usable
@@ -196,30 +186,23 @@ record BringsBack (scenario : Scenario) (old : List Entry) (was : Backend) (even
 
 -- after either the backend agrees
 fetch_agrees : (scenario : Scenario) (old new : List Entry) (had has : ℕ → ℕ) (was : Backend) (p : Progress) (event : Event) (unfound marked : Bool) (waits : AwaitsEntry scenario old was) → unfound ≡ finds_none was.progress → IsPlayed scenario old → AllOnCourse scenario old → was.progress.due ≡ dues.Fetch → BringsBack scenario old was event waits
-    → HasEntered scenario old was.progress event waits.rests p → AreLastScans old was.progress.id (kept_at p) → p.answer ≡ None → Appends old new had has (entry_of was.progress.id (was.progress.finished + 1) event)
+    → HasEntered scenario old was.progress event waits.rests p → KeepsScans old was.progress event p → p.answer ≡ None → Appends old new had has (entry_of was.progress.id (was.progress.finished + 1) event)
     → Enters scenario old new had has was (record was { progress = p; looked = was.looked && not unfound; looked_to_build = was.looked_to_build && not (not unfound && marked); told = told_after was unfound (not unfound && marked) })
 fetch_agrees scenario old new had has was p event unfound marked waits unfound_is played courses is_fetch brings goes kept none appends =
     own_enters scenario old new had has was (record was { progress = p; looked = was.looked && not unfound; looked_to_build = was.looked_to_build && not (not unfound && marked); told = told_after was unfound (not unfound && marked) }) event waits played courses brings.own goes
-    (keeps_at scenario old was event waits p goes (record was { progress = p; looked = was.looked && not unfound; looked_to_build = was.looked_to_build && not (not unfound && marked); told = told_after was unfound (not unfound && marked) }) refl brings.lives (kept_stays old e b (kept_at p) brings.others kept)
-    (keeps_none (old ++ e ∷ []) p (ap is_absent left ∙ found_again old b s due.command (follows scenario old was waits courses due.command due.at).sought)))
+    kept
     (fits_at scenario old was event waits p goes (was.looked && not unfound) (was.looked_to_build && not (not unfound && marked)) (told_after was unfound (not unfound && marked)) (subst (λ f. Fits f (command_at was) (entered (facts_of (with_own old was.progress event) b) (drop was.progress.finished was.progress.commands) (length old + 1) (was.progress.finished + 1) event s) (was.looked && not unfound) (was.looked_to_build && not (not unfound && marked)) (told_after was unfound (not unfound && marked))) (sym brings.facts)
     (fetch_fits (facts_of old b) (command_at was) s _ event brings.usable due.command was.looked was.looked_to_build was.told unfound marked brings.spares (λ absent. unfound_is ∙ ap (λ t. t || is_unfound was.progress (plan_at was.progress.exec)) absent) (λ finds. unfound_is ∙ ap (λ t. is_absent (plan_at was.progress.exec) || t) (unfound_held (facts_of old b) was.progress (plan_at was.progress.exec) waits.rests.holds.facts finds) ∙ or-true (is_absent (plan_at was.progress.exec))) due.at waits.fits brings.fetched due.runs (hidden scenario old was waits due.command due.at due.busy) (going scenario old was waits courses due.command due.at) due.owed)))
-    refl (StaysWithin brings.inside none) (λ inside. ap (λ (x : Session). x.ended) brings.notes ∙ (is_resumed s.left s).ended) appends
+    refl brings.lives refl brings.on (none ∙ sym (brings.unanswered was.progress.answer)) appends
   where
     b : ℕ
     b = was.progress.id
-
-    e : Entry
-    e = entry_of b (was.progress.finished + 1) event
 
     s : Session
     s = waiting waits
 
     due : IsDue old was
     due = is_due scenario old was waits is_fetch
-
-    left : plan_at p.exec ≡ (resumed s.left s).left
-    left = ap (λ (x : Session). x.left) goes.session ∙ (entered_noted (facts_of (with_own old was.progress event) b) (drop was.progress.finished was.progress.commands) (length old + 1) (was.progress.finished + 1) event s).after.left ∙ ap (λ (x : Session). x.left) brings.notes
 
 due_fetched : (count : ℕ) → looks_due (owed_after (Some (events.Fetch count))) ≡ one_if (count == 32)
 due_fetched count = elim (count == 32) as (λ t. looks_due (elim t as (λ x. List Owes) [ true ↦ OwesLook ∷ [] | false ↦ [] ]) ≡ one_if t) [ true ↦ refl | false ↦ refl ]
@@ -238,9 +221,8 @@ messages_bring : (scenario : Scenario) (old : List Entry) (was : Backend) (count
 messages_bring scenario old was count waits due served = record {
   own = record { plays = subst (λ o. MayPlayIn (next_oid old) (facts_of old was.progress.id) o s (events.Fetch count)) (sym (is_due scenario old was waits due).at) tt; truly = tt; queue = served };
   lives = refl;
-  others = λ scan. refl;
-  inside = refl;
-  notes = refl;
+  on = λ stop. cc stop;
+  unanswered = λ answer. refl;
   usable = (facts_by old was.progress.id (was.progress.finished + 1) (events.Fetch count) (facts_of old was.progress.id)).usable;
   spares = λ scan none. ap (λ t. is_spared scan (fetched_by old was.progress.id count) && t) none ∙ and-false (is_spared scan (fetched_by old was.progress.id count));
   facts = λ i. record (facts_by old was.progress.id (was.progress.finished + 1) (events.Fetch count) (facts_of old was.progress.id)) { running = Some (begun (sym waits.rests.holds.count i + 1) (facts_of old was.progress.id).running) };
@@ -275,9 +257,8 @@ reset_brings : (scenario : Scenario) (old : List Entry) (was : Backend) (waits :
 reset_brings scenario old was waits due lapped = record {
   own = record { plays = subst (λ o. MayPlayIn (next_oid old) (facts_of old was.progress.id) o s events.FetchReset) (sym (is_due scenario old was waits due).at) tt; truly = tt; queue = lapped };
   lives = refl;
-  others = λ scan. refl;
-  inside = refl;
-  notes = refl;
+  on = λ stop. cc stop;
+  unanswered = λ answer. refl;
   usable = (facts_by old was.progress.id (was.progress.finished + 1) events.FetchReset (facts_of old was.progress.id)).usable;
   spares = λ scan none. refl;
   facts = λ i. record (facts_by old was.progress.id (was.progress.finished + 1) events.FetchReset (facts_of old was.progress.id)) { running = Some (begun (sym waits.rests.holds.count i + 1) (facts_of old was.progress.id).running) };
@@ -310,12 +291,14 @@ pub messages_enter : (scenario : Scenario) (old new : List Entry) (had has : ℕ
     → now ≡ record was { progress = now.progress; looked = was.looked && not (finds_none was.progress); looked_to_build = was.looked_to_build && not (not (finds_none was.progress) && marks_build was.progress given); told = told_after was (finds_none was.progress) (not (finds_none was.progress) && marks_build was.progress given) } → Enters scenario old new had has was now
 messages_enter scenario old new had has was now count taken given waits played courses due gives same goes kept none is =
     subst (Enters scenario old new had has was) (sym is)
-    (fetch_agrees scenario old new had has was now.progress (events.Fetch (length given)) (finds_none was.progress) (marks_build was.progress given) waits refl played courses due (messages_bring scenario old was (length given) waits due gives.served) (goes (same ∙ gives.messages ∙ ap (fetched_by old was.progress.id) counts))
-    (subst (AreLastScans old was.progress.id) (sym kept) (kept-spared old was.progress.id given (kept_at was.progress) waits.keeps.places.kept)) none
+    (fetch_agrees scenario old new had has was now.progress (events.Fetch (length given)) (finds_none was.progress) (marks_build was.progress given) waits refl played courses due (messages_bring scenario old was (length given) waits due gives.served) (goes are) (kept ∙ ap (λ m. kept_spared m (kept_at was.progress)) are) none
     (subst (λ n. Appends old new had has (entry_of was.progress.id (was.progress.finished + 1) (events.Fetch n))) counts gives.appends))
   where
     counts : count ≡ length given
     counts = sym (ap length (same ∙ gives.messages) ∙ fetched_count old was.progress.id count gives.due)
+
+    are : given ≡ fetched_by old was.progress.id (length given)
+    are = same ∙ gives.messages ∙ ap (fetched_by old was.progress.id) counts
 
 -- a reset
 pub reset_enters : (scenario : Scenario) (old new : List Entry) (had has : ℕ → ℕ) (was now : Backend) (given : List Message) (waits : AwaitsEntry scenario old was) → IsPlayed scenario old → AllOnCourse scenario old → was.progress.due ≡ dues.Fetch
@@ -323,5 +306,4 @@ pub reset_enters : (scenario : Scenario) (old new : List Entry) (had has : ℕ �
     → now ≡ record was { progress = now.progress; looked = was.looked && not (finds_none was.progress); looked_to_build = was.looked_to_build && not (not (finds_none was.progress) && has_begun was.progress); told = told_after was (finds_none was.progress) (not (finds_none was.progress) && has_begun was.progress) } → Enters scenario old new had has was now
 reset_enters scenario old new had has was now given waits played courses due gives goes kept none is =
     subst (Enters scenario old new had has was) (sym is)
-    (fetch_agrees scenario old new had has was now.progress events.FetchReset (finds_none was.progress) (has_begun was.progress) waits refl played courses due (reset_brings scenario old was waits due gives.lapped) goes
-    (subst (AreLastScans old was.progress.id) (sym kept) (λ scan. tt)) none gives.appends)
+    (fetch_agrees scenario old new had has was now.progress events.FetchReset (finds_none was.progress) (has_begun was.progress) waits refl played courses due (reset_brings scenario old was waits due gives.lapped) goes kept none gives.appends)

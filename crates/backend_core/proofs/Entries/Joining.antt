@@ -1,40 +1,33 @@
 -- A backend joins.
-use Rattle.std.proofs.Common.{◌≡◌, ◌+◌, ◌∙◌, ◌∷◌, ◌++◌, ◌==◌, inl, ℕ, true, false, Option, Some, None, List, [], refl, sym, ap, subst, length, All, is_some, slice_get, arith}
+use Rattle.std.proofs.Common.{◌≡◌, ◌+◌, ◌∙◌, ◌∷◌, ◌++◌, ◌==◌, inl, ℕ, true, false, Option, Some, None, List, [], refl, sym, ap, subst, length, All, slice_get, arith}
 use Rattle.std.proofs.lemmas.Bool.{eq-eqb, both_ways}
-use Rattle.std.proofs.lemmas.List.{length_push}
 use Rattle.event_kinds.specs.declared.entry.Event.TheVariants as events
 use Rattle.txn_blocks.specs.Blocks.{no_block}
-use Rattle.ddl_effect.specs.Commands.{commands_of}
 use Rattle.inval_messages.specs.Lists.{has_write_from}
 use Rattle.std.specs.Option.{option_map_or}
 use Rattle.history_model.specs.Legal.{FollowsVisible, FollowsGone}
-use Rattle.history_model.specs.Lives.{FollowsLife, life_of, last_event_of}
+use Rattle.history_model.specs.Lives.{FollowsLife, life_of}
 use Rattle.history_model.specs.Transactions.{Running, is_visible}
 use Rattle.history_model.specs.Writes.{is_empty}
-use Rattle.history_model.proofs.Reading.{life_of-own, last_event_of-own}
+use Rattle.history_model.proofs.Sound.{sound_is_legal}
+use Rattle.history_model.proofs.Reading.{life_of-own}
 use Rattle.seg_calls.specs.Calls.{entry_of, MayCall, Appends}
 use Rattle.cacheless.specs.Facts.{Facts, facts_of, facts_by}
 use Rattle.cacheless.specs.Holds.{HasStarted}
-use Rattle.cacheless.specs.Lines.{lines_from}
-use Rattle.cacheless.specs.OnCourse.{is_over, EntersCourse}
 use Rattle.cacheless.specs.Owed.{owed_after, started_in}
 use Rattle.cacheless.specs.Plays.{MayPlayAt}
 use Rattle.cacheless.specs.Runs.{runs}
-use Rattle.cacheless.specs.Session.{Session, first_of, at_command}
-use Rattle.cacheless.specs.State.{kept_at, is_absent, session_at}
-use Rattle.cacheless.proofs.Entries.EnteredLooks.{not_absent}
-use Rattle.cacheless.proofs.Resting.{first_left}
+use Rattle.cacheless.specs.Session.{at_command}
+use Rattle.cacheless.specs.State.{kept_at, session_at}
 use Rattle.cacheless.proofs.Reading.{facts_of-own}
-use Rattle.cacheless.proofs.Allowed.SettledCourse.{begins_on_course}
-use Rattle.cacheless.proofs.Allowed.StaysOnCourse.{has_written-quiet}
+use Rattle.session_laws.specs.Awaiting.{AnswersNow}
+use Rattle.session_laws.proofs.OwnAnswers.{start_answers}
 use Rattle.backend_core.specs.Types.{Command, Scenario, Entry, Progress, Backend}
 use Rattle.backend_core.specs.declared.life.Life.TheVariants as lives
-use Rattle.backend_core.specs.Agrees.{IsPlayed, AreLastScans, AgreesNow, HasNotJoined}
+use Rattle.backend_core.specs.Agrees.{IsPlayed, AgreesNow, HasNotJoined}
 use Rattle.backend_core.specs.Fits.{looks_due, IsPast, Fits}
 use Rattle.backend_core.specs.Steps.{MakesEntry, Enters}
-use Rattle.backend_core.proofs.Fitting.Entered.{keeps_none}
-use Rattle.backend_core.proofs.Own.{appended_makes}
-use Rattle.backend_core.proofs.Played.{IsPlayed-more}
+use Rattle.backend_core.proofs.Own.{no_entry, appended_makes}
 
 -- it may be entered
 pub join_call : (scenario : Scenario) (seen : List Entry) (s : Backend) → HasNotJoined scenario seen s → MayCall scenario seen (entry_of s.progress.id 0 events.Start)
@@ -74,6 +67,7 @@ fits_first facts o at runs lists last = record {
 -- the state after it
 pub join_enters : (scenario : Scenario) (old new : List Entry) (had has : ℕ → ℕ) (was : Backend) (p : Progress) → HasNotJoined scenario old was → IsPlayed scenario old → HasStarted scenario old was.progress p → kept_at p ≡ kept_at was.progress → p.answer ≡ was.progress.answer
     → Appends old new had has (entry_of was.progress.id 0 events.Start) → Enters scenario old new had has was (record was { progress = p; life = lives.Alive })
+unfolding start_answers
 join_enters scenario old new had has was p before played started kept same appends = record {
   makes = makes;
   id = started.moves.id;
@@ -82,10 +76,7 @@ join_enters scenario old new had has was p before played started kept same appen
       alive = refl;
       life = record { last = 0; alive = ap (life_of (old ++ e ∷ [])) started.moves.id ∙ life_of-own old e b own; most = omega arith };
       built = subst (All (λ c. runs c ≡ true)) (sym started.moves.commands) before.built;
-      places = record {
-        kept = subst (AreLastScans (old ++ e ∷ []) p.id) (sym (kept ∙ before.new.progress.kept)) (λ scan. tt);
-        absent = keeps_none (old ++ e ∷ []) p (ap is_absent (ap (λ (s : Session). s.left) started.session) ∙ not_absent no_block (slice_get was.progress.commands 0));
-      };
+      places = answers.places;
     };
     holds = started.holds;
     fits = subst (λ f. Fits f (slice_get p.commands p.finished) (session_at p started.holds.rest) was.looked was.looked_to_build was.told) (sym facts_are)
@@ -95,22 +86,8 @@ join_enters scenario old new had has was p before played started kept same appen
         (subst (λ t. Fits facts (slice_get was.progress.commands 0) (at_command no_block [] [] (length old + 1) (slice_get was.progress.commands 0)) was.looked t false) (sym before.new.looked_to_build)
         (subst (λ t. Fits facts (slice_get was.progress.commands 0) (at_command no_block [] [] (length old + 1) (slice_get was.progress.commands 0)) t false false) (sym before.new.looked)
         (fits_first facts (slice_get was.progress.commands 0) (length old + 1) refl (ap (λ f. f.lists) before.facts) refl))))));
-    tells = record {
-      played = IsPlayed-more scenario old e played makes.may;
-      course = subst (λ k. EntersCourse scenario (old ++ e ∷ []) k (session_at p started.holds.rest)) (sym started.moves.id) (subst (EntersCourse scenario (old ++ e ∷ []) b) (sym (started.session ∙ ap (at_command no_block [] [] (length old + 1)) first_is))
-          (begins_on_course scenario (old ++ e ∷ []) b no_block [] [] (length old + 1) (commands_of scenario b) refl (λ n after. has_written-quiet old e b n refl ∙ before.unwritten n) refl));
-      tells = record {
-        answer = λ text command told at. absurd (let both : None ≡ Some text = sym (same ∙ before.new.progress.answer) ∙ told in cc both);
-        out = λ some. absurd (both_ways _ (ap (λ o. is_some o) (same ∙ before.new.progress.answer)) some);
-      };
-      here = λ command at none. record {
-        judged = omega (arith, length_push old e, ap (λ (s : Session). s.judged) started.session);
-        stands = (λ i. is_over (last_event_of (old ++ e ∷ []) (started.moves.id i)) (started.session i)) ∙ ap (λ o. is_over o (at_command no_block [] [] (length old + 1) (slice_get was.progress.commands 0))) (last_event_of-own old e b own);
-      };
-      last = omega (arith, length_push old e, ap (λ (s : Session). s.last) started.session);
-      back = λ from command gone at. absurd (let both : Some events.Start ≡ Some (events.Gone from) = sym (last_event_of-own old e b own) ∙ ap (last_event_of (old ++ e ∷ [])) (sym started.moves.id) ∙ gone in cc both);
-    };
-    lines = before.new.lines ∙ sym (ap (λ l. lines_from scenario (old ++ e ∷ []) p.id 1 l p.commands) (ap (λ (s : Session). s.finished) started.session));
+    tells = answers.tells;
+    lines = before.new.lines ∙ answers.lines_are;
   });
 }
   where
@@ -135,8 +112,8 @@ join_enters scenario old new had has was p before played started kept same appen
     first_command : slice_get p.commands p.finished ≡ slice_get was.progress.commands 0
     first_command = ap (λ l. slice_get l p.finished) started.moves.commands ∙ ap (slice_get was.progress.commands) (started.moves.finished ∙ before.new.progress.finished)
 
-    first_is : slice_get was.progress.commands 0 ≡ first_of (commands_of scenario b)
-    first_is = sym (first_left was.progress.commands 0) ∙ ap first_of before.waits.commands
+    answers : AnswersNow scenario (old ++ e ∷ []) p []
+    answers = start_answers scenario old was.progress p (no_entry before) played.spelled (sound_is_legal old played.sound) played.plays appends.comes.follows started kept same
 
     makes : MakesEntry scenario old new had has b
     makes = appended_makes scenario old new had has e (before.waits.number, subst (λ o. MayPlayAt scenario old b o 0 events.Start) (sym before.session) tt) (record { needed = tt; truly = tt; columns = tt; names = tt; queue = tt }) appends

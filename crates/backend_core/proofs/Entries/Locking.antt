@@ -1,6 +1,5 @@
 -- The locks that a backend asks for.
-use Rattle.std.proofs.Common.{◌≡◌, ◌<◌, ◌+◌, ◌∙◌, ◌&&◌, ℕ, Bool, true, false, not, Option, Some, None, Err, List, [], ◌∷◌, refl, sym, ap, subst, length, drop, is_some, arith, is_none, ◌++◌}
-use Rattle.std.specs.List.{cons_option}
+use Rattle.std.proofs.Common.{◌≡◌, ◌<◌, ◌+◌, ◌∙◌, ◌&&◌, ℕ, Bool, true, false, Option, Some, None, Err, List, [], ◌∷◌, refl, sym, ap, subst, length, drop, is_some, arith, is_none, ◌++◌}
 use Rattle.std.proofs.lemmas.Bool.{and_parts}
 use Rattle.base_types.specs.declared.row.Row.TheVariants as rows
 use Rattle.event_kinds.specs.declared.entry.Event.TheVariants as events
@@ -14,34 +13,32 @@ use Rattle.ddl_effect.specs.Stages.{plan_at}
 use Rattle.history_model.specs.Drawn.{next_oid}
 use Rattle.history_model.specs.Held.{held_of}
 use Rattle.history_model.specs.Transactions.{begun}
-use Rattle.history_model.specs.Writes.{is_empty}
 use Rattle.seg_calls.specs.Calls.{entry_of, MayRequest, Appends, Locks}
 use Rattle.cacheless.specs.Facts.{Facts, facts_of, facts_by}
 use Rattle.cacheless.specs.Holds.{HasEntered, with_own}
-use Rattle.cacheless.specs.May.{lacks_any, owes_nothing, names_relation, is_lock_at, may_play_at, may_last_at}
+use Rattle.cacheless.specs.May.{owes_nothing, names_relation, is_lock_at, may_play_at, may_last_at}
 use Rattle.cacheless.specs.OnCourse.{AllOnCourse}
 use Rattle.cacheless.specs.Owed.{owed_of, started_in}
 use Rattle.cacheless.specs.Plays.{IsLock, MayPlayIn}
 use Rattle.cacheless.specs.Session.{Session, number_of, outcome_of, is_settled}
 use Rattle.cacheless.specs.Sessions.{entered}
-use Rattle.cacheless.specs.Settled.{if_locked, looked_up, has_taken_no_other}
+use Rattle.cacheless.specs.Settled.{if_locked, has_taken_no_other}
 use Rattle.cacheless.specs.Silently.{gives_next, looks_up_at}
-use Rattle.cacheless.specs.State.{kept_at, owed_at, owed_first, row_sought, is_absent}
+use Rattle.cacheless.specs.State.{kept_at, row_sought, is_absent}
 use Rattle.cacheless.proofs.Plans.AloneLocks.{session_holds}
 use Rattle.cacheless.proofs.Allowed.NextKeeps as keeping
 use Rattle.cacheless.proofs.SameRows.{oid_decides}
-use Rattle.cacheless.proofs.Tests.{not_true}
-use Rattle.backend_core.specs.Types.{Oid, Mode, Row, OwnLock, Scenario, Entry, Event, Progress, Backend}
-use Rattle.backend_core.specs.Agrees.{IsPlayed, command_at, AreLastScans, AwaitsEntry}
+use Rattle.backend_core.specs.Types.{Oid, Mode, Row, Scenario, Entry, Event, Progress, Backend}
+use Rattle.backend_core.specs.Agrees.{IsPlayed, command_at, AwaitsEntry}
 use Rattle.backend_core.specs.Fits.{looks_due, LooksFit, IsLookedFor, lacks_name}
 use Rattle.backend_core.specs.Steps.{IsLockNext, Enters}
 use Rattle.backend_core.proofs.Choosing.ActsRun.{act_runs}
 use Rattle.backend_core.proofs.Entries.Alike.{alike_enters}
 use Rattle.backend_core.proofs.Choosing.Chosen.{Acts, may_request, now_plays}
-use Rattle.backend_core.proofs.Fitting.Entered.{fits_at, keeps_still, keeps_none}
+use Rattle.backend_core.proofs.Fitting.Entered.{fits_at}
 use Rattle.backend_core.proofs.Entries.Failing.{IsActing, held_shows, failed_enters}
 use Rattle.backend_core.proofs.Entries.Inside.{runs_on, inside_fits}
-use Rattle.backend_core.proofs.Own.{waiting, waiting_is, follows, going, Inside, own_enters}
+use Rattle.backend_core.proofs.Own.{waiting, waiting_is, follows, going, own_enters}
 use Rattle.backend_core.proofs.Fitting.Sought.{takes_cleared, no_look, act_serves, takes_granted, lock_found}
 use Rattle.cacheless.proofs.Allowed.NextKeeps.{nothing_owed}
 use Rattle.cacheless.specs.Types.{Row}
@@ -147,14 +144,13 @@ module _ (scenario : Scenario) (old : List Entry) (was : Backend) (waits : Await
         → Appends old new had has (entry_of was.progress.id (was.progress.finished + 1) (events.LockOk rel mode)) → Enters scenario old new had has first (record was { progress = p; told = false })
     granted_enters goes appends = alike_enters scenario old new had has first was (record was { progress = p; told = false }) id (
         own_enters scenario old new had has was (record was { progress = p; told = false }) event waits played courses (record { plays = plays event next.may; truly = tt; queue = tt }) goes
-        (keeps_still scenario old was event waits p goes (record was { progress = p; told = false }) refl refl (λ scan. refl) (subst (AreLastScans old was.progress.id) (sym kept) waits.keeps.places.kept)
-        (keeps_none (with_own old was.progress event) p (ap is_absent (ap (λ (x : Session). x.left) goes.session ∙ is_act.is))))
+        kept
         (fits_at scenario old was event waits p goes was.looked was.looked_to_build false
         (inside_fits scenario old was waits courses next.command next.free.at later now was.looked was.looked_to_build false same refl (λ from is. cc is) (record { blocks = refl; finished = refl; blocked = refl; ended = refl; left = λ is there. refl }) acting.runs (Acts acting.unsettled)
         (record { enough = omega (arith, before.enough, ap looks_due acting.owed, started); within = omega (arith, before.within, ap looks_due acting.owed, started) })
         (λ made. unlooked (waits.fits.sought made)) (takes_cleared _ (number_of s) (s.locks ++ record { rel = rel; mode = mode; command = was.progress.finished + 1; clear = false } ∷ []) (Some rel) s.left
         (takes_granted facts (number_of s) (was.progress.finished + 1) s.locks s.left rel mode (ap (λ n. n + 1) (sym waits.rests.holds.count)) asks.2))))
-        refl (Inside refl none) (λ inside. refl) appends)
+        refl refl refl (λ stop. cc stop) none appends)
       where
         event : Event
         event = events.LockOk rel mode

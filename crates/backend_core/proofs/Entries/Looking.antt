@@ -1,8 +1,7 @@
 -- The looks of a backend.
 use Rattle.std.proofs.Common.{◌≡◌, ◌≢◌, ◌≤◌, ◌+◌, ◌*◌, ◌∙◌, ◌⊎◌, inl, inr, ◌&&◌, ◌||◌, ℕ, Bool, true, false, not, Option, Some, None, List, [], ◌∷◌, refl, sym, ap, subst, length, drop, is_none, is_some, arith}
 use Rattle.std.specs.Option.{option_map_or}
-use Rattle.std.proofs.Math.Bool.{and-false, or-true, or-false}
-use Rattle.std.proofs.lemmas.Bool.{both_ways}
+use Rattle.std.proofs.Math.Bool.{and-false, or-false}
 use Rattle.event_kinds.specs.declared.entry.Event.TheVariants as events
 use Rattle.txn_blocks.specs.Blocks.{Block, Outside, Inside, Failed, no_block, ends_block, refused_by}
 use Rattle.history_model.specs.Drawn.{next_oid}
@@ -12,7 +11,7 @@ use Rattle.history_model.specs.Transactions.{Running, begun, is_visible}
 use Rattle.history_model.specs.Writes.{is_empty}
 use Rattle.history_model.proofs.Sound.{sound_is_legal}
 use Rattle.history_model.proofs.Waiting.{not_waited}
-use Rattle.seg_calls.specs.Calls.{entry_of, took_back, MayCall, Appends}
+use Rattle.seg_calls.specs.Calls.{entry_of, MayCall, Appends}
 use Rattle.cacheless.specs.declared.progress.Due.TheVariants as dues
 use Rattle.txn_blocks.specs.declared.transaction.RunningTransaction.{RunningTransaction}
 use Rattle.cacheless.specs.Facts.{Facts, facts_of, facts_by}
@@ -24,17 +23,17 @@ use Rattle.cacheless.specs.Plays.{MayPlayIn}
 use Rattle.cacheless.specs.Schedule.{LooksTruly}
 use Rattle.cacheless.specs.Session.{Session, number_of, is_settled, outcome_of}
 use Rattle.cacheless.specs.Sessions.{entered}
-use Rattle.cacheless.specs.State.{kept_at, owed_at, owed_first, begins_in, one_if, running_of, is_absent, is_quiet}
+use Rattle.cacheless.specs.State.{kept_at, owed_at, owed_first, begins_in, one_if, running_of}
 use Rattle.backend_core.specs.Types.{Command, Scenario, Entry, Event, Progress, Backend}
-use Rattle.backend_core.specs.Agrees.{IsPlayed, command_at, AreLastScans, AwaitsEntry}
+use Rattle.backend_core.specs.Agrees.{IsPlayed, command_at, AwaitsEntry}
 use Rattle.backend_core.specs.Fits.{looks_due, LooksFit, Fits, IsLookedFor, Lacks, Unfound, Said}
 use Rattle.backend_core.specs.Steps.{OwesLookNow, IsLookNext, Enters, IsScanNext, FindsNone, Looks, Says, IsAcceptNext}
 use Rattle.backend_core.specs.Words.{is_looked_for, is_unfound}
 use Rattle.backend_core.proofs.Choosing.ActsRun.{scan_runs, find_runs}
-use Rattle.backend_core.proofs.Choosing.Chosen.{Busy, Owes, due_busy, may_call, hidden, standing, one_at_most, started_most, started_by, started_now, started_still, look_may, Acts, Sought}
-use Rattle.backend_core.proofs.Fitting.Entered.{fits_at, keeps_still, absent_still}
+use Rattle.backend_core.proofs.Choosing.Chosen.{Busy, Owes, due_busy, may_call, hidden, one_at_most, started_most, started_by, started_now, started_still, look_may, Acts, Sought}
+use Rattle.backend_core.proofs.Fitting.Entered.{fits_at}
 use Rattle.backend_core.proofs.Fitting.FitsEntries.{RunsHere, Goes, Starts, fits_inside}
-use Rattle.backend_core.proofs.Own.{waiting, going, Inside as StaysWithin, own_enters}
+use Rattle.backend_core.proofs.Own.{waiting, going, own_enters}
 use Rattle.backend_core.proofs.Fitting.Sought.{takes_cleared, unfound_facts, sought_looked, next_name}
 use Rattle.ddl_effect.specs.Stages.{plan_at}
 use Rattle.ddl_effect.specs.Plans.{Plan, Do}
@@ -188,12 +187,9 @@ module _ (scenario : Scenario) (old : List Entry) (was : Backend) (waits : Await
     look_agrees new had has p played is busy sought goes kept none appends =
         own_enters scenario old new had has was (record was { progress = p; looked = looked; looked_to_build = to_build; told = told }) event waits played courses
         (record { plays = subst (λ o. MayPlayIn (next_oid old) facts o s event) (sym at) (look_may facts s counts.owes within); truly = look_true old was.progress.id some_wait (sym is); queue = tt })
-        goes
-        (keeps_still scenario old was event waits p goes (record was { progress = p; looked = looked; looked_to_build = to_build; told = told }) refl refl (λ scan. refl)
-        (subst (AreLastScans old was.progress.id) (sym kept) waits.keeps.places.kept)
-        (absent_still scenario old was event waits p goes kept (ap (λ (x : Session). x.left) goes.session) (ap (λ (x : Session). x.ended) goes.session) (λ from gone. both_ways _ (standing scenario old was waits command at busy) (ap took_back gone))))
+        goes kept
         (fits_at scenario old was event waits p goes looked to_build told (look_fits (hidden scenario old was waits command at busy) sought))
-        refl (StaysWithin refl none) (λ inside. refl) appends
+        refl refl refl (λ stop. cc stop) none appends
 
 -- the look that is owed
 pub look_enters : (scenario : Scenario) (old new : List Entry) (had has : ℕ → ℕ) (was : Backend) (p : Progress) (some_wait : Bool) (waits : AwaitsEntry scenario old was) → IsPlayed scenario old → AllOnCourse scenario old → OwesLookNow was.progress → some_wait ≡ is_waiting old was.progress.id

@@ -17,7 +17,7 @@ use Rattle.cacheless.specs.OnCourse.{AllOnCourse}
 use Rattle.cacheless.specs.Session.{Session, number_of}
 use Rattle.cacheless.specs.State.{kept_at}
 use Rattle.backend_core.specs.Types.{Command, Scenario, Entry, Event, OwnLock, Message, Progress, Backend}
-use Rattle.backend_core.specs.Agrees.{IsPlayed, AreLastScans, command_at, AwaitsEntry}
+use Rattle.backend_core.specs.Agrees.{IsPlayed, command_at, AwaitsEntry}
 use Rattle.backend_core.specs.Fits.{first_at, RunsAfter, Fits}
 use Rattle.backend_core.specs.Steps.{EndsNext, Enters}
 use Rattle.backend_core.proofs.Entries.EndEntries.{end_now, end_call, built_at, end_enters}
@@ -150,5 +150,4 @@ module _ (scenario : Scenario) (old : List Entry) (was : Backend) (from : ℕ) (
 pub release_enters : (scenario : Scenario) (old new : List Entry) (had has : ℕ → ℕ) (was : Backend) (from : ℕ) (p : Progress) (waits : AwaitsEntry scenario old was) → IsPlayed scenario old → AllOnCourse scenario old → EndsNext was (events.Release from)
     → HasEntered scenario old was.progress (events.Release from) waits.rests p → kept_at p ≡ kept_at was.progress → p.answer ≡ was.progress.answer → Appends old new had has (entry_of was.progress.id (was.progress.finished + 1) (events.Release from)) → Enters scenario old new had has was (record was { progress = p })
 release_enters scenario old new had has was from p waits played courses next goes kept same appends =
-    end_enters scenario old new had has was (events.Release from) p waits refl played courses next goes (subst (AreLastScans old was.progress.id) (sym kept) waits.keeps.places.kept)
-    (λ name missed whole. absurd (both_ways _ whole.going (ap (λ (x : Session). x.ended) goes.session))) same (release_fits scenario old was from waits next _ (length old + 1)) appends
+    end_enters scenario old new had has was (events.Release from) p waits refl played courses next goes kept same (release_fits scenario old was from waits next _ (length old + 1)) appends

@@ -1,6 +1,6 @@
 -- The scans of a backend.
-use Rattle.std.proofs.Common.{◌≡◌, ◌≤◌, ◌+◌, ◌∙◌, ◌&&◌, ℕ, Bool, true, false, not, Option, Some, None, IfSome, List, [], refl, sym, ap, subst, length, drop, if◌then◌else◌, arith, ◌∷◌}
-use Rattle.std.proofs.lemmas.Bool.{both_ways, eq-eqb, lt-ltb, and_parts}
+use Rattle.std.proofs.Common.{◌≡◌, ◌≤◌, ◌+◌, ◌∙◌, ◌&&◌, ℕ, Bool, true, false, not, None, List, [], refl, sym, ap, subst, length, drop, arith}
+use Rattle.std.proofs.lemmas.Bool.{both_ways, lt-ltb, and_parts}
 use Rattle.base_types.specs.Scans.{same_scan, is_build_scan}
 use Rattle.event_kinds.specs.declared.entry.Event.TheVariants as events
 use Rattle.base_types.specs.declared.scan.Purpose.TheVariants as scans
@@ -8,7 +8,6 @@ use Rattle.ddl_effect.specs.Plans.{Plan, Absent, Do, Lookup, Open, Search, Read 
 use Rattle.ddl_effect.specs.Stages.{plan_at}
 use Rattle.local_caches.specs.Kept.{is_keyed}
 use Rattle.history_model.specs.Drawn.{next_oid}
-use Rattle.history_model.specs.Read.{place_read}
 use Rattle.history_model.specs.Versions.{answer_of}
 use Rattle.seg_calls.specs.Calls.{entry_of, MayRequest, Appends}
 use Rattle.cacheless.specs.Facts.{Facts, facts_of, facts_by}
@@ -19,22 +18,21 @@ use Rattle.cacheless.specs.Owed.{owed_after, started_in, has_looked}
 use Rattle.cacheless.specs.Plays.{MayPlayIn}
 use Rattle.cacheless.specs.Session.{Session, Badly, number_of, outcome_of}
 use Rattle.cacheless.specs.Sessions.{entered}
-use Rattle.cacheless.specs.State.{kept_at, kept_with, is_absent, owed_at, one_if, is_kept}
-use Rattle.cacheless.proofs.Answers.ReadPlaces.{place_read-more, place_read-scan}
+use Rattle.cacheless.specs.State.{kept_at, kept_with, is_absent, one_if, is_kept}
 use Rattle.cacheless.proofs.OneOfKey.{one_of_key}
 use Rattle.cacheless.proofs.Same.{next_same}
 use Rattle.cacheless.proofs.Tests.{and_true, not_true, or_either}
-use Rattle.backend_core.specs.Types.{Oid, Mode, Row, Purpose, Scenario, Entry, Event, Read, Progress, Backend, Opening}
-use Rattle.backend_core.specs.Agrees.{IsPlayed, command_at, AreLastScans, AwaitsEntry}
+use Rattle.backend_core.specs.Types.{Mode, Row, Purpose, Scenario, Entry, Event, Progress, Backend, Opening}
+use Rattle.backend_core.specs.Agrees.{IsPlayed, command_at, AwaitsEntry}
 use Rattle.backend_core.specs.Fits.{looks_due, LooksFit, Fits, IsLookedFor, Lacks, Unfound, Said, finds_no_name}
 use Rattle.backend_core.specs.Steps.{IsScanNext, MakesEntry, Enters}
 use Rattle.backend_core.specs.Words.{is_looked_for}
 use Rattle.backend_core.proofs.Choosing.ActsRun.{scan_runs}
 use Rattle.backend_core.proofs.Choosing.Chosen.{may_request}
-use Rattle.backend_core.proofs.Fitting.Entered.{fits_at, keeps_at, keeps_none}
+use Rattle.backend_core.proofs.Fitting.Entered.{fits_at}
 use Rattle.backend_core.proofs.Entries.Inside.{runs_on, inside_fits}
 use Rattle.backend_core.proofs.Entries.Looking.{scan_busy}
-use Rattle.backend_core.proofs.Own.{waiting, going, OwnEntry, Inside, own_makes, own_enters, follows}
+use Rattle.backend_core.proofs.Own.{waiting, going, OwnEntry, own_makes, own_enters, follows}
 use Rattle.backend_core.proofs.Fitting.Sought.{takes_cleared, built_leaves}
 use Rattle.cacheless.proofs.ReadsBuilds.{stage_reads}
 use Rattle.base_types.proofs.SameScan.{same_scan-true}
@@ -159,31 +157,13 @@ module _ (scenario : Scenario) (old : List Entry) (was : Backend) (waits : Await
           by_case (Unfound finds look) = absurd (no_name s.left refl finds)
           by_case (Said absent) = absurd (both_ways _ present absent)
 
-  -- what was kept stays where it is, and the scan stands at its entry
-  kept_then : (rows : List Row) → AreLastScans (with_own old was.progress event) was.progress.id (kept_with scan rows (length old + 1) (kept_at was.progress))
-  kept_then rows other = by_same (same_scan scan other) refl (kept_at was.progress other) (waits.keeps.places.kept other)
-    where
-      e : Entry
-      e = entry_of was.progress.id (was.progress.finished + 1) event
-
-      made : Read
-      made = record { rows = rows; at = length old + 1 }
-
-      by_same : (t : Bool) → same_scan scan other ≡ t → (o : Option Read) → IfSome o (λ (read : Read). place_read old was.progress.id other ≡ read.at)
-          → IfSome (if t then Some made else o) (λ (read : Read). place_read (with_own old was.progress event) was.progress.id other ≡ read.at)
-      by_same true same o at = place_read-scan old e was.progress.id other (eq-eqb was.progress.id was.progress.id refl) same
-      by_same false others None at = tt
-      by_same false others (Some read) at = place_read-more old e was.progress.id other others ∙ at
-
   -- so after it the backend agrees
-  pub scan_enters : (new : List Entry) (had has : ℕ → ℕ) (p : Progress) (l t : Bool) (rows : List Row) (at : ℕ) → IsPlayed scenario old → HasEntered scenario old was.progress event waits.rests p → at ≡ length old + 1
+  pub scan_enters : (new : List Entry) (had has : ℕ → ℕ) (p : Progress) (l t : Bool) (rows : List Row) (at : ℕ) → IsPlayed scenario old → HasEntered scenario old was.progress event waits.rests p → rows ≡ answer_of old was.progress.id scan → at ≡ length old + 1
       → kept_at p ≡ kept_with scan rows at (kept_at was.progress) → p.answer ≡ None
       → l ≡ (was.looked && not (not builds)) → t ≡ (was.looked_to_build && not builds)
       → Appends old new had has (entry_of was.progress.id (was.progress.finished + 1) event) → Enters scenario old new had has was (record was { progress = p; looked = l; looked_to_build = t })
-  scan_enters new had has p l t rows at played goes at_is kept none left right appends =
+  scan_enters new had has p l t rows at played goes rows_are at_is kept none left right appends =
       own_enters scenario old new had has was (record was { progress = p; looked = l; looked_to_build = t }) event waits played courses scan_own goes
-      (keeps_at scenario old was event waits p goes (record was { progress = p; looked = l; looked_to_build = t }) refl refl
-      (subst (AreLastScans (with_own old was.progress event) was.progress.id) (sym (kept ∙ ap (λ n. kept_with scan rows n (kept_at was.progress)) at_is)) (kept_then rows))
-      (keeps_none (with_own old was.progress event) p (ap is_absent (ap (λ (x : Session). x.left) goes.session) ∙ present)))
+      (kept ∙ (λ i. kept_with scan (rows_are i) (at_is i) (kept_at was.progress)))
       (fits_at scenario old was event waits p goes l t was.told (scan_fits l t left right))
-      refl (Inside refl none) (λ inside. refl) appends
+      refl refl refl (λ stop. cc stop) none appends

@@ -2,32 +2,29 @@
 use Rattle.std.proofs.Common.{◌≡◌, ◌+◌, ◌∙◌, ℕ, Bool, true, false, Option, Some, None, List, [], refl, sym, ap, subst, length, is_some, ◌&&◌}
 use Rattle.std.specs.List.{cons_option}
 use Rattle.std.specs.Option.{option_map_or}
-use Rattle.std.proofs.lemmas.Bool.{both_ways, eq-eqb, false_from_ne_true}
+use Rattle.std.proofs.lemmas.Bool.{both_ways, false_from_ne_true}
 use Rattle.event_kinds.specs.declared.entry.Event.TheVariants as events
 use Rattle.inval_messages.specs.Lists.{has_write_from, lists_from, cats_in, rels_in, sent_in}
 use Rattle.ddl_effect.specs.declared.told.Told.TheVariants as tells
 use Rattle.ddl_effect.specs.Plans.{Done, told_rests_on}
 use Rattle.ddl_effect.specs.Stages.{told_of}
 use Rattle.history_model.specs.Legal.{FollowsVisible, FollowsGone}
-use Rattle.history_model.specs.Lives.{last_event_of}
 use Rattle.history_model.specs.Transactions.{Running, is_visible}
-use Rattle.history_model.proofs.Reading.{last_event_of-own}
 use Rattle.seg_calls.specs.Calls.{entry_of, MayCall, Appends}
 use Rattle.cacheless.specs.Ends.{Commits, TakesBack}
 use Rattle.cacheless.specs.Facts.{Facts, facts_of, facts_by}
-use Rattle.cacheless.specs.Holds.{HasEntered, with_own}
+use Rattle.cacheless.specs.Holds.{HasEntered}
 use Rattle.cacheless.specs.OnCourse.{AllOnCourse}
 use Rattle.cacheless.specs.Owed.{Owes, unusable, owed_after, owed_of, builds_owed}
 use Rattle.cacheless.specs.Session.{Session, Well, outcome_of, is_settled, plan_first}
 use Rattle.cacheless.specs.State.{lists_at, kept_at, kept_spared}
 use Rattle.cacheless.proofs.Allowed.Releases.{OwesNoScan, ends_free}
 use Rattle.backend_core.specs.Types.{Command, Scenario, Entry, Event, OwnLock, Progress, Backend}
-use Rattle.backend_core.specs.Agrees.{IsPlayed, AreLastScans, command_at, AwaitsEntry}
+use Rattle.backend_core.specs.Agrees.{IsPlayed, command_at, AwaitsEntry}
 use Rattle.backend_core.specs.Fits.{first_at, Fits}
 use Rattle.backend_core.specs.Steps.{EndsNext, Enters}
 use Rattle.backend_core.proofs.Entries.EndEntries.{end_now, end_call, end_enters}
 use Rattle.backend_core.proofs.Choosing.EndsNow.{end_by, EndsBy, comes_now, commit_end, back_end}
-use Rattle.backend_core.proofs.Fitting.Entered.{kept-spared}
 use Rattle.backend_core.proofs.Fitting.FitsEnds.{later_at, GoesOn, end_same, fits_ending, takes_back_on, write_from_first, none_from, goes_first, begun_xid, begun_visible, written_runs}
 use Rattle.backend_core.proofs.Own.{waiting, follows}
 use Rattle.std.proofs.Math.Bool.{and-false}
@@ -100,8 +97,5 @@ pub take_back_enters : (scenario : Scenario) (old new : List Entry) (had has : �
     → HasEntered scenario old was.progress (events.Gone from) waits.rests p → kept_at p ≡ kept_spared (rels_in (lists_from from (lists_at was.progress))) (kept_spared (cats_in (lists_from from (lists_at was.progress))) (kept_at was.progress)) → p.answer ≡ was.progress.answer
     → Appends old new had has (entry_of was.progress.id (was.progress.finished + 1) (events.Gone from)) → Enters scenario old new had has was (record was { progress = p })
 take_back_enters scenario old new had has was from p waits played courses next goes kept same appends =
-    end_enters scenario old new had has was (events.Gone from) p waits refl played courses next goes
-    (subst (AreLastScans old was.progress.id) (sym kept) (kept-spared old was.progress.id (rels_in (lists_from from (lists_at was.progress))) (kept_spared (cats_in (lists_from from (lists_at was.progress))) (kept_at was.progress))
-    (kept-spared old was.progress.id (cats_in (lists_from from (lists_at was.progress))) (kept_at was.progress) waits.keeps.places.kept)))
-    (λ name missed whole. absurd (whole.untaken from (ap (last_event_of (with_own old was.progress (events.Gone from))) goes.moves.id ∙ last_event_of-own old (entry_of was.progress.id (was.progress.finished + 1) (events.Gone from)) was.progress.id (eq-eqb was.progress.id was.progress.id refl)))) same
+    end_enters scenario old new had has was (events.Gone from) p waits refl played courses next goes kept same
     (take_back_fits scenario old was from waits next courses _ (length old + 1)) appends

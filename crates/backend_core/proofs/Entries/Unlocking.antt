@@ -1,30 +1,30 @@
 -- The lock that a backend gives back.
-use Rattle.std.proofs.Common.{◌≡◌, ◌+◌, ◌<◌, ◌≤◌, ◌∙◌, ◌&&◌, ◌==◌, ℕ, Bool, true, false, not, Option, Some, None, List, [], ◌∷◌, refl, sym, ap, subst, filter, length, drop, is_some, arith, map, ◌||◌}
+use Rattle.std.proofs.Common.{◌≡◌, ◌+◌, ◌<◌, ◌≤◌, ◌∙◌, ◌&&◌, ◌==◌, ℕ, Bool, true, false, Option, Some, None, List, [], ◌∷◌, refl, sym, ap, subst, filter, length, drop, arith, map, ◌||◌}
 use Rattle.std.specs.List.{AllByRecursion, list_any}
-use Rattle.std.proofs.lemmas.Bool.{and_parts, both_ways, lt-leb, false_from_ne_true, leb-true}
+use Rattle.std.proofs.lemmas.Bool.{and_parts, false_from_ne_true, leb-true}
 use Rattle.event_kinds.specs.declared.entry.Event.TheVariants as events
 use Rattle.lock_modes.specs.Own.{has_lock, is_own}
 use Rattle.inval_messages.specs.Lists.{Written, has_write_from}
 use Rattle.ddl_effect.specs.Plans.{Act, Plan, Done, Fails, Absent, NotBuilt, Do, Lookup, Open, Search, Read, Lock, Write}
 use Rattle.ddl_effect.specs.Stages.{plan_at}
 use Rattle.history_model.specs.Held.{held_of}
-use Rattle.history_model.specs.Legal.{is_lock_of, AllowsUnlock}
-use Rattle.history_model.specs.Writes.{has_written, is_empty}
+use Rattle.history_model.specs.Legal.{AllowsUnlock}
+use Rattle.history_model.specs.Writes.{has_written}
 use Rattle.history_model.proofs.Every.{any-weaker}
 use Rattle.seg_calls.specs.Calls.{entry_of, MayCall, Appends}
 use Rattle.cacheless.specs.Facts.{Facts, facts_of, facts_by}
 use Rattle.cacheless.specs.Holds.{HasEntered, with_own}
-use Rattle.cacheless.specs.Owed.{owed_after, owed_of, started_in}
+use Rattle.cacheless.specs.Owed.{owed_of, started_in}
 use Rattle.cacheless.specs.Plays.{IsUnlock, MayPlayIn}
 use Rattle.cacheless.specs.Session.{Session, number_of, outcome_of, is_settled}
 use Rattle.cacheless.specs.Sessions.{entered}
-use Rattle.cacheless.specs.State.{owed_at, kept_at, is_absent}
+use Rattle.cacheless.specs.State.{kept_at, is_absent}
 use Rattle.cacheless.proofs.HeldLocks.{lock_of_command, grant_of, locks_of, locks_are_held, Follows}
 use Rattle.cacheless.proofs.Allowed.NextKeeps.{nothing_owed}
 use Rattle.cacheless.proofs.Plans.SilentActs.{on_its_way}
 use Rattle.cacheless.proofs.Written.Listed.{lists_before_it}
-use Rattle.backend_core.specs.Types.{Oid, Mode, Row, Purpose, Scenario, Entry, Event, Progress, Backend}
-use Rattle.backend_core.specs.Agrees.{IsPlayed, command_at, AreLastScans, AwaitsEntry}
+use Rattle.backend_core.specs.Types.{Oid, Mode, Row, Scenario, Entry, Event, Progress, Backend}
+use Rattle.backend_core.specs.Agrees.{IsPlayed, command_at, AwaitsEntry}
 use Rattle.cacheless.specs.OnCourse.{OnItsWay, AllOnCourse}
 use Rattle.backend_core.specs.Fits.{looks_due, LooksFit, TakesFit, IsLookedFor, lacks_name}
 use Rattle.backend_core.specs.Steps.{IsUnlockNext, Enters}
@@ -32,9 +32,9 @@ use Rattle.backend_core.proofs.Choosing.ActsRun.{act_runs}
 use Rattle.backend_core.proofs.Choosing.Chosen.{Acts, may_call, now_plays}
 use Rattle.backend_core.proofs.Entries.Failing.{IsActing}
 use Rattle.backend_core.proofs.Entries.Inside.{runs_on, inside_fits}
-use Rattle.backend_core.proofs.Fitting.Entered.{fits_at, keeps_still, keeps_none}
+use Rattle.backend_core.proofs.Fitting.Entered.{fits_at}
 use Rattle.backend_core.proofs.Fitting.Sought.{act_serves, no_look, unlock_found}
-use Rattle.backend_core.proofs.Own.{waiting, waiting_is, follows, going, Inside, own_enters}
+use Rattle.backend_core.proofs.Own.{waiting, waiting_is, follows, going, own_enters}
 use Rattle.history_model.specs.Drawn.{next_oid}
 use Rattle.history_model.specs.Transactions.{begun}
 use Rattle.cacheless.specs.May.{may_play_at, may_last_at}
@@ -139,13 +139,12 @@ module _ (scenario : Scenario) (old : List Entry) (was : Backend) (waits : Await
       → Appends old new had has (entry_of was.progress.id (was.progress.finished + 1) event) → Enters scenario old new had has was (record was { progress = p })
   unlock_enters new had has p goes kept none appends =
       own_enters scenario old new had has was (record was { progress = p }) event waits played courses (record { plays = plays; truly = tt; queue = tt }) goes
-      (keeps_still scenario old was event waits p goes (record was { progress = p }) refl refl (λ scan. refl) (subst (AreLastScans old was.progress.id) (sym kept) waits.keeps.places.kept)
-      (keeps_none (with_own old was.progress event) p (ap is_absent (ap (λ (x : Session). x.left) goes.session ∙ lookup.is))))
+      kept
       (fits_at scenario old was event waits p goes was.looked was.looked_to_build was.told
       (inside_fits scenario old was waits courses next.command next.free.at later now was.looked was.looked_to_build was.told same refl (λ from is. cc is) (record { blocks = refl; finished = refl; blocked = refl; ended = refl; left = λ is there. refl }) acting.runs (Acts acting.unsettled)
       (record { enough = omega (arith, before.enough, ap looks_due acting.owed, started); within = omega (arith, before.within, ap looks_due acting.owed, started) })
       (λ made. unlooked (waits.fits.sought made)) tt))
-      refl (Inside refl none) (λ inside. refl) appends
+      refl refl refl (λ stop. cc stop) none appends
     where
       later : Facts
       later = facts_by old was.progress.id (was.progress.finished + 1) event facts

@@ -33,7 +33,7 @@ use Rattle.cacheless.specs.Owed.{owed_of, started_in}
 use Rattle.cacheless.specs.Plays.{IsWrite, IsClash, MayPlay, MayPlayIn}
 use Rattle.cacheless.specs.Session.{Session, none_open, number_of, outcome_of, is_settled}
 use Rattle.cacheless.specs.Sessions.{written, entered}
-use Rattle.cacheless.specs.State.{is_absent, owed_at, lists_at, kept_at, kept_spared, locks_made, messages_in, clash_event, error_of}
+use Rattle.cacheless.specs.State.{lists_at, kept_at, kept_spared, locks_made, messages_in, clash_event, error_of}
 use Rattle.cacheless.proofs.Allowed.NamesRead.{read_as_now}
 use Rattle.cacheless.proofs.Allowed.NextKeeps.{spelled_at}
 use Rattle.cacheless.proofs.Plans.AloneLocks.{session_holds}
@@ -43,18 +43,17 @@ use Rattle.cacheless.proofs.Plans.SilentActs.{empty_list, on_its_way}
 use Rattle.cacheless.proofs.Written.NamesGiven.{AreReadAsNow}
 use Rattle.cacheless.proofs.Written.WriteFits.{WriteFits, write_fits}
 use Rattle.backend_core.specs.Types.{Oid, Xid, Command, Draft, Item, Message, Scenario, Entry, Event, Progress, Backend}
-use Rattle.backend_core.specs.Agrees.{IsPlayed, AreLastScans, AwaitsEntry}
+use Rattle.backend_core.specs.Agrees.{IsPlayed, AwaitsEntry}
 use Rattle.backend_core.specs.Fits.{looks_due, LooksFit, IsLookedFor, TakesFit}
 use Rattle.backend_core.specs.Steps.{IsWriteNext, MakesEntry, Enters, IsRefused}
 use Rattle.backend_core.proofs.Choosing.ActsRun.{act_runs}
 use Rattle.backend_core.proofs.Entries.Alike.{alike_enters}
 use Rattle.backend_core.proofs.Choosing.Chosen.{Acts, may_request, started_still}
-use Rattle.backend_core.proofs.Fitting.Entered.{fits_at, keeps_at, kept_stays, kept-spared, keeps_none}
+use Rattle.backend_core.proofs.Fitting.Entered.{fits_at}
 use Rattle.backend_core.proofs.Entries.Failing.{IsActing, clash_shows, failed_enters}
 use Rattle.backend_core.proofs.Entries.Inside.{made_refused, entry_fits}
-use Rattle.backend_core.proofs.Own.{waiting, waiting_is, waiting_course, at_session, follows, going, OwnEntry, Inside, own_makes, own_enters}
+use Rattle.backend_core.proofs.Own.{waiting, waiting_is, waiting_course, at_session, follows, going, OwnEntry, own_makes, own_enters}
 use Rattle.backend_core.proofs.Fitting.Sought.{no_look}
-use Rattle.cacheless.specs.Types.{OwnLock}
 
 -- on a relation that is still to be drawn there is no lock
 none_held : (b : ℕ) (rel : Oid) (next : ℕ) (held : List Grant) → rel.0 ≡ next → AllByRecursion (λ g. g.rel.0 < next) held → holds held b rel AccessExclusive ≡ false
@@ -138,14 +137,11 @@ module _ (scenario : Scenario) (old : List Entry) (was : Backend) (draft : Draft
       (subst (MakesEntry scenario old new had has) id (own_makes scenario old new had has was (events.Write made.xid (items_drawn old draft)) waits played courses (write_own made.xid) makes.appends))
 
   -- after it the backend agrees
-  wrote_enters : (new : List Entry) (had has : ℕ → ℕ) (p : Progress) (xid : Xid) (messages : List Message) → HasEntered scenario old was.progress (events.Write xid (items_drawn old draft)) waits.rests p → kept_at p ≡ kept_spared messages (kept_at was.progress) → p.answer ≡ None
+  wrote_enters : (new : List Entry) (had has : ℕ → ℕ) (p : Progress) (xid : Xid) → HasEntered scenario old was.progress (events.Write xid (items_drawn old draft)) waits.rests p → kept_at p ≡ kept_spared (messages_in old was.progress.id (items_drawn old draft)) (kept_at was.progress) → p.answer ≡ None
       → Appends old new had has (entry_of was.progress.id (was.progress.finished + 1) (events.Write xid (items_drawn old draft))) → Enters scenario old new had has was (record was { progress = p })
-  wrote_enters new had has p xid messages goes kept none appends =
+  wrote_enters new had has p xid goes kept none appends =
       own_enters scenario old new had has was (record was { progress = p }) event waits played courses (write_own xid) goes
-      (keeps_at scenario old was event waits p goes (record was { progress = p }) refl refl
-      (subst (AreLastScans (with_own old was.progress event) was.progress.id) (sym kept) (kept-spared (with_own old was.progress event) was.progress.id messages (kept_at was.progress)
-      (kept_stays old (entry_of was.progress.id (was.progress.finished + 1) event) was.progress.id (kept_at was.progress) (λ scan. refl) waits.keeps.places.kept)))
-      (keeps_none (with_own old was.progress event) p (ap is_absent (ap (λ (x : Session). x.left) goes.session ∙ ap (λ q. (written q s).left) at))))
+      kept
       (fits_at scenario old was event waits p goes was.looked was.looked_to_build was.told
       (entry_fits scenario old was waits courses next.command next.free.at later now was.looked was.looked_to_build was.told
       (record { runs = λ i. Some (record (begun (sym waits.rests.holds.count i + 1) facts.running) { xid = Some xid.0 }); written = λ is. refl; last = λ from is. cc is })
@@ -153,7 +149,7 @@ module _ (scenario : Scenario) (old : List Entry) (was : Backend) (draft : Draft
       acting.runs (Acts acting.unsettled)
       (record { enough = omega (arith, before.enough, ap looks_due acting.owed, started); within = omega (arith, before.within, ap looks_due acting.owed, started) })
       (λ made. absurd (unlooked made)) (subst (λ q. TakesFit (number_of now) now.locks (written q s).taken (written q s).left) (sym at) tt)))
-      refl (Inside refl none) (λ inside. ap (λ q. (written q s).ended) at) appends
+      refl refl refl (λ stop. cc stop) none appends
     where
       event : Event
       event = events.Write xid (items_drawn old draft)
@@ -174,7 +170,7 @@ module _ (scenario : Scenario) (old : List Entry) (was : Backend) (draft : Draft
   pub wrote_agrees : {E : Type 0} (first : Backend) → was.progress.id ≡ first.progress.id → (new : List Entry) (had has : ℕ → ℕ) (p : Progress) (result : Result (Unit {0}) E) (made : Made) (messages : List Message) → MakesWrite old new had has was.progress.id (was.progress.finished + 1) draft made → messages ≡ made.messages.items → OnOk result (kept_at p ≡ kept_spared messages (kept_at was.progress)) → OnOk result (p.answer ≡ None)
       → OnOk result ((scenario : Scenario) (seen : List Entry) (items : List Item) → (rests : Rests scenario seen was.progress) → messages ≡ messages_in seen was.progress.id items → flat_map (locked_by (was.progress.finished + 1)) items ≡ locks_made draft.new_oids made.first_oid (was.progress.finished + 1) → HasEntered scenario seen was.progress (events.Write made.xid items) rests p)
       → OnOk result (Enters scenario old new had has first (record was { progress = p }))
-  wrote_agrees first id new had has p (Ok x) made messages makes are kept none goes = alike_enters scenario old new had has first was (record was { progress = p }) id (wrote_enters new had has p made.xid messages (goes scenario old (items_drawn old draft) waits.rests (are ∙ makes.messages) (suits.locks made.first_oid [] makes.first)) kept none makes.appends)
+  wrote_agrees first id new had has p (Ok x) made messages makes are kept none goes = alike_enters scenario old new had has first was (record was { progress = p }) id (wrote_enters new had has p made.xid (goes scenario old (items_drawn old draft) waits.rests (are ∙ makes.messages) (suits.locks made.first_oid [] makes.first)) (kept ∙ ap (λ m. kept_spared m (kept_at was.progress)) (are ∙ makes.messages)) none makes.appends)
   wrote_agrees first id new had has p (Err e) made messages makes are kept none goes = tt
 
   -- and after one that is refused

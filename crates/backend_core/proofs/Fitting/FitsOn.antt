@@ -1,5 +1,5 @@
 -- What the choice keeps where a backend goes on without an entry.
-use Rattle.std.proofs.Common.{◌≡◌, ◌≤◌, ◌+◌, ◌∙◌, ◌==◌, ◌&&◌, ◌++◌, inl, inr, ℕ, Bool, true, false, Option, Some, None, List, [], refl, sym, ap, subst, map, is_none, arith, not, slice_get}
+use Rattle.std.proofs.Common.{◌≡◌, ◌≤◌, ◌+◌, ◌∙◌, ◌==◌, ◌&&◌, ◌++◌, inl, inr, ℕ, Bool, true, false, Option, Some, None, List, [], refl, sym, ap, subst, map, is_none, arith, not}
 use Rattle.std.specs.Option.{option_map_or}
 use Rattle.std.proofs.lemmas.Bool.{both_ways, ne_eqb, and_parts}
 use Rattle.std.proofs.lemmas.List.{length_push}
@@ -14,14 +14,12 @@ use Rattle.cacheless.specs.Session.{Session, number_of, outcome_of, is_settled}
 use Rattle.cacheless.specs.Owed.{OwesScan, owed_at_start, owed_after, scans_owed, owed_of, started_in}
 use Rattle.cacheless.specs.Ends.{End, Ends, Commits, TakesBack, end_of, end_of_all, end_left, next_of_end}
 use Rattle.cacheless.specs.Settled.{act_done, is_finished, blocks_after, finished_as, next_session, class_oid}
-use Rattle.cacheless.specs.Telling.{IsOnItsEnd}
 use Rattle.cacheless.proofs.Plans.SilentActs.{both_empty, empty_list, IsDoneHere, kept_already, gives_class}
 use Rattle.backend_core.specs.Types.{Row, Command, Event}
 use Rattle.backend_core.specs.Fits.{looks_due, first_at, LevelsRise, RunsAt, RunsIn, RunsBy, RunsAfter, TransactionFits, IsPast, Fits, IsLookedFor, Lacks, Unfound, Said}
 use Rattle.backend_core.proofs.Fitting.NextTransaction.{LevelsFit, levels_next, next_silent}
 use Rattle.cacheless.specs.Types.{Mode}
 use Rattle.cacheless.specs.State.{is_absent}
-use Rattle.history_model.specs.Read.{is_usable}
 use Rattle.backend_core.proofs.Fitting.Sought.{no_class}
 
 -- a look that was made for an act is used, where that is done: then its lookup has found no relation
@@ -107,17 +105,9 @@ on_its_way : (facts : Facts) (command : Command) (s : Session) (event : Event) �
 on_its_way facts command s event done going comes = both_ways _ (ap (λ e. is_none e) comes) (subst (λ t. is_none (elim t as (λ x. Option Event) [ true ↦ None | false ↦ next_of_end facts (end_of facts command s) ]) ≡ true) going done.none)
 
 -- where the last entry took writes back the command isn't finished
-pub gone_unfinished : (facts : Facts) (o : Option Command) (s : Session) (looked to_build told : Bool) (command : Command) (from : ℕ) → o ≡ Some command → is_finished facts command s ≡ true → Fits facts o s looked to_build told → facts.last ≡ Some (events.Gone from) → ⊥
+gone_unfinished : (facts : Facts) (o : Option Command) (s : Session) (looked to_build told : Bool) (command : Command) (from : ℕ) → o ≡ Some command → is_finished facts command s ≡ true → Fits facts o s looked to_build told → facts.last ≡ Some (events.Gone from) → ⊥
 gone_unfinished facts o s looked to_build told command from at finished fits is = on_its_way facts command s _ (parts_of facts command s finished) (fits.taken from is).going
     (ap (next_of_end facts) (subst (λ x. elim x as (λ y. Type 0) [ Some c ↦ (end_of facts c s ≡ TakesBack from) × (owed_of facts c s ≡ []) | None ↦ end_of_all facts ≡ TakesBack from ]) at (fits.taken from is).end).0)
-
--- its end isn't whole
-pub gone_on : (facts : Facts) (o : Option Command) (s : Session) (looked to_build told : Bool) (command : Command) (from : ℕ) → o ≡ Some command → Fits facts o s looked to_build told → facts.last ≡ Some (events.Gone from) → IsOnItsEnd facts command s
-gone_on facts o s looked to_build told command from at fits is = record { out = (fits.taken from is).out; going = by_test (is_finished facts command s) refl }
-  where
-    by_test : (t : Bool) → is_finished facts command s ≡ t → t ≡ false
-    by_test true finished = absurd (gone_unfinished facts o s looked to_build told command from at finished fits is)
-    by_test false going = refl
 
 not_started : (number : ℕ) (own : Option Running) → option_map_or (λ t. t.first) own 0 ≤ number → option_map_or (λ t. elim (t.first == number + 1) as (λ x. ℕ) [ true ↦ 1 | false ↦ 0 ]) own 0 ≡ 0
 not_started number None low = refl

@@ -1,37 +1,32 @@
 -- What a look was made for, and the lock that a lookup took.
-use Rattle.std.proofs.Common.{◌≡◌, ◌+◌, ◌∙◌, ◌==◌, ◌&&◌, ◌||◌, ◌⊎◌, inl, inr, ℕ, Bool, true, false, not, Option, Some, None, List, [], ◌∷◌, ◌++◌, refl, sym, ap, subst, map, filter, is_none, is_some, slice_get, cond, if◌then◌else◌}
-use Rattle.std.specs.Option.{option_map_or}
-use Rattle.std.specs.List.{list_any, find}
-use Rattle.std.proofs.Math.Bool.{and-false, or-false}
+use Rattle.std.proofs.Common.{◌≡◌, ◌∙◌, ◌==◌, ◌&&◌, ◌||◌, ◌⊎◌, inl, inr, ℕ, Bool, true, false, not, Option, Some, None, List, [], ◌∷◌, ◌++◌, refl, sym, ap, map, is_none, slice_get}
+use Rattle.std.specs.List.{list_any}
 use Rattle.std.proofs.lemmas.Bool.{and_parts, both_ways, or_cases, eq-eqb, and_from}
-use Rattle.base_types.specs.Scans.{same_scan, is_build_scan, build_scans}
+use Rattle.base_types.specs.Scans.{same_scan, is_build_scan}
 use Rattle.base_types.proofs.SameScan.{same_scan-true}
 use Rattle.base_types.specs.declared.row.Row.TheVariants as rows
 use Rattle.base_types.specs.declared.scan.Purpose.TheVariants as scans
-use Rattle.event_kinds.specs.declared.entry.Event.TheVariants as events
 use Rattle.ddl_effect.specs.declared.told.Told.TheVariants as tells
 use Rattle.lock_modes.specs.Own.{is_own, cleared}
-use Rattle.ddl_effect.specs.Plans.{Plan, Act, Done, Fails, Absent, NotBuilt, Do, Lookup, Open, Search, Read, Lock, Write, told_rests_on}
+use Rattle.ddl_effect.specs.Plans.{Plan, Act, Done, Fails, Absent, NotBuilt, Do, Lookup, Open, Search, Read, Lock, Write}
 use Rattle.ddl_effect.specs.Stages.{plan_at}
-use Rattle.history_model.specs.Writes.{is_empty}
 use Rattle.history_model.proofs.Every.{any-right}
 use Rattle.base_types.specs.Modes.{mode_number, same_mode}
-use Rattle.base_types.specs.Scans.{same_oid}
 use Rattle.cacheless.specs.Facts.{Facts}
-use Rattle.cacheless.specs.Session.{Outcome, Badly, outcome_of, is_settled}
-use Rattle.cacheless.specs.Owed.{unusable, owed_after, act_owed}
+use Rattle.cacheless.specs.Session.{outcome_of, is_settled}
+use Rattle.cacheless.specs.Owed.{act_owed}
 use Rattle.cacheless.specs.Plays.{IsLock}
 use Rattle.cacheless.specs.Settled.{class_oid}
 use Rattle.cacheless.specs.Holds.{FactsFit}
-use Rattle.cacheless.specs.May.{is_first_missing, is_missing, is_next_of_act, is_next_at, has_failed, lacks_opened, lacks_any}
-use Rattle.cacheless.specs.State.{is_absent, kept_at, is_kept, Kept, rows_kept, row_sought, act_missing}
+use Rattle.cacheless.specs.May.{is_first_missing, is_missing, is_next_of_act, is_next_at, has_failed}
+use Rattle.cacheless.specs.State.{is_absent, kept_at, is_kept, row_sought}
 use Rattle.cacheless.proofs.Resting.{kept_rows}
 use Rattle.cacheless.proofs.Entries.EnteredScans.{opened_lacks, first_lacks}
 use Rattle.cacheless.proofs.Plans.SilentActs.{kept_already}
 use Rattle.cacheless.proofs.ReadsBuilds.{ReadsBuilds}
-use Rattle.backend_core.specs.Types.{Oid, Mode, Row, Purpose, Event, OwnLock, Opening, Progress}
+use Rattle.backend_core.specs.Types.{Oid, Mode, Row, Purpose, OwnLock, Opening, Progress}
 use Rattle.backend_core.specs.Fits.{TakesFit, IsLookedFor, Lacks, Unfound, Said, lacks_name, finds_no_name, is_look}
-use Rattle.backend_core.specs.Words.{relation_named, is_unfound, finds_none}
+use Rattle.backend_core.specs.Words.{relation_named, is_unfound}
 
 -- the first row is no relation's
 pub no_class : (given : List Row) → is_none (relation_named (slice_get given 0)) ≡ true → class_oid given ≡ None

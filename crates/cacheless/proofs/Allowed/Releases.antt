@@ -22,11 +22,11 @@ use Rattle.cacheless.specs.Settled.{is_finished}
 use Rattle.cacheless.proofs.Allowed.OwnEntries.{OwnEntry, IsNoted, with_own, ends_out}
 use Rattle.cacheless.proofs.Plans.SilentActs.{both_empty}
 
-written_ended : (plan : Plan) (s : Session) → (written plan s).ended ≡ s.ended
+pub written_ended : (plan : Plan) (s : Session) → (written plan s).ended ≡ s.ended
 written_ended (Do (Write draft) rest) s = refl
 written_ended plan s = refl
 
-resumed_ended : (plan : Plan) (s : Session) → (resumed plan s).ended ≡ s.ended
+pub resumed_ended : (plan : Plan) (s : Session) → (resumed plan s).ended ≡ s.ended
 resumed_ended (Absent name) s = refl
 resumed_ended plan s = refl
 

@@ -21,7 +21,7 @@ enter_scan-requires-clause-one g c = scan_one _ _ _ c.args.scan.now _ c.requires
 
 pub returns-clause-enters : goal.returns-clause-enters
 returns-clause-enters g c = scan_enters _ _ c.args.self.now c.requires.ready.waits c.requires.ready.course c.args.scan.now c.args.builds c.requires.next.0 c.requires.next.1 _ _ _ _ _ _ _ _ _ c.requires.ready.played
-    (c.in_ok-enter_scan.ensures.holds _ _ _ c.requires.ready.waits.rests c.in_ok-scanned.ensures.scans.rows) c.in_ok-scanned.ensures.scans.at c.in_ok-enter_scan.ensures.kept c.in_ok-enter_scan.ensures.answer c.still_looked-self.ensures c.still_looked-self-2.ensures c.in_ok-scanned.ensures.scans.appends
+    (c.in_ok-enter_scan.ensures.holds _ _ _ c.requires.ready.waits.rests c.in_ok-scanned.ensures.scans.rows) c.in_ok-scanned.ensures.scans.rows c.in_ok-scanned.ensures.scans.at c.in_ok-enter_scan.ensures.kept c.in_ok-enter_scan.ensures.answer c.still_looked-self.ensures c.still_looked-self-2.ensures c.in_ok-scanned.ensures.scans.appends
 
 pub returns-in_err-enter_scan-clause-refused : goal.returns-in_err-enter_scan-clause-refused
 returns-in_err-enter_scan-clause-refused g c = made_refused _ _ _ _ _ _ _ (scan_makes _ _ c.args.self.now c.requires.ready.waits c.requires.ready.course c.args.scan.now c.args.builds c.requires.next.0 c.requires.next.1 _ _ _ _ c.requires.ready.played c.in_ok-scanned.ensures.scans.appends)

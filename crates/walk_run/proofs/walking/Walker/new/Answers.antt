@@ -1,8 +1,9 @@
 use Rattle.std.proofs.Common.{◌≡◌, ◌<◌, ◌+◌, List, get_or, refl, subst, sym, arith}
 use Rattle.base_types.specs.declared.command.Command.{Command}
 use Rattle.ddl_effect.specs.Commands.{commands_of}
-use Rattle.walk_run.proofs.NewBackends.{Begins, begins_more, built_copies}
-use Rattle.walk_run.proofs.OwnCommands.{left_next, left_fewer}
+use Rattle.by_backend.proofs.OwnParts.{built_copies}
+use Rattle.walk_run.proofs.NewBackends.{Begins, begins_more}
+use Rattle.by_backend.proofs.LeftLists.{left_next, left_fewer}
 use Rattle.walk_run.proofs.walking.Walker.new.Goals as goal
 
 pub new-requires-in-loop-number : goal.new-requires-in-loop-number

@@ -1,5 +1,5 @@
 use Rattle.walk_run.proofs.NewBackends.{Begins}
-use Rattle.walk_run.proofs.OwnCommands.{AreLeft}
+use Rattle.by_backend.proofs.LeftLists.{AreLeft}
 use Rattle.walk_run.proofs.walking.Walker.new.Given as goal
 
 abbrev pub invariant-loop-number : goal.invariant-loop-number

@@ -1,0 +1,3 @@
+pub mod LeftLists
+pub mod OwnParts
+pub mod Places

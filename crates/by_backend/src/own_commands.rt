@@ -1,0 +1,128 @@
+ghost use Rattle.std.specs.Prelude.{◌≡◌, ◌-◌, ◌++◌, ◌∷◌, [], true, length, replicate, slice_index_or, slice_set, IfOk, OnOk};
+ghost use Rattle.base_types.specs.Scenario.{IsBackend};
+ghost use Rattle.ddl_effect.specs.Stages.{alters_table};
+ghost use Rattle.cacheless.specs.Runs.{runs};
+ghost use Rattle.by_backend.specs.Built.{is_built as is_built_scenario};
+ghost use Rattle.by_backend.specs.OwnCommands.{HaveCommands};
+
+use base_types::{Command, Listed, NewColumn, NoMemory, Placed};
+use script_text::Script;
+use std::alloc::{AllocError, Global};
+
+/// The commands of each backend, in order; `NoMemory` where memory is short. Condition: those of the
+/// script can be run.
+pub fn commands_by_backend(alloc: Global, script: &Script) -> Result<Vec<Listed<Command>>, NoMemory>
+    requires { is_built_scenario script.now ≡ true }
+    ensures { IfOk result (λ lists. HaveCommands script.now.commands script.now.backends lists.items) }
+{
+    let mut lists = empty_lists(alloc, script.backends())?;
+    let commands = script.commands();
+    for placed in commands {
+        put_copy(alloc, &mut lists, placed)?;
+    }
+    Ok(lists)
+}
+
+// So many lists without a command.
+fn empty_lists(alloc: Global, count: u32) -> Result<Vec<Listed<Command>>, NoMemory>
+    ensures { IfOk result (λ lists. lists.items ≡ replicate count []) }
+{
+    let mut lists = Vec::new(alloc);
+    for list in 0..count {
+        lists.push(Listed::new(alloc))?;
+    }
+    Ok(lists)
+}
+
+// Puts a copy of a command after the others of its backend.
+fn put_copy(alloc: Global, lists: &mut [Listed<Command>], placed: &Placed) -> Result<(), NoMemory>
+    requires runs { runs placed.now.command ≡ true }
+    requires within { IsBackend (length lists.old) placed.now.backend }
+    ensures { OnOk result (lists.new ≡ slice_set lists.old (placed.now.backend - 1) (slice_index_or lists.old (placed.now.backend - 1) [] ++ placed.now.command ∷ [])) }
+{
+    let copy = copied(alloc, &placed.command)?;
+    lists[placed.backend as usize - 1].push(copy)
+}
+
+// A copy of a command that can be run.
+fn copied(alloc: Global, command: &Command) -> Result<Command, NoMemory>
+    requires { runs command.now ≡ true }
+    ensures { IfOk result (λ copy. copy ≡ command.now) }
+{
+    Ok(match command {
+        Command::Begin => Command::Begin,
+        Command::Commit => Command::Commit,
+        Command::Rollback => Command::Rollback,
+        Command::Show { name, field } => Command::Show {
+            name: *name,
+            field: *field,
+        },
+        Command::Columns(name) => Command::Columns(*name),
+        Command::Column { name, column } => Command::Column {
+            name: *name,
+            column: *column,
+        },
+        Command::Regclass(oid) => Command::Regclass(*oid),
+        Command::LockTable { name, mode } => Command::LockTable {
+            name: *name,
+            mode: *mode,
+        },
+        Command::CreateTable { name, columns } => Command::CreateTable {
+            name: *name,
+            columns: copied_columns(alloc, columns)?,
+        },
+        Command::DropTable(name) => Command::DropTable(*name),
+        _ => copied_alteration(command),
+    })
+}
+
+// A copy of an alteration of a table.
+fn copied_alteration(command: &Command) -> Command
+    requires { alters_table command.now ≡ true }
+    ensures { result ≡ command.now }
+{
+    match command {
+        Command::AddColumn {
+            name,
+            column,
+            col_type,
+        } => Command::AddColumn {
+            name: *name,
+            column: *column,
+            col_type: *col_type,
+        },
+        Command::DropColumn { name, column } => Command::DropColumn {
+            name: *name,
+            column: *column,
+        },
+        Command::RenameColumn { name, column, to } => Command::RenameColumn {
+            name: *name,
+            column: *column,
+            to: *to,
+        },
+        Command::SetStatistics { name, column, stat } => Command::SetStatistics {
+            name: *name,
+            column: *column,
+            stat: *stat,
+        },
+        Command::SetFillfactor { name, fill } => Command::SetFillfactor {
+            name: *name,
+            fill: *fill,
+        },
+        Command::RenameTable { name, to } => Command::RenameTable {
+            name: *name,
+            to: *to,
+        },
+        _ => unreachable!(),
+    }
+}
+
+// A copy of a list of columns.
+fn copied_columns(
+    alloc: Global,
+    columns: &Listed<NewColumn>,
+) -> Result<Listed<NewColumn>, AllocError>
+    ensures { IfOk result (λ copy. copy ≡ columns.now) }
+{
+    Ok(Listed::from_vec(columns.as_slice().to_vec(alloc)?))
+}

@@ -1,0 +1,9 @@
+pub mod Once
+pub mod Others
+pub mod Coming
+pub mod HeldLines
+pub mod NewSessions
+pub mod Following
+pub mod TakenEvents
+pub mod TakenWrites
+pub mod Taken

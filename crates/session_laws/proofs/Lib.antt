@@ -1,0 +1,4 @@
+pub mod Others
+pub mod EndEntries
+pub mod OwnPlaces
+pub mod OwnAnswers
