@@ -14,7 +14,7 @@ use Rattle.cacheless.specs.Told.{told_left}
 
 -- what the running command answers, once it has come out
 abbrev pub told_at : Progress → Answer
-told_at s = told_left (rows_kept (kept_at s)) (place_kept (kept_at s)) s.locks.items s.blocks.block (plan_at s.exec)
+told_at s = told_left (rows_kept (kept_at s)) (place_kept (kept_at s)) s.locks.items s.blocks.block (plan_at s.opens s.exec)
 
 -- the text is that of what this command answers
 abbrev pub IsToldText : Progress → List ℕ → Type 0
@@ -31,7 +31,7 @@ pub record IsWhole (seen : List Entry) (s : Progress) : Type 0 where
 
 -- where a lookup found no relation its scan is kept, until something of the command is taken back or released
 abbrev pub KeepsAbsent : List Entry → Progress → Type 0
-KeepsAbsent seen s = (name : List ℕ) → plan_at s.exec ≡ Absent name → IsWhole seen s → is_kept (kept_at s) (scans.RelName name) ≡ true
+KeepsAbsent seen s = (name : List ℕ) → plan_at s.opens s.exec ≡ Absent name → IsWhole seen s → is_kept (kept_at s) (scans.RelName name) ≡ true
 
 -- the places that the code holds are those of the last scans of its backend, and it has those that it has to tell
 pub record PlacesFit (seen : List Entry) (s : Progress) : Type 0 where

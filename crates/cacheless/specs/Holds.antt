@@ -12,7 +12,7 @@ use Rattle.cacheless.specs.Types.{Row, Purpose, Command, Scenario, Entry, Event}
 use Rattle.cacheless.specs.declared.progress.Counts.{Counts}
 use Rattle.cacheless.specs.declared.progress.Progress.{Progress}
 use Rattle.cacheless.specs.Facts.{Facts, facts_of}
-use Rattle.cacheless.specs.Session.{at_command}
+use Rattle.cacheless.specs.Session.{none_open, at_command}
 use Rattle.cacheless.specs.Owed.{owed_at_start, owed_after}
 use Rattle.cacheless.specs.Settled.{nothing_waits, done_here, act_done, is_finished, next_session, settled}
 use Rattle.cacheless.specs.Sessions.{entered, session_of}
@@ -53,8 +53,8 @@ pub record Holds (scenario : Scenario) (seen : List Entry) (s : Progress) : Type
   pub facts : FactsFit (facts_of seen s.id) s
   pub counts : CountsFit s.tally (length seen)
   pub order : AllByRecursion (λ list. list.command ≤ s.finished + 1) (lists_at s)
-  pub sought : is_absent (plan_at s.exec) ≡ true → rest.sought ≡ plan_again s.exec
-  pub puts : PutsOpened s.opened (plan_at s.exec)
+  pub sought : is_absent (plan_at s.opens s.exec) ≡ true → rest.sought ≡ plan_again s.opens s.exec
+  pub puts : PutsOpened s.opened (plan_at s.opens s.exec)
 
 -- the same where nothing is left to be done without an entry
 pub record Rests (scenario : Scenario) (seen : List Entry) (s : Progress) : Type 0 where
@@ -92,7 +92,7 @@ pub record HasEntered (scenario : Scenario) (seen : List Entry) (was : Progress)
 -- after its start it holds the session at the first command
 pub record HasStarted (scenario : Scenario) (seen : List Entry) (was now : Progress) : Type 0 where
   pub holds : Holds scenario (seen ++ entry_of was.id 0 events.Start ∷ []) now
-  pub session : session_at now holds.rest ≡ at_command no_block [] [] (length seen + 1) (slice_get was.commands 0)
+  pub session : session_at now holds.rest ≡ at_command no_block none_open [] [] (length seen + 1) (slice_get was.commands 0)
   pub moves : IsWhere was now
 
 -- an act that is done without an entry
@@ -103,7 +103,7 @@ pub record HasActed (scenario : Scenario) (seen : List Entry) (was : Progress) (
   pub free : is_empty (owed_at_start (facts_of seen was.id) command (session_at was held.rest) ++ owed_after (facts_of seen was.id).last) ≡ true
   pub act : Act
   pub further : List Row → Plan
-  pub left : plan_at was.exec ≡ Do act further
+  pub left : plan_at was.opens was.exec ≡ Do act further
   pub given : List Row
   pub gives : done_here (facts_of seen was.id) (session_at was held.rest) act (Do act further) ≡ Some given
   pub session : session_at now holds.rest ≡ act_done act given (further given) (session_at was held.rest)

@@ -16,7 +16,7 @@ use Rattle.history_model.specs.Versions.{answer_of, fresh_text}
 use Rattle.history_model.specs.Writes.{has_written}
 use Rattle.history_model.specs.Read.{place_read}
 use Rattle.cacheless.specs.Types.{Oid, Kind, Field, Row, Command, Scenario, CommandError, Answer, Shown, Told, Entry, Line}
-use Rattle.cacheless.specs.Session.{Finished, none_open}
+use Rattle.cacheless.specs.Session.{Finished}
 use Rattle.cacheless.specs.Sessions.{session_of}
 use Rattle.cacheless.specs.Protected.{is_protected}
 
@@ -62,7 +62,7 @@ answer_by scenario history b f (Writes draft) = answers.Ok
 -- what a command comes to: one that has written has no other cause
 abbrev pub effect_judged : List Entry → ℕ → Finished → Bool → Command → Effect
 effect_judged history b f true command = Nothing tells.Ok
-effect_judged history b f false command = effect_at (answer_of history b) f.found (plan_of none_open command)
+effect_judged history b f false command = effect_at (answer_of history b) f.found (plan_of f.opens command)
 
 -- what a command answers: the error that the blocks or an entry showed, or else by what it comes to
 abbrev pub answer_judged : Scenario → List Entry → ℕ → ℕ → Finished → Command → Option CommandError → Answer

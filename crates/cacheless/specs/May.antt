@@ -57,11 +57,11 @@ is_next_of_act scan s plan = false
 
 -- the command has failed
 abbrev pub has_failed : Progress → Bool
-has_failed s = elim (outcome_of (plan_at s.exec)) [ Badly ↦ true | other ↦ false ]
+has_failed s = elim (outcome_of (plan_at s.opens s.exec)) [ Badly ↦ true | other ↦ false ]
 
 -- the scan may be made now
 abbrev pub is_next_at : Purpose → Progress → Bool
-is_next_at scan s = not (has_failed s) && (list_any (λ o. is_first_missing scan (kept_at s) o.kind o.rel) s.opened || is_next_of_act scan s (plan_at s.exec))
+is_next_at scan s = not (has_failed s) && (list_any (λ o. is_first_missing scan (kept_at s) o.kind o.rel) s.opened || is_next_of_act scan s (plan_at s.opens s.exec))
 
 -- an opened descriptor lacks a scan
 abbrev pub lacks_opened : Kept → List Opening → Bool
@@ -75,7 +75,7 @@ lacks_to_build s plan = false
 
 -- a scan has to come before the next act
 abbrev pub lacks_any : Progress → Bool
-lacks_any s = not (has_failed s) && (lacks_opened (kept_at s) s.opened || not (is_empty (act_missing s (plan_at s.exec))))
+lacks_any s = not (has_failed s) && (lacks_opened (kept_at s) s.opened || not (is_empty (act_missing s (plan_at s.opens s.exec))))
 
 -- nothing has to come before the next act
 abbrev pub owes_nothing : Command → Progress → Bool
@@ -119,19 +119,19 @@ is_unlock_at s plan rel mode = false
 
 -- the lock, granted or refused, may come next
 abbrev pub may_lock_at : Command → Oid → Mode → Progress → Bool
-may_lock_at command rel mode s = owes_nothing command s && is_none s.taken && is_lock_at s (plan_at s.exec) rel mode
+may_lock_at command rel mode s = owes_nothing command s && is_none s.taken && is_lock_at s (plan_at s.opens s.exec) rel mode
 
 -- the relation may be unlocked next
 abbrev pub may_unlock_at : Command → Oid → Mode → Progress → Bool
-may_unlock_at command rel mode s = owes_nothing command s && is_unlock_at s (plan_at s.exec) rel mode
+may_unlock_at command rel mode s = owes_nothing command s && is_unlock_at s (plan_at s.opens s.exec) rel mode
 
 -- the write may come next
 abbrev pub may_write_at : ℕ → Command → List Item → Progress → Bool
-may_write_at next command written s = owes_nothing command s && is_write_at next written (plan_at s.exec)
+may_write_at next command written s = owes_nothing command s && is_write_at next written (plan_at s.opens s.exec)
 
 -- a write that is refused for this name may come next
 abbrev pub may_clash_at : Command → List ℕ → Progress → Bool
-may_clash_at command name s = owes_nothing command s && is_clash_at (kept_at s) name (plan_at s.exec)
+may_clash_at command name s = owes_nothing command s && is_clash_at (kept_at s) name (plan_at s.opens s.exec)
 
 -- the event is the release of these commands
 abbrev pub releases : ℕ → Event → Bool
@@ -208,6 +208,7 @@ abbrev pub may_last_at : Progress → Event → Bool
 may_last_at s (events.Look some_wait) = is_some s.running && may_look_at s
 may_last_at s (events.Fetch count) = true
 may_last_at s events.FetchReset = true
+may_last_at s (events.Scan scan count) = may_scan_at scan s
 may_last_at s (events.Gone from) = may_end_last s (events.Gone from)
 may_last_at s (events.Release from) = may_end_last s (events.Release from)
 may_last_at s events.Stop = is_none s.running

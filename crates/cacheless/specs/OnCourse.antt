@@ -1,5 +1,5 @@
 -- How far a command is in what its plan says, by the session of its backend and the history.
-use Rattle.std.specs.Prelude.{◌≡◌, ◌<◌, ⊤, ℕ, Bool, true, false, Option, Some, None, List, [], ◌∷◌, map, length, slice_get}
+use Rattle.std.specs.Prelude.{◌≡◌, ◌<◌, ⊤, ℕ, Bool, true, false, Option, Some, None, List, [], ◌∷◌, ◌++◌, map, length, slice_get}
 use Rattle.std.specs.List.{AllByRecursion}
 use Rattle.base_types.specs.declared.row.Row.TheVariants as rows
 use Rattle.base_types.specs.declared.scan.Purpose.TheVariants as scans
@@ -16,7 +16,7 @@ use Rattle.cacheless.specs.Types.{Oid, Mode, Kind, Row, Command, CommandError, D
 use Rattle.cacheless.specs.Facts.{Facts, facts_of}
 use Rattle.cacheless.specs.Owed.{owes_accept}
 use Rattle.cacheless.specs.Runs.{runs}
-use Rattle.cacheless.specs.Session.{Session, Well, none_open, number_of, outcome_of, is_settled}
+use Rattle.cacheless.specs.Session.{Session, Well, opening_of, number_of, outcome_of, is_settled}
 use Rattle.cacheless.specs.Settled.{class_oid, found_by, is_finished}
 use Rattle.cacheless.specs.Sessions.{session_of}
 use Rattle.cacheless.specs.ActsDone.{reached, made_in, opening_by, locked_relation_by, IsHeld, IsStill, WayHolds}
@@ -29,11 +29,11 @@ is_absent plan = false
 -- a command that the program runs and that hasn't written, by what its acts gave so far
 pub record OnItsWay (seen : List Entry) (b : ℕ) (s : Session) (command : Command) : Type 0 where
   pub gave : List (List Row)
-  pub plan : s.left ≡ reached gave (plan_of none_open command)
-  pub found : s.found ≡ made_in found_by gave (plan_of none_open command)
-  pub opened : s.opened ≡ made_in opening_by gave (plan_of none_open command)
+  pub plan : s.left ≡ reached gave (plan_of s.opens command)
+  pub found : s.found ≡ made_in found_by gave (plan_of s.opens command)
+  pub opened : s.opened ≡ map opening_of s.opens ++ made_in opening_by gave (plan_of s.opens command)
   pub runs : runs command ≡ true
-  pub holds : WayHolds seen b gave (plan_of none_open command)
+  pub holds : WayHolds seen b gave (plan_of s.opens command)
   pub unwritten : has_written seen b (number_of s) ≡ false
 
 -- a command that has written, by what its acts before gave
@@ -41,7 +41,7 @@ pub record HasWritten (seen : List Entry) (b : ℕ) (s : Session) (command : Com
   pub gave : List (List Row)
   pub draft : Draft
   pub further : List Row → Plan
-  pub came : reached gave (plan_of none_open command) ≡ Do (Write draft) further
+  pub came : reached gave (plan_of s.opens command) ≡ Do (Write draft) further
   pub plan : s.left ≡ Done tells.Ok
   pub written : has_written seen b (number_of s) ≡ true
 
@@ -81,15 +81,15 @@ pub record WasSought (seen : List Entry) (b : ℕ) (s : Session) (command : Comm
   pub mode : Mode
   pub rest : List Row → Plan
   pub looks : s.sought ≡ Do (Lookup name mode) rest
-  pub first : s.sought ≡ plan_of none_open command
+  pub first : s.sought ≡ plan_of s.opens command
   pub runs : runs command ≡ true
   pub found : length s.found ≡ 1
-  pub opened : s.opened ≡ []
+  pub opened : s.opened ≡ map opening_of s.opens
   pub unwritten : has_written seen b (number_of s) ≡ false
 
--- a command that does no act has opened nothing, and if it hasn't failed its answer is left
+-- a command that does no act has opened nothing, before its release, and if it hasn't failed its answer is left
 pub record DoesNoAct (s : Session) (told : Told) : Type 0 where
-  pub opened : s.opened ≡ []
+  pub opened : s.ended ≡ false → s.opened ≡ map opening_of s.opens
   pub left : outcome_of s.left ≡ Well → s.left ≡ Done told
 
 -- the running command does what its plan says
@@ -98,7 +98,7 @@ pub record FollowsPlan (seen : List Entry) (b : ℕ) (s : Session) (command : Co
   pub way : s.refused ≡ None → Way seen b s command
   pub named : NamedFits seen b s.left
   pub sought : (name : List ℕ) → s.left ≡ Absent name → WasSought seen b s command name
-  pub plain : (told : Told) → plan_of none_open command ≡ Done told → DoesNoAct s told
+  pub plain : (told : Told) → plan_of s.opens command ≡ Done told → DoesNoAct s told
 
 -- the locks of a session are clear, unless its accept of messages isn't over
 abbrev pub ClearUnlessOwed : Facts → Option Command → Session → Type 0

@@ -87,11 +87,12 @@ MayPlay next facts command s event = ⊥
 abbrev pub IsLastEnd : Facts → Event → Type 0
 IsLastEnd facts event = (owed_after facts.last ≡ []) × (next_of_end facts (end_of_all facts) ≡ Some event)
 
--- after the last command a transaction that still runs is taken back, and the stop follows
+-- after the last command what relations that are open lack may be scanned still, a transaction that still runs is taken back, and the stop follows
 abbrev pub MayPlayLast : Facts → Session → Event → Type 0
 MayPlayLast facts s (events.Look some_wait) = (is_some facts.running ≡ true) × (may_look facts s ≡ true)
 MayPlayLast facts s (events.Fetch count) = ⊤
 MayPlayLast facts s events.FetchReset = ⊤
+MayPlayLast facts s (events.Scan scan count) = (owed_after facts.last ≡ []) × (is_next_scan scan facts s ≡ true) × (has_looked facts s ≡ true)
 MayPlayLast facts s (events.Gone from) = IsLastEnd facts (events.Gone from)
 MayPlayLast facts s (events.Release from) = IsLastEnd facts (events.Release from)
 MayPlayLast facts s events.Stop = facts.running ≡ None

@@ -1,14 +1,15 @@
 -- The session of a backend: how far it is in its commands.
-use Rattle.std.specs.Prelude.{ℕ, Bool, true, false, Option, Some, None, List, [], ◌∷◌, ◌+◌, length, is_some}
+use Rattle.std.specs.Prelude.{ℕ, Bool, true, false, Option, Some, None, List, [], ◌∷◌, ◌+◌, map, length, is_some}
 use Rattle.ddl_effect.specs.declared.told.Told.TheVariants as tells
 use Rattle.ddl_effect.specs.Plans.{Plan, Done, Fails, Absent, Do, NotBuilt}
 use Rattle.ddl_effect.specs.Commands.{plan_of}
 use Rattle.txn_blocks.specs.Blocks.{Block, Blocks, refused_by}
-use Rattle.cacheless.specs.Types.{Oid, Command, CommandError, Opening, OwnLock}
+use Rattle.cacheless.specs.Types.{Oid, Command, CommandError, OpenRelation, Opening, OwnLock}
 
--- a finished command: whether it began in a block, the error that the blocks or an entry showed, the relations with which its lookups ended, and the number of the entry where it is judged
+-- a finished command: whether it began in a block, the relations that were open as it began, the error that the blocks or an entry showed, the relations with which its lookups ended, and the number of the entry where it is judged
 pub record Finished : Type 0 where
   pub block : Block
+  pub opens : List OpenRelation
   pub refused : Option CommandError
   pub found : List (Option Oid)
   pub judged : ℕ
@@ -23,11 +24,12 @@ pub record Tally : Type 0 where
 
 -- a backend between its start and its stop:
 --   blocks     the transaction blocks before the running command
+--   opens      the relations that were open before it
 --   finished   the finished commands in order
 --   left       what is left of the running command
 --   refused    the error that the blocks or an entry showed
 --   blocked    that error is the blocks'
---   opened     the descriptors that the command has opened, until its write
+--   opened     the descriptors that are held, until the release: of the relations that are open, and, until its write, those that the command has opened
 --   taken      the relation that the running lookup has newly locked, and hasn't unlocked
 --   found      the relations with which its lookups ended
 --   sought     what was left of it before its last lookup
@@ -38,6 +40,7 @@ pub record Tally : Type 0 where
 --   last       the number of the backend's last entry
 pub record Session : Type 0 where
   pub blocks : Blocks
+  pub opens : List OpenRelation
   pub finished : List Finished
   pub left : Plan
   pub refused : Option CommandError
@@ -66,29 +69,34 @@ abbrev pub refused_first : Blocks → Option Command → Option CommandError
 refused_first blocks None = None
 refused_first blocks (Some command) = refused_by blocks command
 
--- the relations that a session holds open: none while no command opens one
-abbrev pub none_open : List Oid
+-- no relation is open
+abbrev pub none_open : List OpenRelation
 none_open = []
 
+-- the descriptor of a relation that is open
+abbrev pub opening_of : OpenRelation → Opening
+opening_of o = record { rel = o.rel; kind = o.kind }
+
 -- the plan of a command that the blocks admit, or their error
-abbrev pub plan_admitted : Option CommandError → Command → Plan
-plan_admitted (Some error) command = Fails error
-plan_admitted None command = plan_of none_open command
+abbrev pub plan_admitted : List OpenRelation → Option CommandError → Command → Plan
+plan_admitted opens (Some error) command = Fails error
+plan_admitted opens None command = plan_of opens command
 
 -- the plan of a command, if there is one
-abbrev pub plan_first : Blocks → Option Command → Plan
-plan_first blocks None = Done tells.Ok
-plan_first blocks (Some command) = plan_admitted (refused_by blocks command) command
+abbrev pub plan_first : Blocks → List OpenRelation → Option Command → Plan
+plan_first blocks opens None = Done tells.Ok
+plan_first blocks opens (Some command) = plan_admitted opens (refused_by blocks command) command
 
 -- at the beginning of a command, or after the last one
-abbrev pub at_command : Blocks → List Finished → List OwnLock → ℕ → Option Command → Session
-at_command blocks finished locks last command = record {
+abbrev pub at_command : Blocks → List OpenRelation → List Finished → List OwnLock → ℕ → Option Command → Session
+at_command blocks opens finished locks last command = record {
   blocks = blocks;
+  opens = opens;
   finished = finished;
-  left = plan_first blocks command;
+  left = plan_first blocks opens command;
   refused = refused_first blocks command;
   blocked = is_some (refused_first blocks command);
-  opened = [];
+  opened = map opening_of opens;
   taken = None;
   found = [];
   sought = Done tells.Ok;

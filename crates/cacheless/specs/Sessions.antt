@@ -11,7 +11,7 @@ use Rattle.history_model.specs.Prefixes.{along_own}
 use Rattle.cacheless.specs.Types.{Command, CommandError, Scenario, Entry, Event}
 use Rattle.cacheless.specs.Facts.{Facts, facts_of}
 use Rattle.cacheless.specs.Locks.{locks_by}
-use Rattle.cacheless.specs.Session.{Session, Tally, first_of, at_command}
+use Rattle.cacheless.specs.Session.{Session, Tally, first_of, none_open, opening_of, at_command}
 use Rattle.cacheless.specs.Owed.{owes_build_scan, owes_accept}
 use Rattle.cacheless.specs.Settled.{settled}
 
@@ -19,9 +19,9 @@ use Rattle.cacheless.specs.Settled.{settled}
 abbrev pub refused_with : CommandError → Session → Session
 refused_with error s = record s { left = Fails error; refused = Some error }
 
--- the write of the command is made, and its descriptors are closed
+-- the write of the command is made, and the descriptors that it has opened are closed
 abbrev pub written : Plan → Session → Session
-written (Do (Write draft) rest) s = record s { left = rest []; opened = []; taken = None }
+written (Do (Write draft) rest) s = record s { left = rest []; opened = map opening_of s.opens; taken = None }
 written plan s = s
 
 -- a lookup that ended without a relation goes on
@@ -48,7 +48,7 @@ noted (events.ClashRunning name xid) s = refused_with (errors.NameInUse name xid
 noted (events.Write xid items) s = written s.left s
 noted (events.Fetch count) s = resumed s.left s
 noted events.FetchReset s = resumed s.left s
-noted (events.Release from) s = record s { ended = true }
+noted (events.Release from) s = record s { ended = true; opened = [] }
 noted event s = s
 
 -- the event belongs to the end of a command
@@ -87,7 +87,7 @@ entered facts commands at command event s = accepted facts (first_of commands) (
 
 -- the session after an entry of the backend
 abbrev pub session_by : Scenario → Facts → ℕ → ℕ → ℕ → Event → Option Session → Option Session
-session_by scenario facts b at command events.Start old = let commands = commands_of scenario b in Some (settled facts commands (at_command no_block [] [] at (first_of commands)))
+session_by scenario facts b at command events.Start old = let commands = commands_of scenario b in Some (settled facts commands (at_command no_block none_open [] [] at (first_of commands)))
 session_by scenario facts b at command event old = option_map (λ s. let commands = commands_left scenario b s in settled facts commands (entered facts commands at command event s)) old
 
 -- how far a backend is in its commands, once it has started

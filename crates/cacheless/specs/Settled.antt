@@ -1,15 +1,17 @@
 -- Acts and commands that need no entry are passed over at once.
-use Rattle.std.specs.Prelude.{Bool, true, false, Option, Some, None, List, [], ◌∷◌, ◌++◌, ◌&&◌, take, is_none}
+use Rattle.std.specs.Prelude.{ℕ, Bool, true, false, Option, Some, None, List, [], ◌∷◌, ◌++◌, ◌&&◌, length, take, slice_get, is_none}
 use Rattle.std.specs.Option.{option_map_or}
 use Rattle.base_types.specs.Scans.{same_oid}
+use Rattle.base_types.specs.declared.command.Command.TheVariants as commands
 use Rattle.base_types.specs.declared.row.Row.TheVariants as rows
 use Rattle.base_types.specs.declared.scan.Purpose.TheVariants as scans
 use Rattle.event_kinds.specs.declared.entry.Event.TheVariants as events
 use Rattle.lock_modes.specs.Own.{has_lock}
 use Rattle.ddl_effect.specs.Plans.{Act, Lookup, Open, Search, Read, Lock, Write, Plan, Do}
+use Rattle.ddl_effect.specs.Opens.{without_latest}
 use Rattle.txn_blocks.specs.Blocks.{Blocks, blocks_well, blocks_badly}
 use Rattle.history_model.specs.Writes.{is_empty}
-use Rattle.cacheless.specs.Types.{Oid, Mode, Row, Command, Event, Opening}
+use Rattle.cacheless.specs.Types.{Oid, Mode, Row, Command, Event, OpenRelation, Opening}
 use Rattle.cacheless.specs.Facts.{Facts}
 use Rattle.cacheless.specs.Session.{Session, Finished, number_of, first_of, at_command, Well, outcome_of, is_settled}
 use Rattle.cacheless.specs.Owed.{owed_at_start, owed_after, builds_owed, act_owed, owed_of, has_looked}
@@ -96,13 +98,29 @@ is_finished facts command s = is_settled (outcome_of s.left) && is_none (end_lef
 abbrev pub blocks_after : Command → Session → Blocks
 blocks_after command s = elim (outcome_of s.left) [ Well ↦ blocks_well (number_of s) command s.blocks | outcome ↦ blocks_badly s.blocks ]
 
+-- the relations that are open after one was opened under a name, if one was
+abbrev pub opens_with : List ℕ → Session → List OpenRelation
+opens_with name s = elim (slice_get s.opened (length s.opens)) [ Some o ↦ s.opens ++ record { name = name; rel = o.rel; kind = o.kind; command = number_of s } ∷ [] | None ↦ s.opens ]
+
+-- the relations that are open after a command that came out well
+abbrev pub opens_well : Command → Session → List OpenRelation
+opens_well (commands.OpenRel name) s = opens_with name s
+opens_well (commands.CloseRel name) s = without_latest name s.opens
+opens_well commands.Commit s = []
+opens_well commands.Rollback s = []
+opens_well command s = s.opens
+
+-- the relations that are open after the running command: none after one that failed, since its level is taken back
+abbrev pub opens_after : Command → Session → List OpenRelation
+opens_after command s = elim (outcome_of s.left) [ Well ↦ opens_well command s | outcome ↦ [] ]
+
 -- what is kept of the running command
 abbrev pub finished_as : Session → Finished
-finished_as s = record { block = s.blocks.block; refused = s.refused; found = s.found; judged = s.judged }
+finished_as s = record { block = s.blocks.block; opens = s.opens; refused = s.refused; found = s.found; judged = s.judged }
 
 -- the session at the next command
 abbrev pub next_session : Command → Option Command → Session → Session
-next_session command next s = at_command (blocks_after command s) (s.finished ++ finished_as s ∷ []) s.locks s.last next
+next_session command next s = at_command (blocks_after command s) (opens_after command s) (s.finished ++ finished_as s ∷ []) s.locks s.last next
 
 -- acts that need no entry are done, and commands that are finished are passed over
 abbrev pub settled : Facts → List Command → Session → Session

@@ -43,7 +43,7 @@ gives_next s plan = false
 
 -- the next act is done without an entry
 abbrev pub acts_on : Command → Progress → Bool
-acts_on command s = owes_nothing command s && gives_next s (plan_at s.exec)
+acts_on command s = owes_nothing command s && gives_next s (plan_at s.opens s.exec)
 
 -- an end without an entry
 abbrev pub is_ends : End → Bool

@@ -21,7 +21,7 @@ use Rattle.history_model.specs.Transactions.{Running}
 pub use Rattle.cacheless.specs.OnCourse.{is_absent}
 use Rattle.txn_blocks.specs.Transactions.{begun_own}
 use Rattle.cacheless.specs.Types.{Oid, Message, Row, Purpose, Command, CommandError, Clash, Item, Entry, Event, Opening, OwnLock}
-use Rattle.cacheless.specs.Session.{Session, Finished, Tally, Badly, Well, Unsettled, outcome_of, is_settled, plan_first, refused_first}
+use Rattle.cacheless.specs.Session.{Session, Finished, Tally, Badly, Well, Unsettled, outcome_of, is_settled, none_open, plan_first, refused_first}
 use Rattle.cacheless.specs.Owed.{Owes, OwesLook, OwesFetch}
 use Rattle.cacheless.specs.Ends.{End, Ends, Commits, TakesBack}
 use Rattle.local_caches.specs.Caches.{kept_of}
@@ -121,15 +121,15 @@ act_missing s plan = missing (kept_at s) (left_rests_on plan)
 
 -- the scans that come before the next act: none once the command has failed
 abbrev pub scans_missing : Progress → List Purpose
-scans_missing s = elim (outcome_of (plan_at s.exec)) [ Badly ↦ [] | other ↦ builds_missing (kept_at s) s.opened ++ act_missing s (plan_at s.exec) ]
+scans_missing s = elim (outcome_of (plan_at s.opens s.exec)) [ Badly ↦ [] | other ↦ builds_missing (kept_at s) s.opened ++ act_missing s (plan_at s.opens s.exec) ]
 
 -- the running command has come out
 abbrev pub is_out : Progress → Bool
-is_out s = is_settled (outcome_of (plan_at s.exec))
+is_out s = is_settled (outcome_of (plan_at s.opens s.exec))
 
 -- its opened descriptors lack scans, which messages took away, and it hasn't failed
 abbrev pub lacks_builds : Progress → Bool
-lacks_builds s = elim (outcome_of (plan_at s.exec)) [ Badly ↦ false | other ↦ not (is_empty (builds_missing (kept_at s) s.opened)) ]
+lacks_builds s = elim (outcome_of (plan_at s.opens s.exec)) [ Badly ↦ false | other ↦ not (is_empty (builds_missing (kept_at s) s.opened)) ]
 
 -- a fetch of so many messages asks for a look that counts for no scan
 abbrev pub is_full : ℕ → Progress → Bool
@@ -188,7 +188,7 @@ end_in_badly s = elim s.blocked [ true ↦ Ends | false ↦ TakesBack (innermost
 
 -- the end of the running command
 abbrev pub end_at : Progress → Command → End
-end_at s command = elim (outcome_of (plan_at s.exec)) [ Well ↦ end_in_well s command | Badly ↦ end_in_badly s | Unsettled ↦ Ends ]
+end_at s command = elim (outcome_of (plan_at s.opens s.exec)) [ Well ↦ end_in_well s command | Badly ↦ end_in_badly s | Unsettled ↦ Ends ]
 
 -- the blocks after a command of this number, by what is left of its plan
 abbrev pub blocks_passed : Plan → ℕ → Command → Blocks → Blocks
@@ -220,7 +220,7 @@ pub record IsLockedIn (locks : List OwnLock) (old new : Progress) : Type 0 where
 
 -- a lookup that found no relation is made anew
 pub record SearchesAgain (old new : Progress) : Type 0 where
-  pub plan : plan_at new.exec ≡ plan_again old.exec
+  pub plan : plan_at old.opens new.exec ≡ plan_again old.opens old.exec
   pub is : new ≡ record old { exec = new.exec }
 
 -- a backend of this number with these commands, before it has started
@@ -228,7 +228,7 @@ pub record IsNew (id : ℕ) (all : List Command) (s : Progress) : Type 0 where
   pub number : s.id ≡ id
   pub commands_are : s.commands ≡ all
   pub finished : s.finished ≡ 0
-  pub plan : plan_at s.exec ≡ plan_first no_block (slice_get all 0)
+  pub plan : plan_at s.opens s.exec ≡ plan_first no_block none_open (slice_get all 0)
   pub blocked : s.blocked ≡ is_some (refused_first no_block (slice_get all 0))
   pub ended : s.ended ≡ false
   pub tally : s.tally ≡ no_counts
@@ -237,6 +237,7 @@ pub record IsNew (id : ℕ) (all : List Command) (s : Progress) : Type 0 where
   pub running : s.running ≡ None
   pub lists : s.lists.lists ≡ no_lists
   pub taken : s.taken ≡ None
+  pub opens : s.opens ≡ none_open
   pub opened : s.opened ≡ []
   pub locks : s.locks.items ≡ []
   pub kept : kept_at s ≡ nothing_kept
@@ -263,8 +264,9 @@ tally_at c = record { looks = c.looks; scans = c.scans; grants = c.grants; fetch
 abbrev pub session_at : Progress → Rest → Session
 session_at s rest = record {
   blocks = s.blocks;
+  opens = s.opens;
   finished = rest.finished;
-  left = plan_at s.exec;
+  left = plan_at s.opens s.exec;
   refused = rest.refused;
   blocked = s.blocked;
   opened = s.opened;

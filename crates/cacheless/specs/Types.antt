@@ -20,6 +20,7 @@ pub use Rattle.command_answers.specs.declared.answer.Shown.{Shown}
 pub use Rattle.row_visibility.specs.declared.clash.Clash.{Clash}
 pub use Rattle.inval_messages.specs.declared.message.Message.{Message}
 pub use Rattle.lock_modes.specs.declared.own_lock.OwnLock.{OwnLock}
+pub use Rattle.ddl_effect.specs.declared.open_relation.OpenRelation.{OpenRelation}
 pub use Rattle.ddl_effect.specs.declared.draft.Draft.{Draft}
 pub use Rattle.ddl_effect.specs.declared.exec.Exec.{Exec}
 pub use Rattle.ddl_effect.specs.declared.told.Told.{Told}

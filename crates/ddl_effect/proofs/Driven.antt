@@ -1,6 +1,6 @@
 -- A command that is given what the rows have for its want comes to the same.
 use Rattle.std.proofs.Common.{◌≡◌, ◌<◌, ◌≤◌, ℕ, Option, None, List, [], refl, ap, arith}
-use Rattle.ddl_effect.specs.Types.{Row, Purpose, CommandError, Altering, Finding, Exec}
+use Rattle.ddl_effect.specs.Types.{Row, Purpose, CommandError, OpenRelation, Altering, Finding, Exec, Want}
 use Rattle.ddl_effect.specs.declared.altering.Altering.TheVariants as alters
 use Rattle.ddl_effect.specs.declared.exec.Exec.TheVariants as stages
 use Rattle.ddl_effect.specs.declared.finding.Finding.TheVariants as findings
@@ -28,17 +28,17 @@ finds_some (findings.DropTable name) = omega arith
 finds_some finding = omega arith
 
 -- one that hasn't come out has acts left
-pub acts_some : (exec : Exec) → ((scan : Option Purpose) → want_of (plan_at exec) ≡ wants.Done scan → ⊥) → ((error : CommandError) → want_of (plan_at exec) ≡ wants.Fails error → ⊥) → ((name : List ℕ) → want_of (plan_at exec) ≡ wants.Absent name → ⊥)
+pub acts_some : (opens : List OpenRelation) (exec : Exec) → ((scan : Option Purpose) → want_of (plan_at opens exec) ≡ wants.Done scan → ⊥) → ((error : CommandError) → want_of (plan_at opens exec) ≡ wants.Fails error → ⊥) → ((name : List ℕ) → want_of (plan_at opens exec) ≡ wants.Absent name → ⊥)
     → 0 < acts_left exec
-acts_some (stages.Done told) done fails absent = absurd (done (told_rests_on told) refl)
-acts_some (stages.Failing error) done fails absent = absurd (fails error refl)
-acts_some (stages.Missing finding) done fails absent = absurd (absent (name_sought finding) refl)
-acts_some (stages.Finding finding) done fails absent = finds_some finding
-acts_some (stages.Altering alters.Done) done fails absent = absurd (done None refl)
-acts_some (stages.Altering (alters.Failing error)) done fails absent = absurd (fails error refl)
-acts_some (stages.Altering (alters.Missing name alteration)) done fails absent = absurd (absent name refl)
-acts_some (stages.Altering stage) done fails absent = omega arith
-acts_some stage done fails absent = omega arith
+acts_some opens (stages.Done told) done fails absent = absurd (done (told_rests_on told) refl)
+acts_some opens (stages.Failing error) done fails absent = absurd (fails error refl)
+acts_some opens (stages.Missing finding) done fails absent = absurd (absent (name_sought finding) refl)
+acts_some opens (stages.Finding finding) done fails absent = finds_some finding
+acts_some opens (stages.Altering alters.Done) done fails absent = absurd (done None refl)
+acts_some opens (stages.Altering (alters.Failing error)) done fails absent = absurd (fails error refl)
+acts_some opens (stages.Altering (alters.Missing name alteration)) done fails absent = absurd (absent name refl)
+acts_some opens (stages.Altering stage) done fails absent = omega arith
+acts_some opens stage done fails absent = omega arith
 
 -- the acts that are left are few
 alters_few : (altering : Altering) → alter_acts_left altering ≤ 5
@@ -67,12 +67,22 @@ abbrev pub Seeks : List ℕ → Plan → Type 0
 Seeks name (Do (Lookup own mode) rest) = own ≡ name
 Seeks name plan = ⊥
 
-alters_again : (altering : Altering) (name : List ℕ) → altering_at altering ≡ Absent name → Seeks name (altering_again altering)
-alters_again (alters.Missing own alteration) name is = absent_name own name is
-alters_again (alters.Finding own alteration) name is = absurd (cc)
-alters_again stage name is = absurd (cc)
+alters_again : (opens : List OpenRelation) (altering : Altering) (name : List ℕ) → altering_at opens altering ≡ Absent name → Seeks name (altering_again opens altering)
+alters_again opens (alters.Missing own alteration) name is = absent_name own name is
+alters_again opens (alters.Finding own alteration) name is = absurd (cc)
+alters_again opens stage name is = absurd (cc)
 
-pub seeks_again : (exec : Exec) (name : List ℕ) → plan_at exec ≡ Absent name → Seeks name (plan_again exec)
-seeks_again (stages.Missing finding) name is = absent_name (name_sought finding) name is
-seeks_again (stages.Altering altering) name is = alters_again altering name is
-seeks_again stage name is = absurd (cc)
+pub seeks_again : (opens : List OpenRelation) (exec : Exec) (name : List ℕ) → plan_at opens exec ≡ Absent name → Seeks name (plan_again opens exec)
+seeks_again opens (stages.Missing finding) name is = absent_name (name_sought finding) name is
+seeks_again opens (stages.Altering altering) name is = alters_again opens altering name is
+seeks_again opens stage name is = absurd (cc)
+
+alters_alike : (opens other : List OpenRelation) (altering : Altering) → want_of (altering_at opens altering) ≡ want_of (altering_at other altering)
+alters_alike opens other (alters.Finding name alteration) = refl
+alters_alike opens other altering = refl
+
+-- what a command wants next doesn't depend on what is open
+pub wants_alike : (opens other : List OpenRelation) (exec : Exec) → want_of (plan_at opens exec) ≡ want_of (plan_at other exec)
+wants_alike opens other (stages.Finding finding) = refl
+wants_alike opens other (stages.Altering altering) = alters_alike opens other altering
+wants_alike opens other exec = refl

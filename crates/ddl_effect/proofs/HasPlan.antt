@@ -1,17 +1,20 @@
 -- Commands whose plan looks at what they say, and that have one whatever it is.
-use Rattle.std.proofs.Common.{◌≡◌, Bool, true, false, Option, Some, None, List, [], ℕ, refl, nat_le, length, map}
+use Rattle.std.proofs.Common.{◌≡◌, Bool, true, false, Option, Some, None, List, [], ℕ, refl, sym, ◌∙◌, nat_le, length, map}
 use Rattle.base_types.specs.declared.command.Command.TheVariants as commands
 use Rattle.base_types.specs.declared.command.NewColumn.{NewColumn}
 use Rattle.base_types.specs.declared.dropped.TheConstants.{MOST_COLUMNS}
 use Rattle.command_answers.specs.declared.error.CommandError.TheVariants as errors
-use Rattle.ddl_effect.specs.Types.{Oid, Field, Draft}
-use Rattle.ddl_effect.specs.Plans.{is_built}
-use Rattle.ddl_effect.specs.Commands.{plan_of, if_passes, if_no_column, first_twice, writing, new_table}
+use Rattle.ddl_effect.specs.Types.{Field, OpenRelation, Draft}
+use Rattle.ddl_effect.specs.Plans.{Done, is_built}
+use Rattle.ddl_effect.specs.Commands.{plan_of, if_passes, if_no_column, first_twice, writing, new_table, told_fields, peeking, closing}
+use Rattle.ddl_effect.specs.Opens.{latest_open}
+use Rattle.base_types.specs.Fields.{has_field}
+use Rattle.base_types.specs.declared.command.Command.{Command}
 
 -- `show` has a plan, with a field or without
-pub show_built : (held : List Oid) (name : List ℕ) (field : Option Field) → is_built (plan_of held (commands.Show name field)) ≡ true
-show_built held name None = refl
-show_built held name (Some field) = refl
+pub show_built : (opens : List OpenRelation) (name : List ℕ) (field : Option Field) → is_built (plan_of opens (commands.Show name field)) ≡ true
+show_built opens name None = refl
+show_built opens name (Some field) = refl
 
 built_creating : (passes : Bool) (twice : Option (List ℕ)) (draft : Draft) → is_built (if_passes passes errors.TooManyColumns (if_no_column twice (writing draft))) ≡ true
 built_creating false twice draft = refl
@@ -19,5 +22,33 @@ built_creating true None draft = refl
 built_creating true (Some column) draft = refl
 
 -- `create table` has a plan, also where that fails
-pub creating_built : (held : List Oid) (name : List ℕ) (columns : List NewColumn) → is_built (plan_of held (commands.CreateTable name columns)) ≡ true
-creating_built held name columns = built_creating (nat_le (length columns) MOST_COLUMNS) (first_twice [] (map (λ (c : NewColumn). c.name) columns)) (new_table name columns)
+pub creating_built : (opens : List OpenRelation) (name : List ℕ) (columns : List NewColumn) → is_built (plan_of opens (commands.CreateTable name columns)) ≡ true
+creating_built opens name columns = built_creating (nat_le (length columns) MOST_COLUMNS) (first_twice [] (map (λ (c : NewColumn). c.name) columns)) (new_table name columns)
+
+peek_built : (name : List ℕ) (field : Option Field) (latest : Option OpenRelation) → is_built (peeking name field latest) ≡ true
+peek_built name field None = refl
+peek_built name None (Some o) = refl
+peek_built name (Some field) (Some o) = passing (has_field o.kind field)
+  where
+    passing : (passes : Bool) → is_built (if_passes passes (errors.NoField name field) (Done (told_fields (Some field) o.rel o.kind))) ≡ true
+    passing false = refl
+    passing true = refl
+
+-- `peek` and `close` have a plan, whatever is open
+pub peeking_built : (opens : List OpenRelation) (name : List ℕ) (field : Option Field) → is_built (plan_of opens (commands.Peek name field)) ≡ true
+peeking_built opens name field = peek_built name field (latest_open name opens)
+
+close_built : (name : List ℕ) (latest : Option OpenRelation) → is_built (closing name latest) ≡ true
+close_built name None = refl
+close_built name (Some o) = refl
+
+pub closing_built : (opens : List OpenRelation) (name : List ℕ) → is_built (plan_of opens (commands.CloseRel name)) ≡ true
+closing_built opens name = close_built name (latest_open name opens)
+
+-- whether a command has a plan doesn't depend on what is open
+pub built_alike : (opens other : List OpenRelation) (command : Command) → is_built (plan_of opens command) ≡ is_built (plan_of other command)
+built_alike opens other (commands.Peek name field) = peeking_built opens name field ∙ sym (peeking_built other name field)
+built_alike opens other (commands.CloseRel name) = closing_built opens name ∙ sym (closing_built other name)
+built_alike opens other (commands.Show name None) = refl
+built_alike opens other (commands.Show name (Some field)) = refl
+built_alike opens other command = refl

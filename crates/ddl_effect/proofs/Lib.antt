@@ -2,6 +2,7 @@ mod Alterations
 pub mod Driven
 mod Examples
 mod HasPlan
+mod LatestOpen
 mod Listing
 mod Reading
 mod Repeated

@@ -14,7 +14,8 @@ use Rattle.base_types.specs.declared.command.Command.TheVariants as commands
 use Rattle.command_answers.specs.declared.answer.Column.{Column}
 use Rattle.command_answers.specs.declared.error.CommandError.TheVariants as errors
 use Rattle.ddl_effect.specs.declared.told.Told.TheVariants as tells
-use Rattle.ddl_effect.specs.Types.{Oid, Mode, AccessShare, ShareUpdateExclusive, AccessExclusive, Kind, Table, Field, ColType, Row, Change, Insert, Replace, Delete, Purpose, Command, NewColumn, Scenario, CommandError, Draft, Told}
+use Rattle.ddl_effect.specs.Types.{Oid, Mode, AccessShare, ShareUpdateExclusive, AccessExclusive, Kind, Table, Field, ColType, Row, Change, Insert, Replace, Delete, Purpose, Command, NewColumn, Scenario, CommandError, OpenRelation, Draft, Told}
+use Rattle.ddl_effect.specs.Opens.{latest_open, has_open}
 use Rattle.ddl_effect.specs.Plans.{Lookup, Open, Search, Read, Write, Plan, Done, Fails, Absent, Do, NotBuilt}
 
 -- the commands of a backend, in order
@@ -86,6 +87,21 @@ showing field rel kind = opening rel kind (Done (told_fields field rel kind))
 abbrev pub showing_field : List ℕ → Field → Oid → Kind → Plan
 showing_field name field rel kind = if_passes (has_field kind field) (errors.NoField name field) (showing (Some field) rel kind)
 
+-- `open`, after its lookup
+abbrev pub keeping : Oid → Kind → Plan
+keeping rel kind = opening rel kind (Done tells.Ok)
+
+-- `peek`, by the latest relation that was opened under the name: its kind has what is to be shown
+abbrev pub peeking : List ℕ → Option Field → Option OpenRelation → Plan
+peeking name field None = Fails (errors.NotOpen name)
+peeking name None (Some o) = Done (told_fields None o.rel o.kind)
+peeking name (Some field) (Some o) = if_passes (has_field o.kind field) (errors.NoField name field) (Done (told_fields (Some field) o.rel o.kind))
+
+-- `close`, by the latest relation that was opened under the name
+abbrev pub closing : List ℕ → Option OpenRelation → Plan
+closing name None = Fails (errors.NotOpen name)
+closing name (Some o) = Done tells.Ok
+
 -- the relation is a table
 abbrev pub is_table : Kind → Bool
 is_table Table = true
@@ -95,9 +111,9 @@ is_table kind = false
 abbrev pub locking : List ℕ → Oid → Kind → Plan
 locking name rel kind = if_passes (is_table kind) (errors.NotTable name) (Done tells.Ok)
 
--- an alteration, after its lookup: the relation has to be a table, and its descriptor is opened
-abbrev pub altering : List ℕ → (Oid → Plan) → Oid → Kind → Plan
-altering name rest rel kind = if_passes (is_table kind) (errors.NotTable name) (opening rel kind (rest rel))
+-- an alteration, after its lookup: the relation has to be a table that the session hasn't open, and its descriptor is opened
+abbrev pub altering : List OpenRelation → List ℕ → (Oid → Plan) → Oid → Kind → Plan
+altering opens name rest rel kind = if_passes (is_table kind) (errors.NotTable name) (if_passes (not (has_open rel opens)) (errors.InUse rel) (opening rel kind (rest rel)))
 
 -- goes on with the row of a column, which has to be there
 abbrev pub column_there : List ℕ → (Row → Plan) → List Row → Plan
@@ -273,23 +289,26 @@ column_of name column = looking_up name AccessShare (finding_column name column)
 abbrev pub regclass_of : Oid → Plan
 regclass_of oid = searching (scans.RelOid oid) (λ given. Done (tells.Regclass oid))
 
--- what each command does; `held` are the relations that the session holds open
-abbrev pub plan_of : List Oid → Command → Plan
-plan_of held commands.Begin = Done tells.Ok
-plan_of held commands.Commit = Done tells.Commit
-plan_of held commands.Rollback = Done tells.Ok
-plan_of held (commands.Show name None) = looking_up name AccessShare (showing None)
-plan_of held (commands.Show name (Some field)) = looking_up name AccessShare (showing_field name field)
-plan_of held (commands.Columns name) = columns_of name
-plan_of held (commands.Column name column) = column_of name column
-plan_of held (commands.Regclass oid) = regclass_of oid
-plan_of held (commands.LockTable name mode) = looking_up name mode (locking name)
-plan_of held (commands.CreateTable name columns) = creating name columns
-plan_of held (commands.DropTable name) = looking_up name AccessExclusive (altering name drop_table)
-plan_of held (commands.RenameTable name to) = looking_up name AccessExclusive (altering name (rename_table to))
-plan_of held (commands.AddColumn name column col_type) = looking_up name AccessExclusive (altering name (add_column column col_type))
-plan_of held (commands.DropColumn name column) = looking_up name AccessExclusive (altering name (drop_column column))
-plan_of held (commands.RenameColumn name column to) = looking_up name AccessExclusive (altering name (rename_column column to))
-plan_of held (commands.SetStatistics name column stat) = looking_up name ShareUpdateExclusive (altering name (set_statistics column stat))
-plan_of held (commands.SetFillfactor name fill) = looking_up name ShareUpdateExclusive (altering name (set_fillfactor fill))
-plan_of held command = NotBuilt
+-- what each command does, by the relations that the session has open
+abbrev pub plan_of : List OpenRelation → Command → Plan
+plan_of opens commands.Begin = Done tells.Ok
+plan_of opens commands.Commit = Done tells.Commit
+plan_of opens commands.Rollback = Done tells.Ok
+plan_of opens (commands.Show name None) = looking_up name AccessShare (showing None)
+plan_of opens (commands.Show name (Some field)) = looking_up name AccessShare (showing_field name field)
+plan_of opens (commands.Columns name) = columns_of name
+plan_of opens (commands.Column name column) = column_of name column
+plan_of opens (commands.Regclass oid) = regclass_of oid
+plan_of opens (commands.LockTable name mode) = looking_up name mode (locking name)
+plan_of opens (commands.CreateTable name columns) = creating name columns
+plan_of opens (commands.DropTable name) = looking_up name AccessExclusive (altering opens name drop_table)
+plan_of opens (commands.RenameTable name to) = looking_up name AccessExclusive (altering opens name (rename_table to))
+plan_of opens (commands.AddColumn name column col_type) = looking_up name AccessExclusive (altering opens name (add_column column col_type))
+plan_of opens (commands.DropColumn name column) = looking_up name AccessExclusive (altering opens name (drop_column column))
+plan_of opens (commands.RenameColumn name column to) = looking_up name AccessExclusive (altering opens name (rename_column column to))
+plan_of opens (commands.SetStatistics name column stat) = looking_up name ShareUpdateExclusive (altering opens name (set_statistics column stat))
+plan_of opens (commands.SetFillfactor name fill) = looking_up name ShareUpdateExclusive (altering opens name (set_fillfactor fill))
+plan_of opens (commands.OpenRel name) = looking_up name AccessShare keeping
+plan_of opens (commands.Peek name field) = peeking name field (latest_open name opens)
+plan_of opens (commands.CloseRel name) = closing name (latest_open name opens)
+plan_of opens command = NotBuilt

@@ -1,4 +1,5 @@
 pub mod Types
+pub mod Opens
 pub mod Plans
 pub mod Effects
 pub mod Commands

@@ -8,9 +8,9 @@ use Rattle.ddl_effect.specs.declared.exec.Exec.TheVariants as stages
 use Rattle.ddl_effect.specs.declared.finding.Finding.TheVariants as findings
 use Rattle.ddl_effect.specs.declared.told.Told.TheVariants as tells
 use Rattle.ddl_effect.specs.declared.want.Want.TheVariants as wants
-use Rattle.ddl_effect.specs.Types.{Oid, Kind, Command, Mode, AccessShare, ShareUpdateExclusive, AccessExclusive, Table, Insert, Replace, Alteration, Altering, Finding, Told, Exec, Want}
+use Rattle.ddl_effect.specs.Types.{Oid, Kind, Command, Mode, AccessShare, ShareUpdateExclusive, AccessExclusive, Table, Insert, Replace, OpenRelation, Alteration, Altering, Finding, Told, Exec, Want}
 use Rattle.ddl_effect.specs.Plans.{Act, Lookup, Open, Search, Read, Lock, Write, Plan, Done, Fails, Absent, Do, NotBuilt, told_rests_on}
-use Rattle.ddl_effect.specs.Commands.{looking_up, showing, showing_field, locking, listing_columns, telling_columns, finding_column, telling_column, regclass_of, searching, opening, writing, altering, with_column, reading, changing, deleting, adding, add_column, dropping, drop_column, renaming, rename_column, targeting, set_statistics, filling, set_fillfactor, rename_table, drop_table}
+use Rattle.ddl_effect.specs.Commands.{looking_up, showing, showing_field, keeping, locking, listing_columns, telling_columns, finding_column, telling_column, regclass_of, searching, opening, writing, altering, with_column, reading, changing, deleting, adding, add_column, dropping, drop_column, renaming, rename_column, targeting, set_statistics, filling, set_fillfactor, rename_table, drop_table}
 
 -- the command alters a table
 abbrev pub alters_table : Command → Bool
@@ -37,24 +37,24 @@ altered (alterations.SetStatistics column stat) rel = set_statistics column stat
 altered (alterations.SetFillfactor fill) rel = set_fillfactor fill rel
 altered (alterations.RenameTable to) rel = rename_table to rel
 
--- the plan that is left of an alteration
-abbrev pub altering_at : Altering → Plan
-altering_at alters.Done = Done tells.Ok
-altering_at (alters.Failing error) = Fails error
-altering_at (alters.Missing name alteration) = Absent name
-altering_at (alters.Finding name alteration) = looking_up name (mode_of alteration) (altering name (altered alteration))
-altering_at (alters.Opening rel alteration) = opening rel Table (altered alteration rel)
-altering_at (alters.AddingColumn rel column col_type) = add_column column col_type rel
-altering_at (alters.NumberingColumn rel column col_type) = reading (scans.Attribute rel) (adding rel column col_type)
-altering_at (alters.DroppingColumn rel column) = drop_column column rel
-altering_at (alters.DroppingDefault rel row) = reading (scans.AttrDef rel) (dropping row)
-altering_at (alters.RenamingColumn rel column to) = rename_column column to rel
-altering_at (alters.RenamingTo rel row to) = renaming to rel row
-altering_at (alters.SettingStatistics rel column stat) = with_column rel column (targeting stat)
-altering_at (alters.SettingFillfactor rel fill) = reading (scans.Class rel) (filling fill)
-altering_at (alters.RenamingTable rel to) = rename_table to rel
-altering_at (alters.Inserting row) = changing (Insert row ∷ [])
-altering_at (alters.Replacing deleted row) = changing (deleting deleted ++ Replace row ∷ [])
+-- the plan that is left of an alteration, by the relations that the session has open
+abbrev pub altering_at : List OpenRelation → Altering → Plan
+altering_at opens alters.Done = Done tells.Ok
+altering_at opens (alters.Failing error) = Fails error
+altering_at opens (alters.Missing name alteration) = Absent name
+altering_at opens (alters.Finding name alteration) = looking_up name (mode_of alteration) (altering opens name (altered alteration))
+altering_at opens (alters.Opening rel alteration) = opening rel Table (altered alteration rel)
+altering_at opens (alters.AddingColumn rel column col_type) = add_column column col_type rel
+altering_at opens (alters.NumberingColumn rel column col_type) = reading (scans.Attribute rel) (adding rel column col_type)
+altering_at opens (alters.DroppingColumn rel column) = drop_column column rel
+altering_at opens (alters.DroppingDefault rel row) = reading (scans.AttrDef rel) (dropping row)
+altering_at opens (alters.RenamingColumn rel column to) = rename_column column to rel
+altering_at opens (alters.RenamingTo rel row to) = renaming to rel row
+altering_at opens (alters.SettingStatistics rel column stat) = with_column rel column (targeting stat)
+altering_at opens (alters.SettingFillfactor rel fill) = reading (scans.Class rel) (filling fill)
+altering_at opens (alters.RenamingTable rel to) = rename_table to rel
+altering_at opens (alters.Inserting row) = changing (Insert row ∷ [])
+altering_at opens (alters.Replacing deleted row) = changing (deleting deleted ++ Replace row ∷ [])
 
 -- the name of the relation that a command finds first
 abbrev pub name_sought : Finding → List ℕ
@@ -64,6 +64,7 @@ name_sought (findings.LockTable name mode) = name
 name_sought (findings.Columns name) = name
 name_sought (findings.Column name column) = name
 name_sought (findings.DropTable name) = name
+name_sought (findings.OpenRel name) = name
 
 -- the mode in which it locks the relation
 abbrev pub mode_sought : Finding → Mode
@@ -72,39 +73,41 @@ mode_sought (findings.DropTable name) = AccessExclusive
 mode_sought finding = AccessShare
 
 -- what comes after its lookup, which found a relation
-abbrev pub plan_found : Finding → Oid → Kind → Plan
-plan_found (findings.Show name) = showing None
-plan_found (findings.ShowField name field) = showing_field name field
-plan_found (findings.LockTable name mode) = locking name
-plan_found (findings.Columns name) = listing_columns name
-plan_found (findings.Column name column) = finding_column name column
-plan_found (findings.DropTable name) = altering name drop_table
+abbrev pub plan_found : List OpenRelation → Finding → Oid → Kind → Plan
+plan_found opens (findings.Show name) = showing None
+plan_found opens (findings.ShowField name field) = showing_field name field
+plan_found opens (findings.LockTable name mode) = locking name
+plan_found opens (findings.Columns name) = listing_columns name
+plan_found opens (findings.Column name column) = finding_column name column
+plan_found opens (findings.DropTable name) = altering opens name drop_table
+plan_found opens (findings.OpenRel name) = keeping
 
--- the plan that is left
-abbrev pub plan_at : Exec → Plan
-plan_at (stages.Done told) = Done told
-plan_at (stages.Failing error) = Fails error
-plan_at (stages.Missing finding) = Absent (name_sought finding)
-plan_at (stages.Finding finding) = looking_up (name_sought finding) (mode_sought finding) (plan_found finding)
-plan_at (stages.Opening rel kind field) = showing field rel kind
-plan_at (stages.ListingColumns rel) = searching (scans.AttList rel) telling_columns
-plan_at (stages.FindingColumn rel column) = searching (scans.AttName rel column) (telling_column column)
-plan_at (stages.FindingOid oid) = regclass_of oid
-plan_at (stages.OpeningToDrop rel) = opening rel Table (drop_table rel)
-plan_at (stages.DroppingTable rel) = drop_table rel
-plan_at (stages.Writing draft) = writing draft
-plan_at (stages.Altering altering) = altering_at altering
+-- the plan that is left, by the relations that the session has open
+abbrev pub plan_at : List OpenRelation → Exec → Plan
+plan_at opens (stages.Done told) = Done told
+plan_at opens (stages.Failing error) = Fails error
+plan_at opens (stages.Missing finding) = Absent (name_sought finding)
+plan_at opens (stages.Finding finding) = looking_up (name_sought finding) (mode_sought finding) (plan_found opens finding)
+plan_at opens (stages.Opening rel kind field) = showing field rel kind
+plan_at opens (stages.ListingColumns rel) = searching (scans.AttList rel) telling_columns
+plan_at opens (stages.FindingColumn rel column) = searching (scans.AttName rel column) (telling_column column)
+plan_at opens (stages.FindingOid oid) = regclass_of oid
+plan_at opens (stages.OpeningToKeep rel kind) = keeping rel kind
+plan_at opens (stages.OpeningToDrop rel) = opening rel Table (drop_table rel)
+plan_at opens (stages.DroppingTable rel) = drop_table rel
+plan_at opens (stages.Writing draft) = writing draft
+plan_at opens (stages.Altering altering) = altering_at opens altering
 
 -- the same, where a lookup that found no relation is made anew
-abbrev pub altering_again : Altering → Plan
-altering_again (alters.Missing name alteration) = altering_at (alters.Finding name alteration)
-altering_again altering = altering_at altering
+abbrev pub altering_again : List OpenRelation → Altering → Plan
+altering_again opens (alters.Missing name alteration) = altering_at opens (alters.Finding name alteration)
+altering_again opens altering = altering_at opens altering
 
 -- the plan that is left, where a lookup that found no relation is made anew
-abbrev pub plan_again : Exec → Plan
-plan_again (stages.Missing finding) = plan_at (stages.Finding finding)
-plan_again (stages.Altering altering) = altering_again altering
-plan_again exec = plan_at exec
+abbrev pub plan_again : List OpenRelation → Exec → Plan
+plan_again opens (stages.Missing finding) = plan_at opens (stages.Finding finding)
+plan_again opens (stages.Altering altering) = altering_again opens altering
+plan_again opens exec = plan_at opens exec
 
 -- what an act wants
 abbrev pub want_of_act : Act → Want
@@ -158,6 +161,7 @@ acts_left (stages.Opening rel kind field) = 1
 acts_left (stages.ListingColumns rel) = 1
 acts_left (stages.FindingColumn rel column) = 1
 acts_left (stages.FindingOid oid) = 1
+acts_left (stages.OpeningToKeep rel kind) = 1
 acts_left (stages.OpeningToDrop rel) = 3
 acts_left (stages.DroppingTable rel) = 2
 acts_left (stages.Writing draft) = 1

@@ -14,6 +14,7 @@ pub use Rattle.base_types.specs.declared.command.Command.{Command}
 pub use Rattle.base_types.specs.declared.command.NewColumn.{NewColumn}
 pub use Rattle.base_types.specs.Scenario.{Scenario}
 pub use Rattle.command_answers.specs.declared.error.CommandError.{CommandError}
+pub use Rattle.ddl_effect.specs.declared.open_relation.OpenRelation.{OpenRelation}
 pub use Rattle.ddl_effect.specs.declared.draft.Draft.{Draft}
 pub use Rattle.ddl_effect.specs.declared.told.Told.{Told}
 pub use Rattle.ddl_effect.specs.declared.alteration.Alteration.{Alteration}

@@ -1,6 +1,7 @@
-ghost use Rattle.std.specs.Prelude.{◌≡◌, ◌<◌, ◌∷◌, ◌++◌, ℕ, List, [], false, IfOk, MatchOption};
+ghost use Rattle.std.specs.Prelude.{◌≡◌, ◌<◌, ◌∷◌, ◌++◌, ℕ, List, [], false, not, IfOk, MatchOption};
 ghost use Rattle.ddl_effect.specs.Plans.{Absent, after_act};
-ghost use Rattle.ddl_effect.specs.Commands.{plan_of, found as found_rows, altering, column_there, column_free, reading, adding, dropping, renaming, targeting, filling, renaming_table, changing, deleting, with_name, writing};
+ghost use Rattle.ddl_effect.specs.Commands.{plan_of, found as found_rows, if_passes, opening, altering, column_there, column_free, reading, adding, dropping, renaming, targeting, filling, renaming_table, changing, deleting, with_name, writing};
+ghost use Rattle.ddl_effect.specs.Opens.{has_open as is_open};
 ghost use Rattle.ddl_effect.specs.Stages.{alters_table, altered, altering_at, altering_again, alter_acts_left, want_of};
 
 use crate::alteration::mode;
@@ -8,7 +9,8 @@ use crate::altered_rows::{
     MOST_STAT, column_number, default_of, dropped, filled, renamed, renamed_relation, targeted,
 };
 use crate::draft::draft_of;
-use crate::{Alteration, Draft, Want};
+use crate::opens::has_open;
+use crate::{Alteration, Draft, OpenRelation, Want};
 use base_types::{
     Change, ColType, Command, Kind, Listed, MOST_COLUMNS, Name, NoMemory, Oid, Purpose, Row,
 };
@@ -103,7 +105,7 @@ pub enum Altering {
 impl Altering {
     /// What it wants next.
     pub(crate) fn next(&self) -> Want
-        ensures { result ≡ want_of (altering_at self.now) }
+        ensures { (opens : List OpenRelation) → result ≡ want_of (altering_at opens self.now) }
     {
         match self {
             Altering::Done => Want::Done(None),
@@ -135,13 +137,13 @@ impl Altering {
 
     /// How far it is once what it wanted was done, and gave these rows: those of the scan on which
     /// the act rests.
-    pub(crate) fn after(self, rows: &[Row]) -> Altering
-        ensures plan { altering_at result ≡ after_act rows.now (altering_at self) }
+    pub(crate) fn after(self, opens: &[OpenRelation], rows: &[Row]) -> Altering
+        ensures plan { altering_at opens.now result ≡ after_act rows.now (altering_at opens.now self) }
         ensures less { 0 < alter_acts_left self → alter_acts_left result < alter_acts_left self }
-        ensures again { (name : List ℕ) → 0 < alter_acts_left self → altering_at result ≡ Absent name → altering_again result ≡ altering_at self }
+        ensures again { (name : List ℕ) → 0 < alter_acts_left self → altering_at opens.now result ≡ Absent name → altering_again opens.now result ≡ altering_at opens.now self }
     {
         match self {
-            Altering::Finding { name, alteration } => found(name, alteration, rows),
+            Altering::Finding { name, alteration } => found(name, alteration, opens, rows),
             Altering::Opening { rel, alteration } => opened(rel, alteration),
             Altering::AddingColumn {
                 rel,
@@ -169,7 +171,7 @@ impl Altering {
 
     /// Where the lookup found no relation, how far it is as it looks again; else what it is.
     pub(crate) fn again(self) -> Altering
-        ensures { altering_at result ≡ altering_again self }
+        ensures { (opens : List OpenRelation) → altering_at opens result ≡ altering_again opens self }
     {
         match self {
             Altering::Missing { name, alteration } => Altering::Finding { name, alteration },
@@ -179,8 +181,8 @@ impl Altering {
 
     /// The draft that it wants written. Condition: it wants that.
     pub(crate) fn into_draft(self, alloc: Global) -> Result<Draft, NoMemory>
-        requires { want_of (altering_at self) ≡ Want.Write }
-        ensures { IfOk result (λ draft. altering_at self ≡ writing draft) }
+        requires { want_of (altering_at [] self) ≡ Want.Write }
+        ensures { IfOk result (λ draft. (opens : List OpenRelation) → altering_at opens self ≡ writing draft) }
     {
         match self {
             Altering::Inserting { row } => inserting(alloc, row),
@@ -192,7 +194,7 @@ impl Altering {
 
 // An alteration at its beginning, if the command is one.
 pub(crate) fn alteration_of(command: &Command) -> Option<Altering>
-    ensures { MatchOption result (alters_table command.now ≡ false) (λ altering. altering_at altering ≡ plan_of [] command.now) }
+    ensures { MatchOption result (alters_table command.now ≡ false) (λ altering. (opens : List OpenRelation) → altering_at opens altering ≡ plan_of opens command.now) }
 {
     match *command {
         Command::AddColumn {
@@ -245,11 +247,12 @@ fn replacing(alloc: Global, deleted: Option<Row>, row: Row) -> Result<Draft, NoM
     Ok(draft_of(alloc, changes))
 }
 
-// After the lookup.
-fn found(name: Name, alteration: Alteration, rows: &[Row]) -> Altering
-    ensures plan { altering_at result ≡ found_rows name (altering name (altered alteration)) rows.now }
+// After the lookup: the relation has to be a table that the session hasn't open (`CheckTableNotInUse` in
+// `src/backend/commands/tablecmds.c`).
+fn found(name: Name, alteration: Alteration, opens: &[OpenRelation], rows: &[Row]) -> Altering
+    ensures plan { altering_at opens.now result ≡ found_rows name (altering opens.now name (altered alteration)) rows.now }
     ensures left { alter_acts_left result < 5 }
-    ensures again { (absent : List ℕ) → altering_at result ≡ Absent absent → altering_again result ≡ altering_at (Altering.Finding name alteration) }
+    ensures again { (absent : List ℕ) → altering_at opens.now result ≡ Absent absent → altering_again opens.now result ≡ altering_at opens.now (Altering.Finding name alteration) }
 {
     match rows.first() {
         Some(
@@ -258,20 +261,29 @@ fn found(name: Name, alteration: Alteration, rows: &[Row]) -> Altering
                 kind: Kind::Table,
                 ..
             },
-        ) => Altering::Opening {
-            rel: *oid,
-            alteration,
-        },
+        ) => found_table(*oid, alteration, opens),
         Some(Row::Class { .. }) => Altering::Failing(CommandError::NotTable { name }),
         _ => Altering::Missing { name, alteration },
     }
 }
 
+// A lookup that found this table.
+fn found_table(rel: Oid, alteration: Alteration, opens: &[OpenRelation]) -> Altering
+    ensures plan { altering_at opens.now result ≡ if_passes (not (is_open rel opens.now)) (CommandError.InUse rel) (opening rel Kind.Table (altered alteration rel)) }
+    ensures left { alter_acts_left result < 5 }
+    ensures there { (name : List ℕ) → altering_at opens.now result ≡ Absent name → ⊥ }
+{
+    if has_open(rel, opens) {
+        return Altering::Failing(CommandError::InUse { rel });
+    }
+    Altering::Opening { rel, alteration }
+}
+
 // Once the descriptor is open: a number is tested before any column is looked up.
 fn opened(rel: Oid, alteration: Alteration) -> Altering
-    ensures plan { altering_at result ≡ altered alteration rel }
+    ensures plan { (opens : List OpenRelation) → altering_at opens result ≡ altered alteration rel }
     ensures left { alter_acts_left result < 4 }
-    ensures there { (name : List ℕ) → altering_at result ≡ Absent name → ⊥ }
+    ensures there { (opens : List OpenRelation) (name : List ℕ) → altering_at opens result ≡ Absent name → ⊥ }
 {
     match alteration {
         Alteration::AddColumn { column, col_type } => Altering::AddingColumn {
@@ -303,9 +315,9 @@ fn opened(rel: Oid, alteration: Alteration) -> Altering
 
 // `add column`, after the lookup of its name.
 fn not_there(rel: Oid, column: Name, col_type: ColType, rows: &[Row]) -> Altering
-    ensures plan { altering_at result ≡ column_free column (reading (Purpose.Attribute rel) (adding rel column col_type)) rows.now }
+    ensures plan { (opens : List OpenRelation) → altering_at opens result ≡ column_free column (reading (Purpose.Attribute rel) (adding rel column col_type)) rows.now }
     ensures left { alter_acts_left result < 3 }
-    ensures there { (name : List ℕ) → altering_at result ≡ Absent name → ⊥ }
+    ensures there { (opens : List OpenRelation) (name : List ℕ) → altering_at opens result ≡ Absent name → ⊥ }
 {
     if rows.is_empty() {
         Altering::NumberingColumn {
@@ -320,9 +332,9 @@ fn not_there(rel: Oid, column: Name, col_type: ColType, rows: &[Row]) -> Alterin
 
 // `add column`, by the rows of the table's columns.
 fn numbered(rel: Oid, column: Name, col_type: ColType, columns: &[Row]) -> Altering
-    ensures plan { altering_at result ≡ adding rel column col_type columns.now }
+    ensures plan { (opens : List OpenRelation) → altering_at opens result ≡ adding rel column col_type columns.now }
     ensures left { alter_acts_left result < 2 }
-    ensures there { (name : List ℕ) → altering_at result ≡ Absent name → ⊥ }
+    ensures there { (opens : List OpenRelation) (name : List ℕ) → altering_at opens result ≡ Absent name → ⊥ }
 {
     if columns.len() >= MOST_COLUMNS as usize {
         return Altering::Failing(CommandError::TooManyColumns);
@@ -340,9 +352,9 @@ fn numbered(rel: Oid, column: Name, col_type: ColType, columns: &[Row]) -> Alter
 
 // `drop column`, after the lookup of its name.
 fn to_drop(rel: Oid, column: Name, rows: &[Row]) -> Altering
-    ensures plan { altering_at result ≡ column_there column (λ row. reading (Purpose.AttrDef rel) (dropping row)) rows.now }
+    ensures plan { (opens : List OpenRelation) → altering_at opens result ≡ column_there column (λ row. reading (Purpose.AttrDef rel) (dropping row)) rows.now }
     ensures left { alter_acts_left result < 3 }
-    ensures there { (name : List ℕ) → altering_at result ≡ Absent name → ⊥ }
+    ensures there { (opens : List OpenRelation) (name : List ℕ) → altering_at opens result ≡ Absent name → ⊥ }
 {
     match rows.first() {
         Some(row) => Altering::DroppingDefault { rel, row: *row },
@@ -352,9 +364,9 @@ fn to_drop(rel: Oid, column: Name, rows: &[Row]) -> Altering
 
 // `drop column`, by the rows of the table's defaults.
 fn without_default(row: Row, defaults: &[Row]) -> Altering
-    ensures plan { altering_at result ≡ dropping row defaults.now }
+    ensures plan { (opens : List OpenRelation) → altering_at opens result ≡ dropping row defaults.now }
     ensures left { alter_acts_left result < 2 }
-    ensures there { (name : List ℕ) → altering_at result ≡ Absent name → ⊥ }
+    ensures there { (opens : List OpenRelation) (name : List ℕ) → altering_at opens result ≡ Absent name → ⊥ }
 {
     Altering::Replacing {
         deleted: default_of(column_number(&row), defaults),
@@ -364,9 +376,9 @@ fn without_default(row: Row, defaults: &[Row]) -> Altering
 
 // `rename column`, after the lookup of its old name.
 fn to_rename(rel: Oid, column: Name, to: Name, rows: &[Row]) -> Altering
-    ensures plan { altering_at result ≡ column_there column (renaming to rel) rows.now }
+    ensures plan { (opens : List OpenRelation) → altering_at opens result ≡ column_there column (renaming to rel) rows.now }
     ensures left { alter_acts_left result < 3 }
-    ensures there { (name : List ℕ) → altering_at result ≡ Absent name → ⊥ }
+    ensures there { (opens : List OpenRelation) (name : List ℕ) → altering_at opens result ≡ Absent name → ⊥ }
 {
     match rows.first() {
         Some(row) => Altering::RenamingTo { rel, row: *row, to },
@@ -376,9 +388,9 @@ fn to_rename(rel: Oid, column: Name, to: Name, rows: &[Row]) -> Altering
 
 // `rename column`, after the lookup of its new name.
 fn named(row: Row, to: Name, rows: &[Row]) -> Altering
-    ensures plan { altering_at result ≡ column_free to (changing (Change.Replace (with_name to row) ∷ [])) rows.now }
+    ensures plan { (opens : List OpenRelation) → altering_at opens result ≡ column_free to (changing (Change.Replace (with_name to row) ∷ [])) rows.now }
     ensures left { alter_acts_left result < 2 }
-    ensures there { (name : List ℕ) → altering_at result ≡ Absent name → ⊥ }
+    ensures there { (opens : List OpenRelation) (name : List ℕ) → altering_at opens result ≡ Absent name → ⊥ }
 {
     if rows.is_empty() {
         Altering::Replacing {
@@ -392,9 +404,9 @@ fn named(row: Row, to: Name, rows: &[Row]) -> Altering
 
 // `set statistics`, after the lookup of its column.
 fn with_target(column: Name, stat: i32, rows: &[Row]) -> Altering
-    ensures plan { altering_at result ≡ column_there column (targeting stat) rows.now }
+    ensures plan { (opens : List OpenRelation) → altering_at opens result ≡ column_there column (targeting stat) rows.now }
     ensures left { alter_acts_left result < 2 }
-    ensures there { (name : List ℕ) → altering_at result ≡ Absent name → ⊥ }
+    ensures there { (opens : List OpenRelation) (name : List ℕ) → altering_at opens result ≡ Absent name → ⊥ }
 {
     match rows.first() {
         Some(row) => Altering::Replacing {
@@ -407,9 +419,9 @@ fn with_target(column: Name, stat: i32, rows: &[Row]) -> Altering
 
 // `set (fillfactor = N)`, by the table's row.
 fn with_fillfactor(fill: u32, rows: &[Row]) -> Altering
-    ensures plan { altering_at result ≡ filling fill rows.now }
+    ensures plan { (opens : List OpenRelation) → altering_at opens result ≡ filling fill rows.now }
     ensures left { alter_acts_left result < 2 }
-    ensures there { (name : List ℕ) → altering_at result ≡ Absent name → ⊥ }
+    ensures there { (opens : List OpenRelation) (name : List ℕ) → altering_at opens result ≡ Absent name → ⊥ }
 {
     match rows.first() {
         Some(row) => Altering::Replacing {
@@ -422,9 +434,9 @@ fn with_fillfactor(fill: u32, rows: &[Row]) -> Altering
 
 // `rename to`, by the table's row.
 fn with_table_name(to: Name, rows: &[Row]) -> Altering
-    ensures plan { altering_at result ≡ renaming_table to rows.now }
+    ensures plan { (opens : List OpenRelation) → altering_at opens result ≡ renaming_table to rows.now }
     ensures left { alter_acts_left result < 2 }
-    ensures there { (name : List ℕ) → altering_at result ≡ Absent name → ⊥ }
+    ensures there { (opens : List OpenRelation) (name : List ℕ) → altering_at opens result ≡ Absent name → ⊥ }
 {
     match rows.first() {
         Some(row) => Altering::Replacing {

@@ -1,13 +1,15 @@
-ghost use Rattle.std.specs.Prelude.{◌≡◌, ◌<◌, ℕ, List, true, [], IfOk, OnOk, OnErr, MatchOption};
+ghost use Rattle.std.specs.Prelude.{◌≡◌, ◌<◌, ℕ, List, true, not, [], IfOk, OnOk, OnErr, MatchOption};
 ghost use Rattle.std.specs.List.{filter_map};
 ghost use Rattle.ddl_effect.specs.Plans.{Absent, Done, is_built, after_act, told_rests_on};
-ghost use Rattle.ddl_effect.specs.Commands.{plan_of, found as found_rows, live_column as column_live, telling_columns, telling_column, regclass_of, told_fields, showing_field, writing};
+ghost use Rattle.ddl_effect.specs.Commands.{plan_of, found as found_rows, live_column as column_live, telling_columns, telling_column, regclass_of, told_fields, showing_field, peeking, closing, if_passes, opening, drop_table, writing};
+ghost use Rattle.ddl_effect.specs.Opens.{has_open as is_open};
 ghost use Rattle.ddl_effect.specs.Stages.{plan_at, plan_again, plan_found, name_sought, want_of, told_of, acts_left};
 
 use crate::altering::alteration_of;
-use crate::drop_table::drop_table;
+use crate::drop_table::drop_table as drop_table_draft;
+use crate::opens::{has_open, latest_open};
 use crate::table::create_table;
-use crate::{Altering, Draft, Finding, Told, Want};
+use crate::{Altering, Draft, Finding, OpenRelation, Told, Want};
 use base_types::{Command, Field, Kind, Listed, Name, NoMemory, Oid, Purpose, Row, has_field};
 use command_answers::{Column, CommandError};
 use std::alloc::Global;
@@ -40,6 +42,11 @@ pub enum Exec {
     },
     /// `regclass`: it looks for the relation of an oid.
     FindingOid(Oid),
+    /// `open`: it opens the relation's descriptor.
+    OpeningToKeep {
+        rel: Oid,
+        kind: Kind,
+    },
     /// `drop table`: it opens the table's descriptor (`RemoveRelations` in
     /// `src/backend/commands/tablecmds.c`).
     OpeningToDrop {
@@ -59,7 +66,7 @@ impl Exec {
     /// Whether a command has a plan, so that the program can run it.
     #[tactic(auto, using(crate::proofs::HasPlan::show_built, crate::proofs::HasPlan::creating_built))]
     pub fn has_plan(command: &Command) -> bool
-        ensures { result ≡ is_built (plan_of [] command.now) }
+        ensures { (opens : List OpenRelation) → result ≡ is_built (plan_of opens command.now) }
     {
         matches!(
             command,
@@ -71,6 +78,9 @@ impl Exec {
                 | Command::Column { .. }
                 | Command::Regclass(_)
                 | Command::LockTable { .. }
+                | Command::OpenRel(_)
+                | Command::Peek { .. }
+                | Command::CloseRel(_)
                 | Command::CreateTable { .. }
                 | Command::DropTable(_)
                 | Command::RenameTable { .. }
@@ -82,10 +92,10 @@ impl Exec {
         )
     }
 
-    /// A command at its beginning. Condition: it has a plan.
-    pub fn new(alloc: Global, command: &Command) -> Result<Exec, NoMemory>
-        requires { is_built (plan_of [] command.now) ≡ true }
-        ensures { IfOk result (λ exec. plan_at exec ≡ plan_of [] command.now) }
+    /// A command at its beginning, by the relations that its session has open. Condition: it has a plan.
+    pub fn new(alloc: Global, opens: &[OpenRelation], command: &Command) -> Result<Exec, NoMemory>
+        requires { is_built (plan_of opens.now command.now) ≡ true }
+        ensures { IfOk result (λ exec. plan_at opens.now exec ≡ plan_of opens.now command.now) }
     {
         match command {
             Command::Begin | Command::Rollback => Ok(Exec::Done(Told::Ok)),
@@ -114,6 +124,9 @@ impl Exec {
                 create_table(alloc, *name, columns.as_slice())
             }
             Command::DropTable(name) => Ok(Exec::Finding(Finding::DropTable { name: *name })),
+            Command::OpenRel(name) => Ok(Exec::Finding(Finding::OpenRel { name: *name })),
+            Command::Peek { name, field } => { Ok(peeked(*name, *field, latest_open(name, opens))) }
+            Command::CloseRel(name) => Ok(closed(*name, latest_open(name, opens))),
             _ => match alteration_of(command) {
                 Some(altering) => Ok(Exec::Altering(altering)),
                 None => unreachable!(),
@@ -124,7 +137,7 @@ impl Exec {
     /// What it wants next.
     #[inline(always)]
     pub fn next(&self) -> Want
-        ensures { result ≡ want_of (plan_at self.now) }
+        ensures { (opens : List OpenRelation) → result ≡ want_of (plan_at opens self.now) }
     {
         match self {
             Exec::Done(told) => Want::Done(rests_on(told)),
@@ -141,6 +154,10 @@ impl Exec {
             Exec::ListingColumns { rel } => Want::Search(Purpose::AttList(*rel)),
             Exec::FindingColumn { rel, column } => Want::Search(Purpose::AttName(*rel, *column)),
             Exec::FindingOid(oid) => Want::Search(Purpose::RelOid(*oid)),
+            Exec::OpeningToKeep { rel, kind } => Want::Open {
+                rel: *rel,
+                kind: *kind,
+            },
             Exec::OpeningToDrop { rel } => Want::Open {
                 rel: *rel,
                 kind: Kind::Table,
@@ -153,7 +170,7 @@ impl Exec {
 
     /// What it answers, once it has done what it says; nothing stands for [`Told::Ok`].
     pub fn told(&self) -> Option<&Told>
-        ensures { MatchOption result (told_of (plan_at self.now) ≡ Told.Ok) (λ told. told_of (plan_at self.now) ≡ told.now) }
+        ensures { MatchOption result ((opens : List OpenRelation) → told_of (plan_at opens self.now) ≡ Told.Ok) (λ told. (opens : List OpenRelation) → told_of (plan_at opens self.now) ≡ told.now) }
     {
         match self {
             Exec::Done(told) => Some(told),
@@ -161,25 +178,31 @@ impl Exec {
         }
     }
 
-    /// What it wanted was done, and gave these rows: those of the scan on which the act rests. Out of
-    /// memory, nothing changes.
-    pub fn give(&mut self, alloc: Global, rows: &[Row]) -> Result<(), NoMemory>
-        ensures plan { OnOk result (plan_at self.new ≡ after_act rows.now (plan_at self.old)) }
+    /// What it wanted was done, and gave these rows: those of the scan on which the act rests. Its session
+    /// has these relations open. Out of memory, nothing changes.
+    pub fn give(
+        &mut self,
+        alloc: Global,
+        opens: &[OpenRelation],
+        rows: &[Row],
+    ) -> Result<(), NoMemory>
+        ensures plan { OnOk result (plan_at opens.now self.new ≡ after_act rows.now (plan_at opens.now self.old)) }
         ensures less { OnOk result (0 < acts_left self.old → acts_left self.new < acts_left self.old) }
-        ensures oid { OnOk result ((oid : Oid) → 0 < acts_left self.old → plan_at self.new ≡ Done (Told.Regclass oid) → plan_at self.old ≡ regclass_of oid) }
-        ensures again { OnOk result ((name : List ℕ) → 0 < acts_left self.old → plan_at self.new ≡ Absent name → plan_again self.new ≡ plan_at self.old) }
+        ensures oid { OnOk result ((oid : Oid) → 0 < acts_left self.old → plan_at opens.now self.new ≡ Done (Told.Regclass oid) → plan_at opens.now self.old ≡ regclass_of oid) }
+        ensures again { OnOk result ((name : List ℕ) → 0 < acts_left self.old → plan_at opens.now self.new ≡ Absent name → plan_again opens.now self.new ≡ plan_at opens.now self.old) }
         ensures err { OnErr result (self.new ≡ self.old) }
     {
         let next = match self {
-            Exec::Finding(finding) => found(*finding, rows),
+            Exec::Finding(finding) => found(*finding, opens, rows),
             Exec::Opening { rel, kind, field } => Exec::Done(shown(*field, *rel, *kind)),
             Exec::ListingColumns { .. } => Exec::Done(Told::Columns(live_columns(alloc, rows)?)),
             Exec::FindingColumn { column, .. } => found_column(*column, rows),
             Exec::FindingOid(oid) => Exec::Done(Told::Regclass(*oid)),
+            Exec::OpeningToKeep { .. } => Exec::Done(Told::Ok),
             Exec::OpeningToDrop { rel } => Exec::DroppingTable { rel: *rel },
-            Exec::DroppingTable { rel } => Exec::Writing(drop_table(alloc, *rel, rows)?),
+            Exec::DroppingTable { rel } => Exec::Writing(drop_table_draft(alloc, *rel, rows)?),
             Exec::Writing(_) => Exec::Done(Told::Ok),
-            Exec::Altering(altering) => Exec::Altering(altering.after(rows)),
+            Exec::Altering(altering) => Exec::Altering(altering.after(opens, rows)),
             Exec::Done(_) | Exec::Failing(_) | Exec::Missing(_) => return Ok(()),
         };
         *self = next;
@@ -188,7 +211,7 @@ impl Exec {
 
     /// Where its lookup found no relation, it makes that anew; any other command stays as it is.
     pub fn search_again(&mut self)
-        ensures { plan_at self.new ≡ plan_again self.old }
+        ensures { (opens : List OpenRelation) → plan_at opens self.new ≡ plan_again opens self.old }
     {
         match self {
             Exec::Missing(finding) => *self = Exec::Finding(*finding),
@@ -199,8 +222,8 @@ impl Exec {
 
     /// The draft that it wants written, the command given up. Condition: it wants that.
     pub fn into_draft(self, alloc: Global) -> Result<Draft, NoMemory>
-        requires { want_of (plan_at self) ≡ Want.Write }
-        ensures { IfOk result (λ draft. plan_at self ≡ writing draft) }
+        requires { want_of (plan_at [] self) ≡ Want.Write }
+        ensures { IfOk result (λ draft. (opens : List OpenRelation) → plan_at opens self ≡ writing draft) }
     {
         match self {
             Exec::Writing(draft) => Ok(draft),
@@ -210,25 +233,50 @@ impl Exec {
     }
 }
 
+// `peek`, by the latest relation that was opened under the name.
+fn peeked(name: Name, field: Option<Field>, latest: Option<OpenRelation>) -> Exec
+    ensures { (opens : List OpenRelation) → plan_at opens result ≡ peeking name field latest }
+{
+    let Some(o) = latest else {
+        return Exec::Failing(CommandError::NotOpen { name });
+    };
+    if let Some(field) = field {
+        if !has_field(o.kind, field) {
+            return Exec::Failing(CommandError::NoField { name, field });
+        }
+    }
+    Exec::Done(shown(field, o.rel, o.kind))
+}
+
+// `close`, by the latest relation that was opened under the name.
+fn closed(name: Name, latest: Option<OpenRelation>) -> Exec
+    ensures { (opens : List OpenRelation) → plan_at opens result ≡ closing name latest }
+{
+    match latest {
+        Some(_) => Exec::Done(Told::Ok),
+        None => Exec::Failing(CommandError::NotOpen { name }),
+    }
+}
+
 // After the lookup.
-fn found(finding: Finding, rows: &[Row]) -> Exec
-    ensures plan { plan_at result ≡ found_rows (name_sought finding) (plan_found finding) rows.now }
+fn found(finding: Finding, opens: &[OpenRelation], rows: &[Row]) -> Exec
+    ensures plan { plan_at opens.now result ≡ found_rows (name_sought finding) (plan_found opens.now finding) rows.now }
     ensures left { acts_left result < acts_left (Exec.Finding finding) }
-    ensures again { (name : List ℕ) → plan_at result ≡ Absent name → plan_again result ≡ plan_at (Exec.Finding finding) }
-    ensures named { (oid : Oid) → plan_at result ≡ Done (Told.Regclass oid) → ⊥ }
+    ensures again { (name : List ℕ) → plan_at opens.now result ≡ Absent name → plan_again opens.now result ≡ plan_at opens.now (Exec.Finding finding) }
+    ensures named { (oid : Oid) → plan_at opens.now result ≡ Done (Told.Regclass oid) → ⊥ }
 {
     match rows.first() {
-        Some(Row::Class { oid, kind, .. }) => goes_on(finding, *oid, *kind),
+        Some(Row::Class { oid, kind, .. }) => goes_on(finding, opens, *oid, *kind),
         _ => Exec::Missing(finding),
     }
 }
 
 // A lookup that found this relation.
-fn goes_on(finding: Finding, rel: Oid, kind: Kind) -> Exec
-    ensures plan { plan_at result ≡ plan_found finding rel kind }
+fn goes_on(finding: Finding, opens: &[OpenRelation], rel: Oid, kind: Kind) -> Exec
+    ensures plan { plan_at opens.now result ≡ plan_found opens.now finding rel kind }
     ensures left { acts_left result < acts_left (Exec.Finding finding) }
-    ensures there { (name : List ℕ) → plan_at result ≡ Absent name → ⊥ }
-    ensures named { (oid : Oid) → plan_at result ≡ Done (Told.Regclass oid) → ⊥ }
+    ensures there { (name : List ℕ) → plan_at opens.now result ≡ Absent name → ⊥ }
+    ensures named { (oid : Oid) → plan_at opens.now result ≡ Done (Told.Regclass oid) → ⊥ }
 {
     match finding {
         Finding::Show { .. } => Exec::Opening {
@@ -250,18 +298,32 @@ fn goes_on(finding: Finding, rel: Oid, kind: Kind) -> Exec
             Kind::Index => Exec::Failing(CommandError::NotTable { name }),
         },
         Finding::DropTable { name } => match kind {
-            Kind::Table => Exec::OpeningToDrop { rel },
+            Kind::Table => to_drop_table(rel, opens),
             Kind::Index => Exec::Failing(CommandError::NotTable { name }),
         },
+        Finding::OpenRel { .. } => Exec::OpeningToKeep { rel, kind },
     }
+}
+
+// `drop table`, after its lookup: the session must not have the table open.
+fn to_drop_table(rel: Oid, opens: &[OpenRelation]) -> Exec
+    ensures plan { plan_at opens.now result ≡ if_passes (not (is_open rel opens.now)) (CommandError.InUse rel) (opening rel Kind.Table (drop_table rel)) }
+    ensures left { acts_left result < 4 }
+    ensures there { (name : List ℕ) → plan_at opens.now result ≡ Absent name → ⊥ }
+    ensures named { (oid : Oid) → plan_at opens.now result ≡ Done (Told.Regclass oid) → ⊥ }
+{
+    if has_open(rel, opens) {
+        return Exec::Failing(CommandError::InUse { rel });
+    }
+    Exec::OpeningToDrop { rel }
 }
 
 // `show T FIELD`, after its lookup: the relation has to have the field.
 fn to_show_field(name: Name, field: Field, rel: Oid, kind: Kind) -> Exec
-    ensures plan { plan_at result ≡ showing_field name field rel kind }
+    ensures plan { (opens : List OpenRelation) → plan_at opens result ≡ showing_field name field rel kind }
     ensures left { acts_left result < 2 }
-    ensures there { (absent : List ℕ) → plan_at result ≡ Absent absent → ⊥ }
-    ensures named { (oid : Oid) → plan_at result ≡ Done (Told.Regclass oid) → ⊥ }
+    ensures there { (opens : List OpenRelation) (absent : List ℕ) → plan_at opens result ≡ Absent absent → ⊥ }
+    ensures named { (opens : List OpenRelation) (oid : Oid) → plan_at opens result ≡ Done (Told.Regclass oid) → ⊥ }
 {
     if !has_field(kind, field) {
         return Exec::Failing(CommandError::NoField { name, field });
@@ -326,10 +388,10 @@ fn live_column(row: &Row) -> Option<Column>
 
 // `column`, by the rows of the column.
 fn found_column(column: Name, rows: &[Row]) -> Exec
-    ensures plan { plan_at result ≡ telling_column column rows.now }
+    ensures plan { (opens : List OpenRelation) → plan_at opens result ≡ telling_column column rows.now }
     ensures left { acts_left result ≡ 0 }
-    ensures there { (name : List ℕ) → plan_at result ≡ Absent name → ⊥ }
-    ensures named { (oid : Oid) → plan_at result ≡ Done (Told.Regclass oid) → ⊥ }
+    ensures there { (opens : List OpenRelation) (name : List ℕ) → plan_at opens result ≡ Absent name → ⊥ }
+    ensures named { (opens : List OpenRelation) (oid : Oid) → plan_at opens result ≡ Done (Told.Regclass oid) → ⊥ }
 {
     match rows.first() {
         Some(Row::Att { num, col_type, .. }) => Exec::Done(Told::Column {

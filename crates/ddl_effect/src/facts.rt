@@ -4,8 +4,8 @@ ghost use Rattle.ddl_effect.specs.Plans.{is_built};
 ghost use Rattle.ddl_effect.specs.Commands.{plan_of};
 ghost use Rattle.ddl_effect.specs.Effects.{effect_of, given_for, no_changes, IsEffect};
 
-use crate::{Draft, Exec, Want};
-use base_types::{Command, Listed, Name, NoMemory, Oid, Purpose, Row, put_in_order, selects};
+use crate::{Draft, Exec, OpenRelation, Want};
+use base_types::{Command, Listed, Name, NoMemory, Purpose, Row, put_in_order, selects};
 use command_answers::CommandError;
 use std::alloc::Global;
 
@@ -13,7 +13,7 @@ use std::alloc::Global;
 #[derive(Drop)]
 pub struct Facts {
     pub rows: Listed<Row>,
-    pub opened: Listed<Oid>,
+    pub opened: Listed<OpenRelation>,
 }
 
 /// Why a command changes nothing.
@@ -33,7 +33,7 @@ pub fn effect(alloc: Global, command: &Command, facts: &Facts) -> Result<Draft, 
     requires { is_built (plan_of facts.now.opened command.now) ≡ true }
     ensures { IsEffect (effect_of (λ scan. scan_of scan facts.now.rows) (plan_of facts.now.opened command.now)) result }
 {
-    let Ok(mut exec) = Exec::new(alloc, command) else {
+    let Ok(mut exec) = Exec::new(alloc, facts.opened.as_slice(), command) else {
         return Err(EffectRefusal::NoMemory);
     };
     'acts: loop {
@@ -51,7 +51,7 @@ pub fn effect(alloc: Global, command: &Command, facts: &Facts) -> Result<Draft, 
                 let Ok(rows) = rows_for(alloc, &want, facts.rows.as_slice()) else {
                     return Err(EffectRefusal::NoMemory);
                 };
-                let Ok(()) = exec.give(alloc, &rows) else {
+                let Ok(()) = exec.give(alloc, facts.opened.as_slice(), &rows) else {
                     return Err(EffectRefusal::NoMemory);
                 };
             }

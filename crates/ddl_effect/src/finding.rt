@@ -18,6 +18,8 @@ pub enum Finding {
     Column { name: Name, column: Name },
     /// `drop table`: the relation has to be a table.
     DropTable { name: Name },
+    /// `open`.
+    OpenRel { name: Name },
 }
 
 impl Finding {
@@ -31,7 +33,8 @@ impl Finding {
             | Finding::LockTable { name, .. }
             | Finding::Columns { name }
             | Finding::Column { name, .. }
-            | Finding::DropTable { name } => { *name }
+            | Finding::DropTable { name }
+            | Finding::OpenRel { name } => { *name }
         }
     }
 

@@ -1,9 +1,9 @@
-ghost use Rattle.std.specs.Prelude.{◌≡◌, ◌≤◌, [], map, length, IfOk};
+ghost use Rattle.std.specs.Prelude.{◌≡◌, ◌≤◌, List, [], map, length, IfOk};
 ghost use Rattle.base_types.specs.declared.dropped.TheConstants.{MOST_COLUMNS};
 ghost use Rattle.ddl_effect.specs.Commands.{creating, first_twice as first_repeated, new_table as table_draft, new_column as column_change, table_row};
 ghost use Rattle.ddl_effect.specs.Stages.{plan_at};
 
-use crate::{Draft, Exec};
+use crate::{Draft, Exec, OpenRelation};
 use base_types::{Change, Kind, Listed, MOST_COLUMNS, Name, NewColumn, NoMemory, Oid, Row};
 use command_answers::CommandError;
 use std::alloc::{AllocError, Global};
@@ -19,7 +19,7 @@ pub(crate) fn create_table(
     name: Name,
     columns: &[NewColumn],
 ) -> Result<Exec, NoMemory>
-    ensures { IfOk result (λ exec. plan_at exec ≡ creating name columns.now) }
+    ensures { IfOk result (λ exec. (opens : List OpenRelation) → plan_at opens exec ≡ creating name columns.now) }
 {
     if columns.len() > MOST_COLUMNS as usize {
         return Ok(Exec::Failing(CommandError::TooManyColumns));

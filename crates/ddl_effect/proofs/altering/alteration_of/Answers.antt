@@ -1,4 +1,4 @@
-use Rattle.std.proofs.Common.{◌≡◌, ◌∙◌, [], ap, sym, arith, rules, w32, SFits, to_z, of_z}
+use Rattle.std.proofs.Common.{◌≡◌, ◌∙◌, ap, sym, arith, rules, w32, SFits, to_z, of_z}
 use Rattle.std.proofs.lemmas.Int.{to_z-of_z}
 use Rattle.base_types.specs.declared.command.Command.TheVariants.{SetStatistics}
 use Rattle.ddl_effect.specs.Commands.{plan_of}
@@ -6,24 +6,24 @@ use Rattle.ddl_effect.specs.Stages.{altering_at}
 use Rattle.ddl_effect.proofs.altering.alteration_of.Goals as goal
 
 pub returns-in-AddColumn : goal.returns-in-AddColumn
-returns-in-AddColumn c = ap altering_at c.alters.ensures ∙ sym (ap (plan_of []) c.in-AddColumn.is)
+returns-in-AddColumn c = λ opens. ap (altering_at opens) c.alters.ensures ∙ sym (ap (plan_of opens) c.in-AddColumn.is)
 
 pub returns-in-DropColumn : goal.returns-in-DropColumn
-returns-in-DropColumn c = ap altering_at c.alters-in-DropColumn.ensures ∙ sym (ap (plan_of []) c.in-DropColumn.is)
+returns-in-DropColumn c = λ opens. ap (altering_at opens) c.alters-in-DropColumn.ensures ∙ sym (ap (plan_of opens) c.in-DropColumn.is)
 
 pub returns-in-RenameColumn : goal.returns-in-RenameColumn
-returns-in-RenameColumn c = ap altering_at c.alters-in-RenameColumn.ensures ∙ sym (ap (plan_of []) c.in-RenameColumn.is)
+returns-in-RenameColumn c = λ opens. ap (altering_at opens) c.alters-in-RenameColumn.ensures ∙ sym (ap (plan_of opens) c.in-RenameColumn.is)
 
 pub returns-in-SetStatistics : goal.returns-in-SetStatistics
 returns-in-SetStatistics c =
     let fits : SFits w32 c.in-SetStatistics.stat = search rules in
     let read : to_z w32 (of_z w32 c.in-SetStatistics.stat) ≡ c.in-SetStatistics.stat = grind (arith, to_z-of_z) in
-    ap altering_at c.alters-in-SetStatistics.ensures
-    ∙ ap (λ z. plan_of [] (SetStatistics c.in-SetStatistics.name c.in-SetStatistics.column z)) read
-    ∙ sym (ap (plan_of []) c.in-SetStatistics.is)
+    λ opens. ap (altering_at opens) c.alters-in-SetStatistics.ensures
+    ∙ ap (λ z. plan_of opens (SetStatistics c.in-SetStatistics.name c.in-SetStatistics.column z)) read
+    ∙ sym (ap (plan_of opens) c.in-SetStatistics.is)
 
 pub returns-in-SetFillfactor : goal.returns-in-SetFillfactor
-returns-in-SetFillfactor c = ap altering_at c.alters-in-SetFillfactor.ensures ∙ sym (ap (plan_of []) c.in-SetFillfactor.is)
+returns-in-SetFillfactor c = λ opens. ap (altering_at opens) c.alters-in-SetFillfactor.ensures ∙ sym (ap (plan_of opens) c.in-SetFillfactor.is)
 
 pub returns-in-RenameTable : goal.returns-in-RenameTable
-returns-in-RenameTable c = ap altering_at c.alters-in-RenameTable.ensures ∙ sym (ap (plan_of []) c.in-RenameTable.is)
+returns-in-RenameTable c = λ opens. ap (altering_at opens) c.alters-in-RenameTable.ensures ∙ sym (ap (plan_of opens) c.in-RenameTable.is)

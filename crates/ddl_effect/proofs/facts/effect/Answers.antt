@@ -11,13 +11,13 @@ pub acts-preserved : goal.acts-preserved
 acts-preserved c =
     let rows : Purpose → List Row = λ scan. scan_of scan c.args.facts.now.rows in
     let found : c.in-Ok-rows_for.rows.items ≡ given_for rows c.in_default-next.want = search rules in
-    let given : c.deref.result.now ≡ given_for rows (want_of (plan_at c.acts.exec)) = c.deref.ensures.value ∙ found ∙ ap (given_for rows) (sym c.in_default-next.want-is ∙ c.next.ensures) in
-    let went : plan_at c.give.new.self ≡ after_act c.deref.result.now (plan_at c.acts.exec) = search rules in
+    let given : c.deref.result.now ≡ given_for rows (want_of (plan_at c.args.facts.now.opened c.acts.exec)) = c.deref.ensures.value ∙ found ∙ ap (given_for rows) (sym c.in_default-next.want-is ∙ c.next.ensures c.args.facts.now.opened) in
+    let went : plan_at c.args.facts.now.opened c.give.new.self ≡ after_act c.deref.result.now (plan_at c.args.facts.now.opened c.acts.exec) = search rules in
     ap (effect_of rows) went
-    ∙ effect_of-after rows (plan_at c.acts.exec) c.deref.result.now (λ writes. c.in_default-next.not-Write (c.next.ensures ∙ writes)) given
+    ∙ effect_of-after rows (plan_at c.args.facts.now.opened c.acts.exec) c.deref.result.now (λ writes. c.in_default-next.not-Write (c.next.ensures c.args.facts.now.opened ∙ writes)) given
     ∙ c.acts.invariant
 
 pub acts-smaller : goal.acts-smaller
 acts-smaller c =
     let less : 0 < acts_left c.acts.exec → acts_left c.give.new.self < acts_left c.acts.exec = search rules in
-    less (acts_some c.acts.exec (λ scan is. c.in_default-next.not-Done scan (c.next.ensures ∙ is)) (λ error is. c.in_default-next.not-Fails error (c.next.ensures ∙ is)) (λ name is. c.in_default-next.not-Absent name (c.next.ensures ∙ is)))
+    less (acts_some c.args.facts.now.opened c.acts.exec (λ scan is. c.in_default-next.not-Done scan (c.next.ensures c.args.facts.now.opened ∙ is)) (λ error is. c.in_default-next.not-Fails error (c.next.ensures c.args.facts.now.opened ∙ is)) (λ name is. c.in_default-next.not-Absent name (c.next.ensures c.args.facts.now.opened ∙ is)))

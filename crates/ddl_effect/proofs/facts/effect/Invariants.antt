@@ -6,7 +6,7 @@ use Rattle.ddl_effect.specs.Stages.{plan_at, acts_left}
 use Rattle.ddl_effect.proofs.facts.effect.Given as goal
 
 abbrev pub invariant-acts : goal.invariant-acts
-invariant-acts l = effect_of (λ scan. scan_of scan l.facts.rows) (plan_at l.exec) ≡ effect_of (λ scan. scan_of scan l.facts.rows) (plan_of l.facts.opened l.command)
+invariant-acts l = effect_of (λ scan. scan_of scan l.facts.rows) (plan_at l.facts.opened l.exec) ≡ effect_of (λ scan. scan_of scan l.facts.rows) (plan_of l.facts.opened l.command)
 
 abbrev pub decreases-acts : goal.decreases-acts
 decreases-acts l = acts_left l.exec
