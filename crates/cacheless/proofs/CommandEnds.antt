@@ -48,7 +48,7 @@ end_well-same facts command s r running count = end_alone s r count s.blocks.blo
 
 -- the end of the running command
 pub end_same : (facts : Facts) (command : Command) (s : Progress) (r : Rest) → facts.running ≡ running_of s.running → length r.finished ≡ s.finished → end_of facts command (session_at s r) ≡ end_at s command
-end_same facts command s r running count = by_outcome (outcome_of (plan_at s.exec))
+end_same facts command s r running count = by_outcome (outcome_of (plan_at s.opens s.exec))
   where
     by_outcome : (o : Outcome) → ◌≡◌ {A = End} (elim o [ CameWell ↦ end_well facts command (session_at s r) | Badly ↦ end_badly (session_at s r) | Unsettled ↦ Ends ]) (elim o [ CameWell ↦ end_in_well s command | Badly ↦ end_in_badly s | Unsettled ↦ Ends ])
     by_outcome CameWell = end_well-same facts command s r running count

@@ -80,7 +80,7 @@ named_decides rel (rows.Class oid name kind fill ∷ more) = decided_by (same_oi
 named_decides rel (row ∷ more) = never (λ is. absurd (cc))
 
 -- the row that the next act finds, where it lacks no scan
-named_found : (facts : Facts) (s : Progress) (name : List ℕ) (mode : Mode) (rest : List Row → Plan) → FactsFit facts s → plan_at s.exec ≡ Do (Lookup name mode) rest → scans_missing s ≡ [] → slice_get (facts.rows (scans.RelName name)) 0 ≡ row_sought s name
+named_found : (facts : Facts) (s : Progress) (name : List ℕ) (mode : Mode) (rest : List Row → Plan) → FactsFit facts s → plan_at s.opens s.exec ≡ Do (Lookup name mode) rest → scans_missing s ≡ [] → slice_get (facts.rows (scans.RelName name)) 0 ≡ row_sought s name
 named_found facts s name mode rest fits at none = ap (λ l. slice_get l 0) (named_same facts s name mode rest fits (right_none (builds_missing (kept_at s) s.opened) (act_missing s (Do (Lookup name mode) rest)) (lacks_none s (Lookup name mode) rest at none)))
 
 free_decides : {P : Type 0} (taken : Option Oid) (t : Bool) → Decides t P → Decides (is_none taken && t) ((taken ≡ None) × P)
@@ -90,7 +90,7 @@ free_decides (Some oid) t d = never (λ is. absurd (some_is is.0))
     some_is : Some oid ≡ None → ⊥
     some_is is = absurd (cc is)
 
-lock_decides : (facts : Facts) (s : Progress) (p : Plan) (rel : Oid) (mode : Mode) → FactsFit facts s → plan_at s.exec ≡ p → scans_missing s ≡ [] → Decides (is_none s.taken && is_lock_at s p rel mode) ((s.taken ≡ None) × IsLock facts p rel mode)
+lock_decides : (facts : Facts) (s : Progress) (p : Plan) (rel : Oid) (mode : Mode) → FactsFit facts s → plan_at s.opens s.exec ≡ p → scans_missing s ≡ [] → Decides (is_none s.taken && is_lock_at s p rel mode) ((s.taken ≡ None) × IsLock facts p rel mode)
 lock_decides facts s (Do (Lookup name wanted) rest) rel mode fits at none =
     free_decides s.taken (names_relation rel (row_sought s name) && same_mode mode wanted)
     (both_decide (names_relation rel (row_sought s name)) (same_mode mode wanted) (subst (λ o. Decides (names_relation rel o) (class_oid (facts.rows (scans.RelName name)) ≡ Some rel)) (named_found facts s name wanted rest fits at none) (named_decides rel (facts.rows (scans.RelName name)))) (mode_decides mode wanted))
@@ -111,7 +111,7 @@ taken_decides : (taken : Option Oid) (rel : Oid) → Decides (option_map_or (sam
 taken_decides None rel = never (λ is. absurd (cc))
 taken_decides (Some oid) rel = decided_by (same_oid rel oid) (oid_decides rel oid) (λ is. ap Some (sym is)) (λ is. sym (ap (λ o. unwrap_or o rel) is))
 
-unlock_decides : (facts : Facts) (s : Progress) (p : Plan) (rel : Oid) (mode : Mode) → FactsFit facts s → plan_at s.exec ≡ p → scans_missing s ≡ [] → Decides (is_unlock_at s p rel mode) (IsUnlock facts s.taken p rel mode)
+unlock_decides : (facts : Facts) (s : Progress) (p : Plan) (rel : Oid) (mode : Mode) → FactsFit facts s → plan_at s.opens s.exec ≡ p → scans_missing s ≡ [] → Decides (is_unlock_at s p rel mode) (IsUnlock facts s.taken p rel mode)
 unlock_decides facts s (Do (Lookup name wanted) rest) rel mode fits at none = decided_by _
     (both_decide (option_map_or (same_oid rel) s.taken false && same_mode mode wanted) (not (names_relation rel (row_sought s name)))
     (both_decide (option_map_or (same_oid rel) s.taken false) (same_mode mode wanted) (taken_decides s.taken rel) (mode_decides mode wanted))
@@ -131,8 +131,8 @@ owed_decides P facts command s rest t fits decides = by_owed (owes_nothing comma
     by_owed false is = never (λ may. absurd (let both : true ≡ false = ap is_empty (sym may.0) ∙ same ∙ is in cc))
 
 -- a lock, granted or refused
-held_decides : (facts : Facts) (command : Command) (s : Progress) (rest : Rest) (rel : Oid) (mode : Mode) → FactsFit facts s → Decides (owes_nothing command s && is_none s.taken && is_lock_at s (plan_at s.exec) rel mode) ((owed_of facts command (session_at s rest) ≡ []) × (s.taken ≡ None) × IsLock facts (plan_at s.exec) rel mode)
-held_decides facts command s rest rel mode fits = decided_by _ (regrouped (owes_nothing command s) (is_none s.taken) (is_lock_at s (plan_at s.exec) rel mode) (owed_decides ((s.taken ≡ None) × IsLock facts (plan_at s.exec) rel mode) facts command s rest (is_none s.taken && is_lock_at s (plan_at s.exec) rel mode) fits (lock_decides facts s (plan_at s.exec) rel mode fits refl)))
+held_decides : (facts : Facts) (command : Command) (s : Progress) (rest : Rest) (rel : Oid) (mode : Mode) → FactsFit facts s → Decides (owes_nothing command s && is_none s.taken && is_lock_at s (plan_at s.opens s.exec) rel mode) ((owed_of facts command (session_at s rest) ≡ []) × (s.taken ≡ None) × IsLock facts (plan_at s.opens s.exec) rel mode)
+held_decides facts command s rest rel mode fits = decided_by _ (regrouped (owes_nothing command s) (is_none s.taken) (is_lock_at s (plan_at s.opens s.exec) rel mode) (owed_decides ((s.taken ≡ None) × IsLock facts (plan_at s.opens s.exec) rel mode) facts command s rest (is_none s.taken && is_lock_at s (plan_at s.opens s.exec) rel mode) fits (lock_decides facts s (plan_at s.opens s.exec) rel mode fits refl)))
     (λ is. (is.0, is.1.0, is.1.1)) (λ is. (is.0, (is.1, is.2)))
   where
     regrouped : {P : Type 0} (a b c : Bool) → Decides (a && (b && c)) P → Decides (a && b && c) P
@@ -186,7 +186,7 @@ all_names facts s next new_oids (change ∷ given) forced fits none puts =
     ap (λ l. l ++ flat_map (names_of facts) (items_of (map (drawn_change next new_oids) given) forced)) (change_names facts s next new_oids change fits none puts.0)
     ∙ ap (λ l. names_by (kept_at s) change ++ l) (all_names facts s next new_oids given forced fits none puts.1)
 
-clash_decides : (facts : Facts) (s : Progress) (next : ℕ) (name : List ℕ) (p : Plan) → FactsFit facts s → plan_at s.exec ≡ p → scans_missing s ≡ [] → PutsOpened s.opened p → Decides (is_clash_at (kept_at s) name p) (IsClash facts next p name)
+clash_decides : (facts : Facts) (s : Progress) (next : ℕ) (name : List ℕ) (p : Plan) → FactsFit facts s → plan_at s.opens s.exec ≡ p → scans_missing s ≡ [] → PutsOpened s.opened p → Decides (is_clash_at (kept_at s) name p) (IsClash facts next p name)
 clash_decides facts s next name (Do (Write draft) rest) fits at none puts = by_path (ap (list_any (bytes_eq name)) (all_names facts s next draft.new_oids draft.changes draft.forced fits builds puts.0))
   where
     builds : builds_missing (kept_at s) s.opened ≡ []
@@ -299,7 +299,7 @@ end_decides facts command s rest event fits count =
     (unmade_decides s.ended (owes_no_end command s (end_at s command)) (is_next_of_end s event (end_at s command)) (next_of_end facts (end_at s command)) event (before_decides facts command s rest (end_at s command) fits) (next_decides facts s event (end_at s command) fits))
 
 -- the answer decides what may come next in a command
-may_decides : (next : ℕ) (facts : Facts) (command : Command) (s : Progress) (rest : Rest) (event : Event) → FactsFit facts s → PutsOpened s.opened (plan_at s.exec) → length rest.finished ≡ s.finished → Decides (may_play_at next command s event) (MayPlay next facts command (session_at s rest) event)
+may_decides : (next : ℕ) (facts : Facts) (command : Command) (s : Progress) (rest : Rest) (event : Event) → FactsFit facts s → PutsOpened s.opened (plan_at s.opens s.exec) → length rest.finished ≡ s.finished → Decides (may_play_at next command s event) (MayPlay next facts command (session_at s rest) event)
 may_decides next facts command s rest (events.Look some_wait) fits puts count = by_path (look_same facts s rest fits)
 may_decides next facts command s rest (events.Fetch n) fits puts count = always tt
 may_decides next facts command s rest events.FetchReset fits puts count = always tt
@@ -308,10 +308,10 @@ may_decides next facts command s rest (events.Scan scan n) fits puts count = dec
     (λ is. (is.0.0, is.0.1, is.1)) (λ is. ((is.0, is.1), is.2))
 may_decides next facts command s rest (events.LockOk rel mode) fits puts count = held_decides facts command s rest rel mode fits
 may_decides next facts command s rest (events.LockHeld rel mode holder held) fits puts count = held_decides facts command s rest rel mode fits
-may_decides next facts command s rest (events.Unlock rel mode) fits puts count = owed_decides (IsUnlock facts s.taken (plan_at s.exec) rel mode) facts command s rest (is_unlock_at s (plan_at s.exec) rel mode) fits (unlock_decides facts s (plan_at s.exec) rel mode fits refl)
-may_decides next facts command s rest (events.Write xid written) fits puts count = owed_decides (IsWrite next (plan_at s.exec) written) facts command s rest (is_write_at next written (plan_at s.exec)) fits (λ none. write_decides next written (plan_at s.exec))
-may_decides next facts command s rest (events.ClashRow name rel) fits puts count = owed_decides (IsClash facts next (plan_at s.exec) name) facts command s rest (is_clash_at (kept_at s) name (plan_at s.exec)) fits (λ none. clash_decides facts s next name (plan_at s.exec) fits refl none puts)
-may_decides next facts command s rest (events.ClashRunning name xid) fits puts count = owed_decides (IsClash facts next (plan_at s.exec) name) facts command s rest (is_clash_at (kept_at s) name (plan_at s.exec)) fits (λ none. clash_decides facts s next name (plan_at s.exec) fits refl none puts)
+may_decides next facts command s rest (events.Unlock rel mode) fits puts count = owed_decides (IsUnlock facts s.taken (plan_at s.opens s.exec) rel mode) facts command s rest (is_unlock_at s (plan_at s.opens s.exec) rel mode) fits (unlock_decides facts s (plan_at s.opens s.exec) rel mode fits refl)
+may_decides next facts command s rest (events.Write xid written) fits puts count = owed_decides (IsWrite next (plan_at s.opens s.exec) written) facts command s rest (is_write_at next written (plan_at s.opens s.exec)) fits (λ none. write_decides next written (plan_at s.opens s.exec))
+may_decides next facts command s rest (events.ClashRow name rel) fits puts count = owed_decides (IsClash facts next (plan_at s.opens s.exec) name) facts command s rest (is_clash_at (kept_at s) name (plan_at s.opens s.exec)) fits (λ none. clash_decides facts s next name (plan_at s.opens s.exec) fits refl none puts)
+may_decides next facts command s rest (events.ClashRunning name xid) fits puts count = owed_decides (IsClash facts next (plan_at s.opens s.exec) name) facts command s rest (is_clash_at (kept_at s) name (plan_at s.opens s.exec)) fits (λ none. clash_decides facts s next name (plan_at s.opens s.exec) fits refl none puts)
 may_decides next facts command s rest (events.Visible xid) fits puts count = end_decides facts command s rest (events.Visible xid) fits count
 may_decides next facts command s rest (events.Publish n) fits puts count = end_decides facts command s rest (events.Publish n) fits count
 may_decides next facts command s rest (events.Gone from) fits puts count = end_decides facts command s rest (events.Gone from) fits count

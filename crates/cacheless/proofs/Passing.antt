@@ -54,7 +54,7 @@ rows_asked history b scan = along-keeps (λ before given. AreGivenBy scan given)
     stays before given e asked = by_backend before e (e.backend == b) given asked
 
 -- what an act gave that needs no entry: the rows of a scan are such as it asks for
-gave_asked : (seen : List Entry) (b : ℕ) (s : Progress) (act : Act) (plan : List Row → Plan) (gave : List Row) → FactsFit (facts_of seen b) s → plan_at s.exec ≡ Do act plan → act_missing s (Do act plan) ≡ [] → gives_at s act ≡ Some gave
+gave_asked : (seen : List Entry) (b : ℕ) (s : Progress) (act : Act) (plan : List Row → Plan) (gave : List Row) → FactsFit (facts_of seen b) s → plan_at s.opens s.exec ≡ Do act plan → act_missing s (Do act plan) ≡ [] → gives_at s act ≡ Some gave
     → PutsOpened s.opened (Do act plan) → PutsOpened (s.opened ++ opened_by act) (plan gave)
 gave_asked seen b s (Lookup name mode) plan gave fits at none gives puts = subst (λ l. PutsOpened l (plan gave)) (sym (append-nil s.opened)) (puts gave)
 gave_asked seen b s (Open rel kind) plan gave fits at none gives puts = puts gave
@@ -87,7 +87,7 @@ out_of command s is = (and_true (is_out s) (s.ended || is_ends (end_at s command
 
 -- an act that needs no entry, whichever it is
 pub act_keeps : (scenario : Scenario) (seen : List Entry) (was : Progress) (exec : Exec) (opened : List Opening) (caches : LocalCaches) (command : Command) (act : Act) (plan : List Row → Plan) (gave : List Row) → Holds scenario seen was → slice_get was.commands was.finished ≡ Some command
-    → owes_nothing command was ≡ true → plan_at was.exec ≡ Do act plan → gives_at was act ≡ Some gave → plan_at exec ≡ plan gave → ((name : List ℕ) → plan_at exec ≡ Absent name → plan_again exec ≡ plan_at was.exec) → opened ≡ was.opened ++ opened_by act → kept_of caches ≡ kept_at was
+    → owes_nothing command was ≡ true → plan_at was.opens was.exec ≡ Do act plan → gives_at was act ≡ Some gave → plan_at exec ≡ plan gave → ((name : List ℕ) → plan_at exec ≡ Absent name → plan_again exec ≡ plan_at was.opens was.exec) → opened ≡ was.opened ++ opened_by act → kept_of caches ≡ kept_at was
     → Holds scenario seen (record was { exec = exec; opened = opened; caches = caches; taken = None })
 act_keeps scenario seen was exec opened caches command act plan gave holds has owes at gives_it on again opens keeps = record {
   number = holds.number;
@@ -133,7 +133,7 @@ act_keeps scenario seen was exec opened caches command act plan gave holds has o
 
 -- and its session is that after the act
 pub act_acts : (scenario : Scenario) (seen : List Entry) (was : Progress) (exec : Exec) (opened : List Opening) (caches : LocalCaches) (command : Command) (act : Act) (plan : List Row → Plan) (gave : List Row) (held : Holds scenario seen was) → slice_get was.commands was.finished ≡ Some command
-    → owes_nothing command was ≡ true → plan_at was.exec ≡ Do act plan → gives_at was act ≡ Some gave → plan_at exec ≡ plan gave → ((name : List ℕ) → plan_at exec ≡ Absent name → plan_again exec ≡ plan_at was.exec) → opened ≡ was.opened ++ opened_by act → kept_of caches ≡ kept_at was
+    → owes_nothing command was ≡ true → plan_at was.opens was.exec ≡ Do act plan → gives_at was act ≡ Some gave → plan_at exec ≡ plan gave → ((name : List ℕ) → plan_at exec ≡ Absent name → plan_again exec ≡ plan_at was.opens was.exec) → opened ≡ was.opened ++ opened_by act → kept_of caches ≡ kept_at was
     → HasActed scenario seen was held (record was { exec = exec; opened = opened; caches = caches; taken = None })
 unfolding act_keeps
 act_acts scenario seen was exec opened caches command act plan gave held has owes at gives_it on again opens keeps = record {
@@ -159,7 +159,7 @@ at_next was exec blocked blocks opened caches = record was { finished = was.fini
 
 -- a finished command is passed over
 pub finish_keeps : (scenario : Scenario) (seen : List Entry) (was : Progress) (exec : Exec) (blocked : Bool) (blocks : Blocks) (opened : List Opening) (caches : LocalCaches) (command : Command) → Holds scenario seen was → slice_get was.commands was.finished ≡ Some command → is_finished_at command was ≡ true
-    → blocks ≡ blocks_passed (plan_at was.exec) (was.finished + 1) command was.blocks → opened ≡ [] → kept_of caches ≡ kept_at was
+    → blocks ≡ blocks_passed (plan_at was.opens was.exec) (was.finished + 1) command was.blocks → opened ≡ [] → kept_of caches ≡ kept_at was
     → plan_at exec ≡ plan_first blocks (slice_get was.commands (was.finished + 1)) → blocked ≡ is_some (refused_first blocks (slice_get was.commands (was.finished + 1)))
     → Holds scenario seen (at_next was exec blocked blocks opened caches)
 finish_keeps scenario seen was exec blocked blocks opened caches command holds has finished passes none keeps on refuses = record {
@@ -198,7 +198,7 @@ finish_keeps scenario seen was exec blocked blocks opened caches command holds h
     next = next_session command (slice_get was.commands (was.finished + 1)) (session_at was holds.rest)
 
     blocks_are : blocks_after command (session_at was holds.rest) ≡ blocks
-    blocks_are = ap (λ n. blocks_passed (plan_at was.exec) (n + 1) command was.blocks) holds.count ∙ sym passes
+    blocks_are = ap (λ n. blocks_passed (plan_at was.opens was.exec) (n + 1) command was.blocks) holds.count ∙ sym passes
 
     same : next_session command (first_of (drop (was.finished + 1) was.commands)) (session_at was holds.rest) ≡ session_at (at_next was exec blocked blocks opened caches) (rest_of next)
     same = ap (λ o. next_session command o (session_at was holds.rest)) (first_left was.commands (was.finished + 1))
@@ -211,7 +211,7 @@ finish_keeps scenario seen was exec blocked blocks opened caches command holds h
 
 -- and its session is that at the next command
 pub finish_passes : (scenario : Scenario) (seen : List Entry) (was : Progress) (exec : Exec) (blocked : Bool) (blocks : Blocks) (opened : List Opening) (caches : LocalCaches) (command : Command) (held : Holds scenario seen was) → slice_get was.commands was.finished ≡ Some command → is_finished_at command was ≡ true
-    → blocks ≡ blocks_passed (plan_at was.exec) (was.finished + 1) command was.blocks → opened ≡ [] → kept_of caches ≡ kept_at was
+    → blocks ≡ blocks_passed (plan_at was.opens was.exec) (was.finished + 1) command was.blocks → opened ≡ [] → kept_of caches ≡ kept_at was
     → plan_at exec ≡ plan_first blocks (slice_get was.commands (was.finished + 1)) → blocked ≡ is_some (refused_first blocks (slice_get was.commands (was.finished + 1)))
     → HasPassed scenario seen was held (at_next was exec blocked blocks opened caches)
 unfolding finish_keeps
@@ -235,7 +235,7 @@ finish_passes scenario seen was exec blocked blocks opened caches command held h
     next = next_session command (slice_get was.commands (was.finished + 1)) (session_at was held.rest)
 
     blocks_are : blocks_after command (session_at was held.rest) ≡ blocks
-    blocks_are = ap (λ n. blocks_passed (plan_at was.exec) (n + 1) command was.blocks) held.count ∙ sym passes
+    blocks_are = ap (λ n. blocks_passed (plan_at was.opens was.exec) (n + 1) command was.blocks) held.count ∙ sym passes
 
 -- what an act gives is what the code gives it
 lock_rows : (t : Bool) (given : List Row) → is_some (if_locked t given) ≡ true → if_locked t given ≡ Some given
@@ -290,9 +290,9 @@ given_is s p = refl
 
 -- an act is left
 pub act_is_left : (s : Progress) → Acts s → 0 < acts_left s.exec
-act_is_left s acts = by_plan (plan_at s.exec) refl (and_true (owes_nothing acts.command s) (gives_next s (plan_at s.exec)) acts.acts).1
+act_is_left s acts = by_plan (plan_at s.opens s.exec) refl (and_true (owes_nothing acts.command s) (gives_next s (plan_at s.opens s.exec)) acts.acts).1
   where
-    by_plan : (p : Plan) → plan_at s.exec ≡ p → gives_next s p ≡ true → 0 < acts_left s.exec
+    by_plan : (p : Plan) → plan_at s.opens s.exec ≡ p → gives_next s p ≡ true → 0 < acts_left s.exec
     by_plan (Do act plan) at is = act_left s.exec act plan at
     by_plan (Done told) at is = absurd (cc)
     by_plan (Fails error) at is = absurd (cc)
@@ -300,12 +300,12 @@ act_is_left s acts = by_plan (plan_at s.exec) refl (and_true (owes_nothing acts.
     by_plan NotBuilt at is = absurd (cc)
 
 -- the act that is done without an entry
-pub acted_keeps : (was : Progress) (exec : Exec) (opened : List Opening) (caches : LocalCaches) (want : Want) (acts : Acts was) → want ≡ want_of (plan_at was.exec)
-    → plan_at exec ≡ after_act (rows_given was want) (plan_at was.exec) → ((name : List ℕ) → 0 < acts_left was.exec → plan_at exec ≡ Absent name → plan_again exec ≡ plan_at was.exec) → opened ≡ was.opened ++ opened_for want → kept_of caches ≡ kept_at was
+pub acted_keeps : (was : Progress) (exec : Exec) (opened : List Opening) (caches : LocalCaches) (want : Want) (acts : Acts was) → want ≡ want_of (plan_at was.opens was.exec)
+    → plan_at exec ≡ after_act (rows_given was want) (plan_at was.opens was.exec) → ((name : List ℕ) → 0 < acts_left was.exec → plan_at exec ≡ Absent name → plan_again exec ≡ plan_at was.opens was.exec) → opened ≡ was.opened ++ opened_for want → kept_of caches ≡ kept_at was
     → (scenario : Scenario) (seen : List Entry) (held : Holds scenario seen was) → HasActed scenario seen was held (record was { exec = exec; opened = opened; caches = caches; taken = None })
-acted_keeps was exec opened caches want acts wants on again opens keeps scenario seen held = by_plan (plan_at was.exec) refl (and_true (owes_nothing acts.command was) (gives_next was (plan_at was.exec)) acts.acts)
+acted_keeps was exec opened caches want acts wants on again opens keeps scenario seen held = by_plan (plan_at was.opens was.exec) refl (and_true (owes_nothing acts.command was) (gives_next was (plan_at was.opens was.exec)) acts.acts)
   where
-    by_plan : (p : Plan) → plan_at was.exec ≡ p → (owes_nothing acts.command was ≡ true) × (gives_next was (plan_at was.exec) ≡ true) → HasActed scenario seen was held (record was { exec = exec; opened = opened; caches = caches; taken = None })
+    by_plan : (p : Plan) → plan_at was.opens was.exec ≡ p → (owes_nothing acts.command was ≡ true) × (gives_next was (plan_at was.opens was.exec) ≡ true) → HasActed scenario seen was held (record was { exec = exec; opened = opened; caches = caches; taken = None })
     by_plan (Do act plan) at parts =
         let want_is : want ≡ want_of (Do act plan) = wants ∙ ap want_of at in
         act_acts scenario seen was exec opened caches acts.command act plan (rows_given was (want_of (Do act plan))) held acts.at parts.0 at
@@ -321,7 +321,7 @@ acted_keeps was exec opened caches want acts wants on again opens keeps scenario
 
 -- the code's step to the next command
 pub finish_code : (was : Progress) (exec : Exec) (blocked : Bool) (blocks : Blocks) (tally : Counts) (opened : List Opening) (caches : LocalCaches) (answer : Option (List ℕ)) (commands : List Command) (command : Command) → Finishes was → slice_get was.commands was.finished ≡ Some command
-    → blocks ≡ blocks_passed (plan_at was.exec) (was.finished + 1) command was.blocks → commands ≡ was.commands → plan_at exec ≡ plan_first blocks (slice_get commands (was.finished + 1)) → blocked ≡ is_some (refused_first blocks (slice_get commands (was.finished + 1))) → tally ≡ no_counts → opened ≡ [] → kept_of caches ≡ kept_at was → answer ≡ None
+    → blocks ≡ blocks_passed (plan_at was.opens was.exec) (was.finished + 1) command was.blocks → commands ≡ was.commands → plan_at exec ≡ plan_first blocks (slice_get commands (was.finished + 1)) → blocked ≡ is_some (refused_first blocks (slice_get commands (was.finished + 1))) → tally ≡ no_counts → opened ≡ [] → kept_of caches ≡ kept_at was → answer ≡ None
     → (scenario : Scenario) (seen : List Entry) (held : Holds scenario seen was)
     → HasPassed scenario seen was held (record was { finished = was.finished + 1; exec = exec; blocked = blocked; ended = false; tally = tally; blocks = blocks; taken = None; opened = opened; caches = caches; answer = answer })
 finish_code was exec blocked blocks tally opened caches answer commands command finishes at passes same on refuses fresh none keeps taken scenario seen held =

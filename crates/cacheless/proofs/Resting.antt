@@ -87,11 +87,11 @@ free_now facts command s rest fits is = let parts = and_true (is_empty (owed_fir
 }
 
 -- no scan is missing before an act: so none of the act is
-pub lacks_none : (s : Progress) (act : Act) (plan : List Row → Plan) → plan_at s.exec ≡ Do act plan → scans_missing s ≡ [] → builds_missing (kept_at s) s.opened ++ act_missing s (Do act plan) ≡ []
+pub lacks_none : (s : Progress) (act : Act) (plan : List Row → Plan) → plan_at s.opens s.exec ≡ Do act plan → scans_missing s ≡ [] → builds_missing (kept_at s) s.opened ++ act_missing s (Do act plan) ≡ []
 lacks_none s act plan at none = ap (λ p. elim (outcome_of p) as (λ x. List Purpose) [ Badly ↦ [] | other ↦ builds_missing (kept_at s) s.opened ++ act_missing s p ]) (sym at) ∙ none
 
 -- then what it gives decides
-pub here : (facts : Facts) (s : Progress) (rest : Rest) (act : Act) (plan : List Row → Plan) → FactsFit facts s → length rest.finished ≡ s.finished → plan_at s.exec ≡ Do act plan → scans_missing s ≡ [] → done_here facts (session_at s rest) act (Do act plan) ≡ gives_at s act
+pub here : (facts : Facts) (s : Progress) (rest : Rest) (act : Act) (plan : List Row → Plan) → FactsFit facts s → length rest.finished ≡ s.finished → plan_at s.opens s.exec ≡ Do act plan → scans_missing s ≡ [] → done_here facts (session_at s rest) act (Do act plan) ≡ gives_at s act
 here facts s rest act plan fits count at none =
     ap (λ l. elim (is_empty l) [ true ↦ gives facts (session_at s rest) act | false ↦ None ]) same
     ∙ gives_same facts s rest act plan fits count (right_none (builds_missing (kept_at s) s.opened) (act_missing s (Do act plan)) lacks)
@@ -118,15 +118,15 @@ over_same facts command s r running count = by_ended s.ended
 
 pub finished_same : (facts : Facts) (command : Command) (s : Progress) (r : Rest) → FactsFit facts s → length r.finished ≡ s.finished → is_finished facts command (session_at s r) ≡ is_finished_at command s
 finished_same facts command s r fits count =
-    ap (λ t. is_settled (outcome_of (plan_at s.exec)) && t && is_empty (owed_of facts command (session_at s r))) (over_same facts command s r fits.running count)
-    ∙ ap (λ t. is_settled (outcome_of (plan_at s.exec)) && (s.ended || is_ends (end_at s command)) && t) (owes_nothing_is facts command s r fits)
+    ap (λ t. is_settled (outcome_of (plan_at s.opens s.exec)) && t && is_empty (owed_of facts command (session_at s r))) (over_same facts command s r fits.running count)
+    ∙ ap (λ t. is_settled (outcome_of (plan_at s.opens s.exec)) && (s.ended || is_ends (end_at s command)) && t) (owes_nothing_is facts command s r fits)
 
 none_of : (o : Option (List Row)) → is_some o ≡ false → o ≡ None
 none_of None is = refl
 none_of (Some x) is = absurd (cc)
 
 -- where the next act gives nothing yet, none is done
-stays_act : (facts : Facts) (command : Command) (s : Progress) (r : Rest) → FactsFit facts s → length r.finished ≡ s.finished → acts_on command s ≡ false → (p : Plan) → plan_at s.exec ≡ p → is_empty (owed_first s command) && is_empty (owed_at s.due) ≡ true → acted_on facts p (session_at s r) ≡ session_at s r
+stays_act : (facts : Facts) (command : Command) (s : Progress) (r : Rest) → FactsFit facts s → length r.finished ≡ s.finished → acts_on command s ≡ false → (p : Plan) → plan_at s.opens s.exec ≡ p → is_empty (owed_first s command) && is_empty (owed_at s.due) ≡ true → acted_on facts p (session_at s r) ≡ session_at s r
 stays_act facts command s r fits count stays (Done told) at free = refl
 stays_act facts command s r fits count stays (Fails error) at free = refl
 stays_act facts command s r fits count stays (Absent name) at free = refl
@@ -143,7 +143,7 @@ stays_act facts command s r fits count stays (Do act plan) at free = ap (λ o. e
     by_lacks : (t : Bool) → lacks_any s ≡ t → done_here facts (session_at s r) act (Do act plan) ≡ None
     by_lacks true is = ap (λ t. elim t as (λ x. Option (List Row)) [ true ↦ gives facts (session_at s r) act | false ↦ None ]) (ap is_empty owed_is ∙ sym (lacks_any_is s) ∙ ap not is)
     by_lacks false is = here facts s r act plan fits count at (empty_is (scans_missing s) (sym (lacks_any_is s) ∙ ap not is))
-        ∙ none_of (gives_at s act) (sym (ap (λ p. gives_next s p) at) ∙ sym (ap (λ t. t && gives_next s (plan_at s.exec)) (ap (λ t. t && not (lacks_any s)) free ∙ ap not is)) ∙ stays)
+        ∙ none_of (gives_at s act) (sym (ap (λ p. gives_next s p) at) ∙ sym (ap (λ t. t && gives_next s (plan_at s.opens s.exec)) (ap (λ t. t && not (lacks_any s)) free ∙ ap not is)) ∙ stays)
 
 -- where no act is done here and the command isn't finished, nothing is left to settle
 pub rests_here : (scenario : Scenario) (seen : List Entry) (s : Progress) (command : Command) (holds : Holds scenario seen s) → slice_get s.commands s.finished ≡ Some command → acts_on command s ≡ false → is_finished_at command s ≡ false
@@ -158,8 +158,8 @@ rests_here scenario seen s command holds has stays unfinished =
     r : Rest
     r = holds.rest
 
-    by_first : (t : Bool) → is_empty (owed_at_start facts command (session_at s r) ++ owed_after facts.last) ≡ t → elim t as (λ x. Session) [ true ↦ acted_on facts (plan_at s.exec) (session_at s r) | false ↦ session_at s r ] ≡ session_at s r
-    by_first true is = stays_act facts command s r holds.facts holds.count stays (plan_at s.exec) refl (sym (first_same facts command s r holds.facts) ∙ is)
+    by_first : (t : Bool) → is_empty (owed_at_start facts command (session_at s r) ++ owed_after facts.last) ≡ t → elim t as (λ x. Session) [ true ↦ acted_on facts (plan_at s.opens s.exec) (session_at s r) | false ↦ session_at s r ] ≡ session_at s r
+    by_first true is = stays_act facts command s r holds.facts holds.count stays (plan_at s.opens s.exec) refl (sym (first_same facts command s r holds.facts) ∙ is)
     by_first false is = refl
 
 -- after the last command nothing is done without an entry

@@ -56,16 +56,16 @@ act-missing facts s (Do (Lock rel mode) rest) fits = refl
 act-missing facts s (Do (Write draft) rest) fits = refl
 act-missing facts s p fits = unusable-missing facts (kept_at s) fits.usable (left_rests_on p)
 
-pub act_same : (facts : Facts) (s : Progress) → FactsFit facts s → act_owed facts (plan_at s.exec) ≡ act_missing s (plan_at s.exec)
-act_same facts s fits = act-missing facts s (plan_at s.exec) fits
+pub act_same : (facts : Facts) (s : Progress) → FactsFit facts s → act_owed facts (plan_at s.opens s.exec) ≡ act_missing s (plan_at s.opens s.exec)
+act_same facts s fits = act-missing facts s (plan_at s.opens s.exec) fits
 
 pub scans_same : (facts : Facts) (s : Progress) (rest : Rest) → FactsFit facts s → scans_owed facts (session_at s rest) ≡ scans_missing s
-scans_same facts s rest fits = ap (λ l. elim (outcome_of (plan_at s.exec)) as (λ x. List Purpose) [ Badly ↦ [] | other ↦ l ])
-    (ap (λ l. l ++ act_owed facts (plan_at s.exec)) (builds_same facts s fits) ∙ ap (λ l. builds_missing (kept_at s) s.opened ++ l) (act_same facts s fits))
+scans_same facts s rest fits = ap (λ l. elim (outcome_of (plan_at s.opens s.exec)) as (λ x. List Purpose) [ Badly ↦ [] | other ↦ l ])
+    (ap (λ l. l ++ act_owed facts (plan_at s.opens s.exec)) (builds_same facts s fits) ∙ ap (λ l. builds_missing (kept_at s) s.opened ++ l) (act_same facts s fits))
 
 -- its opened descriptors lack scans
 pub lacks_same : (facts : Facts) (s : Progress) (rest : Rest) → FactsFit facts s → owes_build facts (session_at s rest) ≡ lacks_builds s
-lacks_same facts s rest fits = ap (λ l. elim (outcome_of (plan_at s.exec)) as (λ x. Bool) [ Badly ↦ false | other ↦ not (is_empty l) ]) (builds_same facts s fits)
+lacks_same facts s rest fits = ap (λ l. elim (outcome_of (plan_at s.opens s.exec)) as (λ x. Bool) [ Badly ↦ false | other ↦ not (is_empty l) ]) (builds_same facts s fits)
 
 -- a look may come
 pub look_same : (facts : Facts) (s : Progress) (rest : Rest) → FactsFit facts s → may_look facts (session_at s rest) ≡ may_look_at s
@@ -126,20 +126,20 @@ act_first facts s scan p fits = refl
 
 -- the scan may be made now
 pub next_same : (facts : Facts) (s : Progress) (rest : Rest) (scan : Purpose) → FactsFit facts s → is_next_scan scan facts (session_at s rest) ≡ is_next_at scan s
-next_same facts s rest scan fits = by_outcome (outcome_of (plan_at s.exec))
+next_same facts s rest scan fits = by_outcome (outcome_of (plan_at s.opens s.exec))
   where
     builds : List Purpose
     builds = flat_map (λ o. take 1 (unusable facts (build_scans o.kind o.rel))) s.opened
 
     acts : List Purpose
-    acts = act_next facts (plan_at s.exec)
+    acts = act_next facts (plan_at s.opens s.exec)
 
-    both : list_any (same_scan scan) (builds ++ acts) ≡ (list_any (λ o. is_first_missing scan (kept_at s) o.kind o.rel) s.opened || is_next_of_act scan s (plan_at s.exec))
+    both : list_any (same_scan scan) (builds ++ acts) ≡ (list_any (λ o. is_first_missing scan (kept_at s) o.kind o.rel) s.opened || is_next_of_act scan s (plan_at s.opens s.exec))
     both = list_any-append (same_scan scan) builds acts ∙ ap (λ t. t || list_any (same_scan scan) acts) (opened_first facts (kept_at s) scan fits.usable s.opened)
-        ∙ ap (λ t. list_any (λ o. is_first_missing scan (kept_at s) o.kind o.rel) s.opened || t) (act_first facts s scan (plan_at s.exec) fits)
+        ∙ ap (λ t. list_any (λ o. is_first_missing scan (kept_at s) o.kind o.rel) s.opened || t) (act_first facts s scan (plan_at s.opens s.exec) fits)
 
     by_outcome : (o : Outcome) → list_any (same_scan scan) (elim o as (λ x. List Purpose) [ Badly ↦ [] | other ↦ builds ++ acts ])
-        ≡ (not (elim o as (λ x. Bool) [ Badly ↦ true | other ↦ false ]) && (list_any (λ p. is_first_missing scan (kept_at s) p.kind p.rel) s.opened || is_next_of_act scan s (plan_at s.exec)))
+        ≡ (not (elim o as (λ x. Bool) [ Badly ↦ true | other ↦ false ]) && (list_any (λ p. is_first_missing scan (kept_at s) p.kind p.rel) s.opened || is_next_of_act scan s (plan_at s.opens s.exec)))
     by_outcome Unsettled = both
     by_outcome Well = both
     by_outcome Badly = refl
@@ -183,13 +183,13 @@ lacks_opened_is kept (o ∷ opened) =
 
 -- no scan is missing
 pub lacks_any_is : (s : Progress) → not (lacks_any s) ≡ is_empty (scans_missing s)
-lacks_any_is s = ap (λ t. not (not (has_failed s) && (t || not (is_empty (act_missing s (plan_at s.exec)))))) (lacks_opened_is (kept_at s) s.opened) ∙ by_outcome (outcome_of (plan_at s.exec))
+lacks_any_is s = ap (λ t. not (not (has_failed s) && (t || not (is_empty (act_missing s (plan_at s.opens s.exec)))))) (lacks_opened_is (kept_at s) s.opened) ∙ by_outcome (outcome_of (plan_at s.opens s.exec))
   where
     builds : List Purpose
     builds = builds_missing (kept_at s) s.opened
 
     acts : List Purpose
-    acts = act_missing s (plan_at s.exec)
+    acts = act_missing s (plan_at s.opens s.exec)
 
     apart : (a b : Bool) → not (not a || not b) ≡ (a && b)
     apart true true = refl
@@ -212,7 +212,7 @@ owes_nothing_is facts command s rest fits =
 
 -- the test of the opened descriptors, where the command hasn't failed
 pub lacks_builds_is : (s : Progress) → (not (has_failed s) && lacks_opened (kept_at s) s.opened) ≡ lacks_builds s
-lacks_builds_is s = ap (λ t. not (has_failed s) && t) (lacks_opened_is (kept_at s) s.opened) ∙ by_outcome (outcome_of (plan_at s.exec))
+lacks_builds_is s = ap (λ t. not (has_failed s) && t) (lacks_opened_is (kept_at s) s.opened) ∙ by_outcome (outcome_of (plan_at s.opens s.exec))
   where
     by_outcome : (o : Outcome) → (not (elim o as (λ x. Bool) [ Badly ↦ true | other ↦ false ]) && not (is_empty (builds_missing (kept_at s) s.opened))) ≡ elim o as (λ x. Bool) [ Badly ↦ false | other ↦ not (is_empty (builds_missing (kept_at s) s.opened)) ]
     by_outcome Unsettled = refl
@@ -287,14 +287,14 @@ act_any s (Done (tells.Regclass oid)) reads = no_build (kept_at s) (scans.RelOid
 act_any s p reads = refl
 
 -- the test whether a scan for a descriptor is missing
-pub lacks_build_scan_is : (s : Progress) → (not (has_failed s) && (lacks_opened (kept_at s) s.opened || lacks_to_build s (plan_at s.exec))) ≡ list_any is_build_scan (scans_missing s)
-lacks_build_scan_is s = by_outcome (outcome_of (plan_at s.exec))
+pub lacks_build_scan_is : (s : Progress) → (not (has_failed s) && (lacks_opened (kept_at s) s.opened || lacks_to_build s (plan_at s.opens s.exec))) ≡ list_any is_build_scan (scans_missing s)
+lacks_build_scan_is s = by_outcome (outcome_of (plan_at s.opens s.exec))
   where
-    both : (lacks_opened (kept_at s) s.opened || lacks_to_build s (plan_at s.exec)) ≡ list_any is_build_scan (builds_missing (kept_at s) s.opened ++ act_missing s (plan_at s.exec))
-    both = ap (λ t. t || lacks_to_build s (plan_at s.exec)) (sym (opened_any (kept_at s) s.opened)) ∙ ap (λ t. list_any is_build_scan (builds_missing (kept_at s) s.opened) || t) (sym (act_any s (plan_at s.exec) (stage_reads s.exec)))
-        ∙ sym (list_any-append is_build_scan (builds_missing (kept_at s) s.opened) (act_missing s (plan_at s.exec)))
+    both : (lacks_opened (kept_at s) s.opened || lacks_to_build s (plan_at s.opens s.exec)) ≡ list_any is_build_scan (builds_missing (kept_at s) s.opened ++ act_missing s (plan_at s.opens s.exec))
+    both = ap (λ t. t || lacks_to_build s (plan_at s.opens s.exec)) (sym (opened_any (kept_at s) s.opened)) ∙ ap (λ t. list_any is_build_scan (builds_missing (kept_at s) s.opened) || t) (sym (act_any s (plan_at s.opens s.exec) (stage_reads s.exec)))
+        ∙ sym (list_any-append is_build_scan (builds_missing (kept_at s) s.opened) (act_missing s (plan_at s.opens s.exec)))
 
-    by_outcome : (o : Outcome) → (not (elim o as (λ x. Bool) [ Badly ↦ true | other ↦ false ]) && (lacks_opened (kept_at s) s.opened || lacks_to_build s (plan_at s.exec))) ≡ list_any is_build_scan (elim o as (λ x. List Purpose) [ Badly ↦ [] | other ↦ builds_missing (kept_at s) s.opened ++ act_missing s (plan_at s.exec) ])
+    by_outcome : (o : Outcome) → (not (elim o as (λ x. Bool) [ Badly ↦ true | other ↦ false ]) && (lacks_opened (kept_at s) s.opened || lacks_to_build s (plan_at s.opens s.exec))) ≡ list_any is_build_scan (elim o as (λ x. List Purpose) [ Badly ↦ [] | other ↦ builds_missing (kept_at s) s.opened ++ act_missing s (plan_at s.opens s.exec) ])
     by_outcome Unsettled = both
     by_outcome Well = both
     by_outcome Badly = refl

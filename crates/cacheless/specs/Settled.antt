@@ -98,21 +98,25 @@ is_finished facts command s = is_settled (outcome_of s.left) && is_none (end_lef
 abbrev pub blocks_after : Command → Session → Blocks
 blocks_after command s = elim (outcome_of s.left) [ Well ↦ blocks_well (number_of s) command s.blocks | outcome ↦ blocks_badly s.blocks ]
 
--- the relations that are open after one was opened under a name, if one was
-abbrev pub opens_with : List ℕ → Session → List OpenRelation
-opens_with name s = elim (slice_get s.opened (length s.opens)) [ Some o ↦ s.opens ++ record { name = name; rel = o.rel; kind = o.kind; command = number_of s } ∷ [] | None ↦ s.opens ]
+-- the relations that are open after one was opened under a name by the command of this number, if one was: its descriptor is the first that is held beside those of the others
+abbrev pub opens_with : ℕ → List ℕ → List Opening → List OpenRelation → List OpenRelation
+opens_with number name opened opens = elim (slice_get opened (length opens)) [ Some o ↦ opens ++ record { name = name; rel = o.rel; kind = o.kind; command = number } ∷ [] | None ↦ opens ]
 
--- the relations that are open after a command that came out well
-abbrev pub opens_well : Command → Session → List OpenRelation
-opens_well (commands.OpenRel name) s = opens_with name s
-opens_well (commands.CloseRel name) s = without_latest name s.opens
-opens_well commands.Commit s = []
-opens_well commands.Rollback s = []
-opens_well command s = s.opens
+-- the relations that are open after a command of this number that came out well
+abbrev pub opens_well : ℕ → Command → List Opening → List OpenRelation → List OpenRelation
+opens_well number (commands.OpenRel name) opened opens = opens_with number name opened opens
+opens_well number (commands.CloseRel name) opened opens = without_latest name opens
+opens_well number commands.Commit opened opens = []
+opens_well number commands.Rollback opened opens = []
+opens_well number command opened opens = opens
 
--- the relations that are open after the running command: none after one that failed, since its level is taken back
+-- the relations that are open after a command, by what is left of its plan: none after one that failed, since its level is taken back
+abbrev pub opens_passed : Plan → ℕ → Command → List Opening → List OpenRelation → List OpenRelation
+opens_passed plan number command opened opens = elim (outcome_of plan) [ Well ↦ opens_well number command opened opens | outcome ↦ [] ]
+
+-- the same of the running command
 abbrev pub opens_after : Command → Session → List OpenRelation
-opens_after command s = elim (outcome_of s.left) [ Well ↦ opens_well command s | outcome ↦ [] ]
+opens_after command s = opens_passed s.left (number_of s) command s.opened s.opens
 
 -- what is kept of the running command
 abbrev pub finished_as : Session → Finished

@@ -1,6 +1,6 @@
 // Whether a write is the one that a command wants, by the draft that it has.
 
-ghost use Rattle.std.specs.Prelude.{◌≡◌, ◌++◌, ◌∷◌, [], length, map, ◌==◌};
+ghost use Rattle.std.specs.Prelude.{◌≡◌, ◌++◌, ◌∷◌, List, [], length, map, ◌==◌};
 ghost use Rattle.std.specs.List.{list_any, flat_map};
 ghost use Rattle.std.specs.Option.{option_eq};
 ghost use Rattle.std.specs.Str.{bytes_eq};
@@ -19,13 +19,13 @@ ghost use Rattle.local_caches.specs.Caches.{kept_of};
 
 use crate::silent::rows_kept;
 use base_types::{Change, ConKind, Name, Oid, Purpose, Row, live_word, on_word, valid_word};
-use ddl_effect::{Altering, Draft, Exec};
+use ddl_effect::{Altering, Draft, Exec, OpenRelation};
 use event_kinds::Item;
 use local_caches::LocalCaches;
 
 // Whether the next act writes these items, where the next new oid is this one.
 pub(crate) fn writes_items(exec: &Exec, next: u32, items: &[Item]) -> bool
-    ensures { result ≡ is_write_at next items.now (plan_at exec.now) }
+    ensures { (opens : List OpenRelation) → result ≡ is_write_at next items.now (plan_at opens exec.now) }
 {
     match exec {
         Exec::Writing(draft) => writes_draft(draft, next, items),
@@ -49,7 +49,7 @@ fn writes_draft(draft: &Draft, next: u32, items: &[Item]) -> bool
 
 // Whether an alteration writes these items.
 fn writes_row(altering: &Altering, next: u32, items: &[Item]) -> bool
-    ensures { result ≡ is_write_at next items.now (altering_at altering.now) }
+    ensures { (opens : List OpenRelation) → result ≡ is_write_at next items.now (altering_at opens altering.now) }
 {
     match altering {
         Altering::Inserting { row } => are_drafted(items, &[Change::Insert(*row)], &[], next, 0),
@@ -372,7 +372,7 @@ fn same_name(a: &Name, b: &Name) -> bool
 
 // Whether the next act writes a relation of this new name.
 pub(crate) fn gives_name(exec: &Exec, caches: &LocalCaches, name: Name) -> bool
-    ensures { result ≡ is_clash_at (kept_of caches.now) name (plan_at exec.now) }
+    ensures { (opens : List OpenRelation) → result ≡ is_clash_at (kept_of caches.now) name (plan_at opens exec.now) }
 {
     match exec {
         Exec::Writing(draft) => draft_gives(draft, caches, name),
@@ -399,7 +399,7 @@ fn any_gives(changes: &[Change], caches: &LocalCaches, name: Name) -> bool
 
 // Whether an alteration gives a relation this new name.
 fn alteration_gives(altering: &Altering, caches: &LocalCaches, name: Name) -> bool
-    ensures { result ≡ is_clash_at (kept_of caches.now) name (altering_at altering.now) }
+    ensures { (opens : List OpenRelation) → result ≡ is_clash_at (kept_of caches.now) name (altering_at opens altering.now) }
 {
     match altering {
         Altering::Inserting { row } => change_gives(&Change::Insert(*row), caches, name),

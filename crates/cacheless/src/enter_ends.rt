@@ -8,9 +8,10 @@ ghost use Rattle.command_lists.specs.Lists.{all_lists};
 
 use crate::enter::accept;
 use crate::{Due, Progress};
-use base_types::Xid;
+use base_types::{Listed, Xid};
 use command_lists::InvalLists;
 use event_kinds::Event;
+use std::alloc::Global;
 use txn_blocks::RunningTransaction;
 
 impl Progress {
@@ -79,8 +80,8 @@ impl Progress {
 
     /// It released the locks that it was granted in commands of this number and above; where that is
     /// the first command of its transaction, the transaction ends (`LockReleaseAll` in
-    /// `src/backend/storage/lmgr/lock.c`).
-    pub fn enter_release(&mut self, from: u32)
+    /// `src/backend/storage/lmgr/lock.c`). The descriptors that it held are closed.
+    pub fn enter_release(&mut self, alloc: Global, from: u32)
         requires few { self.old.finished ≤ 20000 }
         ensures kept { kept_at self.new ≡ kept_at self.old }
         ensures answer { self.new.answer ≡ self.old.answer }
@@ -93,6 +94,8 @@ impl Progress {
         );
         self.running = RunningTransaction::begun(self.finished + 1, self.running).released(from);
         self.locks.release(from);
+        self.opened = Listed::new(alloc);
+        self.caches.unpin_all();
         self.ended = true;
         self.due = Due::Nothing;
         let accepting = self.is_in_acceptance();

@@ -12,6 +12,7 @@ ghost use Rattle.cacheless.specs.Locks.{locked_by};
 ghost use Rattle.cacheless.specs.State.{locks_made, locks_written, messages_in, clash_event, error_of};
 
 use crate::enter::accept;
+use crate::opens::{openings_of, pin_anew};
 use crate::{Due, Progress};
 use base_types::{Listed, Name, NoMemory, Oid, Xid};
 use command_answers::CommandError;
@@ -44,7 +45,7 @@ impl Progress {
         first: Oid,
     ) -> Result<(), NoMemory>
         requires few { self.old.finished ≤ 20000 }
-        requires wants { want_of (plan_at self.old.exec) ≡ wants.Write }
+        requires wants { want_of (plan_at self.old.opens self.old.exec) ≡ wants.Write }
         requires order { AllByRecursion (λ list. list.command < self.old.finished + 1) (lists_at self.old) }
         requires place { 0 < self.old.locks.room }
         requires new { 0 < new_oids → has_lock self.old.locks.items first AccessExclusive ≡ false }
@@ -59,9 +60,9 @@ impl Progress {
         lock_new(&mut self.locks, new_oids, first, command);
         self.running = Some(RunningTransaction::begun(command, self.running).with_xid(xid));
         self.due = Due::Nothing;
-        self.exec.give(alloc, &[])?;
-        self.opened = Listed::new(alloc);
-        self.caches.unpin_all();
+        self.exec.give(alloc, self.opens.as_slice(), &[])?;
+        self.opened = openings_of(alloc, self.opens.as_slice())?;
+        pin_anew(&mut self.caches, self.opens.as_slice())?;
         self.taken = None;
         let accepting = self.is_in_acceptance();
         accept(&mut self.locks, accepting);

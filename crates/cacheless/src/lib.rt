@@ -49,6 +49,7 @@ mod enter_scans;
 mod enter_writes;
 mod may;
 mod opening;
+mod opens;
 mod progress;
 mod scans;
 mod silent;

@@ -82,12 +82,14 @@ impl Progress {
 
     // Whether the event may come next after the last command.
     fn may_last(&self, event: &Event) -> bool
+        requires few { self.now.finished ≤ 20000 }
         requires room { HasRoom self.now }
         ensures { result ≡ may_last_at self.now event.now }
     {
         match event {
             Event::Look { .. } => self.running.is_some() && self.may_look(),
             Event::Fetch { .. } | Event::FetchReset => true,
+            Event::Scan { purpose, .. } => self.may_scan(purpose),
             Event::Gone { .. } | Event::Release { .. } => self.may_end_last(event),
             Event::Stop => self.running.is_none(),
             _ => false,
@@ -166,8 +168,8 @@ impl Progress {
 
     // Whether the scan is the first that the next act or the answer lacks.
     fn is_next_of(&self, scan: &Purpose, want: &Want) -> bool
-        requires want { want_of (plan_at self.now.exec) ≡ want.now }
-        ensures { result ≡ is_next_of_act scan.now self.now (plan_at self.now.exec) }
+        requires want { want_of (plan_at self.now.opens self.now.exec) ≡ want.now }
+        ensures { result ≡ is_next_of_act scan.now self.now (plan_at self.now.opens self.now.exec) }
     {
         match want {
             Want::Lookup { name, .. } => {
@@ -197,7 +199,7 @@ impl Progress {
 
     // Whether the next act gives this lock back.
     fn is_unlock(&self, rel: Oid, mode: Mode) -> bool
-        ensures { result ≡ is_unlock_at self.now (plan_at self.now.exec) rel mode }
+        ensures { result ≡ is_unlock_at self.now (plan_at self.now.opens self.now.exec) rel mode }
     {
         match self.exec.next() {
             Want::Lookup { name, mode: wanted } => {
@@ -221,7 +223,7 @@ impl Progress {
 
     // Whether the next act asks for this lock.
     fn is_lock(&self, rel: Oid, mode: Mode) -> bool
-        ensures { result ≡ is_lock_at self.now (plan_at self.now.exec) rel mode }
+        ensures { result ≡ is_lock_at self.now (plan_at self.now.opens self.now.exec) rel mode }
     {
         match self.exec.next() {
             Want::Lookup { name, mode: wanted } => {
@@ -284,7 +286,7 @@ impl Progress {
 
     // The same, as it is tested.
     fn lacks_a_build(&self) -> bool
-        ensures { result ≡ (not (failed self.now) && (lacks_opened (kept_at self.now) self.now.opened || lacks_to_build self.now (plan_at self.now.exec))) }
+        ensures { result ≡ (not (failed self.now) && (lacks_opened (kept_at self.now) self.now.opened || lacks_to_build self.now (plan_at self.now.opens self.now.exec))) }
     {
         !self.has_failed() && (self.lacks_build() || self.act_lacks_build())
     }
@@ -319,7 +321,7 @@ impl Progress {
 
     // Whether the next act lacks a scan for a descriptor.
     fn act_lacks_build(&self) -> bool
-        ensures { result ≡ lacks_to_build self.now (plan_at self.now.exec) }
+        ensures { result ≡ lacks_to_build self.now (plan_at self.now.opens self.now.exec) }
     {
         match self.exec.next() {
             Want::Open { rel, kind } => self.caches.first_missing(kind, rel).is_some(),
@@ -330,8 +332,8 @@ impl Progress {
 
     // Whether the next act or the answer lacks a scan.
     fn act_lacks(&self, want: &Want) -> bool
-        requires want { want_of (plan_at self.now.exec) ≡ want.now }
-        ensures { not result ≡ none_in (act_missing self.now (plan_at self.now.exec)) }
+        requires want { want_of (plan_at self.now.opens self.now.exec) ≡ want.now }
+        ensures { not result ≡ none_in (act_missing self.now (plan_at self.now.opens self.now.exec)) }
     {
         match want {
             Want::Lookup { name, .. } => { !self.caches.has(&Purpose::RelName(*name)) }

@@ -1,6 +1,6 @@
 use base_types::{Kind, Oid};
 
-/// A relation of which the running command has opened the descriptor.
+/// A relation whose descriptor is held: the session has it open, or the running command has opened its descriptor.
 #[derive(Clone, Copy)]
 pub struct Opening {
     pub rel: Oid,

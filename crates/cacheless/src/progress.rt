@@ -9,7 +9,7 @@ use crate::Opening;
 use crate::begun::begun;
 use base_types::{Command, Listed, NoMemory, Oid};
 use command_lists::InvalLists;
-use ddl_effect::Exec;
+use ddl_effect::{Exec, OpenRelation};
 use event_kinds::LineText;
 use local_caches::LocalCaches;
 use lock_modes::OwnLocks;
@@ -73,11 +73,13 @@ pub struct Progress {
     pub due: Due,
     // the blocks before it, the transaction, and the messages of its writes that weren't taken back
     pub blocks: TxnBlocks,
+    // the relations that were open before it
+    pub opens: Listed<OpenRelation>,
     pub running: Option<RunningTransaction>,
     pub lists: InvalLists,
     // the relation that the running lookup has newly locked, and hasn't unlocked
     pub taken: Option<Oid>,
-    // the descriptors that it has opened
+    // the descriptors that are held: of the relations that are open, and those that it has opened
     pub opened: Listed<Opening>,
     pub locks: OwnLocks,
     // what it has read of the catalogs
@@ -94,7 +96,8 @@ impl Progress {
         ensures waits { IfOk result (λ s. (scenario : Scenario) → IsBackend scenario.backends id → commands ≡ commands_of scenario id → length commands ≤ 20000 → HasNotStarted scenario [] s) }
     {
         let blocks = TxnBlocks::new();
-        let first = begun(alloc, &blocks, commands.as_slice(), 0)?;
+        let opens = Listed::new(alloc);
+        let first = begun(alloc, &blocks, opens.as_slice(), commands.as_slice(), 0)?;
         Ok(Progress {
             id,
             commands,
@@ -105,6 +108,7 @@ impl Progress {
             tally: Counts::none(),
             due: Due::Nothing,
             blocks,
+            opens,
             running: None,
             lists: InvalLists::new(alloc),
             taken: None,

@@ -1,6 +1,6 @@
 // What a backend does without an entry.
 
-ghost use Rattle.std.specs.Prelude.{◌≡◌, ◌≤◌, ◌<◌, ◌&&◌, [], None, true, All, OnOk, OnErr, IfOk, is_none, is_some, slice_get, length};
+ghost use Rattle.std.specs.Prelude.{◌≡◌, ◌≤◌, ◌<◌, ◌&&◌, List, [], None, true, All, OnOk, OnErr, IfOk, is_none, is_some, slice_get, length};
 ghost use Rattle.ddl_effect.specs.Stages.{plan_at, want_of};
 ghost use Rattle.cacheless.specs.Runs.{runs};
 ghost use Rattle.cacheless.specs.State.{blocks_passed, rows_kept as kept_rows};
@@ -8,9 +8,10 @@ ghost use Rattle.cacheless.specs.Silently.{rows_for as gives_rows};
 ghost use Rattle.local_caches.specs.Caches.{kept_of};
 
 use crate::begun::begun;
+use crate::opens::{openings_of, opens_after, pin_anew};
 use crate::{Counts, Due, Opening, Progress};
 use base_types::{Command, Kind, Listed, Mode, Name, NoMemory, Oid, Purpose, Row};
-use ddl_effect::{Exec, Want};
+use ddl_effect::{Exec, OpenRelation, Want};
 use event_kinds::Line;
 use local_caches::LocalCaches;
 use std::alloc::Global;
@@ -27,7 +28,6 @@ pub enum Silent {
 }
 
 impl Progress {
-    ghost use Rattle.std.specs.Prelude.{List};
     ghost use Rattle.base_types.specs.Scenario.{Scenario};
     ghost use Rattle.event_kinds.specs.declared.entry.Entry.{Entry};
     ghost use Rattle.cacheless.specs.State.{kept_at, is_out as has_come_out, row_sought as sought_row, row_next as next_row, end_at};
@@ -89,7 +89,7 @@ impl Progress {
     // Whether its next act gives rows, if nothing has to come before it.
     fn gives(&self) -> bool
         requires few { self.now.finished ≤ 20000 }
-        ensures { result ≡ gives_next self.now (plan_at self.now.exec) }
+        ensures { result ≡ gives_next self.now (plan_at self.now.opens self.now.exec) }
     {
         match self.exec.next() {
             Want::Lookup { name, mode } => self.looks_up(mode, &self.row_sought(name)),
@@ -143,7 +143,7 @@ impl Progress {
 
     // That of its next act, if it is a lookup.
     pub(crate) fn row_next(&self) -> Option<Row>
-        ensures { result ≡ next_row self.now (plan_at self.now.exec) }
+        ensures { result ≡ next_row self.now (plan_at self.now.opens self.now.exec) }
     {
         match self.exec.next() {
             Want::Lookup { name, .. } => self.row_sought(name),
@@ -194,7 +194,7 @@ impl Progress {
     // It opens a descriptor.
     fn open(&mut self, alloc: Global, rel: Oid, kind: Kind) -> Result<(), NoMemory>
         requires acts { Acts self.old }
-        requires opens { want_of (plan_at self.old.exec) ≡ Want.Open rel kind }
+        requires opens { want_of (plan_at self.old.opens self.old.exec) ≡ Want.Open rel kind }
         ensures acts { OnOk result ((scenario : Scenario) (seen : List Entry) (held : Holds scenario seen self.old) → HasActed scenario seen self.old held self.new) }
         ensures kept { OnOk result (kept_at self.new ≡ kept_at self.old) }
         ensures answer { OnOk result (self.new.answer ≡ self.old.answer) }
@@ -203,7 +203,7 @@ impl Progress {
     {
         self.opened.push(Opening { rel, kind })?;
         self.caches.pin(rel)?;
-        self.exec.give(alloc, &[])?;
+        self.exec.give(alloc, self.opens.as_slice(), &[])?;
         self.taken = None;
         Ok(())
     }
@@ -211,7 +211,7 @@ impl Progress {
     // It goes on by rows that are there.
     fn find(&mut self, alloc: Global) -> Result<(), NoMemory>
         requires acts { Acts self.old }
-        requires other { opened_for (want_of (plan_at self.old.exec)) ≡ [] }
+        requires other { opened_for (want_of (plan_at self.old.opens self.old.exec)) ≡ [] }
         ensures acts { OnOk result ((scenario : Scenario) (seen : List Entry) (held : Holds scenario seen self.old) → HasActed scenario seen self.old held self.new) }
         ensures kept { OnOk result (kept_at self.new ≡ kept_at self.old) }
         ensures answer { OnOk result (self.new.answer ≡ self.old.answer) }
@@ -220,7 +220,8 @@ impl Progress {
     {
         let want = self.exec.next();
         let row = self.row_next();
-        self.exec.give(alloc, rows_for(&want, &row, &self.caches))?;
+        let rows = rows_for(&want, &row, &self.caches);
+        self.exec.give(alloc, self.opens.as_slice(), rows)?;
         self.taken = None;
         Ok(())
     }
@@ -254,8 +255,22 @@ impl Progress {
         let Some(command) = self.commands.as_slice().get(self.finished as usize) else {
             unreachable!()
         };
+        let opens = opens_after(
+            alloc,
+            number,
+            command,
+            &self.exec,
+            self.opened.as_slice(),
+            self.opens.as_slice(),
+        )?;
         pass(&mut self.blocks, &self.exec, number, command);
-        let next = begun(alloc, &self.blocks, self.commands.as_slice(), number)?;
+        let next = begun(
+            alloc,
+            &self.blocks,
+            opens.as_slice(),
+            self.commands.as_slice(),
+            number,
+        )?;
         let Some(text) = self.answer.take() else {
             unreachable!()
         };
@@ -265,8 +280,9 @@ impl Progress {
         self.ended = false;
         self.tally = Counts::none();
         self.taken = None;
-        self.opened = Listed::new(alloc);
-        self.caches.unpin_all();
+        self.opened = openings_of(alloc, opens.as_slice())?;
+        self.opens = opens;
+        pin_anew(&mut self.caches, self.opens.as_slice())?;
         Ok(Line {
             backend: self.id,
             command: number,
@@ -277,7 +293,7 @@ impl Progress {
 
 // The command of this number has come out.
 fn pass(blocks: &mut TxnBlocks, exec: &Exec, number: u32, command: &Command)
-    ensures { blocks.new ≡ blocks_passed (plan_at exec.now) number command.now blocks.old }
+    ensures { (opens : List OpenRelation) → blocks.new ≡ blocks_passed (plan_at opens exec.now) number command.now blocks.old }
 {
     match exec.next() {
         Want::Done(_) => blocks.ended_well(number, command),

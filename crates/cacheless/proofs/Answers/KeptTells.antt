@@ -68,7 +68,7 @@ opened_alike seen p (o ∷ opened) fits at none =
 
 -- a command that failed to find a relation has the scan of its name at hand
 abbrev pub KeepsMissed : Progress → Type 0
-KeepsMissed p = (name : List ℕ) → plan_at p.exec ≡ Absent name → is_kept (kept_at p) (scans.RelName name) ≡ true
+KeepsMissed p = (name : List ℕ) → plan_at p.opens p.exec ≡ Absent name → is_kept (kept_at p) (scans.RelName name) ≡ true
 
 -- so a command that has come out answers what is told by the scans that are kept
 pub answer_kept : (scenario : Scenario) (seen : List Entry) (p : Progress) (rest : Rest) (command : Command) → HasComeOut scenario seen p.id (session_at p rest) command → FactsFit (facts_of seen p.id) p → AreLastScans seen p.id (kept_at p)
@@ -111,6 +111,6 @@ told_now scenario seen p command text played holds follows stands judged at miss
     parts : (is_out p ≡ true) × ((has_failed p || owes_nothing command p) ≡ true)
     parts = and_parts (is_out p) (has_failed p || owes_nothing command p) out
 
-    by_failed : (t : Bool) → has_failed p ≡ t → (t || owes_nothing command p) ≡ true → (outcome_of (plan_at p.exec) ≡ Badly) ⊎ (owed_of (facts_of seen p.id) command (session_at p holds.rest) ≡ [])
-    by_failed true failed any = inl (failed_badly (outcome_of (plan_at p.exec)) failed)
+    by_failed : (t : Bool) → has_failed p ≡ t → (t || owes_nothing command p) ≡ true → (outcome_of (plan_at p.opens p.exec) ≡ Badly) ⊎ (owed_of (facts_of seen p.id) command (session_at p holds.rest) ≡ [])
+    by_failed true failed any = inl (failed_badly (outcome_of (plan_at p.opens p.exec)) failed)
     by_failed false going owes = inr (empty_list (owed_of (facts_of seen p.id) command (session_at p holds.rest)) (owes_nothing_is (facts_of seen p.id) command p holds.rest holds.facts ∙ owes))

@@ -79,7 +79,7 @@ lookup_kept : (facts : Facts) (s : Progress) (name : List ℕ) (mode : Mode) (re
 lookup_kept facts s name mode rest fits owed = sym (fits.usable (scans.RelName name)) ∙ cond_none (facts.usable (scans.RelName name)) (scans.RelName name) owed
 
 -- where an act left that no relation has a name, the scan of the name is kept
-absent_kept : (seen : List Entry) (was : Progress) (rest : Rest) (command : Command) (act : Act) (further : List Row → Plan) (given : List Row) → FactsFit (facts_of seen was.id) was → OnItsWay seen was.id (session_at was rest) command → plan_at was.exec ≡ Do act further
+absent_kept : (seen : List Entry) (was : Progress) (rest : Rest) (command : Command) (act : Act) (further : List Row → Plan) (given : List Row) → FactsFit (facts_of seen was.id) was → OnItsWay seen was.id (session_at was rest) command → plan_at was.opens was.exec ≡ Do act further
     → IsDoneHere (facts_of seen was.id) (session_at was rest) act further given → (name : List ℕ) → further given ≡ Absent name → is_kept (kept_at was) (scans.RelName name) ≡ true
 absent_kept seen was rest command (Lookup sought mode) further given fits way at done name absent = subst (λ n. is_kept (kept_at was) (scans.RelName n) ≡ true) one
     (lookup_kept (facts_of seen was.id) was sought mode further fits done.owed)
@@ -97,7 +97,7 @@ absent_kept seen was rest command (Lock rel mode) further given fits way at done
 absent_kept seen was rest command (Write draft) further given fits way at done name absent = absurd (let no : None ≡ Some given = done.gave in cc no)
 
 -- a command whose next act is done hasn't come out
-unsettled : (scenario : Scenario) (seen : List Entry) (was p : Progress) (held : Holds scenario seen was) (acted : HasActed scenario seen was held p) → is_settled (outcome_of (plan_at was.exec)) ≡ false
+unsettled : (scenario : Scenario) (seen : List Entry) (was p : Progress) (held : Holds scenario seen was) (acted : HasActed scenario seen was held p) → is_settled (outcome_of (plan_at was.opens was.exec)) ≡ false
 unsettled scenario seen was p held acted = ap (λ x. is_settled (outcome_of x)) acted.left
 
 -- an act leaves the places
@@ -192,7 +192,7 @@ answer_tells scenario seen s command text holds now places at out none told = re
   tells = record {
     answer = λ other c is here. let one : text ≡ other = cc is in let it : command ≡ c = (let both : Some command ≡ Some c = sym at ∙ here in cc both) in
         (λ i. record { backend = s.id; command = number_of session; text = sym one i }) ∙ answered_line scenario seen s command text holds now places at out none told ∙ ap (line_of scenario seen s.id (number_of session) (finished_as session)) it;
-    out = λ some. (and_parts (is_settled (outcome_of (plan_at s.exec))) _ out).0;
+    out = λ some. (and_parts (is_settled (outcome_of (plan_at s.opens s.exec))) _ out).0;
   };
   here = λ c here unanswered. absurd (cc unanswered);
   last = now.last;

@@ -82,7 +82,7 @@ resumed_is (Fails error) s = refl
 resumed_is (Do act rest) s = refl
 resumed_is NotBuilt s = refl
 
-left_is : (was : Progress) (rest : Rest) → (is_absent (plan_at was.exec) ≡ true → rest.sought ≡ plan_again was.exec) → (p : Plan) → plan_at was.exec ≡ p → left_again p (session_at was rest) ≡ plan_again was.exec
+left_is : (was : Progress) (rest : Rest) → (is_absent (plan_at was.opens was.exec) ≡ true → rest.sought ≡ plan_again was.opens was.exec) → (p : Plan) → plan_at was.opens was.exec ≡ p → left_again p (session_at was rest) ≡ plan_again was.opens was.exec
 left_is was rest sought (Absent name) at = sought (ap is_absent at)
 left_is was rest sought (Done told) at = sym (again_same was.exec (ap is_absent at))
 left_is was rest sought (Fails error) at = sym (again_same was.exec (ap is_absent at))
@@ -90,10 +90,10 @@ left_is was rest sought (Do act plan) at = sym (again_same was.exec (ap is_absen
 left_is was rest sought NotBuilt at = sym (again_same was.exec (ap is_absent at))
 
 -- the session once a search is made anew
-pub resumed_same : (was : Progress) (exec : Exec) (rest : Rest) → (is_absent (plan_at was.exec) ≡ true → rest.sought ≡ plan_again was.exec) → plan_at exec ≡ plan_again was.exec
-    → resumed (plan_at was.exec) (session_at was rest) ≡ record (session_at was rest) { left = plan_at exec; found = found_again (plan_at was.exec) (session_at was rest) }
-resumed_same was exec rest sought again = resumed_is (plan_at was.exec) (session_at was rest)
-    ∙ (λ i. record (session_at was rest) { left = (left_is was rest sought (plan_at was.exec) refl ∙ sym again) i; found = found_again (plan_at was.exec) (session_at was rest) })
+pub resumed_same : (was : Progress) (exec : Exec) (rest : Rest) → (is_absent (plan_at was.opens was.exec) ≡ true → rest.sought ≡ plan_again was.opens was.exec) → plan_at exec ≡ plan_again was.opens was.exec
+    → resumed (plan_at was.opens was.exec) (session_at was rest) ≡ record (session_at was rest) { left = plan_at exec; found = found_again (plan_at was.opens was.exec) (session_at was rest) }
+resumed_same was exec rest sought again = resumed_is (plan_at was.opens was.exec) (session_at was rest)
+    ∙ (λ i. record (session_at was rest) { left = (left_is was rest sought (plan_at was.opens was.exec) refl ∙ sym again) i; found = found_again (plan_at was.opens was.exec) (session_at was rest) })
 
 -- the state after a fetch of these messages, but for its full fetches
 abbrev pub fetched_first : Progress → ℕ → LocalCaches → Exec → Progress
@@ -135,7 +135,7 @@ one_at_most : (t : Bool) → one_if t ≤ 1
 one_at_most true = omega arith
 one_at_most false = omega arith
 
-pub fetch_holds : (scenario : Scenario) (old : List Entry) (was : Progress) (count : ℕ) (messages : List Message) (caches : LocalCaches) (exec : Exec) (locks : Roomy OwnLock) (rests : Rests scenario old was) → messages ≡ fetched_by old was.id count → kept_of caches ≡ kept_spared messages (kept_at was) → plan_at exec ≡ plan_again was.exec
+pub fetch_holds : (scenario : Scenario) (old : List Entry) (was : Progress) (count : ℕ) (messages : List Message) (caches : LocalCaches) (exec : Exec) (locks : Roomy OwnLock) (rests : Rests scenario old was) → messages ≡ fetched_by old was.id count → kept_of caches ≡ kept_spared messages (kept_at was) → plan_at exec ≡ plan_again was.opens was.exec
     → locks.items ≡ locks_accepted (is_in_accept (fetched was count caches exec) (slice_get was.commands was.finished)) was.locks.items
     → HasEntered scenario old was (events.Fetch count) rests (with_locks (fetched was count caches exec) locks)
 fetch_holds scenario old was count messages caches exec locks rests are keeps again items = own_entered scenario old was now event locks rests (record { session = λ _ _ _ _ _ _. refl; finished = λ s. ends_same s.left s }) (record {
@@ -179,7 +179,7 @@ fetch_holds scenario old was count messages caches exec locks rests are keeps ag
 
     -- the session with the entry, but for its tally
     noted_as : Tally → Session
-    noted_as tally = record s { left = plan_at exec; found = found_again (plan_at was.exec) s; tally = tally; judged = length old + 1; last = length old + 1 }
+    noted_as tally = record s { left = plan_at exec; found = found_again (plan_at was.opens was.exec) s; tally = tally; judged = length old + 1; last = length old + 1 }
 
     once : Tally
     once = record s.tally { fetches = s.tally.fetches + 1 }
@@ -203,7 +203,7 @@ was_reset was caches exec = record was {
   answer = None;
 }
 
-pub reset_holds : (scenario : Scenario) (old : List Entry) (was : Progress) (caches : LocalCaches) (exec : Exec) (locks : Roomy OwnLock) (rests : Rests scenario old was) → kept_of caches ≡ nothing_kept → plan_at exec ≡ plan_again was.exec
+pub reset_holds : (scenario : Scenario) (old : List Entry) (was : Progress) (caches : LocalCaches) (exec : Exec) (locks : Roomy OwnLock) (rests : Rests scenario old was) → kept_of caches ≡ nothing_kept → plan_at exec ≡ plan_again was.opens was.exec
     → locks.items ≡ locks_accepted (is_in_accept (was_reset was caches exec) (slice_get was.commands was.finished)) was.locks.items
     → HasEntered scenario old was events.FetchReset rests (with_locks (was_reset was caches exec) locks)
 reset_holds scenario old was caches exec locks rests keeps again items = own_entered scenario old was now event locks rests (record { session = λ _ _ _ _ _ _. refl; finished = λ s. ends_same s.left s }) (record {
@@ -239,5 +239,5 @@ reset_holds scenario old was caches exec locks rests keeps again items = own_ent
     s : Session
     s = session_at was rests.holds.rest
 
-    whole : noted_after old was event rests.holds.rest ≡ record s { left = plan_at exec; found = found_again (plan_at was.exec) s; tally = tally_at now.tally; judged = length old + 1; last = length old + 1 }
+    whole : noted_after old was event rests.holds.rest ≡ record s { left = plan_at exec; found = found_again (plan_at was.opens was.exec) s; tally = tally_at now.tally; judged = length old + 1; last = length old + 1 }
     whole = ap (λ (t : Session). record t { tally = tally_at now.tally; locks = s.locks; judged = length old + 1; last = length old + 1 }) (resumed_same was exec rests.holds.rest rests.holds.sought again)

@@ -115,7 +115,7 @@ start_holds scenario old was waits = record {
   facts = subst (λ f. FactsFit f (started was)) (sym facts) (let f = waits.facts in record { running = refl; lists = f.lists; owed = refl; quiet = refl; usable = f.usable; kept = f.kept });
   counts = subst (λ c. CountsFit c (length (old ++ e ∷ []))) (sym new.tally) (record { looks = omega arith; scans = omega arith; grants = omega arith; fetches = omega arith; full = omega arith });
   order = subst (AllByRecursion (λ list. list.command ≤ was.finished + 1)) (sym (ap all_lists new.lists)) tt;
-  sought = λ is. absurd (not_both (is_absent (plan_at was.exec)) is found);
+  sought = λ is. absurd (not_both (is_absent (plan_at was.opens was.exec)) is found);
   puts = subst (PutsOpened was.opened) (sym new.plan) (puts_first was.opened no_block first);
 }
   where
@@ -140,7 +140,7 @@ start_holds scenario old was waits = record {
     rest : Rest
     rest = record { finished = []; refused = refused_first no_block first; found = []; sought = Done tells.Ok; judged = length old + 1; last = length old + 1 }
 
-    found : is_absent (plan_at was.exec) ≡ false
+    found : is_absent (plan_at was.opens was.exec) ≡ false
     found = ap is_absent new.plan ∙ not_absent no_block first
 
     same : at_command no_block [] [] (length old + 1) first ≡ session_at (started was) rest

@@ -63,7 +63,7 @@ none_read (Some read) is = absurd (cc)
 
 -- a scan that may be made isn't kept
 pub next_lacks : (s : Progress) (scan : Purpose) → is_next_at scan s ≡ true → kept_at s scan ≡ None
-next_lacks s scan is = none_read (kept_at s scan) (or_either _ _ (and_true (not (has_failed s)) _ is).1 (λ here. (opened_lacks (kept_at s) scan s.opened here).0) (act_lacking s scan (plan_at s.exec)))
+next_lacks s scan is = none_read (kept_at s scan) (or_either _ _ (and_true (not (has_failed s)) _ is).1 (λ here. (opened_lacks (kept_at s) scan s.opened here).0) (act_lacking s scan (plan_at s.opens s.exec)))
 
 no_named : (build named : Purpose) → is_build_scan build ≡ true → is_build_scan named ≡ false → same_scan build named ≡ false
 no_named build named is other = by_test (same_scan build named) refl

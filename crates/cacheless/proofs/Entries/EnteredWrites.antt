@@ -115,8 +115,8 @@ runs_written number xid None = refl
 runs_written number xid (Some t) = refl
 
 pub write_holds : (scenario : Scenario) (old : List Entry) (was : Progress) (xid : Xid) (items : List Item) (messages : List Message) (new_oids : ℕ) (first : Oid) (caches : LocalCaches) (lists : Held) (exec : Exec) (locked locks : Roomy OwnLock) (rests : Rests scenario old was)
-    → want_of (plan_at was.exec) ≡ wants.Write → messages ≡ messages_in old was.id items → flat_map (locked_by (was.finished + 1)) items ≡ locks_made new_oids first (was.finished + 1)
-    → all_lists lists.lists ≡ lists_at was ++ with_messages messages (new_list (was.finished + 1)) ∷ [] → kept_of caches ≡ kept_spared messages (kept_at was) → plan_at exec ≡ after_act [] (plan_at was.exec) → locked.items ≡ was.locks.items ++ locks_made new_oids first (was.finished + 1)
+    → want_of (plan_at was.opens was.exec) ≡ wants.Write → messages ≡ messages_in old was.id items → flat_map (locked_by (was.finished + 1)) items ≡ locks_made new_oids first (was.finished + 1)
+    → all_lists lists.lists ≡ lists_at was ++ with_messages messages (new_list (was.finished + 1)) ∷ [] → kept_of caches ≡ kept_spared messages (kept_at was) → plan_at exec ≡ after_act [] (plan_at was.opens was.exec) → locked.items ≡ was.locks.items ++ locks_made new_oids first (was.finished + 1)
     → locks.items ≡ locks_accepted (is_in_accept (wrote was xid caches lists exec locked) (slice_get was.commands was.finished)) locked.items
     → HasEntered scenario old was (events.Write xid items) rests (with_locks (wrote was xid caches lists exec locked) locks)
 write_holds scenario old was xid items messages new_oids first caches lists exec locked locks rests wants_it are makes pushed keeps goes held accepts = own_entered scenario old was now event locks rests (record { session = λ _ _ _ _ _ _. refl; finished = λ s. ends_same s.left s }) (record {
@@ -160,5 +160,5 @@ write_holds scenario old was xid items messages new_oids first caches lists exec
     s = session_at was rests.holds.rest
 
     whole : noted_after old was event rests.holds.rest ≡ record s { left = plan_at exec; opened = []; taken = None; locks = locked.items; judged = length old + 1; last = length old + 1 }
-    whole = ap (λ (t : Session). record t { tally = s.tally; locks = was.locks.items ++ flat_map (locked_by (was.finished + 1)) items; judged = length old + 1; last = length old + 1 }) (written_is (plan_at was.exec) s wants_it)
+    whole = ap (λ (t : Session). record t { tally = s.tally; locks = was.locks.items ++ flat_map (locked_by (was.finished + 1)) items; judged = length old + 1; last = length old + 1 }) (written_is (plan_at was.opens was.exec) s wants_it)
         ∙ (λ i. record s { left = sym goes i; opened = []; taken = None; locks = (ap (λ l. was.locks.items ++ l) makes ∙ sym held) i; judged = length old + 1; last = length old + 1 })

@@ -52,8 +52,8 @@ pub record Enters (old : List Entry) (was now : Progress) (event : Event) (rest 
   pub facts : FactsFit (facts_after old was event) now
   pub counts : CountsFit now.tally (length old + 1)
   pub order : AllByRecursion (λ list. list.command ≤ now.finished + 1) (lists_at now)
-  pub sought : is_absent (plan_at now.exec) ≡ true → (rest_after old was event rest).sought ≡ plan_again now.exec
-  pub puts : PutsOpened now.opened (plan_at now.exec)
+  pub sought : is_absent (plan_at now.opens now.exec) ≡ true → (rest_after old was event rest).sought ≡ plan_again now.opens now.exec
+  pub puts : PutsOpened now.opened (plan_at now.opens now.exec)
 
 -- a full fetch is counted in the tally alone
 counted_tally : (facts : Facts) (event : Event) (s : Session) → counted facts event s ≡ record s { tally = (counted facts event s).tally }

@@ -119,8 +119,8 @@ built_code was scan rows at own caches locks begins next pushed items scenario s
     (built_holds scenario seen was scan count rows.items at caches locks rests next are pushed items)
 
 pub write_code : (was : Progress) (xid : Xid) (messages : List Message) (new_oids : ℕ) (first : Oid) (own : RunningTransaction) (lists : Held) (caches : LocalCaches) (exec : Exec) (opened_none : List Opening) (locked locks : Roomy OwnLock)
-    → own ≡ record (begun_own (was.finished + 1) was.running) { xid = Some xid } → want_of (plan_at was.exec) ≡ wants.Write → all_lists lists.lists ≡ lists_at was ++ with_messages messages (new_list (was.finished + 1)) ∷ []
-    → kept_of caches ≡ kept_spared messages (kept_at was) → plan_at exec ≡ after_act [] (plan_at was.exec) → opened_none ≡ [] → locked.items ≡ locks_written new_oids first (was.finished + 1) was.locks.items
+    → own ≡ record (begun_own (was.finished + 1) was.running) { xid = Some xid } → want_of (plan_at was.opens was.exec) ≡ wants.Write → all_lists lists.lists ≡ lists_at was ++ with_messages messages (new_list (was.finished + 1)) ∷ []
+    → kept_of caches ≡ kept_spared messages (kept_at was) → plan_at exec ≡ after_act [] (plan_at was.opens was.exec) → opened_none ≡ [] → locked.items ≡ locks_written new_oids first (was.finished + 1) was.locks.items
     → locks.items ≡ locks_accepted (is_in_accept (record was { lists = lists; caches = caches; running = Some own; due = dues.Nothing; exec = exec; opened = opened_none; taken = None; locks = locked }) (slice_get was.commands was.finished)) locked.items
     → (scenario : Scenario) (seen : List Entry) (items : List Item) → (rests : Rests scenario seen was) → messages ≡ messages_in seen was.id items → flat_map (locked_by (was.finished + 1)) items ≡ locks_made new_oids first (was.finished + 1)
     → HasEntered scenario seen was (events.Write xid items) rests (record was { lists = lists; caches = caches; running = Some own; due = dues.Nothing; exec = exec; opened = opened_none; taken = None; locks = locks; answer = None })

@@ -9,7 +9,7 @@ use Rattle.cacheless.proofs.progress.Progress.find.Goals as goal
 
 pub returns-clause-acts : goal.returns-clause-acts
 returns-clause-acts c = acted_keeps c.args.self.now _ _ _ _ c.requires.acts c.next-want.ensures
-    (c.in_ok-give.ensures.plan ∙ ap (λ l. after_act l (plan_at c.args.self.now.exec)) (c.rows_for.ensures ∙ (λ i. rows_for (c.next-want.ensures i) (c.row_next-row.ensures i) (kept_at c.args.self.now)) ∙ given_is c.args.self.now (plan_at c.args.self.now.exec) ∙ ap (rows_given c.args.self.now) (sym c.next-want.ensures)))
+    (c.in_ok-give.ensures.plan ∙ ap (λ l. after_act l (plan_at c.args.self.now.opens c.args.self.now.exec)) (c.rows_for.ensures ∙ (λ i. rows_for (c.next-want.ensures i) (c.row_next-row.ensures i) (kept_at c.args.self.now)) ∙ given_is c.args.self.now (plan_at c.args.self.now.opens c.args.self.now.exec) ∙ ap (rows_given c.args.self.now) (sym c.next-want.ensures)))
     c.in_ok-give.ensures.again
     (sym (ap (λ l. c.args.self.now.opened ++ l) (ap opened_for c.next-want.ensures ∙ c.requires.other) ∙ append-nil c.args.self.now.opened)) refl
 

@@ -1,0 +1,109 @@
+// The relations that a session has open, and the descriptors that it holds of them.
+
+ghost use Rattle.std.specs.Prelude.{◌≡◌, ◌≤◌, map, IfOk, OnOk, OnErr, Some, slice_get};
+ghost use Rattle.ddl_effect.specs.Stages.{plan_at};
+ghost use Rattle.cacheless.specs.Session.{opening_of};
+ghost use Rattle.cacheless.specs.Settled.{opens_with, opens_well, opens_passed};
+ghost use Rattle.local_caches.specs.Caches.{kept_of};
+
+use crate::Opening;
+use base_types::{Command, Listed, Name, NoMemory};
+use ddl_effect::{Exec, OpenRelation, Want, without_latest};
+use local_caches::LocalCaches;
+use std::alloc::Global;
+
+// The descriptors of relations.
+pub(crate) fn openings_of(
+    alloc: Global,
+    opens: &[OpenRelation],
+) -> Result<Listed<Opening>, NoMemory>
+    ensures { IfOk result (λ openings. openings ≡ map opening_of opens.now) }
+{
+    let mut openings = Listed::new(alloc);
+    for o in opens {
+        openings.push(Opening {
+            rel: o.rel,
+            kind: o.kind,
+        })?;
+    }
+    Ok(openings)
+}
+
+// Lets go of all descriptors but those of these relations.
+pub(crate) fn pin_anew(caches: &mut LocalCaches, opens: &[OpenRelation]) -> Result<(), NoMemory>
+    ensures { kept_of caches.new ≡ kept_of caches.old }
+{
+    caches.unpin_all();
+    for o in opens {
+        caches.pin(o.rel)?;
+    }
+    Ok(())
+}
+
+// The relations that are open after the running command, which has this number.
+pub(crate) fn opens_after(
+    alloc: Global,
+    number: u32,
+    command: &Command,
+    exec: &Exec,
+    opened: &[Opening],
+    opens: &[OpenRelation],
+) -> Result<Listed<OpenRelation>, NoMemory>
+    ensures { IfOk result (λ after. after ≡ opens_passed (plan_at opens.now exec.now) number command.now opened.now opens.now) }
+{
+    match exec.next() {
+        Want::Done(_) => opens_after_well(alloc, number, command, opened, opens),
+        _ => Ok(Listed::new(alloc)),
+    }
+}
+
+// The same after one that came out well.
+fn opens_after_well(
+    alloc: Global,
+    number: u32,
+    command: &Command,
+    opened: &[Opening],
+    opens: &[OpenRelation],
+) -> Result<Listed<OpenRelation>, NoMemory>
+    ensures { IfOk result (λ after. after ≡ opens_well number command.now opened.now opens.now) }
+{
+    match command {
+        Command::OpenRel(name) => opens_one_more(alloc, number, *name, opened, opens),
+        Command::CloseRel(name) => Ok(without_latest(name, copied(alloc, opens)?)),
+        Command::Commit | Command::Rollback => Ok(Listed::new(alloc)),
+        _ => copied(alloc, opens),
+    }
+}
+
+// The same after an `open` of this name.
+fn opens_one_more(
+    alloc: Global,
+    number: u32,
+    name: Name,
+    opened: &[Opening],
+    opens: &[OpenRelation],
+) -> Result<Listed<OpenRelation>, NoMemory>
+    ensures { IfOk result (λ after. after ≡ opens_with number name opened.now opens.now) }
+{
+    let mut after = copied(alloc, opens)?;
+    if let Some(o) = opened.get(opens.len()) {
+        after.push(OpenRelation {
+            name,
+            rel: o.rel,
+            kind: o.kind,
+            command: number,
+        })?;
+    }
+    Ok(after)
+}
+
+// A copy of these.
+fn copied(alloc: Global, opens: &[OpenRelation]) -> Result<Listed<OpenRelation>, NoMemory>
+    ensures { IfOk result (λ copy. copy ≡ opens.now) }
+{
+    let mut copy = Listed::new(alloc);
+    for o in opens {
+        copy.push(*o)?;
+    }
+    Ok(copy)
+}
