@@ -72,6 +72,12 @@ fn copied(alloc: Global, command: &Command) -> Result<Command, NoMemory>
             columns: copied_columns(alloc, columns)?,
         },
         Command::DropTable(name) => Command::DropTable(*name),
+        Command::OpenRel(name) => Command::OpenRel(*name),
+        Command::Peek { name, field } => Command::Peek {
+            name: *name,
+            field: *field,
+        },
+        Command::CloseRel(name) => Command::CloseRel(*name),
         _ => copied_alteration(command),
     })
 }

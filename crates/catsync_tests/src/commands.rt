@@ -170,9 +170,9 @@ fn wants_in_turn(
     turns: [&'static str; 3],
 ) -> Result<bool, NoMemory> {
     let first = wanted(&exec) == turns[0];
-    exec.give(alloc, rows)?;
+    exec.give(alloc, &[], rows)?;
     let second = wanted(&exec) == turns[1];
-    exec.give(alloc, rows)?;
+    exec.give(alloc, &[], rows)?;
     Ok(first && second && wanted(&exec) == turns[2])
 }
 
@@ -181,7 +181,7 @@ fn begun(alloc: Global, command: &Command) -> Result<Exec, NoMemory> {
     if !has_plan(command) {
         return Ok(Exec::Done(Told::Ok));
     }
-    Exec::new(alloc, command)
+    Exec::new(alloc, &[], command)
 }
 
 // What a command wants next.

@@ -42,7 +42,7 @@ pub(crate) fn enter(
         Event::Unlock { rel, mode } => unlock(progress, *rel, *mode),
         Event::Write { xid, items } => write(progress, alloc, ledger, *xid, items.as_slice()),
         Event::Publish { count } => publish(progress, *count),
-        event => enter_alone(progress, event),
+        event => enter_alone(progress, alloc, event),
     }
 }
 
@@ -123,7 +123,7 @@ fn publish(progress: &mut Progress, count: u32) -> Result<(), NoMemory>
 }
 
 // An event that needs nothing of the ledger.
-fn enter_alone(progress: &mut Progress, event: &Event) -> Result<(), NoMemory>
+fn enter_alone(progress: &mut Progress, alloc: Global, event: &Event) -> Result<(), NoMemory>
     requires few { progress.old.finished ≤ 20000 }
     requires room { HasRoom progress.old }
     ensures same { OnOk result (progress.new.commands ≡ progress.old.commands) }
@@ -142,7 +142,7 @@ fn enter_alone(progress: &mut Progress, event: &Event) -> Result<(), NoMemory>
         Event::ClashRunning { name, xid } => progress.enter_clash(*name, Clash::Running(*xid)),
         Event::Visible { xid } => progress.enter_visible(*xid),
         Event::Gone { from } => progress.enter_gone(*from),
-        Event::Release { from } => progress.enter_release(*from),
+        Event::Release { from } => progress.enter_release(alloc, *from),
         _ => return Err(NoMemory),
     }
     Ok(())
