@@ -9,7 +9,7 @@ use base_types::{
     Change, Command, Kind, Listed, Mode, Name, NoMemory, Oid, Placed, Purpose, Row, Xid,
 };
 use command_answers::{Answer, CommandError, answer_text};
-use ddl_effect::{Draft, EffectRefusal, Exec, Facts, Told, Want, effect};
+use ddl_effect::{Draft, EffectRefusal, Exec, Facts, OpenRelation, Told, Want, effect};
 use event_kinds::{Entry, Event, Item};
 use script_text::Script;
 use std::alloc::Global;
@@ -147,6 +147,9 @@ const PLANS: &[(&str, bool, [&str; 3])] = &[
         false,
         ["alter", "absent", "absent"],
     ),
+    ("open t", true, ["lookup", "open", "done"]),
+    ("open u", false, ["lookup", "absent", "absent"]),
+    ("peek t", true, ["another", "another", "another"]),
     ("begin", false, ["done", "done", "done"]),
 ];
 
@@ -399,16 +402,79 @@ const EFFECTS: &[(&str, &[u8])] = &[
     ("drop table u", b"absent u"),
 ];
 
-// What a command changes where there are these rows, or why it changes nothing.
-fn changed(alloc: Global, command: &Command, rows: Vec<Row>) -> Result<Vec<u8>, NoMemory> {
-    let facts = Facts {
-        rows: Listed::from_vec(rows),
-        opened: Listed::new(alloc),
-    };
+// Commands of a session that has the table `t` open under that name and under `u`, and what each changes of the
+// same catalog, or why it changes nothing. The tests of a table that is open come after that of its kind.
+const EFFECTS_OPEN: &[(&str, &[u8])] = &[
+    (
+        "alter table t add column c int4",
+        b"error 55006 relation 16384 is open in this session",
+    ),
+    (
+        "alter table t drop column z",
+        b"error 55006 relation 16384 is open in this session",
+    ),
+    (
+        "alter table t rename column z to a",
+        b"error 55006 relation 16384 is open in this session",
+    ),
+    (
+        "alter table t alter column a set statistics -2",
+        b"error 55006 relation 16384 is open in this session",
+    ),
+    (
+        "alter table t set (fillfactor = 9)",
+        b"error 55006 relation 16384 is open in this session",
+    ),
+    (
+        "alter table t rename to x",
+        b"error 55006 relation 16384 is open in this session",
+    ),
+    (
+        "drop table t",
+        b"error 55006 relation 16384 is open in this session",
+    ),
+    ("alter table u rename to x", b"absent u"),
+    ("alter table i rename to x", b"error 42809 i is not a table"),
+    (
+        "alter table e rename to x",
+        b"h 1 1 write 0 =class(16387,x,r,70)",
+    ),
+    ("open e", b"h 1 1 write 0"),
+    ("open z", b"absent z"),
+    ("peek u", b"h 1 1 write 0"),
+    ("peek u of", b"error 42809 u has no field of"),
+    ("peek e", b"error 55000 e is not open"),
+    ("close t", b"h 1 1 write 0"),
+    ("close e", b"error 55000 e is not open"),
+];
+
+// The relations that the session has open.
+const OPEN: &[(&str, u32)] = &[("t", 16384), ("u", 16384)];
+
+fn open_relations(
+    alloc: Global,
+    opens: &[(&'static str, u32)],
+) -> Result<Listed<OpenRelation>, NoMemory> {
+    let mut list = Listed::new(alloc);
+    for &(name, rel) in opens {
+        if let Ok(name) = Name::new(name.as_bytes()) {
+            list.push(OpenRelation {
+                name,
+                rel: Oid(rel),
+                kind: Kind::Table,
+                command: 2,
+            })?;
+        }
+    }
+    Ok(list)
+}
+
+// What a command changes by these facts, or why it changes nothing.
+fn changed(alloc: Global, command: &Command, facts: &Facts) -> Result<Vec<u8>, NoMemory> {
     if !has_plan(command) {
         return Ok(Vec::new(alloc));
     }
-    match effect(alloc, command, &facts) {
+    match effect(alloc, command, facts) {
         Ok(draft) => draft_text(alloc, &draft),
         Err(refusal) => refusal_text(alloc, &refusal),
     }
@@ -421,6 +487,9 @@ fn has_plan(command: &Command) -> bool
         Command::Show { .. } => true,
         Command::LockTable { .. } => true,
         Command::CreateTable { .. } => true,
+        Command::OpenRel(_) => true,
+        Command::Peek { .. } => true,
+        Command::CloseRel(_) => true,
         Command::DropTable(_) => true,
         Command::RenameTable { .. } => true,
         Command::AddColumn { .. } => true,
@@ -488,22 +557,31 @@ fn write_text(alloc: Global, event: Event) -> Result<Vec<u8>, NoMemory> {
 }
 
 // The same of the one command of a script.
-fn effect_of(alloc: Global, commands: &[Placed], rows: Vec<Row>) -> Result<Vec<u8>, NoMemory> {
+fn effect_of(alloc: Global, commands: &[Placed], facts: &Facts) -> Result<Vec<u8>, NoMemory> {
     match commands {
-        [placed] => changed(alloc, &placed.command, rows),
+        [placed] => changed(alloc, &placed.command, facts),
         _ => Ok(Vec::new(alloc)),
     }
 }
 
-fn effect_among(alloc: Global, command: &str, rows: Vec<Row>) -> Result<Vec<u8>, NoMemory> {
+fn effect_among(alloc: Global, command: &str, facts: &Facts) -> Result<Vec<u8>, NoMemory> {
     let script = script_of_command(alloc, command)?;
-    effect_of(alloc, script.commands(), rows)
+    effect_of(alloc, script.commands(), facts)
 }
 
-// Whether a command changes this where there are the rows of a text.
-fn has_effect(alloc: Global, rows: &[u8], command: &str, wanted: &[u8]) -> Result<bool, NoMemory> {
-    let rows = rows_of(alloc, rows)?;
-    Ok(effect_among(alloc, command, rows)?.as_slice() == wanted)
+// Whether a command changes this where there are the rows of a text, and these relations are open.
+fn has_effect(
+    alloc: Global,
+    rows: &[u8],
+    opens: &[(&'static str, u32)],
+    command: &str,
+    wanted: &[u8],
+) -> Result<bool, NoMemory> {
+    let facts = Facts {
+        rows: Listed::from_vec(rows_of(alloc, rows)?),
+        opened: open_relations(alloc, opens)?,
+    };
+    Ok(effect_among(alloc, command, &facts)?.as_slice() == wanted)
 }
 
 // What a command that the program runs wants to write at first; nothing where it wants something else.
@@ -547,8 +625,14 @@ fn new_tables_are_drafted(rt: HostRuntime) -> Result<(), Fail> {
 fn commands_have_their_effects(rt: HostRuntime) -> Result<(), Fail> {
     for &(command, wanted) in EFFECTS {
         assert!(rt;
-            has_effect(rt.alloc(), catalog(), command, wanted)?,
+            has_effect(rt.alloc(), catalog(), &[], command, wanted)?,
             "{command}"
+        );
+    }
+    for &(command, wanted) in EFFECTS_OPEN {
+        assert!(rt;
+            has_effect(rt.alloc(), catalog(), OPEN, command, wanted)?,
+            "{command} where t is open"
         );
     }
     Ok(())
@@ -595,7 +679,7 @@ fn has_wide_effect(
     wanted: &[u8],
 ) -> Result<bool, NoMemory> {
     let rows = wide_table(alloc, columns)?;
-    has_effect(alloc, rows.as_bytes(), command, wanted)
+    has_effect(alloc, rows.as_bytes(), &[], command, wanted)
 }
 
 #[test]
