@@ -26,7 +26,7 @@ scan_is_next next s scan count may = by_command (slice_get s.commands s.finished
   where
     by_command : (command : Option Command) → (elim command [ Some found ↦ may_play_at next found s (events.Scan scan count) | None ↦ may_last_at s (events.Scan scan count) ]) ≡ true → is_next_at scan s ≡ true
     by_command (Some found) is = middle_of_three _ (is_next_at scan s) (has_looked_at s) is
-    by_command None is = absurd (cc)
+    by_command None is = middle_of_three _ (is_next_at scan s) (has_looked_at s) is
 
 -- so many messages were fetched
 pub fetched_takes : (ledger : Ledger) (was now : Progress) (messages : List Message) (count : ℕ) → length messages ≡ count → ((seen : List Entry) → Reads seen ledger → messages ≡ fetched_by seen was.id count) → kept_at now ≡ kept_spared messages (kept_at was) → now.answer ≡ None

@@ -48,7 +48,7 @@ pub(crate) fn write(
 #[tactic(auto, using(crate::proofs::TakenWrites::all_before))]
 fn may_write(progress: &Progress) -> bool
     requires few { progress.now.finished ≤ 20000 }
-    ensures wants { result ≡ true → want_of (plan_at progress.now.exec) ≡ wants.Write }
+    ensures wants { result ≡ true → want_of (plan_at progress.now.opens progress.now.exec) ≡ wants.Write }
     ensures order { result ≡ true → AllByRecursion (λ list. list.command < progress.now.finished + 1) (lists_at progress.now) }
 {
     matches!(progress.exec.next(), Want::Write) && !progress.has_write_since(progress.finished + 1)
@@ -63,7 +63,7 @@ fn enter_made(
     made: Option<Oid>,
 ) -> Result<(), NoMemory>
     requires few { progress.old.finished ≤ 20000 }
-    requires wants { want_of (plan_at progress.old.exec) ≡ wants.Write }
+    requires wants { want_of (plan_at progress.old.opens progress.old.exec) ≡ wants.Write }
     requires order { AllByRecursion (λ list. list.command < progress.old.finished + 1) (lists_at progress.old) }
     requires place { 0 < progress.old.locks.room }
     ensures same { OnOk result (progress.new.commands ≡ progress.old.commands) }

@@ -88,9 +88,9 @@ owes_none facts command s plain well none = by_end (end_well facts command s) re
 
 -- before an entry of its end a command is to be answered
 pub end_answers : (facts : Facts) (command : Command) (p : Progress) (rest : Rest) (event : Event) → FactsFit facts p → ((told : Told) → plan_of none_open command ≡ Done told → DoesNoAct (session_at p rest) told) → IsEnd facts command (session_at p rest) event → is_to_answer command p ≡ true
-end_answers facts command p rest event fits plain ends = by_outcome (outcome_of (plan_at p.exec)) refl (ends_out facts command (session_at p rest) event ends.1)
+end_answers facts command p rest event fits plain ends = by_outcome (outcome_of (plan_at p.opens p.exec)) refl (ends_out facts command (session_at p rest) event ends.1)
   where
-    by_outcome : (o : Outcome) → outcome_of (plan_at p.exec) ≡ o → is_settled o ≡ true → is_to_answer command p ≡ true
+    by_outcome : (o : Outcome) → outcome_of (plan_at p.opens p.exec) ≡ o → is_settled o ≡ true → is_to_answer command p ≡ true
     by_outcome Unsettled is out = absurd (cc out)
     by_outcome Badly is out = ap (λ x. is_settled x && (elim x as (λ y. Bool) [ Badly ↦ true | other ↦ false ] || owes_nothing command p)) is
     by_outcome Well is out = ap (λ x. is_settled x && (elim x as (λ y. Bool) [ Badly ↦ true | other ↦ false ] || owes_nothing command p)) is

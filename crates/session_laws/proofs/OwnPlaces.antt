@@ -72,7 +72,7 @@ kept_then seen was now (events.Gone from) keeps at = subst (AreLastScans (with_o
 kept_then seen was now event keeps at = subst (AreLastScans (with_own seen was event) was.id) (sym keeps) (kept_stays seen (entry_of was.id (was.finished + 1) event) was.id (kept_at was) (λ scan. refl) at)
 
 -- a plan that isn't absent has no scan to keep
-pub keeps_none : (seen : List Entry) (s : Progress) → is_absent (plan_at s.exec) ≡ false → KeepsAbsent seen s
+pub keeps_none : (seen : List Entry) (s : Progress) → is_absent (plan_at s.opens s.exec) ≡ false → KeepsAbsent seen s
 keeps_none seen s there = λ name missed whole. absurd (both_ways _ there (ap is_absent missed))
 
 -- a command that failed to find a relation makes no scan
@@ -85,10 +85,10 @@ scan_plays next facts None s scan count plays = absurd plays
 scan_plays next facts (Some command) s scan count plays = scan_there facts s scan s.left refl plays.1
 
 -- with a fetch a lookup that found no relation is made anew
-fetch_there : (scenario : Scenario) (seen : List Entry) (was : Progress) (rests : Rests scenario seen was) → is_absent (resumed (plan_at was.exec) (session_at was rests.holds.rest)).left ≡ false
-fetch_there scenario seen was rests = by_plan (plan_at was.exec) refl
+fetch_there : (scenario : Scenario) (seen : List Entry) (was : Progress) (rests : Rests scenario seen was) → is_absent (resumed (plan_at was.opens was.exec) (session_at was rests.holds.rest)).left ≡ false
+fetch_there scenario seen was rests = by_plan (plan_at was.opens was.exec) refl
   where
-    by_plan : (p : Plan) → plan_at was.exec ≡ p → is_absent (resumed p (session_at was rests.holds.rest)).left ≡ false
+    by_plan : (p : Plan) → plan_at was.opens was.exec ≡ p → is_absent (resumed p (session_at was rests.holds.rest)).left ≡ false
     by_plan (Absent name) at = ap is_absent (rests.holds.sought (ap is_absent at)) ∙ never_absent was.exec
     by_plan p at = ap is_absent at
 
@@ -116,13 +116,13 @@ follows_plan scenario seen s rests courses command at = course.follows command (
     course = subst (CourseOf scenario seen s.id) (rests.holds.is ∙ ap Some (settled_at_rest scenario seen s rests)) (courses s.id)
 
 write_plays : (scenario : Scenario) (seen : List Entry) (was : Progress) (rests : Rests scenario seen was) (next : ℕ) (facts : Facts) (o : Option Command) → AllOnCourse scenario seen → slice_get was.commands was.finished ≡ o
-    → (xid : Xid) (items : List Item) → MayPlayIn next facts o (session_at was rests.holds.rest) (events.Write xid items) → is_absent (written (plan_at was.exec) (session_at was rests.holds.rest)).left ≡ false
+    → (xid : Xid) (items : List Item) → MayPlayIn next facts o (session_at was rests.holds.rest) (events.Write xid items) → is_absent (written (plan_at was.opens was.exec) (session_at was rests.holds.rest)).left ≡ false
 write_plays scenario seen was rests next facts None courses at xid items plays = absurd plays
 write_plays scenario seen was rests next facts (Some command) courses at xid items plays = write_there next seen was.id (session_at was rests.holds.rest) command items (follows_plan scenario seen was rests courses command at) plays.1
 
 module _ (scenario : Scenario) (seen : List Entry) (was now : Progress) (rests : Rests scenario seen was) (places : PlacesFit seen was) (courses : AllOnCourse scenario seen) where
   -- where the plan and the scans are as they were, and nothing is taken back before
-  absent_still : (event : Event) → kept_at now ≡ kept_at was → plan_at now.exec ≡ plan_at was.exec → now.ended ≡ was.ended → ((from : ℕ) → last_event_of seen was.id ≡ Some (events.Gone from) → ⊥) → KeepsAbsent (with_own seen was event) now
+  absent_still : (event : Event) → kept_at now ≡ kept_at was → plan_at now.opens now.exec ≡ plan_at was.opens was.exec → now.ended ≡ was.ended → ((from : ℕ) → last_event_of seen was.id ≡ Some (events.Gone from) → ⊥) → KeepsAbsent (with_own seen was event) now
   absent_still event kept plan ended untaken = λ name missed whole. ap (λ l. is_kept l (scans.RelName name)) kept ∙ places.absent name (sym plan ∙ missed) (record { untaken = untaken; going = sym ended ∙ whole.going })
 
   -- where a lookup found no relation its scan is kept still, whichever entry it is
