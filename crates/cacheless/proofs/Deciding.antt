@@ -30,13 +30,13 @@ use Rattle.txn_blocks.specs.declared.transaction.RunningTransaction.{RunningTran
 use Rattle.cacheless.specs.declared.progress.Progress.{Progress}
 use Rattle.cacheless.specs.Facts.{Facts, facts_of}
 use Rattle.cacheless.specs.Session.{Badly, outcome_of}
-use Rattle.cacheless.specs.Owed.{Owes, owed_after, owed_of}
+use Rattle.cacheless.specs.Owed.{Owes, owed_after, owed_of, is_next_scan, has_looked}
 use Rattle.cacheless.specs.Ends.{End, Ends, Commits, TakesBack, xid_of, next_sent, next_of_commit, next_of_taking_back, next_of_end}
 use Rattle.cacheless.specs.Plays.{IsLock, IsUnlock, drafted, IsWrite, names_of, IsClash, IsEnd, IsLastEnd, MayPlay, MayPlayLast, MayPlayIn}
 use Rattle.cacheless.specs.Puts.{is_opened, PutOpened, PutsOpened}
 use Rattle.cacheless.specs.Settled.{class_oid, finds}
 use Rattle.cacheless.specs.State.{owed_at, owed_first, running_of, is_visible_at, published_at, xid_at, unsent_at, has_write_since, Kept, kept_at, is_kept, row_sought, missing, builds_missing, act_missing, scans_missing, end_of_running, end_at, Rest, session_at}
-use Rattle.cacheless.specs.May.{may_look_at, is_next_at, has_looked_at, lacks_any, owes_nothing, names_relation, is_lock_at, is_unlock_at, is_write_at, names_by, is_clash_at, releases, shows, publishes, takes_back, is_next_sent, is_next_of_commit, is_next_of_back, is_next_of_end, owes_no_end, may_end_at, may_play_at, may_end_last, may_last_at, may_play_now}
+use Rattle.cacheless.specs.May.{may_look_at, is_next_at, has_looked_at, may_scan_at, lacks_any, owes_nothing, names_relation, is_lock_at, is_unlock_at, is_write_at, names_by, is_clash_at, releases, shows, publishes, takes_back, is_next_sent, is_next_of_commit, is_next_of_back, is_next_of_end, owes_no_end, may_end_at, may_play_at, may_end_last, may_last_at, may_play_now}
 use Rattle.cacheless.specs.Holds.{FactsFit, Holds}
 use Rattle.cacheless.proofs.Tests.{and_true, empty_is, right_none}
 use Rattle.cacheless.proofs.Same.{look_same, looked_same, next_same, lacks_any_is, owes_nothing_is}
@@ -298,14 +298,18 @@ end_decides facts command s rest event fits count =
     (sym (end_same facts command s rest fits.running count))
     (unmade_decides s.ended (owes_no_end command s (end_at s command)) (is_next_of_end s event (end_at s command)) (next_of_end facts (end_at s command)) event (before_decides facts command s rest (end_at s command) fits) (next_decides facts s event (end_at s command) fits))
 
+-- a scan may be made now
+scan_decides : (facts : Facts) (s : Progress) (rest : Rest) (scan : Purpose) → FactsFit facts s → length rest.finished ≡ s.finished → Decides (may_scan_at scan s) ((owed_after facts.last ≡ []) × (is_next_scan scan facts (session_at s rest) ≡ true) × (has_looked facts (session_at s rest) ≡ true))
+scan_decides facts s rest scan fits count = decided_by _
+    (both_decide (is_empty (owed_at s.due) && is_next_at scan s) (has_looked_at s) (both_decide (is_empty (owed_at s.due)) (is_next_at scan s) (none_decide (owed_after facts.last) (is_empty (owed_at s.due)) (ap is_empty fits.owed)) (by_path (next_same facts s rest scan fits))) (by_path (looked_same facts s rest fits count)))
+    (λ is. (is.0.0, is.0.1, is.1)) (λ is. ((is.0, is.1), is.2))
+
 -- the answer decides what may come next in a command
 may_decides : (next : ℕ) (facts : Facts) (command : Command) (s : Progress) (rest : Rest) (event : Event) → FactsFit facts s → PutsOpened s.opened (plan_at s.opens s.exec) → length rest.finished ≡ s.finished → Decides (may_play_at next command s event) (MayPlay next facts command (session_at s rest) event)
 may_decides next facts command s rest (events.Look some_wait) fits puts count = by_path (look_same facts s rest fits)
 may_decides next facts command s rest (events.Fetch n) fits puts count = always tt
 may_decides next facts command s rest events.FetchReset fits puts count = always tt
-may_decides next facts command s rest (events.Scan scan n) fits puts count = decided_by _
-    (both_decide (is_empty (owed_at s.due) && is_next_at scan s) (has_looked_at s) (both_decide (is_empty (owed_at s.due)) (is_next_at scan s) (none_decide (owed_after facts.last) (is_empty (owed_at s.due)) (ap is_empty fits.owed)) (by_path (next_same facts s rest scan fits))) (by_path (looked_same facts s rest fits count)))
-    (λ is. (is.0.0, is.0.1, is.1)) (λ is. ((is.0, is.1), is.2))
+may_decides next facts command s rest (events.Scan scan n) fits puts count = scan_decides facts s rest scan fits count
 may_decides next facts command s rest (events.LockOk rel mode) fits puts count = held_decides facts command s rest rel mode fits
 may_decides next facts command s rest (events.LockHeld rel mode holder held) fits puts count = held_decides facts command s rest rel mode fits
 may_decides next facts command s rest (events.Unlock rel mode) fits puts count = owed_decides (IsUnlock facts s.taken (plan_at s.opens s.exec) rel mode) facts command s rest (is_unlock_at s (plan_at s.opens s.exec) rel mode) fits (unlock_decides facts s (plan_at s.opens s.exec) rel mode fits refl)
@@ -339,14 +343,15 @@ none_running None = always refl
 none_running (Some t) = never (λ is. absurd (cc))
 
 -- the answer decides what may come next after the last command
-after_all : (facts : Facts) (s : Progress) (rest : Rest) (event : Event) → FactsFit facts s → Decides (may_last_at s event) (MayPlayLast facts (session_at s rest) event)
-after_all facts s rest (events.Look some_wait) fits = both_decide (is_some s.running) (may_look_at s) (by_path (ap is_some fits.running ∙ some_running s.running)) (by_path (look_same facts s rest fits))
-after_all facts s rest (events.Fetch n) fits = always tt
-after_all facts s rest events.FetchReset fits = always tt
-after_all facts s rest (events.Gone from) fits = last_decides facts s (events.Gone from) fits
-after_all facts s rest (events.Release from) fits = last_decides facts s (events.Release from) fits
-after_all facts s rest events.Stop fits = subst (λ o. Decides (is_none s.running) (o ≡ None)) (sym fits.running) (none_running s.running)
-after_all facts s rest event fits = never (λ is. is)
+after_all : (facts : Facts) (s : Progress) (rest : Rest) (event : Event) → FactsFit facts s → length rest.finished ≡ s.finished → Decides (may_last_at s event) (MayPlayLast facts (session_at s rest) event)
+after_all facts s rest (events.Look some_wait) fits count = both_decide (is_some s.running) (may_look_at s) (by_path (ap is_some fits.running ∙ some_running s.running)) (by_path (look_same facts s rest fits))
+after_all facts s rest (events.Fetch n) fits count = always tt
+after_all facts s rest (events.Scan scan n) fits count = scan_decides facts s rest scan fits count
+after_all facts s rest events.FetchReset fits count = always tt
+after_all facts s rest (events.Gone from) fits count = last_decides facts s (events.Gone from) fits
+after_all facts s rest (events.Release from) fits count = last_decides facts s (events.Release from) fits
+after_all facts s rest events.Stop fits count = subst (λ o. Decides (is_none s.running) (o ≡ None)) (sym fits.running) (none_running s.running)
+after_all facts s rest event fits count = never (λ is. is)
 
 -- the answer decides what may come next, in each history of which the session is held
 pub holds_decides : (s : Progress) (next : ℕ) (event : Event) (t : Bool) → t ≡ may_play_now next s event → (scenario : Scenario) (seen : List Entry) (holds : Holds scenario seen s)
@@ -357,5 +362,5 @@ holds_decides s next event t same scenario seen holds = subst (λ u. Decides u (
     facts = facts_of seen s.id
 
     by_command : (o : Option Command) → Decides (elim o as (λ x. Bool) [ Some command ↦ may_play_at next command s event | None ↦ may_last_at s event ]) (MayPlayIn next facts o (session_at s holds.rest) event)
-    by_command None = after_all facts s holds.rest event holds.facts
+    by_command None = after_all facts s holds.rest event holds.facts holds.count
     by_command (Some command) = may_decides next facts command s holds.rest event holds.facts holds.puts holds.count

@@ -35,7 +35,7 @@ use Rattle.history_model.proofs.Reading.{held_of-more, life_of-own, life_of-othe
 use Rattle.history_model.proofs.Locked.{AreBarred, held_bars_all}
 use Rattle.cacheless.specs.Facts.{Facts, facts_of, facts_by}
 use Rattle.cacheless.specs.Locks.{locked_by, locks_by}
-use Rattle.cacheless.specs.Session.{Session, first_of, at_command}
+use Rattle.cacheless.specs.Session.{Session, first_of, none_open, at_command}
 use Rattle.cacheless.specs.Owed.{owes_accept}
 use Rattle.cacheless.specs.Settled.{done_here, act_done, acted_on, acted, is_finished, next_session, settled}
 use Rattle.cacheless.specs.Sessions.{placed_at, counted, accepted, entered, commands_left, session_by, session_of}
@@ -253,7 +253,7 @@ none_is_start Stopped c event is follows = absurd (cc)
 own_session : (scenario : Scenario) (facts : Facts) (b at c : ℕ) (event : Event) (gs : List Grant) (old : Option Session) → own_grants b gs ≡ map (grant_of b) (locks_of old) → (old ≡ None → event ≡ events.Start) → (event ≡ events.Start → old ≡ None)
     → (own_grants b (held_by b c event gs) ≡ map (grant_of b) (locks_of (session_by scenario facts b at c event old))) × (session_by scenario facts b at c event old ≡ None → ⊥)
 own_session scenario facts b at c events.Start gs old same start none =
-    (same ∙ ap (λ o. map (grant_of b) (locks_of o)) (none refl) ∙ sym (ap (map (grant_of b)) (settled-locks facts (commands_of scenario b) (at_command no_block [] [] at (first_of (commands_of scenario b))))), λ is. absurd (cc))
+    (same ∙ ap (λ o. map (grant_of b) (locks_of o)) (none refl) ∙ sym (ap (map (grant_of b)) (settled-locks facts (commands_of scenario b) (at_command no_block none_open [] [] at (first_of (commands_of scenario b))))), λ is. absurd (cc))
 own_session scenario facts b at c event gs None same start none = let clash : event ≡ events.Start = start refl in absurd (cc)
 own_session scenario facts b at c event gs (Some s) same start none =
     let commands : List Command = commands_left scenario b s in (

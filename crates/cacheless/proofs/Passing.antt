@@ -1,5 +1,5 @@
 -- What a backend does without an entry.
-use Rattle.std.proofs.Common.{◌≡◌, ◌≤◌, ◌<◌, ◌+◌, ◌∙◌, ◌&&◌, ◌||◌, ◌==◌, ℕ, Bool, true, false, Option, None, Some, List, [], ◌∷◌, ◌++◌, refl, sym, ap, subst, drop, is_some, unwrap_or, slice_get, arith, if◌then◌else◌}
+use Rattle.std.proofs.Common.{◌≡◌, ◌≤◌, ◌<◌, ◌+◌, ◌∙◌, ◌&&◌, ◌||◌, ◌==◌, ℕ, Bool, true, false, Option, None, Some, List, [], ◌∷◌, ◌++◌, refl, sym, ap, subst, map, drop, is_some, unwrap_or, slice_get, arith, if◌then◌else◌}
 use Rattle.std.proofs.lemmas.List.{length_push, append-nil}
 use Rattle.std.proofs.lemmas.Option.{slice_get_within}
 use Rattle.std.specs.List.{cons_option}
@@ -20,12 +20,12 @@ use Rattle.history_model.specs.Versions.{answer_of}
 use Rattle.history_model.proofs.Every.{every-weaker}
 use Rattle.history_model.proofs.Prefixes.{along-keeps}
 use Rattle.history_model.proofs.GivenRows.{given_seen}
-use Rattle.cacheless.specs.Types.{Mode, Row, Purpose, Command, CommandError, Scenario, Entry, Opening, OwnLock, Exec}
+use Rattle.cacheless.specs.Types.{Mode, Row, Purpose, Command, CommandError, Scenario, Entry, OpenRelation, Opening, OwnLock, Exec}
 use Rattle.cacheless.specs.declared.progress.Counts.{Counts}
 use Rattle.cacheless.specs.declared.progress.Progress.{Progress}
 use Rattle.cacheless.specs.Facts.{Facts, facts_of}
-use Rattle.cacheless.specs.Session.{Session, first_of, plan_first, refused_first}
-use Rattle.cacheless.specs.Settled.{next_session, blocks_after, finished_as, if_locked, has_taken_no_other, opened_by, sought_by, act_done, settled}
+use Rattle.cacheless.specs.Session.{Session, opening_of, first_of, plan_first, refused_first}
+use Rattle.cacheless.specs.Settled.{next_session, blocks_after, opens_passed, opens_after, finished_as, if_locked, has_taken_no_other, opened_by, sought_by, act_done, settled}
 use Rattle.cacheless.specs.Puts.{AreGivenBy, PutsOpened}
 use Rattle.cacheless.specs.State.{blocks_passed, lists_at, no_counts, kept_at, is_kept, rows_kept, builds_missing, act_missing, row_sought, row_next, is_absent, is_out, end_at, rest_of, session_at}
 use Rattle.cacheless.specs.May.{owes_nothing}
@@ -87,7 +87,7 @@ out_of command s is = (and_true (is_out s) (s.ended || is_ends (end_at s command
 
 -- an act that needs no entry, whichever it is
 pub act_keeps : (scenario : Scenario) (seen : List Entry) (was : Progress) (exec : Exec) (opened : List Opening) (caches : LocalCaches) (command : Command) (act : Act) (plan : List Row → Plan) (gave : List Row) → Holds scenario seen was → slice_get was.commands was.finished ≡ Some command
-    → owes_nothing command was ≡ true → plan_at was.opens was.exec ≡ Do act plan → gives_at was act ≡ Some gave → plan_at exec ≡ plan gave → ((name : List ℕ) → plan_at exec ≡ Absent name → plan_again exec ≡ plan_at was.opens was.exec) → opened ≡ was.opened ++ opened_by act → kept_of caches ≡ kept_at was
+    → owes_nothing command was ≡ true → plan_at was.opens was.exec ≡ Do act plan → gives_at was act ≡ Some gave → plan_at was.opens exec ≡ plan gave → ((name : List ℕ) → plan_at was.opens exec ≡ Absent name → plan_again was.opens exec ≡ plan_at was.opens was.exec) → opened ≡ was.opened ++ opened_by act → kept_of caches ≡ kept_at was
     → Holds scenario seen (record was { exec = exec; opened = opened; caches = caches; taken = None })
 act_keeps scenario seen was exec opened caches command act plan gave holds has owes at gives_it on again opens keeps = record {
   number = holds.number;
@@ -112,7 +112,7 @@ act_keeps scenario seen was exec opened caches command act plan gave holds has o
   };
   counts = holds.counts;
   order = holds.order;
-  sought = λ is. absent_or (plan_at exec) is (λ name missed. sought_is act plan name (session_at was holds.rest) (seeks name missed) ∙ sym (again name missed));
+  sought = λ is. absent_or (plan_at was.opens exec) is (λ name missed. sought_is act plan name (session_at was holds.rest) (seeks name missed) ∙ sym (again name missed));
   puts = subst (λ p. PutsOpened opened p) (sym on) (subst (λ l. PutsOpened l (plan gave)) (sym opens) (gave_asked seen was.id was act plan gave holds.facts at none gives_it (subst (PutsOpened was.opened) at holds.puts)));
 }
   where
@@ -125,15 +125,15 @@ act_keeps scenario seen was exec opened caches command act plan gave holds has o
     none : act_missing was (Do act plan) ≡ []
     none = right_none (builds_missing (kept_at was) was.opened) (act_missing was (Do act plan)) (lacks_none was act plan at free.scans)
 
-    seeks : (name : List ℕ) → plan_at exec ≡ Absent name → Seeks name (Do act plan)
-    seeks name missed = subst (Seeks name) (again name missed ∙ at) (seeks_again exec name missed)
+    seeks : (name : List ℕ) → plan_at was.opens exec ≡ Absent name → Seeks name (Do act plan)
+    seeks name missed = subst (Seeks name) (again name missed ∙ at) (seeks_again was.opens exec name missed)
 
     left : drop was.finished was.commands ≡ command ∷ drop (was.finished + 1) was.commands
     left = left_command was command has
 
 -- and its session is that after the act
 pub act_acts : (scenario : Scenario) (seen : List Entry) (was : Progress) (exec : Exec) (opened : List Opening) (caches : LocalCaches) (command : Command) (act : Act) (plan : List Row → Plan) (gave : List Row) (held : Holds scenario seen was) → slice_get was.commands was.finished ≡ Some command
-    → owes_nothing command was ≡ true → plan_at was.opens was.exec ≡ Do act plan → gives_at was act ≡ Some gave → plan_at exec ≡ plan gave → ((name : List ℕ) → plan_at exec ≡ Absent name → plan_again exec ≡ plan_at was.opens was.exec) → opened ≡ was.opened ++ opened_by act → kept_of caches ≡ kept_at was
+    → owes_nothing command was ≡ true → plan_at was.opens was.exec ≡ Do act plan → gives_at was act ≡ Some gave → plan_at was.opens exec ≡ plan gave → ((name : List ℕ) → plan_at was.opens exec ≡ Absent name → plan_again was.opens exec ≡ plan_at was.opens was.exec) → opened ≡ was.opened ++ opened_by act → kept_of caches ≡ kept_at was
     → HasActed scenario seen was held (record was { exec = exec; opened = opened; caches = caches; taken = None })
 unfolding act_keeps
 act_acts scenario seen was exec opened caches command act plan gave held has owes at gives_it on again opens keeps = record {
@@ -154,15 +154,15 @@ act_acts scenario seen was exec opened caches command act plan gave held has owe
     free = free_now (facts_of seen was.id) command was held.rest held.facts owes
 
 -- the state at the next command
-abbrev pub at_next : Progress → Exec → Bool → Blocks → List Opening → LocalCaches → Progress
-at_next was exec blocked blocks opened caches = record was { finished = was.finished + 1; exec = exec; blocked = blocked; ended = false; blocks = blocks; taken = None; opened = opened; caches = caches; tally = no_counts; answer = None }
+abbrev pub at_next : Progress → Exec → Bool → Blocks → List OpenRelation → List Opening → LocalCaches → Progress
+at_next was exec blocked blocks opens opened caches = record was { finished = was.finished + 1; exec = exec; blocked = blocked; ended = false; blocks = blocks; opens = opens; taken = None; opened = opened; caches = caches; tally = no_counts; answer = None }
 
 -- a finished command is passed over
-pub finish_keeps : (scenario : Scenario) (seen : List Entry) (was : Progress) (exec : Exec) (blocked : Bool) (blocks : Blocks) (opened : List Opening) (caches : LocalCaches) (command : Command) → Holds scenario seen was → slice_get was.commands was.finished ≡ Some command → is_finished_at command was ≡ true
-    → blocks ≡ blocks_passed (plan_at was.opens was.exec) (was.finished + 1) command was.blocks → opened ≡ [] → kept_of caches ≡ kept_at was
-    → plan_at exec ≡ plan_first blocks (slice_get was.commands (was.finished + 1)) → blocked ≡ is_some (refused_first blocks (slice_get was.commands (was.finished + 1)))
-    → Holds scenario seen (at_next was exec blocked blocks opened caches)
-finish_keeps scenario seen was exec blocked blocks opened caches command holds has finished passes none keeps on refuses = record {
+pub finish_keeps : (scenario : Scenario) (seen : List Entry) (was : Progress) (exec : Exec) (blocked : Bool) (blocks : Blocks) (opens : List OpenRelation) (opened : List Opening) (caches : LocalCaches) (command : Command) → Holds scenario seen was → slice_get was.commands was.finished ≡ Some command → is_finished_at command was ≡ true
+    → blocks ≡ blocks_passed (plan_at was.opens was.exec) (was.finished + 1) command was.blocks → opens ≡ opens_passed (plan_at was.opens was.exec) (was.finished + 1) command was.opened was.opens → opened ≡ map opening_of opens → kept_of caches ≡ kept_at was
+    → plan_at opens exec ≡ plan_first blocks opens (slice_get was.commands (was.finished + 1)) → blocked ≡ is_some (refused_first blocks (slice_get was.commands (was.finished + 1)))
+    → Holds scenario seen (at_next was exec blocked blocks opens opened caches)
+finish_keeps scenario seen was exec blocked blocks opens opened caches command holds has finished passes after pinned keeps on refuses = record {
   number = holds.number;
   commands = holds.commands;
   few = holds.few;
@@ -184,15 +184,15 @@ finish_keeps scenario seen was exec blocked blocks opened caches command holds h
   };
   counts = record { looks = omega arith; scans = omega arith; grants = omega arith; fetches = omega arith; full = omega arith };
   order = every-weaker (λ (list : Written). list.command ≤ was.finished + 1) (λ (list : Written). list.command ≤ was.finished + 1 + 1) (λ list low. omega (arith, low)) (lists_at was) holds.order;
-  sought = λ is. absurd (not_both (is_absent (plan_at exec)) is found);
-  puts = subst (PutsOpened opened) (sym on) (puts_first opened blocks (slice_get was.commands (was.finished + 1)));
+  sought = λ is. absurd (not_both (is_absent (plan_at opens exec)) is found);
+  puts = subst (PutsOpened opened) (sym on) (puts_first opened opens blocks (slice_get was.commands (was.finished + 1)));
 }
   where
     facts : Facts
     facts = facts_of seen was.id
 
-    found : is_absent (plan_at exec) ≡ false
-    found = ap is_absent on ∙ not_absent blocks (slice_get was.commands (was.finished + 1))
+    found : is_absent (plan_at opens exec) ≡ false
+    found = ap is_absent on ∙ not_absent blocks opens (slice_get was.commands (was.finished + 1))
 
     next : Session
     next = next_session command (slice_get was.commands (was.finished + 1)) (session_at was holds.rest)
@@ -200,31 +200,36 @@ finish_keeps scenario seen was exec blocked blocks opened caches command holds h
     blocks_are : blocks_after command (session_at was holds.rest) ≡ blocks
     blocks_are = ap (λ n. blocks_passed (plan_at was.opens was.exec) (n + 1) command was.blocks) holds.count ∙ sym passes
 
-    same : next_session command (first_of (drop (was.finished + 1) was.commands)) (session_at was holds.rest) ≡ session_at (at_next was exec blocked blocks opened caches) (rest_of next)
+    opens_are : opens_after command (session_at was holds.rest) ≡ opens
+    opens_are = ap (λ n. opens_passed (plan_at was.opens was.exec) (n + 1) command was.opened was.opens) holds.count ∙ sym after
+
+    same : next_session command (first_of (drop (was.finished + 1) was.commands)) (session_at was holds.rest) ≡ session_at (at_next was exec blocked blocks opens opened caches) (rest_of next)
     same = ap (λ o. next_session command o (session_at was holds.rest)) (first_left was.commands (was.finished + 1))
         ∙ (λ i. record next {
           blocks = blocks_are i;
-          left = (ap (λ b. plan_first b (slice_get was.commands (was.finished + 1))) blocks_are ∙ sym on) i;
+          opens = opens_are i;
+          left = ((λ j. plan_first (blocks_are j) (opens_are j) (slice_get was.commands (was.finished + 1))) ∙ sym on) i;
           blocked = (ap (λ b. is_some (refused_first b (slice_get was.commands (was.finished + 1)))) blocks_are ∙ sym refuses) i;
-          opened = sym none i;
+          opened = (ap (map opening_of) opens_are ∙ sym pinned) i;
         })
 
 -- and its session is that at the next command
-pub finish_passes : (scenario : Scenario) (seen : List Entry) (was : Progress) (exec : Exec) (blocked : Bool) (blocks : Blocks) (opened : List Opening) (caches : LocalCaches) (command : Command) (held : Holds scenario seen was) → slice_get was.commands was.finished ≡ Some command → is_finished_at command was ≡ true
-    → blocks ≡ blocks_passed (plan_at was.opens was.exec) (was.finished + 1) command was.blocks → opened ≡ [] → kept_of caches ≡ kept_at was
-    → plan_at exec ≡ plan_first blocks (slice_get was.commands (was.finished + 1)) → blocked ≡ is_some (refused_first blocks (slice_get was.commands (was.finished + 1)))
-    → HasPassed scenario seen was held (at_next was exec blocked blocks opened caches)
+pub finish_passes : (scenario : Scenario) (seen : List Entry) (was : Progress) (exec : Exec) (blocked : Bool) (blocks : Blocks) (opens : List OpenRelation) (opened : List Opening) (caches : LocalCaches) (command : Command) (held : Holds scenario seen was) → slice_get was.commands was.finished ≡ Some command → is_finished_at command was ≡ true
+    → blocks ≡ blocks_passed (plan_at was.opens was.exec) (was.finished + 1) command was.blocks → opens ≡ opens_passed (plan_at was.opens was.exec) (was.finished + 1) command was.opened was.opens → opened ≡ map opening_of opens → kept_of caches ≡ kept_at was
+    → plan_at opens exec ≡ plan_first blocks opens (slice_get was.commands (was.finished + 1)) → blocked ≡ is_some (refused_first blocks (slice_get was.commands (was.finished + 1)))
+    → HasPassed scenario seen was held (at_next was exec blocked blocks opens opened caches)
 unfolding finish_keeps
-finish_passes scenario seen was exec blocked blocks opened caches command held has finished passes none keeps on refuses = record {
-  holds = finish_keeps scenario seen was exec blocked blocks opened caches command held has finished passes none keeps on refuses;
+finish_passes scenario seen was exec blocked blocks opens opened caches command held has finished passes after pinned keeps on refuses = record {
+  holds = finish_keeps scenario seen was exec blocked blocks opens opened caches command held has finished passes after pinned keeps on refuses;
   command = command;
   at = has;
   over = finished_same (facts_of seen was.id) command was held.rest held.facts held.count ∙ finished;
   session = λ i. record next {
     blocks = sym blocks_are i;
-    left = sym (ap (λ b. plan_first b (slice_get was.commands (was.finished + 1))) blocks_are ∙ sym on) i;
+    opens = sym opens_are i;
+    left = sym ((λ j. plan_first (blocks_are j) (opens_are j) (slice_get was.commands (was.finished + 1))) ∙ sym on) i;
     blocked = sym (ap (λ b. is_some (refused_first b (slice_get was.commands (was.finished + 1)))) blocks_are ∙ sym refuses) i;
-    opened = none i;
+    opened = sym (ap (map opening_of) opens_are ∙ sym pinned) i;
   };
   id = refl;
   commands = refl;
@@ -236,6 +241,9 @@ finish_passes scenario seen was exec blocked blocks opened caches command held h
 
     blocks_are : blocks_after command (session_at was held.rest) ≡ blocks
     blocks_are = ap (λ n. blocks_passed (plan_at was.opens was.exec) (n + 1) command was.blocks) held.count ∙ sym passes
+
+    opens_are : opens_after command (session_at was held.rest) ≡ opens
+    opens_are = ap (λ n. opens_passed (plan_at was.opens was.exec) (n + 1) command was.opened was.opens) held.count ∙ sym after
 
 -- what an act gives is what the code gives it
 lock_rows : (t : Bool) (given : List Row) → is_some (if_locked t given) ≡ true → if_locked t given ≡ Some given
@@ -263,8 +271,8 @@ opened_is (Read scan) rest = refl
 opened_is (Lock rel mode) rest = refl
 opened_is (Write draft) rest = refl
 
-pub act_left : (exec : Exec) (act : Act) (rest : List Row → Plan) → plan_at exec ≡ Do act rest → 0 < acts_left exec
-act_left exec act rest at = acts_some exec (λ scan is. never_done act scan (sym (ap want_of at) ∙ is)) (λ error is. never_fails act error (sym (ap want_of at) ∙ is)) (λ name is. never_absent act name (sym (ap want_of at) ∙ is))
+pub act_left : (opens : List OpenRelation) (exec : Exec) (act : Act) (rest : List Row → Plan) → plan_at opens exec ≡ Do act rest → 0 < acts_left exec
+act_left opens exec act rest at = acts_some opens exec (λ scan is. never_done act scan (sym (ap want_of at) ∙ is)) (λ error is. never_fails act error (sym (ap want_of at) ∙ is)) (λ name is. never_absent act name (sym (ap want_of at) ∙ is))
   where
     never_done : (a : Act) (scan : Option Purpose) → want_of_act a ≡ wants.Done scan → ⊥
     never_done (Lookup name mode) scan is = absurd (cc)
@@ -293,7 +301,7 @@ pub act_is_left : (s : Progress) → Acts s → 0 < acts_left s.exec
 act_is_left s acts = by_plan (plan_at s.opens s.exec) refl (and_true (owes_nothing acts.command s) (gives_next s (plan_at s.opens s.exec)) acts.acts).1
   where
     by_plan : (p : Plan) → plan_at s.opens s.exec ≡ p → gives_next s p ≡ true → 0 < acts_left s.exec
-    by_plan (Do act plan) at is = act_left s.exec act plan at
+    by_plan (Do act plan) at is = act_left s.opens s.exec act plan at
     by_plan (Done told) at is = absurd (cc)
     by_plan (Fails error) at is = absurd (cc)
     by_plan (Absent name) at is = absurd (cc)
@@ -301,7 +309,7 @@ act_is_left s acts = by_plan (plan_at s.opens s.exec) refl (and_true (owes_nothi
 
 -- the act that is done without an entry
 pub acted_keeps : (was : Progress) (exec : Exec) (opened : List Opening) (caches : LocalCaches) (want : Want) (acts : Acts was) → want ≡ want_of (plan_at was.opens was.exec)
-    → plan_at exec ≡ after_act (rows_given was want) (plan_at was.opens was.exec) → ((name : List ℕ) → 0 < acts_left was.exec → plan_at exec ≡ Absent name → plan_again exec ≡ plan_at was.opens was.exec) → opened ≡ was.opened ++ opened_for want → kept_of caches ≡ kept_at was
+    → plan_at was.opens exec ≡ after_act (rows_given was want) (plan_at was.opens was.exec) → ((name : List ℕ) → 0 < acts_left was.exec → plan_at was.opens exec ≡ Absent name → plan_again was.opens exec ≡ plan_at was.opens was.exec) → opened ≡ was.opened ++ opened_for want → kept_of caches ≡ kept_at was
     → (scenario : Scenario) (seen : List Entry) (held : Holds scenario seen was) → HasActed scenario seen was held (record was { exec = exec; opened = opened; caches = caches; taken = None })
 acted_keeps was exec opened caches want acts wants on again opens keeps scenario seen held = by_plan (plan_at was.opens was.exec) refl (and_true (owes_nothing acts.command was) (gives_next was (plan_at was.opens was.exec)) acts.acts)
   where
@@ -320,14 +328,14 @@ acted_keeps was exec opened caches want acts wants on again opens keeps scenario
     by_plan NotBuilt at parts = absurd (let both : false ≡ true = sym (ap (gives_next was) at) ∙ parts.1 in cc)
 
 -- the code's step to the next command
-pub finish_code : (was : Progress) (exec : Exec) (blocked : Bool) (blocks : Blocks) (tally : Counts) (opened : List Opening) (caches : LocalCaches) (answer : Option (List ℕ)) (commands : List Command) (command : Command) → Finishes was → slice_get was.commands was.finished ≡ Some command
-    → blocks ≡ blocks_passed (plan_at was.opens was.exec) (was.finished + 1) command was.blocks → commands ≡ was.commands → plan_at exec ≡ plan_first blocks (slice_get commands (was.finished + 1)) → blocked ≡ is_some (refused_first blocks (slice_get commands (was.finished + 1))) → tally ≡ no_counts → opened ≡ [] → kept_of caches ≡ kept_at was → answer ≡ None
+pub finish_code : (was : Progress) (exec : Exec) (blocked : Bool) (blocks : Blocks) (tally : Counts) (opens : List OpenRelation) (opened : List Opening) (caches : LocalCaches) (answer : Option (List ℕ)) (commands : List Command) (command : Command) → Finishes was → slice_get was.commands was.finished ≡ Some command
+    → blocks ≡ blocks_passed (plan_at was.opens was.exec) (was.finished + 1) command was.blocks → opens ≡ opens_passed (plan_at was.opens was.exec) (was.finished + 1) command was.opened was.opens → commands ≡ was.commands → plan_at opens exec ≡ plan_first blocks opens (slice_get commands (was.finished + 1)) → blocked ≡ is_some (refused_first blocks (slice_get commands (was.finished + 1))) → tally ≡ no_counts → opened ≡ map opening_of opens → kept_of caches ≡ kept_at was → answer ≡ None
     → (scenario : Scenario) (seen : List Entry) (held : Holds scenario seen was)
-    → HasPassed scenario seen was held (record was { finished = was.finished + 1; exec = exec; blocked = blocked; ended = false; tally = tally; blocks = blocks; taken = None; opened = opened; caches = caches; answer = answer })
-finish_code was exec blocked blocks tally opened caches answer commands command finishes at passes same on refuses fresh none keeps taken scenario seen held =
-    subst (HasPassed scenario seen was held) (λ i. record (at_next was exec blocked blocks opened caches) { tally = sym fresh i; answer = sym taken i })
-    (finish_passes scenario seen was exec blocked blocks opened caches command held at (subst (λ c. is_finished_at c was ≡ true) one finishes.finished) passes none keeps
-    (on ∙ ap (λ l. plan_first blocks (slice_get l (was.finished + 1))) same) (refuses ∙ ap (λ l. is_some (refused_first blocks (slice_get l (was.finished + 1)))) same))
+    → HasPassed scenario seen was held (record was { finished = was.finished + 1; exec = exec; blocked = blocked; ended = false; tally = tally; blocks = blocks; opens = opens; taken = None; opened = opened; caches = caches; answer = answer })
+finish_code was exec blocked blocks tally opens opened caches answer commands command finishes at passes after same on refuses fresh pinned keeps taken scenario seen held =
+    subst (HasPassed scenario seen was held) (λ i. record (at_next was exec blocked blocks opens opened caches) { tally = sym fresh i; answer = sym taken i })
+    (finish_passes scenario seen was exec blocked blocks opens opened caches command held at (subst (λ c. is_finished_at c was ≡ true) one finishes.finished) passes after pinned keeps
+    (on ∙ ap (λ l. plan_first blocks opens (slice_get l (was.finished + 1))) same) (refuses ∙ ap (λ l. is_some (refused_first blocks (slice_get l (was.finished + 1)))) same))
   where
     one : finishes.command ≡ command
     one = ap (λ o. unwrap_or o finishes.command) (sym finishes.at ∙ at)

@@ -8,4 +8,5 @@ pub mod LateActs
 pub mod AloneLocks
 pub mod Given
 pub mod AfterActs
+pub mod ToldHeld
 pub mod SilentActs

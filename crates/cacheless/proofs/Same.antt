@@ -291,7 +291,7 @@ pub lacks_build_scan_is : (s : Progress) → (not (has_failed s) && (lacks_opene
 lacks_build_scan_is s = by_outcome (outcome_of (plan_at s.opens s.exec))
   where
     both : (lacks_opened (kept_at s) s.opened || lacks_to_build s (plan_at s.opens s.exec)) ≡ list_any is_build_scan (builds_missing (kept_at s) s.opened ++ act_missing s (plan_at s.opens s.exec))
-    both = ap (λ t. t || lacks_to_build s (plan_at s.opens s.exec)) (sym (opened_any (kept_at s) s.opened)) ∙ ap (λ t. list_any is_build_scan (builds_missing (kept_at s) s.opened) || t) (sym (act_any s (plan_at s.opens s.exec) (stage_reads s.exec)))
+    both = ap (λ t. t || lacks_to_build s (plan_at s.opens s.exec)) (sym (opened_any (kept_at s) s.opened)) ∙ ap (λ t. list_any is_build_scan (builds_missing (kept_at s) s.opened) || t) (sym (act_any s (plan_at s.opens s.exec) (stage_reads s.opens s.exec)))
         ∙ sym (list_any-append is_build_scan (builds_missing (kept_at s) s.opened) (act_missing s (plan_at s.opens s.exec)))
 
     by_outcome : (o : Outcome) → (not (elim o as (λ x. Bool) [ Badly ↦ true | other ↦ false ]) && (lacks_opened (kept_at s) s.opened || lacks_to_build s (plan_at s.opens s.exec))) ≡ list_any is_build_scan (elim o as (λ x. List Purpose) [ Badly ↦ [] | other ↦ builds_missing (kept_at s) s.opened ++ act_missing s (plan_at s.opens s.exec) ])

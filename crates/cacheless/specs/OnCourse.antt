@@ -76,7 +76,7 @@ abbrev pub NamedFits : List Entry → ℕ → Plan → Type 0
 NamedFits seen b (Absent name) = class_oid (rows_read seen b (scans.RelName name)) ≡ None
 NamedFits seen b plan = ⊤
 
--- a command that found no relation has done only its lookup, which a fetch repeats
+-- a command that found no relation has done only its lookup, which a fetch repeats, and has opened nothing before its release
 pub record WasSought (seen : List Entry) (b : ℕ) (s : Session) (command : Command) (name : List ℕ) : Type 0 where
   pub mode : Mode
   pub rest : List Row → Plan
@@ -84,7 +84,7 @@ pub record WasSought (seen : List Entry) (b : ℕ) (s : Session) (command : Comm
   pub first : s.sought ≡ plan_of s.opens command
   pub runs : runs command ≡ true
   pub found : length s.found ≡ 1
-  pub opened : s.opened ≡ map opening_of s.opens
+  pub opened : s.ended ≡ false → s.opened ≡ map opening_of s.opens
   pub unwritten : has_written seen b (number_of s) ≡ false
 
 -- a command that does no act has opened nothing, before its release, and if it hasn't failed its answer is left

@@ -17,7 +17,7 @@ use txn_blocks::RunningTransaction;
 impl Progress {
     ghost use Rattle.std.specs.Prelude.{List};
     ghost use Rattle.inval_messages.specs.Lists.{cats_in, rels_in, lists_from};
-    ghost use Rattle.cacheless.specs.State.{kept_at, published_at, lists_at, kept_spared};
+    ghost use Rattle.cacheless.specs.State.{kept_at, published_at, lists_at, kept_spared, is_out};
     ghost use Rattle.cacheless.specs.Holds.{Rests, HasEntered};
 
     /// Its transaction is committed (`ProcArrayEndTransaction` in
@@ -80,9 +80,11 @@ impl Progress {
 
     /// It released the locks that it was granted in commands of this number and above; where that is
     /// the first command of its transaction, the transaction ends (`LockReleaseAll` in
-    /// `src/backend/storage/lmgr/lock.c`). The descriptors that it held are closed.
+    /// `src/backend/storage/lmgr/lock.c`). The descriptors that it held are closed. Condition: its command has
+    /// come out.
     pub fn enter_release(&mut self, alloc: Global, from: u32)
         requires few { self.old.finished ≤ 20000 }
+        requires out { is_out self.old ≡ true }
         ensures kept { kept_at self.new ≡ kept_at self.old }
         ensures answer { self.new.answer ≡ self.old.answer }
         ensures holds { (scenario : Scenario) (seen : List Entry) → (rests : Rests scenario seen self.old) → HasEntered scenario seen self.old (Event.Release from) rests self.new }

@@ -13,7 +13,9 @@ use Rattle.base_types.specs.declared.scan.Purpose.TheVariants.{RelName}
 use Rattle.base_types.specs.declared.change.Change.TheVariants.{Insert}
 use Rattle.command_answers.specs.declared.error.CommandError.TheVariants as errors
 use Rattle.ddl_effect.specs.declared.told.Told.TheVariants as tells
-use Rattle.ddl_effect.specs.Plans.{Fails}
+use Rattle.ddl_effect.specs.Types.{OpenRelation}
+use Rattle.ddl_effect.specs.Opens.{without_latest}
+use Rattle.ddl_effect.specs.Plans.{Done, Fails}
 use Rattle.ddl_effect.specs.Effects.{Nothing, Refuses, Unknown, effect_of, effect_at}
 use Rattle.ddl_effect.specs.Commands.{plan_of, new_table}
 use Rattle.ddl_effect.specs.Drawing.{changes_of}
@@ -56,3 +58,42 @@ no_relation = refl
 -- a lookup that ended without a relation has none, whatever the rows say
 pub ended_without : effect_at (rows_of (Class (oid 16384) (codes "t") Table None)) (None ∷ []) (plan_of [] (commands.Show (codes "t") None)) ≡ Unknown (codes "t")
 ended_without = refl
+
+-- a table that a session has open under a name
+abbrev pub opened : List ℕ → ℕ → OpenRelation
+opened name n = record { name = name; rel = oid n; kind = Table; command = 1 }
+
+-- of a relation that is open all is told without an act, whatever the rows say
+pub peek_of_open : plan_of (opened (codes "t") 16384 ∷ []) (commands.Peek (codes "t") None) ≡ Done (tells.Relation (oid 16384) Table)
+peek_of_open = refl
+
+-- under a name the latest is meant
+pub peek_of_latest : plan_of (opened (codes "t") 16384 ∷ opened (codes "t") 16385 ∷ opened (codes "u") 16386 ∷ []) (commands.Peek (codes "t") (Some fields.Name)) ≡ Done (tells.Field (oid 16385) Table fields.Name)
+peek_of_latest = refl
+
+-- nothing is open under the name
+pub peek_of_closed : plan_of (opened (codes "u") 16384 ∷ []) (commands.Peek (codes "t") None) ≡ Fails (errors.NotOpen (codes "t"))
+peek_of_closed = refl
+
+-- its kind lacks the field
+pub peek_of_no_field : plan_of (opened (codes "t") 16384 ∷ []) (commands.Peek (codes "t") (Some fields.Of)) ≡ Fails (errors.NoField (codes "t") fields.Of)
+peek_of_no_field = refl
+
+-- what is open is closed, and nothing else
+pub close_of_open : plan_of (opened (codes "t") 16384 ∷ []) (commands.CloseRel (codes "t")) ≡ Done tells.Ok
+close_of_open = refl
+
+pub close_of_closed : plan_of [] (commands.CloseRel (codes "t")) ≡ Fails (errors.NotOpen (codes "t"))
+close_of_closed = refl
+
+-- the latest of the name is closed, and the others stay open
+pub closed_latest : without_latest (codes "t") (opened (codes "t") 16384 ∷ opened (codes "t") 16385 ∷ opened (codes "u") 16386 ∷ []) ≡ opened (codes "t") 16384 ∷ opened (codes "u") 16386 ∷ []
+closed_latest = refl
+
+-- a table that the session has open isn't altered, under whichever name it was opened
+pub alteration_of_open : effect_of (rows_of (Class (oid 16384) (codes "t") Table None)) (plan_of (opened (codes "u") 16384 ∷ []) (commands.AddColumn (codes "t") (codes "a") Int4)) ≡ Refuses (errors.InUse (oid 16384))
+alteration_of_open = refl
+
+-- nor dropped
+pub drop_of_open : effect_of (rows_of (Class (oid 16384) (codes "t") Table None)) (plan_of (opened (codes "t") 16384 ∷ []) (commands.DropTable (codes "t"))) ≡ Refuses (errors.InUse (oid 16384))
+drop_of_open = refl

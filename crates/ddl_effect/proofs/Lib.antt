@@ -1,7 +1,7 @@
 mod Alterations
 pub mod Driven
 mod Examples
-mod HasPlan
+pub mod HasPlan
 mod LatestOpen
 mod Listing
 mod Reading

@@ -84,7 +84,7 @@ plays_needed scenario history e next = by_session (session_of scenario history e
     facts = facts_of history e.backend
 
     by_command : (s : Session) (o : Option Command) (event : Event) → MayPlayIn (next_oid history) facts o s event → ScansOnlyIfNeeded history e.backend event
-    by_command s None (events.Scan scan count) plays = absurd plays
+    by_command s None (events.Scan scan count) plays = next_lacked facts scan s plays.1
     by_command s (Some command) (events.Scan scan count) plays = next_lacked facts scan s plays.1
     by_command s o event plays = tt
 

@@ -1,5 +1,7 @@
 -- A command that is about to write has read the rows of the relation that it found as they are: so its new names are those that its plan names.
 use Rattle.std.proofs.Common.{◌≡◌, ◌∙◌, ◌⊎◌, inl, inr, ℕ, Bool, true, false, not, Some, List, [], ◌∷◌, ◌++◌, cond, refl, sym, ap, subst, map, length, slice_get, arith}
+use Rattle.std.proofs.lemmas.Grind.{flat_map-append}
+use Rattle.base_types.specs.Scans.{build_scans}
 use Rattle.base_types.specs.declared.kind.Kind.TheVariants.{Table}
 use Rattle.base_types.specs.declared.scan.Purpose.TheVariants as scans
 use Rattle.lock_modes.specs.Own.{cleared}
@@ -11,9 +13,9 @@ use Rattle.cacheless.specs.Types.{Row, Purpose, Command, Draft, Opening, Scenari
 use Rattle.cacheless.specs.ActsDone.{made_in, opening_by, relation_by}
 use Rattle.cacheless.specs.Facts.{Facts, facts_of}
 use Rattle.cacheless.specs.OnCourse.{OnItsWay, IsOnCourse, ClearUnlessOwed}
-use Rattle.cacheless.specs.Owed.{OwesScan, owed_at_start, owed_after, builds_owed, act_owed, scans_owed, owed_of}
+use Rattle.cacheless.specs.Owed.{OwesScan, unusable, owed_at_start, owed_after, builds_owed, act_owed, scans_owed, owed_of}
 use Rattle.cacheless.specs.Played.{IsPlayed}
-use Rattle.cacheless.specs.Session.{Session, Badly, none_open, outcome_of}
+use Rattle.cacheless.specs.Session.{Session, Badly, opening_of, outcome_of}
 use Rattle.cacheless.specs.Sessions.{session_of}
 use Rattle.cacheless.proofs.Allowed.SettledCourse.{builds_done}
 use Rattle.cacheless.proofs.Plans.ActOrder.{WritesTable, WritesRows, at_write}
@@ -27,17 +29,17 @@ none_mapped f (x ∷ xs) none = absurd (cc none)
 
 -- so it is where nothing is owed, and the backend is on its course
 pub read_as_now : (scenario : Scenario) (history : List Entry) (b : ℕ) (s : Session) (command : Command) (draft : Draft) (rest : List Row → Plan) → IsPlayed scenario history → session_of scenario history b ≡ Some s → IsOnCourse scenario history b s → slice_get (commands_of scenario b) (length s.finished) ≡ Some command
-    → s.left ≡ Do (Write draft) rest → owed_of (facts_of history b) command s ≡ [] → (way : OnItsWay history b s command) → AreReadAsNow history b (facts_of history b) (made_in relation_by way.gave (plan_of none_open command))
+    → s.left ≡ Do (Write draft) rest → owed_of (facts_of history b) command s ≡ [] → (way : OnItsWay history b s command) → AreReadAsNow history b (facts_of history b) (made_in relation_by way.gave (plan_of s.opens command))
 read_as_now scenario history b s command draft rest played is course here at none way = by_write (at_write relations opened draft rest (its_place history b s command (Write draft) rest way at)).1
   where
     facts : Facts
     facts = facts_of history b
 
     relations : List Opening
-    relations = made_in relation_by way.gave (plan_of none_open command)
+    relations = made_in relation_by way.gave (plan_of s.opens command)
 
     opened : List Opening
-    opened = made_in opening_by way.gave (plan_of none_open command)
+    opened = made_in opening_by way.gave (plan_of s.opens command)
 
     start : owed_at_start facts command s ++ owed_after facts.last ≡ []
     start = (both_empty (owed_at_start facts command s ++ owed_after facts.last) (map OwesScan (scans_owed facts s)) none).0
@@ -49,6 +51,10 @@ read_as_now scenario history b s command draft rest played is course here at non
     builds = (both_empty (builds_owed facts s.opened) (act_owed facts (Do (Write draft) rest))
         (none_mapped OwesScan _ (sym (ap (map OwesScan) same) ∙ (both_empty (owed_at_start facts command s ++ owed_after facts.last) (map OwesScan (scans_owed facts s)) none).1))).0
 
+    own_builds : builds_owed facts opened ≡ []
+    own_builds = (both_empty (builds_owed facts (map opening_of s.opens)) (builds_owed facts opened)
+        (sym (flat_map-append (λ (o : Opening). unusable facts (build_scans o.kind o.rel)) (map opening_of s.opens) opened) ∙ sym (ap (builds_owed facts) way.opened) ∙ builds)).1
+
     clear : map cleared s.locks ≡ s.locks
     clear = subst (λ o. ClearUnlessOwed facts o s) here course.clear (builds_done facts command s builds (ap is_empty start))
 
@@ -59,8 +65,8 @@ read_as_now scenario history b s command draft rest played is course here at non
     by_write : WritesTable relations opened draft ⊎ WritesRows relations opened draft → AreReadAsNow history b facts relations
     by_write (inl table) = subst (AreReadAsNow history b facts) (sym table.unfound) tt
     by_write (inr altered) = subst (AreReadAsNow history b facts) (sym altered.found_is) (
-      sym (late_answers scenario history b s way.gave (plan_of none_open command) (Write draft) rest (record { rel = altered.rel; kind = Table }) (scans.Class altered.rel)
+      sym (late_answers scenario history b s way.gave (plan_of s.opens command) (Write draft) rest (record { rel = altered.rel; kind = Table }) (scans.Class altered.rel)
           played.sound played.plays is clear (its_order history b s command way) way.holds (sym way.plan ∙ at) altered.found_is altered.opened_is (inr (0, omega arith, refl))
-          (first_usable (is_usable history b (scans.Class altered.rel)) (scans.Class altered.rel) _ (sym (ap (builds_owed facts) (way.opened ∙ altered.opened_is)) ∙ builds))),
+          (first_usable (is_usable history b (scans.Class altered.rel)) (scans.Class altered.rel) _ (sym (ap (builds_owed facts) altered.opened_is) ∙ own_builds))),
       tt,
     )

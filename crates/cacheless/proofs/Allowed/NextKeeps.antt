@@ -78,7 +78,7 @@ write_orderly history b s command items sound columns spelled follows writes = b
     by_plan : (p : Plan) → s.left ≡ p → IsWrite (next_oid history) p items → IsOrderlyWrite history b items × KeepsAll history b items
     by_plan (Do (Write draft) rest) at are =
         let way = on_its_way history b s command (Write draft) rest follows at in
-        let fits = write_fits history b (number_of s) (facts_of history b) command way.gave draft rest sound columns spelled way.runs way.holds (sym way.plan ∙ at) in
+        let fits = write_fits history b (number_of s) (facts_of history b) s.opens command way.gave draft rest sound columns spelled way.runs way.holds (sym way.plan ∙ at) in
         (subst (IsOrderlyWrite history b) (sym are) fits.fit.orderly, subst (KeepsAll history b) (sym are) fits.keeps)
     by_plan (Do (Lookup name mode) rest) at are = absurd are
     by_plan (Do (Open rel kind) rest) at are = absurd are

@@ -17,7 +17,7 @@ use Rattle.cacheless.specs.OnCourse.{is_over, IsOnCourse, CourseOf, AllOnCourse,
 use Rattle.cacheless.specs.Owed.{owes_accept}
 use Rattle.cacheless.specs.Played.{IsPlayed}
 use Rattle.cacheless.specs.Plays.{MayPlayIn, IsStart, MayPlayAt, IsNext}
-use Rattle.cacheless.specs.Session.{Session, number_of, first_of, at_command}
+use Rattle.cacheless.specs.Session.{Session, number_of, first_of, none_open, at_command}
 use Rattle.cacheless.specs.Sessions.{written, resumed, noted, placed_at, counted, accepted, commands_left, entered, session_by, session_of}
 use Rattle.cacheless.specs.Settled.{settled}
 use Rattle.cacheless.proofs.HeldLocks.{settled-locks}
@@ -38,6 +38,7 @@ entered_noted facts left at c event s = record {
   after = record {
     left = ap (λ x. x.left) same;
     refused = ap (λ x. x.refused) same;
+    opens = ap (λ x. x.opens) same;
     opened = ap (λ x. x.opened) same;
     found = ap (λ x. x.found) same;
     sought = ap (λ x. x.sought) same;
@@ -88,7 +89,7 @@ pub other_stays : (scenario : Scenario) (history : List Entry) (e : Entry) (b : 
 other_stays scenario history e b None may other none = λ c. has_written-other history e b c other ∙ none c
 other_stays scenario history e b (Some s) may other course = record {
   follows = λ command at. follows-more history e b s s command may (λ own. absurd (both_ways _ other own)) (λ c. has_written-other history e b c other) (λ name. rows_read-other history e b (scans.RelName name) other)
-      (λ over. ap (λ last. is_over last s) (last_event_of-other history e b other) ∙ over) (record { left = refl; refused = refl; opened = refl; found = refl; sought = refl; finished = refl }) (course.follows command at);
+      (λ over. ap (λ last. is_over last s) (last_event_of-other history e b other) ∙ over) (record { left = refl; refused = refl; opens = refl; opened = refl; found = refl; sought = refl; finished = refl }) refl (course.follows command at);
   going = course.going;
   later = λ c after. has_written-other history e b c other ∙ course.later c after;
   clear = subst (λ facts. ClearUnlessOwed facts (slice_get (commands_of scenario b) (length s.finished)) s) (sym (facts_of-other history e b other)) course.clear;
@@ -112,7 +113,7 @@ pub starts_on_course : (scenario : Scenario) (history : List Entry) (b c : ℕ) 
     → ((n : ℕ) → has_written history b n ≡ false) → CourseOf scenario (with_entry history b c event) b (session_then scenario history b c event None)
 starts_on_course scenario history b c events.Start played is start none =
     settled_on_course scenario new b commands first (record { played = played; session = settled (facts_of new b) commands first; is = is; holds = settled-locks (facts_of new b) commands first }) refl
-    (begins_on_course scenario new b no_block [] [] (length history + 1) commands refl (λ n after. has_written-quiet history (entry_of b c events.Start) b n refl ∙ none n) refl)
+    (begins_on_course scenario new b no_block none_open [] [] (length history + 1) commands refl (λ n after. has_written-quiet history (entry_of b c events.Start) b n refl ∙ none n) refl)
   where
     new : List Entry
     new = with_entry history b c events.Start
@@ -121,7 +122,7 @@ starts_on_course scenario history b c events.Start played is start none =
     commands = commands_of scenario b
 
     first : Session
-    first = at_command no_block [] [] (length history + 1) (first_of commands)
+    first = at_command no_block none_open [] [] (length history + 1) (first_of commands)
 starts_on_course scenario history b c event played is start none = absurd start
 
 -- the session that an own entry leaves, before it goes on
@@ -154,7 +155,7 @@ enters_on_course scenario history b event s may plays course = record {
     now_at command here = ap (slice_get (commands_of scenario b)) (sym counts) ∙ here
 
     own : (command : Command) → slice_get (commands_of scenario b) (length s.finished) ≡ Some command → OwnEntry history b s command event
-    own command at = record { may = may; plays = subst (λ o. MayPlayIn (next_oid history) (facts_of history b) o s event) at plays; follows = course.follows command at }
+    own command at = record { may = may; plays = subst (λ o. MayPlayIn (next_oid history) (facts_of history b) o s event) at plays; follows = course.follows command at; going = course.going command at }
 
 -- no session starts
 no_start : (next : ℕ) (facts : Facts) (command : Option Command) (s : Session) → MayPlayIn next facts command s events.Start → ⊥

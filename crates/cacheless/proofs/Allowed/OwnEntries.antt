@@ -1,5 +1,5 @@
 -- An entry of a backend keeps its running command on its course.
-use Rattle.std.proofs.Common.{◌≡◌, ◌+◌, ◌-◌, ◌∙◌, ℕ, Bool, true, false, Option, Some, None, List, [], ◌∷◌, ◌++◌, ◌&&◌, ◌||◌, refl, sym, ap, subst, length, take, ◌==◌}
+use Rattle.std.proofs.Common.{◌≡◌, ◌+◌, ◌-◌, ◌∙◌, ℕ, Bool, true, false, Option, Some, None, List, [], ◌∷◌, ◌++◌, ◌&&◌, ◌||◌, refl, sym, ap, subst, map, append-nil, length, take, ◌==◌}
 use Rattle.std.specs.List.{flat_map, list_any}
 use Rattle.std.proofs.Math.Bool.{or-true}
 use Rattle.std.proofs.lemmas.Bool.{eq-eqb, and_from, or_left}
@@ -30,13 +30,13 @@ use Rattle.cacheless.specs.Facts.{Facts, facts_of}
 use Rattle.cacheless.specs.OnCourse.{is_absent, OnItsWay, is_over, Begun, Wrote, Over, NamedFits, WasSought, DoesNoAct, FollowsPlan}
 use Rattle.cacheless.specs.Owed.{unusable, act_next, is_next_scan}
 use Rattle.cacheless.specs.Plays.{IsWrite, IsUnlock, MayPlay}
-use Rattle.cacheless.specs.Session.{Session, Outcome, Unsettled, Well, Badly, none_open, number_of, outcome_of, is_settled}
+use Rattle.cacheless.specs.Session.{Session, Outcome, Unsettled, Well, Badly, opening_of, number_of, outcome_of, is_settled}
 use Rattle.cacheless.specs.Sessions.{refused_with, written, resumed, noted}
 use Rattle.cacheless.specs.Settled.{found_by}
 use Rattle.cacheless.proofs.Plans.ActOrder.{at_write}
 use Rattle.cacheless.proofs.Plans.AfterActs.{lookup_first}
 use Rattle.cacheless.proofs.Plans.SilentActs.{on_its_way, its_place, unrefused, its_order, named_there}
-use Rattle.cacheless.proofs.Allowed.StaysOnCourse.{has_written-quiet, rows_read-unscanned, IsAfter, MayCome, named-more, way-more, sought-more, plain-more, follows-more, over_stays}
+use Rattle.cacheless.proofs.Allowed.StaysOnCourse.{has_written-quiet, rows_read-unscanned, IsAfter, IsAfterEnd, before_end, plan_same, MayCome, named-more, way-more, sought-more, plain-more, follows-more, over_stays}
 use Rattle.cacheless.proofs.Plans.Ways.{acts, none_reached}
 use Rattle.ddl_effect.specs.Commands.{plan_of}
 use Rattle.lock_modes.specs.declared.grant.Grant.{Grant}
@@ -47,6 +47,7 @@ pub record OwnEntry (history : List Entry) (b : ℕ) (s : Session) (command : Co
   pub may : MayCome history (entry_of b (number_of s) event)
   pub plays : MayPlay (next_oid history) (facts_of history b) command s event
   pub follows : FollowsPlan history b s command
+  pub going : s.ended ≡ false
 
 abbrev pub with_own : List Entry → ℕ → Session → Event → List Entry
 with_own history b s event = history ++ entry_of b (number_of s) event ∷ []
@@ -63,20 +64,23 @@ own_over history b s later command event own quiet same over =
 -- an entry that changes nothing of the command
 quiet_follows : (history : List Entry) (b : ℕ) (s later : Session) (command : Command) (event : Event) → OwnEntry history b s command event → IsQuiet event → is_write event ≡ false → ((name : List ℕ) → is_scan_of (scans.RelName name) event ≡ false) → IsNoted s later → FollowsPlan (with_own history b s event) b later command
 quiet_follows history b s later command event own quiet unwritten unread noted = follows-more history (entry_of b (number_of s) event) b s later command own.may (λ mine. quiet) (λ c. has_written-quiet history (entry_of b (number_of s) event) b c unwritten)
-    (λ name. rows_read-unscanned history (entry_of b (number_of s) event) b (scans.RelName name) (unread name)) (own_over history b s later command event own quiet noted.ended) noted.after own.follows
+    (λ name. rows_read-unscanned history (entry_of b (number_of s) event) b (scans.RelName name) (unread name)) (own_over history b s later command event own quiet noted.ended) noted.after noted.ended own.follows
 
 -- what a lookup has taken is no part of how far the command is
 as_noted : (t s later : Session) → IsNoted t later → IsNoted (record t { taken = s.taken }) later
-as_noted t s later noted = let a = noted.after in record { after = record { left = a.left; refused = a.refused; opened = a.opened; found = a.found; sought = a.sought; finished = a.finished }; ended = noted.ended }
+as_noted t s later noted = let a = noted.after in record { after = record { left = a.left; refused = a.refused; opens = a.opens; opened = a.opened; found = a.found; sought = a.sought; finished = a.finished }; ended = noted.ended }
 
 -- an entry that shows an error
-error_follows : (seen : List Entry) (b : ℕ) (s later : Session) (command : Command) (error : CommandError) → ((told : Told) → plan_of none_open command ≡ Done told → DoesNoAct s told) → IsNoted (refused_with error s) later → FollowsPlan seen b later command
+error_follows : (seen : List Entry) (b : ℕ) (s later : Session) (command : Command) (error : CommandError) → ((told : Told) → plan_of s.opens command ≡ Done told → DoesNoAct s told) → IsNoted (refused_with error s) later → FollowsPlan seen b later command
 error_follows seen b s later command error plain noted = record {
   refused = λ shown is. noted.after.left ∙ (let both : Some error ≡ Some shown = sym noted.after.refused ∙ is in cc both);
   way = λ none. absurd (let both : Some error ≡ None = sym noted.after.refused ∙ none in cc both);
   named = subst (NamedFits seen b) (sym noted.after.left) tt;
   sought = λ name is. absurd (let both : Fails error ≡ Absent name = sym noted.after.left ∙ is in cc both);
-  plain = λ told none. record { opened = noted.after.opened ∙ (plain told none).opened; left = λ well. absurd (let both : Badly ≡ Well = ap outcome_of (sym noted.after.left) ∙ well in cc both) };
+  plain = λ told none. record {
+    opened = λ going. noted.after.opened ∙ (plain told (plan_same s later command noted.after.opens ∙ none)).opened (sym noted.ended ∙ going) ∙ ap (map opening_of) (sym noted.after.opens);
+    left = λ well. absurd (let both : Badly ≡ Well = ap outcome_of (sym noted.after.left) ∙ well in cc both);
+  };
 }
 
 -- a command that failed to find a relation makes no scan
@@ -91,7 +95,7 @@ scan_follows history b s later command scan count own noted = record {
   way = λ none. way-more history e b s later command own.may (λ mine. tt) (λ c. has_written-quiet history e b c refl) (own_over history b s later command (events.Scan scan count) own tt noted.ended) noted.after (own.follows.way (sym noted.after.refused ∙ none));
   named = subst (NamedFits new b) (sym noted.after.left) (named_there new b s.left there);
   sought = λ name is. absurd (let both : false ≡ true = sym there ∙ ap is_absent (sym noted.after.left ∙ is) in cc both);
-  plain = λ told none. plain-more s later told noted.after (own.follows.plain told none);
+  plain = λ told none. plain-more s later told (before_end s later noted.after noted.ended) (own.follows.plain told (plan_same s later command noted.after.opens ∙ none));
 }
   where
     e : Entry
@@ -110,16 +114,16 @@ brought_back history b s later command name event own unwritten unread at noted 
   refused = λ error is. absurd (let both : Absent name ≡ Fails error = sym at ∙ own.follows.refused error (sym after.refused ∙ is) in cc both);
   way = λ none. Begun (record {
     gave = [];
-    plan = after.left ∙ was.first;
+    plan = after.left ∙ was.first ∙ plan_same s later command after.opens;
     found = after.found ∙ ap (λ n. take (n - 1) s.found) was.found;
-    opened = after.opened ∙ was.opened;
+    opened = after.opened ∙ was.opened own.going ∙ ap (map opening_of) (sym after.opens) ∙ sym (append-nil (map opening_of later.opens));
     runs = was.runs;
     holds = record { locked = tt; still = tt };
     unwritten = ap (λ l. has_written new b (length l + 1)) after.finished ∙ has_written-quiet history e b (number_of s) unwritten ∙ was.unwritten;
   });
   named = subst (NamedFits new b) (sym (after.left ∙ was.looks)) tt;
   sought = λ other is. absurd (let both : Do (Lookup name was.mode) was.rest ≡ Absent other = sym (after.left ∙ was.looks) ∙ is in cc both);
-  plain = λ told none. absurd (let both : Do (Lookup name was.mode) was.rest ≡ Done told = sym was.looks ∙ was.first ∙ none in cc both);
+  plain = λ told none. absurd (let both : Do (Lookup name was.mode) was.rest ≡ Done told = sym was.looks ∙ was.first ∙ plan_same s later command after.opens ∙ none in cc both);
 }
   where
     e : Entry
@@ -145,30 +149,30 @@ unlock_follows history b s later command rel mode own noted = by_plan s.left ref
     new = history ++ e ∷ []
 
     after : IsAfter s later
-    after = let a = noted.after in record { left = a.left; refused = a.refused; opened = a.opened; found = a.found; sought = a.sought; finished = a.finished }
+    after = let a = noted.after in record { left = a.left; refused = a.refused; opens = a.opens; opened = a.opened; found = a.found; sought = a.sought; finished = a.finished }
 
     by_plan : (p : Plan) → s.left ≡ p → IsUnlock (facts_of history b) s.taken p rel mode → FollowsPlan new b later command
     by_plan (Do (Lookup name wanted) rest) at asks = record {
       refused = λ error is. after.left ∙ own.follows.refused error (sym after.refused ∙ is);
       way = λ none. Begun (record {
         gave = [];
-        plan = after.left ∙ way.plan ∙ ap (λ g. reached g (plan_of none_open command)) first;
-        found = after.found ∙ way.found ∙ ap (λ g. made_in found_by g (plan_of none_open command)) first;
-        opened = after.opened ∙ way.opened ∙ ap (λ g. made_in opening_by g (plan_of none_open command)) first;
+        plan = after.left ∙ way.plan ∙ ap (λ g. reached g (plan_of s.opens command)) first ∙ plan_same s later command after.opens;
+        found = after.found ∙ way.found ∙ ap (λ g. made_in found_by g (plan_of s.opens command)) first;
+        opened = after.opened ∙ way.opened ∙ ap (λ g. map opening_of s.opens ++ made_in opening_by g (plan_of s.opens command)) first ∙ ap (λ opens. map opening_of opens ++ []) (sym after.opens);
         runs = way.runs;
         holds = record { locked = tt; still = tt };
         unwritten = ap (λ l. has_written new b (length l + 1)) after.finished ∙ has_written-quiet history e b (number_of s) refl ∙ way.unwritten;
       });
       named = subst (NamedFits new b) (sym (after.left ∙ at)) tt;
       sought = λ other is. absurd (let both : Do (Lookup name wanted) rest ≡ Absent other = sym (after.left ∙ at) ∙ is in cc both);
-      plain = λ told none. plain-more s later told after (own.follows.plain told none);
+      plain = λ told none. plain-more s later told (before_end s later after noted.ended) (own.follows.plain told (plan_same s later command after.opens ∙ none));
     }
       where
         way : OnItsWay history b s command
         way = on_its_way history b s command (Lookup name wanted) rest own.follows at
 
         first : way.gave ≡ []
-        first = lookup_first way.gave (plan_of none_open command) name wanted rest (its_order history b s command way) (sym way.plan ∙ at)
+        first = lookup_first way.gave (plan_of s.opens command) name wanted rest (its_order history b s command way) (sym way.plan ∙ at)
     by_plan (Do (Open of kind) rest) at asks = absurd asks
     by_plan (Do (Search scan) rest) at asks = absurd asks
     by_plan (Do (Read scan) rest) at asks = absurd asks
@@ -207,13 +211,13 @@ write_follows history b s later command xid items own noted = by_plan s.left ref
         gave = way.gave;
         draft = draft;
         further = rest;
-        came = sym way.plan ∙ at;
+        came = ap (reached way.gave) (sym (plan_same s later command is.after.opens)) ∙ sym way.plan ∙ at;
         plan = done;
         written = ap (λ l. has_written new b (length l + 1)) is.after.finished ∙ written_now history b (number_of s) xid items;
       });
       named = subst (NamedFits new b) (sym done) tt;
       sought = λ name absent. absurd (let both : Done tells.Ok ≡ Absent name = sym done ∙ absent in cc both);
-      plain = λ told none. absurd (none_reached way.gave (plan_of none_open command) (Write draft) rest (ap acts none) (sym way.plan ∙ at));
+      plain = λ told none. absurd (none_reached way.gave (plan_of s.opens command) (Write draft) rest (ap acts (plan_same s later command is.after.opens ∙ none)) (sym way.plan ∙ at));
     }
       where
         way : OnItsWay history b s command
@@ -245,14 +249,14 @@ ends_out facts command s event is = by_outcome (outcome_of s.left) (by_ended s.e
     by_outcome Badly left = refl
 
 -- a taking back, or a release
-over_follows : (history : List Entry) (b : ℕ) (s later : Session) (command : Command) (event : Event) → OwnEntry history b s command event → is_settled (outcome_of s.left) ≡ true → is_write event ≡ false → ((name : List ℕ) → is_scan_of (scans.RelName name) event ≡ false) → is_over (Some event) later ≡ true → IsAfter s later
+over_follows : (history : List Entry) (b : ℕ) (s later : Session) (command : Command) (event : Event) → OwnEntry history b s command event → is_settled (outcome_of s.left) ≡ true → is_write event ≡ false → ((name : List ℕ) → is_scan_of (scans.RelName name) event ≡ false) → is_over (Some event) later ≡ true → IsAfterEnd s later
     → FollowsPlan (with_own history b s event) b later command
 over_follows history b s later command event own out unwritten unread over after = record {
   refused = λ error is. after.left ∙ own.follows.refused error (sym after.refused ∙ is);
   way = λ none. Over (record { out = ap (λ p. is_settled (outcome_of p)) after.left ∙ out; over = ap (λ last. is_over last later) (last_event_of-own history e b (eq-eqb b b refl)) ∙ over });
   named = subst (NamedFits new b) (sym after.left) (named-more history e b s.left (λ name. rows_read-unscanned history e b (scans.RelName name) (unread name)) own.follows.named);
   sought = λ name is. sought-more history e b s later command name (λ c. has_written-quiet history e b c unwritten) after (own.follows.sought name (sym after.left ∙ is));
-  plain = λ told none. plain-more s later told after (own.follows.plain told none);
+  plain = λ told none. plain-more s later told after (own.follows.plain told (plan_same s later command after.opens ∙ none));
 }
   where
     e : Entry
@@ -276,8 +280,8 @@ own_follows history b s later command (events.ClashRunning name xid) own noted =
 own_follows history b s later command (events.Visible xid) own noted = quiet_follows history b s later command (events.Visible xid) own tt refl (λ name. refl) noted
 own_follows history b s later command (events.Publish count) own noted = quiet_follows history b s later command (events.Publish count) own tt refl (λ name. refl) noted
 own_follows history b s later command (events.Gone from) own noted =
-    over_follows history b s later command (events.Gone from) own (ends_out (facts_of history b) command s (events.Gone from) own.plays.1) refl (λ name. refl) refl noted.after
+    over_follows history b s later command (events.Gone from) own (ends_out (facts_of history b) command s (events.Gone from) own.plays.1) refl (λ name. refl) refl (before_end s later noted.after noted.ended)
 own_follows history b s later command (events.Release from) own noted =
     over_follows history b s later command (events.Release from) own (ends_out (facts_of history b) command s (events.Release from) own.plays.1) refl (λ name. refl) noted.ended
-    (let a = noted.after in record { left = a.left; refused = a.refused; opened = a.opened; found = a.found; sought = a.sought; finished = a.finished })
+    (let a = noted.after in record { left = a.left; refused = a.refused; opens = a.opens; opened = λ going. absurd (let both : true ≡ false = sym noted.ended ∙ going in cc both); found = a.found; sought = a.sought; finished = a.finished })
 own_follows history b s later command event own noted = absurd own.plays

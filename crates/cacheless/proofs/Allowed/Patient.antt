@@ -81,6 +81,7 @@ after_all : (facts : Facts) (s : Session) (event : Event) → MayPlayLast facts 
 after_all facts s (events.Look some_wait) may = look_allowed facts s may.1
 after_all facts s (events.Fetch count) may = tt
 after_all facts s events.FetchReset may = tt
+after_all facts s (events.Scan scan count) may = may.0
 after_all facts s (events.Gone from) may = may.0
 after_all facts s (events.Release from) may = may.0
 after_all facts s events.Stop may = tt

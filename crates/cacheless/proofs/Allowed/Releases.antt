@@ -10,13 +10,13 @@ use Rattle.ddl_effect.specs.Commands.{plan_of}
 use Rattle.ddl_effect.specs.Stages.{told_of}
 use Rattle.ddl_effect.specs.Plans.{Plan, told_rests_on, left_rests_on, Done, Fails, Absent, NotBuilt, Do, Write}
 use Rattle.history_model.specs.Writes.{is_empty}
-use Rattle.cacheless.specs.Types.{Purpose, Command, Told, Entry, Event}
+use Rattle.cacheless.specs.Types.{Purpose, Command, OpenRelation, Told, Entry, Event}
 use Rattle.cacheless.specs.Ends.{End, Ends, Commits, TakesBack, end_of, next_of_end, end_left, end_well, end_badly}
 use Rattle.cacheless.specs.Facts.{Facts, facts_of, facts_by}
 use Rattle.cacheless.specs.OnCourse.{DoesNoAct}
 use Rattle.cacheless.specs.Owed.{Owes, OwesLook, OwesScan, unusable, begins, owed_at_start, owed_after, builds_owed, act_owed, scans_owed, owed_of}
 use Rattle.cacheless.specs.Plays.{owed_at_end}
-use Rattle.cacheless.specs.Session.{Session, Outcome, Unsettled, Well, Badly, none_open, number_of, outcome_of, is_settled}
+use Rattle.cacheless.specs.Session.{Session, Outcome, Unsettled, Well, Badly, number_of, outcome_of, is_settled}
 use Rattle.cacheless.specs.Sessions.{written, resumed, noted}
 use Rattle.cacheless.specs.Settled.{is_finished}
 use Rattle.cacheless.proofs.Allowed.OwnEntries.{OwnEntry, IsNoted, with_own, ends_out}
@@ -43,12 +43,12 @@ none_at_start : (facts : Facts) (command : Command) (s : Session) → s.ended �
 none_at_start facts command s over = ap (λ t. elim (t && is_none facts.running) as (λ x. List Owes) [ true ↦ OwesLook ∷ [] | false ↦ [] ]) (none_begins command s over)
 
 -- a command that came out well and whose transaction is taken back only ends blocks
-record AnswersAlone (command : Command) : Type 0 where
+record AnswersAlone (opens : List OpenRelation) (command : Command) : Type 0 where
   told : Told
-  plan : plan_of none_open command ≡ Done told
+  plan : plan_of opens command ≡ Done told
   rests : told_rests_on told ≡ None
 
-taken_back_ends : (facts : Facts) (command : Command) (s : Session) (from : ℕ) → end_well facts command s ≡ TakesBack from → AnswersAlone command
+taken_back_ends : (facts : Facts) (command : Command) (s : Session) (from : ℕ) → end_well facts command s ≡ TakesBack from → AnswersAlone s.opens command
 taken_back_ends facts commands.Begin s from is = absurd (cc is)
 taken_back_ends facts commands.Commit s from is = record { told = tells.Commit; plan = refl; rests = refl }
 taken_back_ends facts commands.Rollback s from is = record { told = tells.Ok; plan = refl; rests = refl }
@@ -59,9 +59,13 @@ taken_back_ends facts command s from is = absurd (by_block s.blocks.block is)
     by_block Inside end = cc end
     by_block Failed end = cc end
 
--- no scan is owed, for an opened descriptor or by the answer
+-- no scan is owed by the answer
+abbrev pub AnswerOwesNone : Facts → Session → Type 0
+AnswerOwesNone facts s = (told : Told) → s.left ≡ Done told → unusable facts (left_rests_on (Done told)) ≡ []
+
+-- nor for an opened descriptor
 abbrev pub OwesNoScan : Facts → Session → Type 0
-OwesNoScan facts s = (builds_owed facts s.opened ≡ []) × ((told : Told) → s.left ≡ Done told → unusable facts (left_rests_on (Done told)) ≡ [])
+OwesNoScan facts s = (builds_owed facts s.opened ≡ []) × AnswerOwesNone facts s
 
 -- so it is of a command that came out well and owes nothing
 pub owes_no_scan : (facts : Facts) (command : Command) (s : Session) → outcome_of s.left ≡ Well → owed_of facts command s ≡ [] → OwesNoScan facts s
@@ -75,8 +79,8 @@ owes_no_scan facts command s well none = (both.0, λ told is. ap (act_owed facts
     both = both_empty (builds_owed facts s.opened) (act_owed facts s.left) (unmapped _
         (sym (ap (λ o. map OwesScan (elim o as (λ x. List Purpose) [ Badly ↦ [] | other ↦ builds_owed facts s.opened ++ act_owed facts s.left ])) well) ∙ (both_empty _ (map OwesScan (scans_owed facts s)) none).1))
 
--- nor is one owed at its end
-pub ends_free : (facts : Facts) (command : Command) (s : Session) → ((told : Told) → plan_of none_open command ≡ Done told → DoesNoAct s told) → outcome_of s.left ≡ Well → owed_at_end facts command s ≡ [] → OwesNoScan facts s
+-- nor is one owed by the answer at its end
+pub ends_free : (facts : Facts) (command : Command) (s : Session) → ((told : Told) → plan_of s.opens command ≡ Done told → DoesNoAct s told) → outcome_of s.left ≡ Well → owed_at_end facts command s ≡ [] → AnswerOwesNone facts s
 ends_free facts command s plain well none = by_end (end_well facts command s) refl (sym (ap (λ o. owed_if (end_if o)) well) ∙ none)
   where
     end_if : Outcome → End
@@ -85,13 +89,13 @@ ends_free facts command s plain well none = by_end (end_well facts command s) re
     owed_if : End → List Owes
     owed_if end = elim end as (λ x. List Owes) [ TakesBack from ↦ owed_after facts.last | other ↦ owed_of facts command s ]
 
-    by_end : (end : End) → end_well facts command s ≡ end → owed_if end ≡ [] → OwesNoScan facts s
-    by_end Ends is nothing = owes_no_scan facts command s well nothing
-    by_end (Commits first) is nothing = owes_no_scan facts command s well nothing
+    by_end : (end : End) → end_well facts command s ≡ end → owed_if end ≡ [] → AnswerOwesNone facts s
+    by_end Ends is nothing = (owes_no_scan facts command s well nothing).1
+    by_end (Commits first) is nothing = (owes_no_scan facts command s well nothing).1
     by_end (TakesBack from) is nothing = let alone = taken_back_ends facts command s from is in let none = plain alone.told alone.plan in
-        (ap (builds_owed facts) none.opened, λ told left. ap (λ t. unusable facts (cons_option (told_rests_on t) [])) (ap told_of (sym left ∙ none.left well)) ∙ ap (λ o. unusable facts (cons_option o [])) alone.rests)
+        λ told left. ap (λ t. unusable facts (cons_option (told_rests_on t) [])) (ap told_of (sym left ∙ none.left well)) ∙ ap (λ o. unusable facts (cons_option o [])) alone.rests
 
--- after its release it is finished
+-- after its release nothing is open, and it is finished
 released : (history : List Entry) (b : ℕ) (s : Session) (command : Command) (from : ℕ) (facts : Facts) → OwnEntry history b s command (events.Release from) → facts ≡ facts_by history b (number_of s) (events.Release from) (facts_of history b) → (later : Session) → IsNoted (noted (events.Release from) s) later
     → is_finished facts command later ≡ true
 released history b s command from facts own are later stands =
@@ -111,14 +115,14 @@ released history b s command from facts own are later stands =
     by_outcome Badly is settles = ap (λ o. elim o as (λ x. List Purpose) [ Badly ↦ [] | other ↦ builds_owed after later.opened ++ act_owed after later.left ]) (ap outcome_of stands.after.left ∙ is)
     by_outcome Well is settles =
         ap (λ o. elim o as (λ x. List Purpose) [ Badly ↦ [] | other ↦ builds_owed after later.opened ++ act_owed after later.left ]) (ap outcome_of stands.after.left ∙ is)
-        ∙ ap (λ l. l ++ act_owed after later.left) (ap (builds_owed after) stands.after.opened ∙ free.0)
+        ∙ ap (λ opened. builds_owed after opened ++ act_owed after later.left) stands.after.opened
         ∙ ap (act_owed after) stands.after.left ∙ answer_owed s.left refl is
       where
-        free : OwesNoScan (facts_of history b) s
+        free : AnswerOwesNone (facts_of history b) s
         free = ends_free (facts_of history b) command s own.follows.plain is own.plays.0
 
         answer_owed : (p : Plan) → s.left ≡ p → outcome_of p ≡ Well → act_owed after p ≡ []
-        answer_owed (Done told) at w = free.1 told at
+        answer_owed (Done told) at w = free told at
         answer_owed (Fails error) at w = absurd (cc w)
         answer_owed (Absent name) at w = absurd (cc w)
         answer_owed NotBuilt at w = absurd (cc w)

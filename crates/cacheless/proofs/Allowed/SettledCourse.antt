@@ -1,5 +1,5 @@
 -- What a backend does without an entry keeps it on its course: its silent acts, and the passing to the next command.
-use Rattle.std.proofs.Common.{◌≡◌, ◌≤◌, ◌+◌, ◌<◌, ◌⊎◌, ◌∙◌, inl, inr, ℕ, Bool, true, false, not, Option, Some, None, List, [], ◌∷◌, ◌++◌, ◌&&◌, ◌||◌, refl, sym, ap, subst, map, length, drop, get_or, is_none, slice_get, arith}
+use Rattle.std.proofs.Common.{◌≡◌, ◌≤◌, ◌+◌, ◌<◌, ◌⊎◌, ◌∙◌, inl, inr, ℕ, Bool, true, false, not, Option, Some, None, List, [], ◌∷◌, ◌++◌, ◌&&◌, ◌||◌, refl, sym, ap, subst, map, append-nil, length, drop, get_or, is_none, slice_get, arith}
 use Rattle.std.proofs.lemmas.Bool.{and_parts}
 use Rattle.std.proofs.lemmas.List.{drop_more, drop_all, length_push}
 use Rattle.std.proofs.lemmas.Option.{slice_get_cases, slice_get_within, get_or_from_slice_get}
@@ -7,16 +7,17 @@ use Rattle.lock_modes.specs.Own.{cleared}
 use Rattle.ddl_effect.specs.Plans.{Act, Plan, Done, Fails, Absent, Do, NotBuilt, is_built}
 use Rattle.txn_blocks.specs.Blocks.{Blocks, refused_by}
 use Rattle.ddl_effect.specs.Commands.{plan_of, commands_of}
+use Rattle.ddl_effect.proofs.HasPlan.{built_alike}
 use Rattle.history_model.specs.Writes.{has_written, is_empty}
-use Rattle.cacheless.specs.Types.{Row, Purpose, Scenario, Command, CommandError, Told, OwnLock, Entry}
+use Rattle.cacheless.specs.Types.{Row, Purpose, Scenario, Command, CommandError, OpenRelation, Told, OwnLock, Entry}
 use Rattle.cacheless.specs.Facts.{Facts, facts_of}
 use Rattle.cacheless.specs.OnCourse.{is_absent, Way, Begun, Unbuilt, FollowsPlan, IsOnCourse, ClearUnlessOwed, EntersCourse}
 use Rattle.cacheless.specs.Owed.{Owes, OwesScan, owed_at_start, owed_after, builds_owed, act_owed, scans_owed, owes_build, owes_accept}
 use Rattle.cacheless.specs.Played.{IsPlayed}
 use Rattle.cacheless.specs.Runs.{runs}
-use Rattle.cacheless.specs.Session.{Session, Finished, Outcome, Unsettled, Well, Badly, first_of, none_open, plan_admitted, at_command, outcome_of, is_settled}
+use Rattle.cacheless.specs.Session.{Session, Finished, Outcome, Unsettled, Well, Badly, first_of, none_open, opening_of, plan_admitted, at_command, outcome_of, is_settled}
 use Rattle.cacheless.specs.Sessions.{session_of}
-use Rattle.cacheless.specs.Settled.{act_done, done_here, acted_on, acted, is_finished, blocks_after, finished_as, next_session, settled}
+use Rattle.cacheless.specs.Settled.{act_done, done_here, acted_on, acted, is_finished, blocks_after, opens_after, finished_as, next_session, settled}
 use Rattle.cacheless.specs.Ends.{end_left}
 use Rattle.cacheless.proofs.Plans.ActOrder.{follows_order}
 use Rattle.cacheless.proofs.Plans.AfterActs.{order_there}
@@ -82,35 +83,36 @@ not_built (Absent name) is = absurd (cc is)
 not_built (Do act rest) is = absurd (cc is)
 not_built NotBuilt is = refl
 
-plan_there : (command : Command) → is_absent (plan_of none_open command) ≡ false
-plan_there command = by_test (runs command) refl
+plan_there : (opens : List OpenRelation) (command : Command) → is_absent (plan_of opens command) ≡ false
+plan_there opens command = by_test (is_built (plan_of opens command)) refl
   where
-    by_test : (t : Bool) → runs command ≡ t → is_absent (plan_of none_open command) ≡ false
-    by_test true is = order_there (plan_of none_open command) (follows_order none_open command is)
-    by_test false is = ap is_absent (not_built (plan_of none_open command) is)
+    by_test : (t : Bool) → is_built (plan_of opens command) ≡ t → is_absent (plan_of opens command) ≡ false
+    by_test true is = order_there (plan_of opens command) (follows_order opens command is)
+    by_test false is = ap is_absent (not_built (plan_of opens command) is)
 
-admitted_there : (refusal : Option CommandError) (command : Command) → is_absent (plan_admitted refusal command) ≡ false
-admitted_there None command = plan_there command
-admitted_there (Some error) command = refl
+admitted_there : (opens : List OpenRelation) (refusal : Option CommandError) (command : Command) → is_absent (plan_admitted opens refusal command) ≡ false
+admitted_there opens None command = plan_there opens command
+admitted_there opens (Some error) command = refl
 
 -- the answer of a command that does no act is left of it, unless the blocks refuse it
-admitted_done : (command : Command) (refusal : Option CommandError) (told : Told) → plan_of none_open command ≡ Done told → outcome_of (plan_admitted refusal command) ≡ Well → plan_admitted refusal command ≡ Done told
-admitted_done command None told is well = is
-admitted_done command (Some error) told is well = absurd (cc well)
+admitted_done : (opens : List OpenRelation) (command : Command) (refusal : Option CommandError) (told : Told) → plan_of opens command ≡ Done told → outcome_of (plan_admitted opens refusal command) ≡ Well → plan_admitted opens refusal command ≡ Done told
+admitted_done opens command None told is well = is
+admitted_done opens command (Some error) told is well = absurd (cc well)
 
 -- a command at its beginning does what its plan says
-pub begins_plan : (seen : List Entry) (b : ℕ) (blocks : Blocks) (finished : List Finished) (locks : List OwnLock) (last : ℕ) (command : Command) → has_written seen b (length finished + 1) ≡ false → FollowsPlan seen b (at_command blocks finished locks last (Some command)) command
-begins_plan seen b blocks finished locks last command unwritten = record {
-  refused = λ error is. ap (λ o. plan_admitted o command) is;
-  way = λ none. by_test (ap (λ o. plan_admitted o command) none) (runs command) refl;
-  named = named_there seen b (plan_admitted (refused_by blocks command) command) (admitted_there (refused_by blocks command) command);
-  sought = λ name is. absurd (let both : true ≡ false = sym (absent_name name (plan_admitted (refused_by blocks command) command) is) ∙ admitted_there (refused_by blocks command) command in cc both);
-  plain = λ told none. record { opened = refl; left = λ well. admitted_done command (refused_by blocks command) told none well };
+pub begins_plan : (seen : List Entry) (b : ℕ) (blocks : Blocks) (opens : List OpenRelation) (finished : List Finished) (locks : List OwnLock) (last : ℕ) (command : Command) → has_written seen b (length finished + 1) ≡ false
+    → FollowsPlan seen b (at_command blocks opens finished locks last (Some command)) command
+begins_plan seen b blocks opens finished locks last command unwritten = record {
+  refused = λ error is. ap (λ o. plan_admitted opens o command) is;
+  way = λ none. by_test (ap (λ o. plan_admitted opens o command) none) (runs command) refl;
+  named = named_there seen b (plan_admitted opens (refused_by blocks command) command) (admitted_there opens (refused_by blocks command) command);
+  sought = λ name is. absurd (let both : true ≡ false = sym (absent_name name (plan_admitted opens (refused_by blocks command) command) is) ∙ admitted_there opens (refused_by blocks command) command in cc both);
+  plain = λ told none. record { opened = λ going. refl; left = λ well. admitted_done opens command (refused_by blocks command) told none well };
 }
   where
-    by_test : plan_admitted (refused_by blocks command) command ≡ plan_of none_open command → (t : Bool) → runs command ≡ t → Way seen b (at_command blocks finished locks last (Some command)) command
-    by_test plan true is = Begun (record { gave = []; plan = plan; found = refl; opened = refl; runs = is; holds = record { locked = tt; still = tt }; unwritten = unwritten })
-    by_test plan false is = Unbuilt (record { plan = plan ∙ not_built (plan_of none_open command) is })
+    by_test : plan_admitted opens (refused_by blocks command) command ≡ plan_of opens command → (t : Bool) → runs command ≡ t → Way seen b (at_command blocks opens finished locks last (Some command)) command
+    by_test plan true is = Begun (record { gave = []; plan = plan; found = refl; opened = sym (append-nil (map opening_of opens)); runs = is; holds = record { locked = tt; still = tt }; unwritten = unwritten })
+    by_test plan false is = Unbuilt (record { plan = plan ∙ not_built (plan_of opens command) (built_alike opens none_open command ∙ is) })
 
 pub first_left : (commands : List Command) (n : ℕ) → first_of (drop n commands) ≡ slice_get commands n
 first_left commands n = by_place (slice_get_cases commands n).1
@@ -129,15 +131,15 @@ rest_left commands n command rest are = let both : command ∷ rest ≡ command 
     within = slice_get_within commands n command at
 
 -- so the session at the beginning of the next command, or after the last one, is on its course
-pub begins_on_course : (scenario : Scenario) (seen : List Entry) (b : ℕ) (blocks : Blocks) (finished : List Finished) (locks : List OwnLock) (last : ℕ) (left : List Command) → left ≡ drop (length finished) (commands_of scenario b)
-    → ((c : ℕ) → length finished < c → has_written seen b c ≡ false) → map cleared locks ≡ locks → EntersCourse scenario seen b (at_command blocks finished locks last (first_of left))
-begins_on_course scenario seen b blocks finished locks last left are unwritten clear = by_first (first_of left) (ap first_of are ∙ first_left (commands_of scenario b) (length finished))
+pub begins_on_course : (scenario : Scenario) (seen : List Entry) (b : ℕ) (blocks : Blocks) (opens : List OpenRelation) (finished : List Finished) (locks : List OwnLock) (last : ℕ) (left : List Command) → left ≡ drop (length finished) (commands_of scenario b)
+    → ((c : ℕ) → length finished < c → has_written seen b c ≡ false) → map cleared locks ≡ locks → EntersCourse scenario seen b (at_command blocks opens finished locks last (first_of left))
+begins_on_course scenario seen b blocks opens finished locks last left are unwritten clear = by_first (first_of left) (ap first_of are ∙ first_left (commands_of scenario b) (length finished))
   where
-    by_first : (o : Option Command) → o ≡ slice_get (commands_of scenario b) (length finished) → EntersCourse scenario seen b (at_command blocks finished locks last o)
+    by_first : (o : Option Command) → o ≡ slice_get (commands_of scenario b) (length finished) → EntersCourse scenario seen b (at_command blocks opens finished locks last o)
     by_first None is = record { follows = λ command at. absurd (let both : None ≡ Some command = is ∙ at in cc both); ends = λ command at over. absurd (cc); later = λ c after. unwritten c (omega (arith, after)); clear = λ owes. clear }
     by_first (Some first) is = record {
-      follows = λ command at. subst (FollowsPlan seen b (at_command blocks finished locks last (Some first))) (let both : Some first ≡ Some command = is ∙ at in cc both)
-          (begins_plan seen b blocks finished locks last first (unwritten (length finished + 1) (omega arith)));
+      follows = λ command at. subst (FollowsPlan seen b (at_command blocks opens finished locks last (Some first))) (let both : Some first ≡ Some command = is ∙ at in cc both)
+          (begins_plan seen b blocks opens finished locks last first (unwritten (length finished + 1) (omega arith)));
       ends = λ command at over. absurd (cc);
       later = λ c after. unwritten c (omega (arith, after));
       clear = λ owes. clear;
@@ -207,7 +209,7 @@ settled_on_course scenario seen b (command ∷ rest) s has are course = by_end (
         → IsOnCourse scenario seen b (settled (facts_of seen b) rest (next_session command (first_of rest) now)))
         → IsOnCourse scenario seen b (elim t as (λ x. Session) [ true ↦ settled (facts_of seen b) rest (next_session command (first_of rest) now) | false ↦ now ])
     by_end true finished more = more (record { played = has.played; session = has.session; is = has.is; holds = has.holds ∙ sym acts_done.locks }) next
-        (begins_on_course scenario seen b (blocks_after command now) (now.finished ++ finished_as now ∷ []) now.locks now.last rest next (λ c after. course.later c (omega (arith, after, counts, length_push now.finished (finished_as now)))) (acts_done.clear (finished_accepts (facts_of seen b) command now finished)))
+        (begins_on_course scenario seen b (blocks_after command now) (opens_after command now) (now.finished ++ finished_as now ∷ []) now.locks now.last rest next (λ c after. course.later c (omega (arith, after, counts, length_push now.finished (finished_as now)))) (acts_done.clear (finished_accepts (facts_of seen b) command now finished)))
       where
         next : rest ≡ drop (length (now.finished ++ finished_as now ∷ [])) (commands_of scenario b)
         next = rest_left (commands_of scenario b) (length s.finished) command rest are ∙ ap (λ n. drop n (commands_of scenario b)) (sym (length_push now.finished (finished_as now) ∙ ap (λ n. n + 1) counts))
@@ -242,7 +244,7 @@ act_enters scenario seen b s command act rest given has at free left done course
 pub finish_enters : (scenario : Scenario) (seen : List Entry) (b : ℕ) (s : Session) (command : Command) (rest : List Command) → command ∷ rest ≡ drop (length s.finished) (commands_of scenario b) → is_finished (facts_of seen b) command s ≡ true → EntersCourse scenario seen b s
     → EntersCourse scenario seen b (next_session command (first_of rest) s)
 finish_enters scenario seen b s command rest are finished course =
-    begins_on_course scenario seen b (blocks_after command s) (s.finished ++ finished_as s ∷ []) s.locks s.last rest
+    begins_on_course scenario seen b (blocks_after command s) (opens_after command s) (s.finished ++ finished_as s ∷ []) s.locks s.last rest
     (rest_left (commands_of scenario b) (length s.finished) command rest are ∙ ap (λ n. drop n (commands_of scenario b)) (sym (length_push s.finished (finished_as s))))
     (λ c after. course.later c (omega (arith, after, length_push s.finished (finished_as s))))
     (subst (λ o. ClearUnlessOwed (facts_of seen b) o s) (sym (first_left (commands_of scenario b) (length s.finished)) ∙ ap first_of (sym are)) course.clear (finished_accepts (facts_of seen b) command s finished))

@@ -1,5 +1,5 @@
 -- A command that does what its plan says still does after one more entry of another backend, or of its own that is no write, release or taking back.
-use Rattle.std.proofs.Common.{◌≡◌, ◌+◌, ◌<◌, ◌∙◌, ℕ, Bool, true, false, Option, Some, List, [], ◌∷◌, ◌++◌, ◌==◌, ◌&&◌, ◌||◌, refl, sym, ap, subst, length, arith}
+use Rattle.std.proofs.Common.{◌≡◌, ◌+◌, ◌<◌, ◌∙◌, ℕ, Bool, true, false, Option, Some, List, [], ◌∷◌, ◌++◌, ◌==◌, ◌&&◌, ◌||◌, refl, sym, ap, subst, map, length, arith}
 use Rattle.std.proofs.Math.Bool.{and-false, or-false}
 use Rattle.std.proofs.lemmas.Bool.{ne_eqb}
 use Rattle.base_types.specs.declared.row.Row.TheVariants as rows
@@ -7,6 +7,7 @@ use Rattle.base_types.specs.declared.scan.Purpose.TheVariants as scans
 use Rattle.event_kinds.specs.declared.entry.Event.TheVariants as events
 use Rattle.ddl_effect.specs.Plans.{Plan, Absent, Do, Lookup}
 use Rattle.ddl_effect.specs.Commands.{plan_of}
+use Rattle.ddl_effect.proofs.HasPlan.{built_alike}
 use Rattle.history_model.specs.Legal.{FollowsGone}
 use Rattle.history_model.specs.Held.{held_of}
 use Rattle.history_model.specs.Lives.{last_event_of}
@@ -16,9 +17,10 @@ use Rattle.history_model.specs.Writes.{has_written, is_write}
 use Rattle.history_model.proofs.Locked.{IsQuiet, quiet_keeps, held_bars_exclusive, IsIdle, found_stays}
 use Rattle.history_model.proofs.Reading.{has_written-more, rows_read-own, rows_read-other}
 use Rattle.cacheless.specs.Types.{Row, Purpose, Command, Told, Entry, Event, Mode}
+use Rattle.cacheless.specs.ActsDone.{reached, made_in, opening_by, WayHolds}
 use Rattle.cacheless.specs.OnCourse.{OnItsWay, is_over, Way, Begun, Wrote, Unbuilt, Over, NamedFits, WasSought, DoesNoAct, FollowsPlan}
-use Rattle.cacheless.specs.Session.{Session, none_open, number_of, outcome_of, is_settled}
-use Rattle.cacheless.specs.Settled.{class_oid}
+use Rattle.cacheless.specs.Session.{Session, none_open, opening_of, number_of, outcome_of, is_settled}
+use Rattle.cacheless.specs.Settled.{class_oid, found_by}
 use Rattle.cacheless.proofs.Plans.ActOrder.{follows_order}
 pub use Rattle.cacheless.proofs.Plans.StillLocked.{MayCome}
 use Rattle.cacheless.proofs.Plans.StillLocked.{held_stays, way_stays}
@@ -48,10 +50,36 @@ rows_read-unscanned history e b scan others = by_owner (e.backend == b) refl
 pub record IsAfter (s later : Session) : Type 0 where
   pub left : later.left ≡ s.left
   pub refused : later.refused ≡ s.refused
+  pub opens : later.opens ≡ s.opens
   pub opened : later.opened ≡ s.opened
   pub found : later.found ≡ s.found
   pub sought : later.sought ≡ s.sought
   pub finished : later.finished ≡ s.finished
+
+-- the same where its release may have closed what was open
+pub record IsAfterEnd (s later : Session) : Type 0 where
+  pub left : later.left ≡ s.left
+  pub refused : later.refused ≡ s.refused
+  pub opens : later.opens ≡ s.opens
+  pub opened : later.ended ≡ false → (s.ended ≡ false) × (later.opened ≡ s.opened)
+  pub found : later.found ≡ s.found
+  pub sought : later.sought ≡ s.sought
+  pub finished : later.finished ≡ s.finished
+
+pub before_end : (s later : Session) → IsAfter s later → later.ended ≡ s.ended → IsAfterEnd s later
+before_end s later after same = record {
+  left = after.left;
+  refused = after.refused;
+  opens = after.opens;
+  opened = λ going. (sym same ∙ going, after.opened);
+  found = after.found;
+  sought = after.sought;
+  finished = after.finished;
+}
+
+-- its plan is the same
+pub plan_same : (s later : Session) (command : Command) → later.opens ≡ s.opens → plan_of s.opens command ≡ plan_of later.opens command
+plan_same s later command same = ap (λ opens. plan_of opens command) (sym same)
 
 -- it isn't a write of the backend
 abbrev pub LeavesWrites : List Entry → Entry → ℕ → Type 0
@@ -68,11 +96,12 @@ number_same s later after = ap (λ l. length l + 1) after.finished
 begun-more : (history : List Entry) (e : Entry) (b : ℕ) (s later : Session) (command : Command) → MayCome history e → IsIdle b history e → LeavesWrites history e b → IsAfter s later → OnItsWay history b s command → OnItsWay (history ++ e ∷ []) b later command
 begun-more history e b s later command may idle writes after way = record {
   gave = way.gave;
-  plan = after.left ∙ way.plan;
-  found = after.found ∙ way.found;
-  opened = after.opened ∙ way.opened;
+  plan = after.left ∙ way.plan ∙ ap (reached way.gave) (plan_same s later command after.opens);
+  found = after.found ∙ way.found ∙ ap (made_in found_by way.gave) (plan_same s later command after.opens);
+  opened = after.opened ∙ way.opened ∙ ap (λ opens. map opening_of opens ++ made_in opening_by way.gave (plan_of opens command)) (sym after.opens);
   runs = way.runs;
-  holds = way_stays history e b way.gave (plan_of none_open command) may idle (follows_order none_open command way.runs) way.holds;
+  holds = subst (WayHolds (history ++ e ∷ []) b way.gave) (plan_same s later command after.opens)
+      (way_stays history e b way.gave (plan_of s.opens command) may idle (follows_order s.opens command (built_alike s.opens none_open command ∙ way.runs)) way.holds);
   unwritten = ap (has_written (history ++ e ∷ []) b) (number_same s later after) ∙ writes (number_of s) ∙ way.unwritten;
 }
 
@@ -84,7 +113,7 @@ way-more history e b s later command may idle writes over after (Wrote w) = Wrot
   gave = w.gave;
   draft = w.draft;
   further = w.further;
-  came = w.came;
+  came = ap (reached w.gave) (sym (plan_same s later command after.opens)) ∙ w.came;
   plan = after.left ∙ w.plan;
   written = ap (has_written (history ++ e ∷ []) b) (number_same s later after) ∙ writes (number_of s) ∙ w.written;
 })
@@ -97,31 +126,34 @@ named-more history e b (Absent name) names fits = ap class_oid (names name) ∙ 
 named-more history e b plan names fits = tt
 
 -- a command that failed to find a relation
-pub sought-more : (history : List Entry) (e : Entry) (b : ℕ) (s later : Session) (command : Command) (name : List ℕ) → LeavesWrites history e b → IsAfter s later → WasSought history b s command name → WasSought (history ++ e ∷ []) b later command name
+pub sought-more : (history : List Entry) (e : Entry) (b : ℕ) (s later : Session) (command : Command) (name : List ℕ) → LeavesWrites history e b → IsAfterEnd s later → WasSought history b s command name → WasSought (history ++ e ∷ []) b later command name
 sought-more history e b s later command name writes after was = record {
   mode = was.mode;
   rest = was.rest;
   looks = after.sought ∙ was.looks;
-  first = after.sought ∙ was.first;
+  first = after.sought ∙ was.first ∙ plan_same s later command after.opens;
   runs = was.runs;
   found = ap length after.found ∙ was.found;
-  opened = after.opened ∙ was.opened;
-  unwritten = ap (has_written (history ++ e ∷ []) b) (number_same s later after) ∙ writes (number_of s) ∙ was.unwritten;
+  opened = λ going. let still = after.opened going in still.1 ∙ was.opened still.0 ∙ ap (map opening_of) (sym after.opens);
+  unwritten = ap (λ l. has_written (history ++ e ∷ []) b (length l + 1)) after.finished ∙ writes (number_of s) ∙ was.unwritten;
 }
 
 -- a command that does no act
-pub plain-more : (s later : Session) (told : Told) → IsAfter s later → DoesNoAct s told → DoesNoAct later told
-plain-more s later told after none = record { opened = after.opened ∙ none.opened; left = λ well. after.left ∙ none.left (ap outcome_of (sym after.left) ∙ well) }
+pub plain-more : (s later : Session) (told : Told) → IsAfterEnd s later → DoesNoAct s told → DoesNoAct later told
+plain-more s later told after none = record {
+  opened = λ going. let still = after.opened going in still.1 ∙ none.opened still.0 ∙ ap (map opening_of) (sym after.opens);
+  left = λ well. after.left ∙ none.left (ap outcome_of (sym after.left) ∙ well);
+}
 
 -- the running command as a whole
 pub follows-more : (history : List Entry) (e : Entry) (b : ℕ) (s later : Session) (command : Command) → MayCome history e → IsIdle b history e → LeavesWrites history e b → LeavesNames history e b
-    → (is_over (last_event_of history b) s ≡ true → is_over (last_event_of (history ++ e ∷ []) b) later ≡ true) → IsAfter s later → FollowsPlan history b s command → FollowsPlan (history ++ e ∷ []) b later command
-follows-more history e b s later command may idle writes names over after follows = record {
+    → (is_over (last_event_of history b) s ≡ true → is_over (last_event_of (history ++ e ∷ []) b) later ≡ true) → IsAfter s later → later.ended ≡ s.ended → FollowsPlan history b s command → FollowsPlan (history ++ e ∷ []) b later command
+follows-more history e b s later command may idle writes names over after same follows = record {
   refused = λ error is. after.left ∙ follows.refused error (sym after.refused ∙ is);
   way = λ none. way-more history e b s later command may idle writes over after (follows.way (sym after.refused ∙ none));
   named = subst (NamedFits (history ++ e ∷ []) b) (sym after.left) (named-more history e b s.left names follows.named);
-  sought = λ name is. sought-more history e b s later command name writes after (follows.sought name (sym after.left ∙ is));
-  plain = λ told none. plain-more s later told after (follows.plain told none);
+  sought = λ name is. sought-more history e b s later command name writes (before_end s later after same) (follows.sought name (sym after.left ∙ is));
+  plain = λ told none. plain-more s later told (before_end s later after same) (follows.plain told (plan_same s later command after.opens ∙ none));
 }
 
 -- after a taking back only the release comes

@@ -1,19 +1,22 @@
 -- What a command reads is of a descriptor that it has opened before.
-use Rattle.std.proofs.Common.{◌≡◌, ◌-◌, ◌∙◌, ℕ, true, false, ◌||◌, Option, Some, None, List, [], ◌∷◌, ◌++◌, refl, sym, ap, subst, Contains}
-use Rattle.std.proofs.lemmas.List.{append-nil}
-use Rattle.std.proofs.lemmas.List.Folds.{list_any_at}
+use Rattle.std.proofs.Common.{◌≡◌, ◌-◌, ◌∙◌, ℕ, true, false, ◌||◌, Option, Some, None, List, [], ◌∷◌, ◌++◌, refl, sym, ap, subst, map, Contains}
+use Rattle.std.proofs.lemmas.List.{append-nil, append_assoc}
+use Rattle.std.specs.List.{list_any}
+use Rattle.std.proofs.Math.Bool.{or-true}
+use Rattle.std.proofs.lemmas.List.Folds.{list_any_at, list_any-append}
 use Rattle.base_types.specs.Scans.{same_scan, build_scans}
 use Rattle.base_types.specs.declared.row.Row.TheVariants as rows
 use Rattle.base_types.proofs.SameScan.{same_scan-itself}
 use Rattle.ddl_effect.specs.Plans.{Plan, Act, Do, Lookup, Open, Search, Read, Lock, Write}
 use Rattle.ddl_effect.specs.Commands.{plan_of, found}
+use Rattle.ddl_effect.proofs.HasPlan.{built_alike}
 use Rattle.cacheless.specs.Runs.{runs}
 use Rattle.txn_blocks.specs.Blocks.{Blocks, refused_by}
-use Rattle.cacheless.specs.Session.{none_open, outcome_of, is_settled, plan_admitted, plan_first}
+use Rattle.cacheless.specs.Session.{none_open, opening_of, outcome_of, is_settled, plan_admitted, plan_first}
 use Rattle.cacheless.specs.Settled.{opened_by}
 use Rattle.cacheless.proofs.Plans.ActOrder.{IsEnded, FollowsOpen, FollowsFound, FollowsOrder, follows_order}
 use Rattle.cacheless.proofs.Plans.EffectAlong.{plain_row}
-use Rattle.cacheless.specs.Types.{Oid, Mode, Kind, Row, Purpose, Command, CommandError, Opening}
+use Rattle.cacheless.specs.Types.{Oid, Mode, Kind, Row, Purpose, Command, CommandError, OpenRelation, Opening}
 use Rattle.cacheless.specs.OpenedReads.{is_of_opened, ReadsOpened}
 
 -- a plan that has come out reads nothing
@@ -65,14 +68,37 @@ reads_order (Do (Lock of as_mode) rest) follows = absurd follows
 reads_order (Do (Write draft) rest) follows = λ given. subst (ReadsOpened []) (sym (follows.1 given)) tt
 reads_order plan follows = tt
 
-reads_admitted : (refused : Option CommandError) (command : Command) → runs command ≡ true → ReadsOpened [] (plan_admitted refused command)
-reads_admitted (Some error) command built = tt
-reads_admitted None command built = reads_order (plan_of none_open command) (follows_order none_open command built)
+-- with further descriptors in front it reads so too
+pub reads_front : (front opened : List Opening) (plan : Plan) → ReadsOpened opened plan → ReadsOpened (front ++ opened) plan
+reads_front front opened (Do act rest) reads = by_act act reads (λ given o has. reads_front front o (rest given) has)
+  where
+    Further : Type 0
+    Further = (given : List Row) (o : List Opening) → ReadsOpened o (rest given) → ReadsOpened (front ++ o) (rest given)
+
+    on : Further → (a : Act) → ((given : List Row) → ReadsOpened (opened ++ opened_by a) (rest given)) → (given : List Row) → ReadsOpened ((front ++ opened) ++ opened_by a) (rest given)
+    on further a all given = subst (λ o. ReadsOpened o (rest given)) (sym (append_assoc front opened (opened_by a))) (further given (opened ++ opened_by a) (all given))
+
+    by_act : (a : Act) → ReadsOpened opened (Do a rest) → Further → ReadsOpened (front ++ opened) (Do a rest)
+    by_act (Read scan) all further = (list_any-append (λ o. list_any (same_scan scan) (build_scans o.kind o.rel)) front opened ∙ ap (λ t. is_of_opened scan front || t) all.0 ∙ or-true (is_of_opened scan front), λ given. further given opened (all.1 given))
+    by_act (Lookup name mode) all further = on further (Lookup name mode) all
+    by_act (Open rel kind) all further = on further (Open rel kind) all
+    by_act (Search scan) all further = on further (Search scan) all
+    by_act (Lock rel mode) all further = on further (Lock rel mode) all
+    by_act (Write draft) all further = on further (Write draft) all
+reads_front front opened plan reads = tt
+
+reads_plan : (opens : List OpenRelation) (command : Command) → runs command ≡ true → ReadsOpened (map opening_of opens) (plan_of opens command)
+reads_plan opens command built = subst (λ o. ReadsOpened o (plan_of opens command)) (append-nil (map opening_of opens))
+    (reads_front (map opening_of opens) [] (plan_of opens command) (reads_order (plan_of opens command) (follows_order opens command (built_alike opens none_open command ∙ built))))
+
+reads_admitted : (opens : List OpenRelation) (refused : Option CommandError) (command : Command) → runs command ≡ true → ReadsOpened (map opening_of opens) (plan_admitted opens refused command)
+reads_admitted opens (Some error) command built = tt
+reads_admitted opens None command built = reads_plan opens command built
 
 -- so each command does from its beginning
-pub reads_first : (blocks : Blocks) (o : Option Command) → ((command : Command) → o ≡ Some command → runs command ≡ true) → ReadsOpened [] (plan_first blocks o)
-reads_first blocks None built = tt
-reads_first blocks (Some command) built = reads_admitted (refused_by blocks command) command (built command refl)
+pub reads_first : (blocks : Blocks) (opens : List OpenRelation) (o : Option Command) → ((command : Command) → o ≡ Some command → runs command ≡ true) → ReadsOpened (map opening_of opens) (plan_first blocks opens o)
+reads_first blocks opens None built = tt
+reads_first blocks opens (Some command) built = reads_admitted opens (refused_by blocks command) command (built command refl)
 
 -- one act more
 pub reads_after : (opened : List Opening) (act : Act) (rest : List Row → Plan) (given : List Row) (now : List Opening) (plan : Plan) → ReadsOpened opened (Do act rest) → now ≡ opened ++ opened_by act → plan ≡ rest given → ReadsOpened now plan

@@ -1,5 +1,5 @@
 -- What the entries of a command's end make of what the code holds.
-use Rattle.std.proofs.Common.{◌≡◌, ◌≤◌, ◌+◌, ◌∙◌, ◌&&◌, ◌||◌, ℕ, Bool, true, false, not, Option, Some, None, List, ◌++◌, refl, sym, ap, subst, slice_get, filter, nat_lt}
+use Rattle.std.proofs.Common.{◌≡◌, ◌≤◌, ◌+◌, ◌∙◌, ◌&&◌, ◌||◌, ℕ, Bool, true, false, not, Option, Some, None, List, [], ◌++◌, refl, sym, ap, subst, slice_get, filter, nat_lt}
 use Rattle.std.specs.List.{AllByRecursion, list_any}
 use Rattle.std.proofs.lemmas.List.Folds.{list_any-append}
 use Rattle.event_kinds.specs.declared.entry.Event.TheVariants as events
@@ -18,8 +18,10 @@ use Rattle.txn_blocks.specs.declared.transaction.RunningTransaction.{RunningTran
 use Rattle.cacheless.specs.declared.progress.Progress.{Progress}
 use Rattle.cacheless.specs.Facts.{Facts, facts_of}
 use Rattle.txn_blocks.specs.Transactions.{begun_own, ends_own, released_own}
-use Rattle.cacheless.specs.State.{running_of, lists_at, lists_left, Kept, kept_at, is_kept, kept_spared, is_in_accept, locks_accepted}
+use Rattle.ddl_effect.specs.Stages.{plan_at}
+use Rattle.cacheless.specs.State.{running_of, lists_at, lists_left, is_out, Kept, kept_at, is_kept, kept_spared, is_in_accept, locks_accepted}
 use Rattle.cacheless.specs.Holds.{AreRight, FactsFit, Rests, HasEntered}
+use Rattle.cacheless.proofs.Written.Putting.{puts_out}
 use Rattle.cacheless.proofs.Entries.EnteredFetches.{is_kept-spared, all-spared}
 use Rattle.cacheless.proofs.Entries.Entering.{facts_after, noted_after, with_locks, own_entered, release_begun, ends_same, runs_begun, counts_stay}
 
@@ -141,13 +143,13 @@ gone_holds scenario old was from cats rels caches lists locks rests cats_are rel
 
 -- the state after a release
 abbrev pub let_go : Progress → ℕ → Held → Roomy OwnLock → Progress
-let_go was from lists locks = record was { due = dues.Nothing; ended = true; running = released_own from (begun_own (was.finished + 1) was.running); lists = lists; locks = locks }
+let_go was from lists locks = record was { due = dues.Nothing; ended = true; opened = []; running = released_own from (begun_own (was.finished + 1) was.running); lists = lists; locks = locks }
 
-pub release_holds : (scenario : Scenario) (old : List Entry) (was : Progress) (from : ℕ) (lists : Held) (held locks : Roomy OwnLock) (rests : Rests scenario old was)
+pub release_holds : (scenario : Scenario) (old : List Entry) (was : Progress) (from : ℕ) (lists : Held) (held locks : Roomy OwnLock) (rests : Rests scenario old was) → is_out was ≡ true
     → all_lists lists.lists ≡ lists_left (ends_own from was.running) (lists_at was) → held.items ≡ filter (λ lock. nat_lt lock.command from) was.locks.items
     → locks.items ≡ locks_accepted (is_in_accept (let_go was from lists held) (slice_get was.commands was.finished)) held.items
     → HasEntered scenario old was (events.Release from) rests (with_locks (let_go was from lists held) locks)
-release_holds scenario old was from lists held locks rests left stay items = own_entered scenario old was (let_go was from lists held) event locks rests (record { session = λ _ _ _ _ _ _. refl; finished = λ _. refl }) (record {
+release_holds scenario old was from lists held locks rests out left stay items = own_entered scenario old was (let_go was from lists held) event locks rests (record { session = λ _ _ _ _ _ _. refl; finished = λ _. refl }) (record {
   moves = record { id = refl; commands = refl; finished = refl };
   session = λ i. record (noted_after old was event rests.holds.rest) { locks = sym stay i };
   facts = let f = rests.holds.facts in record {
@@ -161,7 +163,7 @@ release_holds scenario old was from lists held locks rests left stay items = own
   counts = counts_stay rests.holds.counts;
   order = subst (AllByRecursion (λ (list : Written). list.command ≤ was.finished + 1)) (sym left) (left_low (ends_own from was.running));
   sought = rests.holds.sought;
-  puts = rests.holds.puts;
+  puts = puts_out [] (plan_at was.opens was.exec) out;
 }) items
   where
     event : Event

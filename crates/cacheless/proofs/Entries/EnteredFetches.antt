@@ -13,7 +13,7 @@ use Rattle.ddl_effect.specs.declared.altering.Altering.TheVariants as alters
 use Rattle.ddl_effect.specs.declared.exec.Exec.TheVariants as stages
 use Rattle.history_model.specs.Log.{fetched_by}
 use Rattle.history_model.specs.Transactions.{begun}
-use Rattle.cacheless.specs.Types.{Oid, Message, Purpose, Scenario, Entry, Event, OwnLock, Exec}
+use Rattle.cacheless.specs.Types.{Oid, Message, Purpose, Scenario, Entry, Event, OpenRelation, OwnLock, Exec}
 use Rattle.cacheless.specs.declared.progress.Due.{Due}
 use Rattle.cacheless.specs.declared.progress.Due.TheVariants as dues
 use Rattle.cacheless.specs.declared.progress.Progress.{Progress}
@@ -48,23 +48,23 @@ all-spared P messages kept holds scan = by_test (is_spared scan messages)
     by_test false = tt
 
 -- a search that is made anew has found nothing yet
-alters_seek : (altering : Altering) → is_absent (altering_again altering) ≡ false
-alters_seek alters.Done = refl
-alters_seek stage = refl
+alters_seek : (opens : List OpenRelation) (altering : Altering) → is_absent (altering_again opens altering) ≡ false
+alters_seek opens alters.Done = refl
+alters_seek opens stage = refl
 
-pub never_absent : (exec : Exec) → is_absent (plan_again exec) ≡ false
-never_absent (stages.Altering altering) = alters_seek altering
-never_absent stage = refl
+pub never_absent : (opens : List OpenRelation) (exec : Exec) → is_absent (plan_again opens exec) ≡ false
+never_absent opens (stages.Altering altering) = alters_seek opens altering
+never_absent opens stage = refl
 
 -- any other command stays as it is
-alters_same : (altering : Altering) → is_absent (altering_at altering) ≡ false → altering_again altering ≡ altering_at altering
-alters_same (alters.Missing name alteration) found = absurd (cc)
-alters_same stage found = refl
+alters_same : (opens : List OpenRelation) (altering : Altering) → is_absent (altering_at opens altering) ≡ false → altering_again opens altering ≡ altering_at opens altering
+alters_same opens (alters.Missing name alteration) found = absurd (cc)
+alters_same opens stage found = refl
 
-pub again_same : (exec : Exec) → is_absent (plan_at exec) ≡ false → plan_again exec ≡ plan_at exec
-again_same (stages.Missing finding) found = absurd (cc)
-again_same (stages.Altering altering) found = alters_same altering found
-again_same stage found = refl
+pub again_same : (opens : List OpenRelation) (exec : Exec) → is_absent (plan_at opens exec) ≡ false → plan_again opens exec ≡ plan_at opens exec
+again_same opens (stages.Missing finding) found = absurd (cc)
+again_same opens (stages.Altering altering) found = alters_same opens altering found
+again_same opens stage found = refl
 
 -- what is left once a search is made anew, and the relations that were found then
 abbrev pub left_again : Plan → Session → Plan
@@ -84,14 +84,14 @@ resumed_is NotBuilt s = refl
 
 left_is : (was : Progress) (rest : Rest) → (is_absent (plan_at was.opens was.exec) ≡ true → rest.sought ≡ plan_again was.opens was.exec) → (p : Plan) → plan_at was.opens was.exec ≡ p → left_again p (session_at was rest) ≡ plan_again was.opens was.exec
 left_is was rest sought (Absent name) at = sought (ap is_absent at)
-left_is was rest sought (Done told) at = sym (again_same was.exec (ap is_absent at))
-left_is was rest sought (Fails error) at = sym (again_same was.exec (ap is_absent at))
-left_is was rest sought (Do act plan) at = sym (again_same was.exec (ap is_absent at))
-left_is was rest sought NotBuilt at = sym (again_same was.exec (ap is_absent at))
+left_is was rest sought (Done told) at = sym (again_same was.opens was.exec (ap is_absent at))
+left_is was rest sought (Fails error) at = sym (again_same was.opens was.exec (ap is_absent at))
+left_is was rest sought (Do act plan) at = sym (again_same was.opens was.exec (ap is_absent at))
+left_is was rest sought NotBuilt at = sym (again_same was.opens was.exec (ap is_absent at))
 
 -- the session once a search is made anew
-pub resumed_same : (was : Progress) (exec : Exec) (rest : Rest) → (is_absent (plan_at was.opens was.exec) ≡ true → rest.sought ≡ plan_again was.opens was.exec) → plan_at exec ≡ plan_again was.opens was.exec
-    → resumed (plan_at was.opens was.exec) (session_at was rest) ≡ record (session_at was rest) { left = plan_at exec; found = found_again (plan_at was.opens was.exec) (session_at was rest) }
+pub resumed_same : (was : Progress) (exec : Exec) (rest : Rest) → (is_absent (plan_at was.opens was.exec) ≡ true → rest.sought ≡ plan_again was.opens was.exec) → plan_at was.opens exec ≡ plan_again was.opens was.exec
+    → resumed (plan_at was.opens was.exec) (session_at was rest) ≡ record (session_at was rest) { left = plan_at was.opens exec; found = found_again (plan_at was.opens was.exec) (session_at was rest) }
 resumed_same was exec rest sought again = resumed_is (plan_at was.opens was.exec) (session_at was rest)
     ∙ (λ i. record (session_at was rest) { left = (left_is was rest sought (plan_at was.opens was.exec) refl ∙ sym again) i; found = found_again (plan_at was.opens was.exec) (session_at was rest) })
 
@@ -135,7 +135,7 @@ one_at_most : (t : Bool) → one_if t ≤ 1
 one_at_most true = omega arith
 one_at_most false = omega arith
 
-pub fetch_holds : (scenario : Scenario) (old : List Entry) (was : Progress) (count : ℕ) (messages : List Message) (caches : LocalCaches) (exec : Exec) (locks : Roomy OwnLock) (rests : Rests scenario old was) → messages ≡ fetched_by old was.id count → kept_of caches ≡ kept_spared messages (kept_at was) → plan_at exec ≡ plan_again was.opens was.exec
+pub fetch_holds : (scenario : Scenario) (old : List Entry) (was : Progress) (count : ℕ) (messages : List Message) (caches : LocalCaches) (exec : Exec) (locks : Roomy OwnLock) (rests : Rests scenario old was) → messages ≡ fetched_by old was.id count → kept_of caches ≡ kept_spared messages (kept_at was) → plan_at was.opens exec ≡ plan_again was.opens was.exec
     → locks.items ≡ locks_accepted (is_in_accept (fetched was count caches exec) (slice_get was.commands was.finished)) was.locks.items
     → HasEntered scenario old was (events.Fetch count) rests (with_locks (fetched was count caches exec) locks)
 fetch_holds scenario old was count messages caches exec locks rests are keeps again items = own_entered scenario old was now event locks rests (record { session = λ _ _ _ _ _ _. refl; finished = λ s. ends_same s.left s }) (record {
@@ -144,8 +144,8 @@ fetch_holds scenario old was count messages caches exec locks rests are keeps ag
   facts = record { running = fits.running; lists = fits.lists; owed = fits.owed; quiet = fits.quiet; usable = fits.usable; kept = fits.kept };
   counts = let c = rests.holds.counts in record { looks = omega (arith, c.looks); scans = omega (arith, c.scans); grants = omega (arith, c.grants); fetches = omega (arith, c.fetches); full = omega (arith, c.full, one_at_most (is_full count first)) };
   order = rests.holds.order;
-  sought = λ is. absurd (not_both (is_absent (plan_at exec)) is (ap is_absent again ∙ never_absent was.exec));
-  puts = subst (PutsOpened was.opened) (sym again) (puts_again was.opened was.exec rests.holds.puts);
+  sought = λ is. absurd (not_both (is_absent (plan_at was.opens exec)) is (ap is_absent again ∙ never_absent was.opens was.exec));
+  puts = subst (PutsOpened was.opened) (sym again) (puts_again was.opened was.opens was.exec rests.holds.puts);
 }) items
   where
     ends_same : (p : Plan) (s : Session) → (resumed p s).finished ≡ s.finished
@@ -179,7 +179,7 @@ fetch_holds scenario old was count messages caches exec locks rests are keeps ag
 
     -- the session with the entry, but for its tally
     noted_as : Tally → Session
-    noted_as tally = record s { left = plan_at exec; found = found_again (plan_at was.opens was.exec) s; tally = tally; judged = length old + 1; last = length old + 1 }
+    noted_as tally = record s { left = plan_at was.opens exec; found = found_again (plan_at was.opens was.exec) s; tally = tally; judged = length old + 1; last = length old + 1 }
 
     once : Tally
     once = record s.tally { fetches = s.tally.fetches + 1 }
@@ -203,7 +203,7 @@ was_reset was caches exec = record was {
   answer = None;
 }
 
-pub reset_holds : (scenario : Scenario) (old : List Entry) (was : Progress) (caches : LocalCaches) (exec : Exec) (locks : Roomy OwnLock) (rests : Rests scenario old was) → kept_of caches ≡ nothing_kept → plan_at exec ≡ plan_again was.opens was.exec
+pub reset_holds : (scenario : Scenario) (old : List Entry) (was : Progress) (caches : LocalCaches) (exec : Exec) (locks : Roomy OwnLock) (rests : Rests scenario old was) → kept_of caches ≡ nothing_kept → plan_at was.opens exec ≡ plan_again was.opens was.exec
     → locks.items ≡ locks_accepted (is_in_accept (was_reset was caches exec) (slice_get was.commands was.finished)) was.locks.items
     → HasEntered scenario old was events.FetchReset rests (with_locks (was_reset was caches exec) locks)
 reset_holds scenario old was caches exec locks rests keeps again items = own_entered scenario old was now event locks rests (record { session = λ _ _ _ _ _ _. refl; finished = λ s. ends_same s.left s }) (record {
@@ -219,8 +219,8 @@ reset_holds scenario old was caches exec locks rests keeps again items = own_ent
   };
   counts = let c = rests.holds.counts in record { looks = omega (arith, c.looks); scans = omega (arith, c.scans); grants = omega (arith, c.grants); fetches = omega (arith, c.fetches); full = omega (arith, c.full) };
   order = rests.holds.order;
-  sought = λ is. absurd (not_both (is_absent (plan_at exec)) is (ap is_absent again ∙ never_absent was.exec));
-  puts = subst (PutsOpened was.opened) (sym again) (puts_again was.opened was.exec rests.holds.puts);
+  sought = λ is. absurd (not_both (is_absent (plan_at was.opens exec)) is (ap is_absent again ∙ never_absent was.opens was.exec));
+  puts = subst (PutsOpened was.opened) (sym again) (puts_again was.opened was.opens was.exec rests.holds.puts);
 }) items
   where
     ends_same : (p : Plan) (s : Session) → (resumed p s).finished ≡ s.finished
@@ -239,5 +239,5 @@ reset_holds scenario old was caches exec locks rests keeps again items = own_ent
     s : Session
     s = session_at was rests.holds.rest
 
-    whole : noted_after old was event rests.holds.rest ≡ record s { left = plan_at exec; found = found_again (plan_at was.opens was.exec) s; tally = tally_at now.tally; judged = length old + 1; last = length old + 1 }
+    whole : noted_after old was event rests.holds.rest ≡ record s { left = plan_at was.opens exec; found = found_again (plan_at was.opens was.exec) s; tally = tally_at now.tally; judged = length old + 1; last = length old + 1 }
     whole = ap (λ (t : Session). record t { tally = tally_at now.tally; locks = s.locks; judged = length old + 1; last = length old + 1 }) (resumed_same was exec rests.holds.rest rests.holds.sought again)

@@ -11,7 +11,7 @@ use Rattle.ddl_effect.specs.declared.told.Told.TheVariants as tells
 use Rattle.ddl_effect.specs.Plans.{Plan, Done, Fails, Absent, Do, NotBuilt, is_built}
 use Rattle.ddl_effect.specs.Stages.{plan_at}
 use Rattle.history_model.specs.Transactions.{begun}
-use Rattle.cacheless.specs.Types.{Command, CommandError, Scenario, Entry, OwnLock}
+use Rattle.cacheless.specs.Types.{Command, CommandError, Scenario, Entry, OpenRelation, OwnLock}
 use Rattle.cacheless.specs.declared.progress.Due.TheVariants as dues
 use Rattle.cacheless.specs.declared.progress.Progress.{Progress}
 use Rattle.cacheless.specs.Facts.{Facts, facts_of, facts_by}
@@ -86,12 +86,12 @@ there (Fails error) follows = refl
 there (Do act rest) follows = refl
 there NotBuilt follows = refl
 
-pub not_absent : (blocks : Blocks) (o : Option Command) → is_absent (plan_first blocks o) ≡ false
-not_absent blocks None = refl
-not_absent blocks (Some command) = by_blocks (refused_by blocks command)
+pub not_absent : (blocks : Blocks) (opens : List OpenRelation) (o : Option Command) → is_absent (plan_first blocks opens o) ≡ false
+not_absent blocks opens None = refl
+not_absent blocks opens (Some command) = by_blocks (refused_by blocks command)
   where
-    by_blocks : (error : Option CommandError) → is_absent (plan_admitted error command) ≡ false
-    by_blocks None = there (plan_of none_open command) (follows_order none_open command)
+    by_blocks : (error : Option CommandError) → is_absent (plan_admitted opens error command) ≡ false
+    by_blocks None = there (plan_of opens command) (follows_order opens command)
     by_blocks (Some error) = refl
 
 -- the state after the start
@@ -107,8 +107,8 @@ start_holds scenario old was waits = record {
   rest = rest;
   count = sym new.finished;
   is = session_of-own scenario old e was.id own
-      ∙ ap (λ l. Some (settled after l (at_command no_block [] [] (length old + 1) (first_of l)))) (sym waits.commands)
-      ∙ ap (λ o. Some (settled after was.commands (at_command no_block [] [] (length old + 1) o))) (first_left was.commands 0)
+      ∙ ap (λ l. Some (settled after l (at_command no_block none_open [] [] (length old + 1) (first_of l)))) (sym waits.commands)
+      ∙ ap (λ o. Some (settled after was.commands (at_command no_block none_open [] [] (length old + 1) o))) (first_left was.commands 0)
       ∙ ap (λ s. Some (settled after was.commands s)) same
       ∙ ap (λ n. Some (settled after (drop n was.commands) (session_at (started was) rest))) (sym new.finished)
       ∙ ap (λ f. Some (settled f (drop was.finished was.commands) (session_at (started was) rest))) (sym facts);
@@ -116,7 +116,7 @@ start_holds scenario old was waits = record {
   counts = subst (λ c. CountsFit c (length (old ++ e ∷ []))) (sym new.tally) (record { looks = omega arith; scans = omega arith; grants = omega arith; fetches = omega arith; full = omega arith });
   order = subst (AllByRecursion (λ list. list.command ≤ was.finished + 1)) (sym (ap all_lists new.lists)) tt;
   sought = λ is. absurd (not_both (is_absent (plan_at was.opens was.exec)) is found);
-  puts = subst (PutsOpened was.opened) (sym new.plan) (puts_first was.opened no_block first);
+  puts = subst (PutsOpened was.opened) (sym new.plan) (puts_first was.opened none_open no_block first);
 }
   where
     new : IsNew was.id was.commands was
@@ -141,11 +141,12 @@ start_holds scenario old was waits = record {
     rest = record { finished = []; refused = refused_first no_block first; found = []; sought = Done tells.Ok; judged = length old + 1; last = length old + 1 }
 
     found : is_absent (plan_at was.opens was.exec) ≡ false
-    found = ap is_absent new.plan ∙ not_absent no_block first
+    found = ap is_absent new.plan ∙ not_absent no_block none_open first
 
-    same : at_command no_block [] [] (length old + 1) first ≡ session_at (started was) rest
+    same : at_command no_block none_open [] [] (length old + 1) first ≡ session_at (started was) rest
     same = λ i. record (session_at (started was) rest) {
       blocks = sym new.blocks i;
+      opens = sym new.opens i;
       left = sym new.plan i;
       blocked = sym new.blocked i;
       opened = sym new.opened i;
@@ -162,6 +163,7 @@ start_starts scenario old was waits = record {
   holds = start_holds scenario old was waits;
   session = λ i. record (session_at (started was) rest) {
     blocks = new.blocks i;
+    opens = new.opens i;
     left = new.plan i;
     blocked = new.blocked i;
     opened = new.opened i;

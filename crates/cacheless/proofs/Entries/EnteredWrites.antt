@@ -1,5 +1,5 @@
 -- What a write makes of what the code holds.
-use Rattle.std.proofs.Common.{◌≡◌, ◌≤◌, ◌+◌, ◌∙◌, ◌&&◌, ◌||◌, ℕ, Bool, true, false, not, Option, Some, None, List, [], ◌∷◌, ◌++◌, refl, sym, ap, subst, length, slice_get, fold, arith}
+use Rattle.std.proofs.Common.{◌≡◌, ◌≤◌, ◌+◌, ◌∙◌, ◌&&◌, ◌||◌, ℕ, Bool, true, false, not, Option, Some, None, List, [], ◌∷◌, ◌++◌, refl, sym, ap, subst, map, length, slice_get, fold, arith}
 use Rattle.std.specs.List.{AllByRecursion, flat_map, list_any}
 use Rattle.std.proofs.lemmas.List.Folds.{list_any-append}
 use Rattle.event_kinds.specs.declared.entry.Event.TheVariants as events
@@ -23,13 +23,13 @@ use Rattle.history_model.specs.Sent.{cats_by, rels_by, written_by, messages_writ
 use Rattle.history_model.specs.Transactions.{begun}
 use Rattle.history_model.specs.Versions.{old_row, added_row}
 use Rattle.history_model.proofs.Every.{every-append}
-use Rattle.cacheless.specs.Types.{Oid, Xid, Message, Row, Purpose, Scenario, Entry, Event, Item, OwnLock, Exec}
+use Rattle.cacheless.specs.Types.{Oid, Xid, Message, Row, Purpose, Scenario, Entry, Event, Item, OpenRelation, OwnLock, Exec}
 use Rattle.cacheless.specs.declared.progress.Due.TheVariants as dues
 use Rattle.txn_blocks.specs.declared.transaction.RunningTransaction.{RunningTransaction}
 use Rattle.cacheless.specs.declared.progress.Progress.{Progress}
 use Rattle.cacheless.specs.Facts.{Facts, facts_of}
 use Rattle.cacheless.specs.Locks.{locked_by}
-use Rattle.cacheless.specs.Session.{Session}
+use Rattle.cacheless.specs.Session.{Session, opening_of}
 use Rattle.cacheless.specs.Sessions.{written}
 use Rattle.cacheless.specs.Puts.{PutsOpened}
 use Rattle.txn_blocks.specs.Transactions.{begun_own}
@@ -73,18 +73,18 @@ spared_alike before b items scan = ap not (any_in_parts (covers scan) (cats_by b
     ∙ sym (list_any-append (covers scan) (flat_map (cats_by before b) items) (fold once_more [] (flat_map (rels_by before b) items)) ∙ ap (λ t. list_any (covers scan) (flat_map (cats_by before b) items) || t) (any_once (covers scan) [] (flat_map (rels_by before b) items))))
 
 -- a write is the last act of a command
-alters_done : (altering : Altering) (given : List Row) → want_of (altering_at altering) ≡ wants.Write → after_act given (altering_at altering) ≡ Done tells.Ok
-alters_done (alters.Inserting row) given is = refl
-alters_done (alters.Replacing deleted row) given is = refl
-alters_done stage given is = absurd (cc)
+alters_done : (opens : List OpenRelation) (altering : Altering) (given : List Row) → want_of (altering_at opens altering) ≡ wants.Write → after_act given (altering_at opens altering) ≡ Done tells.Ok
+alters_done opens (alters.Inserting row) given is = refl
+alters_done opens (alters.Replacing deleted row) given is = refl
+alters_done opens stage given is = absurd (cc)
 
-pub done_written : (exec : Exec) (given : List Row) → want_of (plan_at exec) ≡ wants.Write → after_act given (plan_at exec) ≡ Done tells.Ok
-done_written (stages.Writing draft) given is = refl
-done_written (stages.Altering altering) given is = alters_done altering given is
-done_written stage given is = absurd (cc)
+pub done_written : (opens : List OpenRelation) (exec : Exec) (given : List Row) → want_of (plan_at opens exec) ≡ wants.Write → after_act given (plan_at opens exec) ≡ Done tells.Ok
+done_written opens (stages.Writing draft) given is = refl
+done_written opens (stages.Altering altering) given is = alters_done opens altering given is
+done_written opens stage given is = absurd (cc)
 
 -- the session once the write of its command is made
-written_is : (p : Plan) (s : Session) → want_of p ≡ wants.Write → written p s ≡ record s { left = after_act [] p; opened = []; taken = None }
+written_is : (p : Plan) (s : Session) → want_of p ≡ wants.Write → written p s ≡ record s { left = after_act [] p; opened = map opening_of s.opens; taken = None }
 written_is (Do (Write draft) rest) s is = refl
 written_is (Do (Lookup name mode) rest) s is = absurd (cc)
 written_is (Do (Open rel kind) rest) s is = absurd (cc)
@@ -100,7 +100,7 @@ written_is NotBuilt s is = absurd (cc)
 abbrev pub wrote : Progress → Xid → LocalCaches → Held → Exec → Roomy OwnLock → Progress
 wrote was xid caches lists exec locks = record was {
   exec = exec;
-  opened = [];
+  opened = map opening_of was.opens;
   taken = None;
   due = dues.Nothing;
   running = Some (record (begun_own (was.finished + 1) was.running) { xid = Some xid });
@@ -116,7 +116,7 @@ runs_written number xid (Some t) = refl
 
 pub write_holds : (scenario : Scenario) (old : List Entry) (was : Progress) (xid : Xid) (items : List Item) (messages : List Message) (new_oids : ℕ) (first : Oid) (caches : LocalCaches) (lists : Held) (exec : Exec) (locked locks : Roomy OwnLock) (rests : Rests scenario old was)
     → want_of (plan_at was.opens was.exec) ≡ wants.Write → messages ≡ messages_in old was.id items → flat_map (locked_by (was.finished + 1)) items ≡ locks_made new_oids first (was.finished + 1)
-    → all_lists lists.lists ≡ lists_at was ++ with_messages messages (new_list (was.finished + 1)) ∷ [] → kept_of caches ≡ kept_spared messages (kept_at was) → plan_at exec ≡ after_act [] (plan_at was.opens was.exec) → locked.items ≡ was.locks.items ++ locks_made new_oids first (was.finished + 1)
+    → all_lists lists.lists ≡ lists_at was ++ with_messages messages (new_list (was.finished + 1)) ∷ [] → kept_of caches ≡ kept_spared messages (kept_at was) → plan_at was.opens exec ≡ after_act [] (plan_at was.opens was.exec) → locked.items ≡ was.locks.items ++ locks_made new_oids first (was.finished + 1)
     → locks.items ≡ locks_accepted (is_in_accept (wrote was xid caches lists exec locked) (slice_get was.commands was.finished)) locked.items
     → HasEntered scenario old was (events.Write xid items) rests (with_locks (wrote was xid caches lists exec locked) locks)
 write_holds scenario old was xid items messages new_oids first caches lists exec locked locks rests wants_it are makes pushed keeps goes held accepts = own_entered scenario old was now event locks rests (record { session = λ _ _ _ _ _ _. refl; finished = λ s. ends_same s.left s }) (record {
@@ -133,8 +133,8 @@ write_holds scenario old was xid items messages new_oids first caches lists exec
   counts = counts_stay rests.holds.counts;
   order = subst (AllByRecursion (λ (list : Written). list.command ≤ was.finished + 1)) (sym listed)
       (every-append (λ (list : Written). list.command ≤ was.finished + 1) (lists_at was) (written_by old was.id (was.finished + 1) items ∷ []) rests.holds.order (omega arith, tt));
-  sought = λ is. absurd (not_both (is_absent (plan_at exec)) is (ap is_absent done));
-  puts = subst (PutsOpened []) (sym done) tt;
+  sought = λ is. absurd (not_both (is_absent (plan_at was.opens exec)) is (ap is_absent done));
+  puts = subst (PutsOpened (map opening_of was.opens)) (sym done) tt;
 }) accepts
   where
     ends_same : (p : Plan) (s : Session) → (written p s).finished ≡ s.finished
@@ -150,8 +150,8 @@ write_holds scenario old was xid items messages new_oids first caches lists exec
     after : Facts
     after = facts_after old was event
 
-    done : plan_at exec ≡ Done tells.Ok
-    done = goes ∙ done_written was.exec [] wants_it
+    done : plan_at was.opens exec ≡ Done tells.Ok
+    done = goes ∙ done_written was.opens was.exec [] wants_it
 
     listed : lists_at now ≡ lists_at was ++ written_by old was.id (was.finished + 1) items ∷ []
     listed = pushed ∙ ap (λ l. lists_at was ++ l ∷ []) (ap (λ m. with_messages m (new_list (was.finished + 1))) are ∙ registered_is old was.id (was.finished + 1) items)
@@ -159,6 +159,6 @@ write_holds scenario old was xid items messages new_oids first caches lists exec
     s : Session
     s = session_at was rests.holds.rest
 
-    whole : noted_after old was event rests.holds.rest ≡ record s { left = plan_at exec; opened = []; taken = None; locks = locked.items; judged = length old + 1; last = length old + 1 }
+    whole : noted_after old was event rests.holds.rest ≡ record s { left = plan_at was.opens exec; opened = map opening_of was.opens; taken = None; locks = locked.items; judged = length old + 1; last = length old + 1 }
     whole = ap (λ (t : Session). record t { tally = s.tally; locks = was.locks.items ++ flat_map (locked_by (was.finished + 1)) items; judged = length old + 1; last = length old + 1 }) (written_is (plan_at was.opens was.exec) s wants_it)
-        ∙ (λ i. record s { left = sym goes i; opened = []; taken = None; locks = (ap (λ l. was.locks.items ++ l) makes ∙ sym held) i; judged = length old + 1; last = length old + 1 })
+        ∙ (λ i. record s { left = sym goes i; opened = map opening_of was.opens; taken = None; locks = (ap (λ l. was.locks.items ++ l) makes ∙ sym held) i; judged = length old + 1; last = length old + 1 })

@@ -1,6 +1,7 @@
 -- In which order a command does its acts: it looks up, opens the descriptor of the relation that it found, finds columns of it and reads scans for it, and writes; or it searches for columns of the relation that it found, or for an oid, and is over.
-use Rattle.std.proofs.Common.{◌≡◌, ◌∙◌, ◌<◌, ◌-◌, ◌+◌, ◌⊎◌, inl, inr, ℕ, ℤ, Bool, true, false, Option, Some, None, List, [], ◌∷◌, ◌++◌, ◌&&◌, Contains, refl, sym, ap, subst, map, length, nat_le, nat_lt, not, int_lt, negsuc, pos, arith}
+use Rattle.std.proofs.Common.{◌≡◌, ◌∙◌, ◌<◌, ◌-◌, ◌+◌, ◌⊎◌, inl, inr, ℕ, ℤ, Bool, true, false, Option, Some, None, List, [], ◌∷◌, ◌++◌, ◌&&◌, Contains, refl, sym, ap, subst, map, append-nil, length, nat_le, nat_lt, not, int_lt, negsuc, pos, arith}
 use Rattle.std.specs.Prelude.{⊤}
+use Rattle.std.proofs.lemmas.List.Elements.{Contains-push}
 use Rattle.std.specs.List.{filter_map, cons_option}
 use Rattle.base_types.specs.Fields.{has_field}
 use Rattle.base_types.specs.Modes.{conflicts}
@@ -18,9 +19,10 @@ use Rattle.base_types.specs.declared.scan.Purpose.TheVariants as scans
 use Rattle.command_answers.specs.declared.error.CommandError.TheVariants as errors
 use Rattle.ddl_effect.specs.declared.told.Told.TheVariants as tells
 use Rattle.ddl_effect.specs.Plans.{Plan, Done, Fails, Absent, NotBuilt, Do, Lookup, Open, Search, Read, Lock, Write, is_built}
-use Rattle.ddl_effect.specs.Commands.{plan_of, found, looking_up, if_passes, if_no_column, first_twice, writing, opening, showing, showing_field, is_table, locking, new_table, altering, drop_table, renaming_table, rename_table, column_there, with_column, column_free, reading, changing, adding, add_column, dropping, drop_column, with_name, renaming, rename_column, targeting, set_statistics, filling, set_fillfactor, live_column, listing_columns, telling_column, finding_column}
+use Rattle.ddl_effect.specs.Commands.{plan_of, found, looking_up, if_passes, if_no_column, first_twice, writing, opening, showing, showing_field, told_fields, keeping, peeking, closing, is_table, locking, new_table, altering, drop_table, renaming_table, rename_table, column_there, with_column, column_free, reading, changing, adding, add_column, dropping, drop_column, with_name, renaming, rename_column, targeting, set_statistics, filling, set_fillfactor, live_column, listing_columns, telling_column, finding_column}
+use Rattle.ddl_effect.specs.Opens.{latest_open, has_open}
 use Rattle.history_model.proofs.FixedRows.{fixed}
-use Rattle.cacheless.specs.Types.{Oid, Mode, AccessExclusive, Kind, Row, Purpose, Command, CommandError, Draft, Opening, Told}
+use Rattle.cacheless.specs.Types.{Oid, Mode, AccessExclusive, Kind, Field, Row, Purpose, Command, CommandError, OpenRelation, Draft, Opening, Told}
 use Rattle.cacheless.specs.ActsDone.{after_given, reached, made_first, made_in, opening_by, relation_by}
 use Rattle.history_model.proofs.ColumnsKept.{IsOfColumn, IsOfColumns}
 use Rattle.cacheless.proofs.Plans.EffectAlong.{plain_row, GoesByRelation}
@@ -48,18 +50,12 @@ TellsOf rel kind (tells.Field of as_kind field) = (of ≡ rel) × (as_kind ≡ k
 TellsOf rel kind (tells.Regclass oid) = ⊥
 TellsOf rel kind told = ⊤
 
--- what is told where none is open and no oid was searched for: of no relation's fields, and of no oid
+-- what is told where the command has opened none and has searched for no oid: of no relation's fields, and of no oid
 abbrev pub TellsOfNone : Told → Type 0
 TellsOfNone (tells.Relation rel kind) = ⊥
 TellsOfNone (tells.Field rel kind field) = ⊥
 TellsOfNone (tells.Regclass oid) = ⊥
 TellsOfNone told = ⊤
-
--- what is told where none is open
-abbrev pub TellsNoField : Told → Type 0
-TellsNoField (tells.Relation rel kind) = ⊥
-TellsNoField (tells.Field rel kind field) = ⊥
-TellsNoField told = ⊤
 
 -- the scan of a relation by its oid
 abbrev pub IsOfOid : Oid → Purpose → Type 0
@@ -95,7 +91,7 @@ FollowsFound mode rel kind plan = ⊥
 
 -- a plan from its beginning: it looks up a relation, whose rows decide by the relation and its kind alone, or it searches for an oid, of which it then tells, or it writes a new table, or is over
 abbrev pub FollowsOrder : Plan → Type 0
-FollowsOrder (Done told) = TellsOfNone told
+FollowsOrder (Done told) = ⊤
 FollowsOrder (Fails error) = ⊤
 FollowsOrder (Do (Lookup name mode) rest) = ((given : List Row) → rest given ≡ found name (λ rel kind. rest (plain_row rel kind)) given) × ((rel : Oid) (kind : Kind) → FollowsFound mode rel kind (rest (plain_row rel kind)))
 FollowsOrder (Do (Search scan) rest) = (oid : Oid) × IsOfOid oid scan × ((given : List Row) → rest given ≡ Done (tells.Regclass oid))
@@ -105,7 +101,7 @@ FollowsOrder plan = ⊥
 -- the same where a lookup may have found no relation, or an oid was searched for
 abbrev pub FollowsUnfound : Plan → Type 0
 FollowsUnfound (Absent name) = ⊤
-FollowsUnfound (Done told) = TellsNoField told
+FollowsUnfound (Done told) = ⊤
 FollowsUnfound plan = FollowsOrder plan
 
 -- each former of plans makes such a plan of such plans
@@ -150,15 +146,16 @@ opens_under : (mode : Mode) (plan : Plan) → conflicts mode mode ≡ true → O
 opens_under mode (Done told) excludes = tt
 opens_under mode plan excludes = excludes
 
-found_altering : (name : List ℕ) (mode : Mode) (further : Oid → Plan) → conflicts mode mode ≡ true → ((rel : Oid) → FollowsOpen 3 rel Table (further rel)) → (rel : Oid) (kind : Kind) → FollowsFound mode rel kind (altering name further rel kind)
-found_altering name mode further excludes follows rel Table = found_opening mode rel Table (further rel) (follows rel) (opens_under mode (further rel) excludes)
-found_altering name mode further excludes follows rel kind = tt
+found_altering : (opens : List OpenRelation) (name : List ℕ) (mode : Mode) (further : Oid → Plan) → conflicts mode mode ≡ true → ((rel : Oid) → FollowsOpen 3 rel Table (further rel)) → (rel : Oid) (kind : Kind) → FollowsFound mode rel kind (altering opens name further rel kind)
+found_altering opens name mode further excludes follows rel Table = found_if_passes mode rel Table (not (has_open rel opens)) (errors.InUse rel) (opening rel Table (further rel))
+    (found_opening mode rel Table (further rel) (follows rel) (opens_under mode (further rel) excludes))
+found_altering opens name mode further excludes follows rel kind = tt
 
 order_looking_up : (name : List ℕ) (mode : Mode) (further : Oid → Kind → Plan) → ((rel : Oid) (kind : Kind) → FollowsFound mode rel kind (further rel kind)) → FollowsOrder (looking_up name mode further)
 order_looking_up name mode further follows = (λ given. refl, follows)
 
-order_altering : (name : List ℕ) (mode : Mode) (further : Oid → Plan) → conflicts mode mode ≡ true → ((rel : Oid) → FollowsOpen 3 rel Table (further rel)) → FollowsOrder (looking_up name mode (altering name further))
-order_altering name mode further excludes follows = order_looking_up name mode (altering name further) (found_altering name mode further excludes follows)
+order_altering : (opens : List OpenRelation) (name : List ℕ) (mode : Mode) (further : Oid → Plan) → conflicts mode mode ≡ true → ((rel : Oid) → FollowsOpen 3 rel Table (further rel)) → FollowsOrder (looking_up name mode (altering opens name further))
+order_altering opens name mode further excludes follows = order_looking_up name mode (altering opens name further) (found_altering opens name mode further excludes follows)
 
 order_creating : (passes : Bool) (twice : Option (List ℕ)) (name : List ℕ) (columns : List NewColumn) → FollowsOrder (if_passes passes errors.TooManyColumns (if_no_column twice (writing (new_table name columns))))
 order_creating false twice name columns = tt
@@ -233,31 +230,48 @@ open_set_fillfactor : (fill : ℕ) (rel : Oid) → FollowsOpen 3 rel Table (set_
 open_set_fillfactor fill rel = open_if_passes 3 rel Table (nat_le 10 fill && nat_le fill 100) (errors.OutOfRange (pos fill)) (reading (scans.Class rel) (filling fill))
     (omega arith, (0, omega arith, refl), open_filling 2 rel fill (omega arith))
 
+-- what is told of a relation that was open before is no act
+order_peeking : (name : List ℕ) (field : Option Field) (latest : Option OpenRelation) → FollowsOrder (peeking name field latest)
+order_peeking name field None = tt
+order_peeking name None (Some o) = tt
+order_peeking name (Some field) (Some o) = by_test (has_field o.kind field)
+  where
+    by_test : (t : Bool) → FollowsOrder (if_passes t (errors.NoField name field) (Done (told_fields (Some field) o.rel o.kind)))
+    by_test true = tt
+    by_test false = tt
+
+order_closing : (name : List ℕ) (latest : Option OpenRelation) → FollowsOrder (closing name latest)
+order_closing name None = tt
+order_closing name (Some o) = tt
+
 -- the plan of each command that has one is such: a line a command
-pub follows_order : (held : List Oid) (command : Command) → is_built (plan_of held command) ≡ true → FollowsOrder (plan_of held command)
-follows_order held commands.Begin built = tt
-follows_order held commands.Commit built = tt
-follows_order held commands.Rollback built = tt
-follows_order held (commands.Show name None) built = order_looking_up name AccessShare (showing None) (λ rel kind. found_opening AccessShare rel kind (Done (tells.Relation rel kind)) (refl, refl) tt)
-follows_order held (commands.Show name (Some field)) built = order_looking_up name AccessShare (showing_field name field)
+pub follows_order : (opens : List OpenRelation) (command : Command) → is_built (plan_of opens command) ≡ true → FollowsOrder (plan_of opens command)
+follows_order opens commands.Begin built = tt
+follows_order opens commands.Commit built = tt
+follows_order opens commands.Rollback built = tt
+follows_order opens (commands.Show name None) built = order_looking_up name AccessShare (showing None) (λ rel kind. found_opening AccessShare rel kind (Done (tells.Relation rel kind)) (refl, refl) tt)
+follows_order opens (commands.Show name (Some field)) built = order_looking_up name AccessShare (showing_field name field)
     (λ rel kind. by_test rel kind (has_field kind field) refl)
   where
     by_test : (rel : Oid) (kind : Kind) (t : Bool) → has_field kind field ≡ t → FollowsFound AccessShare rel kind (if_passes t (errors.NoField name field) (showing (Some field) rel kind))
     by_test rel kind true has = found_opening AccessShare rel kind (Done (tells.Field rel kind field)) (refl, refl, has) tt
     by_test rel kind false has = tt
-follows_order held (commands.Columns name) built = order_looking_up name AccessShare (listing_columns name) (found_listing name)
-follows_order held (commands.Column name column) built = order_looking_up name AccessShare (finding_column name column) (found_column name column)
-follows_order held (commands.Regclass oid) built = (oid, refl, λ given. refl)
-follows_order held (commands.LockTable name mode) built = order_looking_up name mode (locking name) (λ rel kind. found_if_passes mode rel kind (is_table kind) (errors.NotTable name) (Done tells.Ok) tt)
-follows_order held (commands.CreateTable name columns) built = order_creating (nat_le (length columns) MOST_COLUMNS) (first_twice [] (map (λ (c : NewColumn). c.name) columns)) name columns
-follows_order held (commands.DropTable name) built = order_altering name AccessExclusive drop_table refl open_drop_table
-follows_order held (commands.RenameTable name to) built = order_altering name AccessExclusive (rename_table to) refl (open_rename_table to)
-follows_order held (commands.AddColumn name column col_type) built = order_altering name AccessExclusive (add_column column col_type) refl (open_add_column column col_type)
-follows_order held (commands.DropColumn name column) built = order_altering name AccessExclusive (drop_column column) refl (open_drop_column column)
-follows_order held (commands.RenameColumn name column to) built = order_altering name AccessExclusive (rename_column column to) refl (open_rename_column column to)
-follows_order held (commands.SetStatistics name column stat) built = order_altering name ShareUpdateExclusive (set_statistics column stat) refl (open_set_statistics column stat)
-follows_order held (commands.SetFillfactor name fill) built = order_altering name ShareUpdateExclusive (set_fillfactor fill) refl (open_set_fillfactor fill)
-follows_order held command built = absurd (cc)
+follows_order opens (commands.Columns name) built = order_looking_up name AccessShare (listing_columns name) (found_listing name)
+follows_order opens (commands.Column name column) built = order_looking_up name AccessShare (finding_column name column) (found_column name column)
+follows_order opens (commands.Regclass oid) built = (oid, refl, λ given. refl)
+follows_order opens (commands.LockTable name mode) built = order_looking_up name mode (locking name) (λ rel kind. found_if_passes mode rel kind (is_table kind) (errors.NotTable name) (Done tells.Ok) tt)
+follows_order opens (commands.CreateTable name columns) built = order_creating (nat_le (length columns) MOST_COLUMNS) (first_twice [] (map (λ (c : NewColumn). c.name) columns)) name columns
+follows_order opens (commands.DropTable name) built = order_altering opens name AccessExclusive drop_table refl open_drop_table
+follows_order opens (commands.RenameTable name to) built = order_altering opens name AccessExclusive (rename_table to) refl (open_rename_table to)
+follows_order opens (commands.AddColumn name column col_type) built = order_altering opens name AccessExclusive (add_column column col_type) refl (open_add_column column col_type)
+follows_order opens (commands.DropColumn name column) built = order_altering opens name AccessExclusive (drop_column column) refl (open_drop_column column)
+follows_order opens (commands.RenameColumn name column to) built = order_altering opens name AccessExclusive (rename_column column to) refl (open_rename_column column to)
+follows_order opens (commands.SetStatistics name column stat) built = order_altering opens name ShareUpdateExclusive (set_statistics column stat) refl (open_set_statistics column stat)
+follows_order opens (commands.SetFillfactor name fill) built = order_altering opens name ShareUpdateExclusive (set_fillfactor fill) refl (open_set_fillfactor fill)
+follows_order opens (commands.OpenRel name) built = order_looking_up name AccessShare keeping (λ rel kind. found_opening AccessShare rel kind (Done tells.Ok) tt tt)
+follows_order opens (commands.Peek name field) built = order_peeking name field (latest_open name opens)
+follows_order opens (commands.CloseRel name) built = order_closing name (latest_open name opens)
+follows_order opens command built = absurd (cc)
 
 -- it goes on by relations alone
 goes_open : (most : ℕ) (rel : Oid) (kind : Kind) (plan : Plan) → FollowsOpen most rel kind plan → GoesByRelation plan
@@ -314,8 +328,8 @@ goes_order (Do (Read scan) rest) follows = absurd follows
 goes_order (Do (Lock of mode) rest) follows = absurd follows
 
 -- so the plan of each command does
-pub goes_by_relation : (held : List Oid) (command : Command) → is_built (plan_of held command) ≡ true → GoesByRelation (plan_of held command)
-goes_by_relation held command built = goes_order (plan_of held command) (follows_order held command built)
+pub goes_by_relation : (opens : List OpenRelation) (command : Command) → is_built (plan_of opens command) ≡ true → GoesByRelation (plan_of opens command)
+goes_by_relation opens command built = goes_order (plan_of opens command) (follows_order opens command built)
 
 -- a plan whose command has opened a descriptor: it is that of the relation found
 pub record HasOpen (relation opened : Opening) (plan : Plan) : Type 0 where
@@ -397,9 +411,9 @@ come_absent : (name : List ℕ) (gave : List (List Row)) → HasCome (made_in re
 come_absent name [] = tt
 come_absent name (given ∷ gave) = come_absent name gave
 
-come_told : (told : Told) (gave : List (List Row)) → TellsNoField told → HasCome (made_in relation_by gave (Done told)) (made_in opening_by gave (Done told)) (reached gave (Done told))
-come_told told [] tells = tells
-come_told told (given ∷ gave) tells = come_told told gave tells
+come_told : (told : Told) (gave : List (List Row)) → HasCome (made_in relation_by gave (Done told)) (made_in opening_by gave (Done told)) (reached gave (Done told))
+come_told told [] = tt
+come_told told (given ∷ gave) = come_told told gave
 
 come_lookup : (name : List ℕ) (mode : Mode) (rest : List Row → Plan) (given : List Row) (gave : List (List Row)) → FollowsOrder (Do (Lookup name mode) rest)
     → HasCome (relation_by (Lookup name mode) given ++ made_in relation_by gave (rest given)) (made_in opening_by gave (rest given)) (reached gave (rest given))
@@ -414,14 +428,9 @@ come_lookup name mode rest given gave follows = by_rows given (follows.0 given)
         (come_found mode rel kind gave (rest (plain_row rel kind)) (follows.1 rel kind))
     by_rows (row ∷ more) is = absent (row ∷ more) is
 
-tells_fewer : (told : Told) → TellsOfNone told → TellsNoField told
-tells_fewer (tells.Relation rel kind) none = none
-tells_fewer (tells.Field rel kind field) none = none
-tells_fewer told none = tt
-
 unfound : (plan : Plan) → FollowsOrder plan → FollowsUnfound plan
 unfound (Absent name) follows = absurd follows
-unfound (Done told) follows = tells_fewer told follows
+unfound (Done told) follows = tt
 unfound plan follows = follows
 
 -- how far any acts bring a plan
@@ -435,7 +444,7 @@ has_come (given ∷ gave) (Absent name) follows = absurd follows
 has_come (given ∷ gave) NotBuilt follows = absurd follows
 has_come (given ∷ gave) (Do (Open of as_kind) rest) follows = absurd follows
 has_come (given ∷ gave) (Do (Search scan) rest) follows =
-    subst (λ p. HasCome (made_in relation_by gave p) (made_in opening_by gave p) (reached gave p)) (sym (follows.2 given)) (come_told (tells.Regclass follows.0) gave tt)
+    subst (λ p. HasCome (made_in relation_by gave p) (made_in opening_by gave p) (reached gave p)) (sym (follows.2 given)) (come_told (tells.Regclass follows.0) gave)
 has_come (given ∷ gave) (Do (Read scan) rest) follows = absurd follows
 has_come (given ∷ gave) (Do (Lock of mode) rest) follows = absurd follows
 
@@ -521,26 +530,26 @@ at_write relations opened draft rest come = absurd come
 
 -- of a relation only what is open is told, and a field only where the relation has it
 abbrev pub TellsOpen : List Opening → Told → Type 0
-TellsOpen opened (tells.Relation rel kind) = opened ≡ record { rel = rel; kind = kind } ∷ []
-TellsOpen opened (tells.Field rel kind field) = (opened ≡ record { rel = rel; kind = kind } ∷ []) × (has_field kind field ≡ true)
+TellsOpen opened (tells.Relation rel kind) = Contains opened (record { rel = rel; kind = kind })
+TellsOpen opened (tells.Field rel kind field) = Contains opened (record { rel = rel; kind = kind }) × (has_field kind field ≡ true)
 TellsOpen opened told = ⊤
 
-tells_none : (told : Told) → TellsNoField told → TellsOpen [] told
-tells_none (tells.Relation rel kind) none = absurd none
-tells_none (tells.Field rel kind field) none = absurd none
-tells_none told none = tt
+tells_none : (opened : List Opening) (told : Told) → TellsOfNone told → TellsOpen opened told
+tells_none opened (tells.Relation rel kind) none = absurd none
+tells_none opened (tells.Field rel kind field) none = absurd none
+tells_none opened told none = tt
 
--- so it is with the answer of a plan that is done
-pub at_end : (relations opened : List Opening) (told : Told) → HasCome relations opened (Done told) → TellsOpen opened told
-at_end [] [] told come = tells_none told come
-at_end (relation ∷ []) [] told come = tells_none told (tells_fewer told come.1)
-at_end (relation ∷ []) (one ∷ []) told come = by_told told come.follows
+-- so it is with the answer of a plan that is done, where these were open before and, unless a relation was found, the answer tells of one of them
+pub at_end : (held relations opened : List Opening) (told : Told) → HasCome relations opened (Done told) → (relations ≡ [] → TellsOpen held told) → TellsOpen (held ++ opened) told
+at_end held [] [] told come before = subst (λ l. TellsOpen l told) (sym (append-nil held)) (before refl)
+at_end held (relation ∷ []) [] told come before = tells_none (held ++ []) told come.1
+at_end held (relation ∷ []) (one ∷ []) told come before = by_told told come.follows
   where
-    is : (rel : Oid) (kind : Kind) → rel ≡ relation.rel → kind ≡ relation.kind → one ∷ [] ≡ record { rel = rel; kind = kind } ∷ []
-    is rel kind same_rel same_kind = ap (λ o. o ∷ []) (come.same ∙ (λ i. record { rel = sym same_rel i; kind = sym same_kind i }))
+    has : (rel : Oid) (kind : Kind) → rel ≡ relation.rel → kind ≡ relation.kind → Contains (held ++ one ∷ []) (record { rel = rel; kind = kind })
+    has rel kind same_rel same_kind = subst (Contains (held ++ one ∷ [])) (come.same ∙ (λ i. record { rel = sym same_rel i; kind = sym same_kind i })) (Contains-push held one)
 
-    by_told : (t : Told) → TellsOf relation.rel relation.kind t → TellsOpen (one ∷ []) t
-    by_told (tells.Relation rel kind) of = is rel kind of.0 of.1
-    by_told (tells.Field rel kind field) of = (is rel kind of.0 of.1, ap (λ k. has_field k field) of.1 ∙ of.2)
+    by_told : (t : Told) → TellsOf relation.rel relation.kind t → TellsOpen (held ++ one ∷ []) t
+    by_told (tells.Relation rel kind) of = has rel kind of.0 of.1
+    by_told (tells.Field rel kind field) of = (has rel kind of.0 of.1, ap (λ k. has_field k field) of.1 ∙ of.2)
     by_told t of = tt
-at_end relations opened told come = absurd come
+at_end held relations opened told come before = absurd come

@@ -1,5 +1,5 @@
 -- An act whose rows are at hand keeps a command on its way.
-use Rattle.std.proofs.Common.{◌≡◌, ◌⊎◌, ◌∙◌, inl, inr, ℕ, Bool, true, false, not, Option, Some, None, List, [], ◌∷◌, ◌++◌, ◌&&◌, cond, refl, sym, ap, subst, map, length}
+use Rattle.std.proofs.Common.{◌≡◌, ◌⊎◌, ◌∙◌, inl, inr, ℕ, Bool, true, false, not, Option, Some, None, List, [], ◌∷◌, ◌++◌, ◌&&◌, cond, refl, sym, ap, subst, map, append_assoc, append-nil, length}
 use Rattle.std.specs.List.{AllByRecursion}
 use Rattle.base_types.specs.declared.kind.Kind.TheVariants.{Table}
 use Rattle.base_types.specs.declared.row.Row.TheVariants as rows
@@ -9,6 +9,7 @@ use Rattle.ddl_effect.specs.declared.told.Told.TheVariants as tells
 use Rattle.ddl_effect.specs.Plans.{Act, Lookup, Open, Search, Read, Lock, Write, Plan, Done, Fails, Absent, NotBuilt, Do}
 use Rattle.ddl_effect.specs.Commands.{plan_of}
 use Rattle.ddl_effect.specs.Effects.{effect_at}
+use Rattle.ddl_effect.proofs.HasPlan.{built_alike}
 use Rattle.history_model.specs.Read.{rows_read, is_usable}
 use Rattle.history_model.specs.Versions.{answer_of}
 use Rattle.history_model.specs.Writes.{is_empty}
@@ -20,7 +21,7 @@ use Rattle.cacheless.specs.Facts.{Facts, facts_of}
 use Rattle.cacheless.specs.OnCourse.{is_absent, OnItsWay, Way, Begun, Wrote, Unbuilt, Over, GaveNow, NamedFits, WasSought, FollowsPlan}
 use Rattle.cacheless.specs.Owed.{builds_owed, act_owed}
 use Rattle.cacheless.specs.Played.{IsPlayed}
-use Rattle.cacheless.specs.Session.{Session, none_open, outcome_of, is_settled}
+use Rattle.cacheless.specs.Session.{Session, none_open, opening_of, outcome_of, is_settled}
 use Rattle.cacheless.specs.Sessions.{session_of}
 use Rattle.cacheless.specs.Settled.{class_oid, if_locked, has_taken_no_other, has_accepted, looked_up, gives, opened_by, found_by, act_done, done_here}
 use Rattle.cacheless.proofs.FoundKept.{lookup_ends}
@@ -60,17 +61,18 @@ on_its_way seen b s command act rest follows at = by_way (follows.way (unrefused
     by_way (Over w) = absurd (let both : false ≡ true = ap (λ p. is_settled (outcome_of p)) (sym at) ∙ w.out in cc both)
 
 -- the order of its acts, and how far it has come in it
-pub its_order : (seen : List Entry) (b : ℕ) (s : Session) (command : Command) → OnItsWay seen b s command → FollowsOrder (plan_of none_open command)
-its_order seen b s command way = follows_order none_open command way.runs
+pub its_order : (seen : List Entry) (b : ℕ) (s : Session) (command : Command) → OnItsWay seen b s command → FollowsOrder (plan_of s.opens command)
+its_order seen b s command way = follows_order s.opens command (built_alike s.opens none_open command ∙ way.runs)
 
 pub its_place : (seen : List Entry) (b : ℕ) (s : Session) (command : Command) (act : Act) (rest : List Row → Plan) (way : OnItsWay seen b s command) → s.left ≡ Do act rest
-    → HasCome (made_in relation_by way.gave (plan_of none_open command)) (made_in opening_by way.gave (plan_of none_open command)) (Do act rest)
-its_place seen b s command act rest way at = subst (HasCome (made_in relation_by way.gave (plan_of none_open command)) (made_in opening_by way.gave (plan_of none_open command))) (sym way.plan ∙ at)
-    (has_come way.gave (plan_of none_open command) (its_order seen b s command way))
+    → HasCome (made_in relation_by way.gave (plan_of s.opens command)) (made_in opening_by way.gave (plan_of s.opens command)) (Do act rest)
+its_place seen b s command act rest way at = subst (HasCome (made_in relation_by way.gave (plan_of s.opens command)) (made_in opening_by way.gave (plan_of s.opens command))) (sym way.plan ∙ at)
+    (has_come way.gave (plan_of s.opens command) (its_order seen b s command way))
 
--- before a lookup no descriptor is open
-pub lookup_opens_none : (seen : List Entry) (b : ℕ) (s : Session) (command : Command) (name : List ℕ) (mode : Mode) (rest : List Row → Plan) → FollowsPlan seen b s command → s.left ≡ Do (Lookup name mode) rest → s.opened ≡ []
-lookup_opens_none seen b s command name mode rest follows at = way.opened ∙ ap (λ g. made_in opening_by g (plan_of none_open command)) (lookup_first way.gave (plan_of none_open command) name mode rest (its_order seen b s command way) (sym way.plan ∙ at))
+-- before a lookup the command has opened no descriptor
+pub lookup_opens_none : (seen : List Entry) (b : ℕ) (s : Session) (command : Command) (name : List ℕ) (mode : Mode) (rest : List Row → Plan) → FollowsPlan seen b s command → s.left ≡ Do (Lookup name mode) rest → s.opened ≡ map opening_of s.opens
+lookup_opens_none seen b s command name mode rest follows at =
+    way.opened ∙ ap (λ g. map opening_of s.opens ++ made_in opening_by g (plan_of s.opens command)) (lookup_first way.gave (plan_of s.opens command) name mode rest (its_order seen b s command way) (sym way.plan ∙ at)) ∙ append-nil (map opening_of s.opens)
   where
     way : OnItsWay seen b s command
     way = on_its_way seen b s command (Lookup name mode) rest follows at
@@ -141,10 +143,10 @@ act_gave scenario seen b s command (Search scan) rest given holds way at done = 
 }
   where
     relations : List Opening
-    relations = made_in relation_by way.gave (plan_of none_open command)
+    relations = made_in relation_by way.gave (plan_of s.opens command)
 
     opened : List Opening
-    opened = made_in opening_by way.gave (plan_of none_open command)
+    opened = made_in opening_by way.gave (plan_of s.opens command)
 
     gave : rows_read seen b scan ≡ given
     gave = some_is (rows_read seen b scan) given done.gave
@@ -153,29 +155,29 @@ act_gave scenario seen b s command (Search scan) rest given holds way at done = 
     by_place (inl column) = alike_now (answer_of seen b) scan rest given (late ∙ gave)
       where
         late : answer_of seen b scan ≡ rows_read seen b scan
-        late = late_answers scenario seen b holds.session way.gave (plan_of none_open command) (Search scan) rest (record { rel = column.rel; kind = Table }) scan holds.played.sound holds.played.plays holds.is
+        late = late_answers scenario seen b holds.session way.gave (plan_of s.opens command) (Search scan) rest (record { rel = column.rel; kind = Table }) scan holds.played.sound holds.played.plays holds.is
             (subst (λ l. map cleared l ≡ l) (sym holds.holds) holds.clear) (its_order seen b s command way) way.holds (sym way.plan ∙ at) column.found_is column.opened_is (inl column.of)
             (kept_already _ scan done.owed)
     by_place (inr (inl columns)) = λ rows found. ap (effect_at rows found)
         (ap rest (sym gave) ∙ columns.by_fixed (rows_read seen b scan) ∙ ap rest (sym same) ∙ sym (columns.by_fixed (answer_of seen b scan)))
       where
         same : map fixed (answer_of seen b scan) ≡ map fixed (rows_read seen b scan)
-        same = found_columns scenario seen b holds.session way.gave (plan_of none_open command) (record { rel = columns.rel; kind = Table }) scan holds.played.sound holds.played.columns holds.played.plays holds.is
+        same = found_columns scenario seen b holds.session way.gave (plan_of s.opens command) (record { rel = columns.rel; kind = Table }) scan holds.played.sound holds.played.columns holds.played.plays holds.is
             (subst (λ l. map cleared l ≡ l) (sym holds.holds) holds.clear) way.holds columns.found_is columns.of (kept_already _ scan done.owed)
     by_place (inr (inr oid)) = λ rows found. ap (effect_at rows found) (oid.told given ∙ sym (oid.told (answer_of seen b scan)))
 act_gave scenario seen b s command (Read scan) rest given holds way at done = record { locked = tt; still = alike_now (answer_of seen b) scan rest given (late ∙ gave) }
   where
-    come : HasCome (made_in relation_by way.gave (plan_of none_open command)) (made_in opening_by way.gave (plan_of none_open command)) (Do (Read scan) rest)
+    come : HasCome (made_in relation_by way.gave (plan_of s.opens command)) (made_in opening_by way.gave (plan_of s.opens command)) (Do (Read scan) rest)
     come = its_place seen b s command (Read scan) rest way at
 
-    reads : ReadsOpen (made_in relation_by way.gave (plan_of none_open command)) (made_in opening_by way.gave (plan_of none_open command)) scan
+    reads : ReadsOpen (made_in relation_by way.gave (plan_of s.opens command)) (made_in opening_by way.gave (plan_of s.opens command)) scan
     reads = at_read _ _ scan rest come
 
     gave : rows_read seen b scan ≡ given
     gave = some_is (rows_read seen b scan) given done.gave
 
     late : answer_of seen b scan ≡ rows_read seen b scan
-    late = late_answers scenario seen b holds.session way.gave (plan_of none_open command) (Read scan) rest (record { rel = reads.rel; kind = reads.kind }) scan holds.played.sound holds.played.plays holds.is
+    late = late_answers scenario seen b holds.session way.gave (plan_of s.opens command) (Read scan) rest (record { rel = reads.rel; kind = reads.kind }) scan holds.played.sound holds.played.plays holds.is
         (subst (λ l. map cleared l ≡ l) (sym holds.holds) holds.clear) (its_order seen b s command way) way.holds (sym way.plan ∙ at) reads.found_is reads.opened_is (inr reads.of)
         (kept_already _ scan done.owed)
 act_gave scenario seen b s command (Lock rel mode) rest given holds way at done = absurd (no_lock _ _ rel mode rest (its_place seen b s command (Lock rel mode) rest way at))
@@ -186,19 +188,19 @@ pub way-act : (seen : List Entry) (b : ℕ) (s : Session) (command : Command) (a
     → OnItsWay seen b s command → OnItsWay seen b (act_done act given (rest given) s) command
 way-act seen b s command act rest given at passes now way = record {
   gave = way.gave ++ given ∷ [];
-  plan = sym passes ∙ ap (after_given given) (sym at ∙ way.plan) ∙ sym (reached-push way.gave given (plan_of none_open command));
+  plan = sym passes ∙ ap (after_given given) (sym at ∙ way.plan) ∙ sym (reached-push way.gave given (plan_of s.opens command));
   found = ap (λ l. l ++ found_by act given) way.found ∙ sym (made found_by);
-  opened = ap (λ l. l ++ opened_by act) way.opened ∙ sym (made opening_by);
+  opened = ap (λ l. l ++ opened_by act) way.opened ∙ append_assoc (map opening_of s.opens) (made_in opening_by way.gave (plan_of s.opens command)) (opened_by act) ∙ ap (λ l. map opening_of s.opens ++ l) (sym (made opening_by));
   runs = way.runs;
   holds = record {
-    locked = subst (AllByRecursion (IsHeld seen b)) (sym (made locked_relation_by)) (every-append (IsHeld seen b) (made_in locked_relation_by way.gave (plan_of none_open command)) (locked_relation_by act given) way.holds.locked now.locked);
-    still = still-push (answer_of seen b) way.gave given (plan_of none_open command) way.holds.still (subst (λ p. IsFirstStill (answer_of seen b) p given) (sym at ∙ way.plan) now.still);
+    locked = subst (AllByRecursion (IsHeld seen b)) (sym (made locked_relation_by)) (every-append (IsHeld seen b) (made_in locked_relation_by way.gave (plan_of s.opens command)) (locked_relation_by act given) way.holds.locked now.locked);
+    still = still-push (answer_of seen b) way.gave given (plan_of s.opens command) way.holds.still (subst (λ p. IsFirstStill (answer_of seen b) p given) (sym at ∙ way.plan) now.still);
   };
   unwritten = way.unwritten;
 }
   where
-    made : {X : Type 0} (makes : Act → List Row → List X) → made_in makes (way.gave ++ given ∷ []) (plan_of none_open command) ≡ made_in makes way.gave (plan_of none_open command) ++ makes act given
-    made makes = made_in-push makes way.gave given (plan_of none_open command) ∙ ap (λ p. made_in makes way.gave (plan_of none_open command) ++ made_first makes given p) (sym way.plan ∙ at)
+    made : {X : Type 0} (makes : Act → List Row → List X) → made_in makes (way.gave ++ given ∷ []) (plan_of s.opens command) ≡ made_in makes way.gave (plan_of s.opens command) ++ makes act given
+    made makes = made_in-push makes way.gave given (plan_of s.opens command) ∙ ap (λ p. made_in makes way.gave (plan_of s.opens command) ++ made_first makes given p) (sym way.plan ∙ at)
 
 -- where no lookup has failed, nothing is said of a scan
 pub named_there : (seen : List Entry) (b : ℕ) (plan : Plan) → is_absent plan ≡ false → NamedFits seen b plan
@@ -212,9 +214,9 @@ record FailsToFind (seen : List Entry) (b : ℕ) (s : Session) (command : Comman
   lookup : act ≡ Lookup name mode
   is : rest given ≡ Absent name
   none : class_oid (rows_read seen b (scans.RelName name)) ≡ None
-  first : s.left ≡ plan_of none_open command
+  first : s.left ≡ plan_of s.opens command
   found : s.found ≡ []
-  opened : s.opened ≡ []
+  opened : s.opened ≡ map opening_of s.opens
 
 there_or_fails : (seen : List Entry) (b : ℕ) (s : Session) (command : Command) (act : Act) (rest : List Row → Plan) (given : List Row) → (way : OnItsWay seen b s command) → s.left ≡ Do act rest → IsDoneHere (facts_of seen b) s act rest given → is_absent (rest given) ≡ true
     → FailsToFind seen b s command act rest given
@@ -224,13 +226,13 @@ there_or_fails seen b s command (Lookup name mode) rest given way at done absent
   lookup = refl;
   is = unfound.is;
   none = gives_class (facts_of seen b) s mode (rows_read seen b (scans.RelName name)) given done.gave ∙ unfound.none;
-  first = way.plan ∙ ap (λ g. reached g (plan_of none_open command)) none_gave;
-  found = way.found ∙ ap (λ g. made_in found_by g (plan_of none_open command)) none_gave;
-  opened = way.opened ∙ ap (λ g. made_in opening_by g (plan_of none_open command)) none_gave;
+  first = way.plan ∙ ap (λ g. reached g (plan_of s.opens command)) none_gave;
+  found = way.found ∙ ap (λ g. made_in found_by g (plan_of s.opens command)) none_gave;
+  opened = way.opened ∙ ap (λ g. map opening_of s.opens ++ made_in opening_by g (plan_of s.opens command)) none_gave ∙ append-nil (map opening_of s.opens);
 }
   where
     none_gave : way.gave ≡ []
-    none_gave = lookup_first way.gave (plan_of none_open command) name mode rest (its_order seen b s command way) (sym way.plan ∙ at)
+    none_gave = lookup_first way.gave (plan_of s.opens command) name mode rest (its_order seen b s command way) (sym way.plan ∙ at)
 
     unfound : IsUnfound name (rest given) given
     unfound = after_lookup name mode rest given (at_lookup _ _ name mode rest (its_place seen b s command (Lookup name mode) rest way at)).2 absent
@@ -255,7 +257,7 @@ act_follows scenario seen b s command act rest given holds at done follows = rec
   way = λ none. Begun (way-act seen b s command act rest given at (passes_it (facts_of seen b) s act rest given done.gave) gave way);
   named = by_test (is_absent (rest given)) refl;
   sought = λ name is. was_sought name is (there_or_fails seen b s command act rest given way at done (absent_name name (rest given) is));
-  plain = λ told none. absurd (none_reached way.gave (plan_of none_open command) act rest (ap acts none) (sym way.plan ∙ at));
+  plain = λ told none. absurd (none_reached way.gave (plan_of s.opens command) act rest (ap acts none) (sym way.plan ∙ at));
 }
   where
     way : OnItsWay seen b s command
@@ -276,7 +278,7 @@ act_follows scenario seen b s command act rest given holds at done follows = rec
       first = fails.first;
       runs = way.runs;
       found = ap (λ l. length (l ++ class_oid given ∷ [])) fails.found;
-      opened = ap (λ l. l ++ []) fails.opened;
+      opened = λ going. append-nil s.opened ∙ fails.opened;
       unwritten = way.unwritten;
     })
       where

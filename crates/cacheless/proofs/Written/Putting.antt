@@ -24,16 +24,17 @@ use Rattle.ddl_effect.specs.declared.finding.Finding.TheVariants as findings
 use Rattle.ddl_effect.specs.declared.told.Told.TheVariants as tells
 use Rattle.txn_blocks.specs.Blocks.{Blocks, refused_by}
 use Rattle.ddl_effect.specs.Drawing.{drawn_oid}
-use Rattle.ddl_effect.specs.Plans.{Plan, Done}
-use Rattle.ddl_effect.specs.Commands.{plan_of, found, if_passes, if_no_column, first_twice, writing, opening, searching, showing, telling_columns, telling_column, is_table, new_column, new_table, altering, with_own_name, renaming_table, removing, drop_table, column_there, with_column, column_free, reading, changing, adding, as_dropped, deleting, is_default_of, column_number, dropping, with_name, renaming, with_stat, most_stat, targeting, with_fill, filling}
+use Rattle.ddl_effect.specs.Plans.{Plan, Done, Do}
+use Rattle.ddl_effect.specs.Commands.{plan_of, found, if_passes, if_no_column, first_twice, writing, opening, searching, showing, telling_columns, telling_column, is_table, new_column, new_table, altering, with_own_name, renaming_table, removing, drop_table, column_there, with_column, column_free, reading, changing, adding, as_dropped, deleting, is_default_of, column_number, dropping, with_name, renaming, with_stat, most_stat, targeting, with_fill, filling, told_fields, peeking, closing}
+use Rattle.ddl_effect.specs.Opens.{latest_open, has_open}
 use Rattle.ddl_effect.specs.Stages.{plan_at, plan_again, altering_at, altering_again, altered, name_sought, plan_found}
 use Rattle.ddl_effect.specs.declared.alteration.Alteration.{Alteration}
 use Rattle.ddl_effect.specs.declared.altering.Altering.{Altering}
 use Rattle.ddl_effect.specs.declared.finding.Finding.{Finding}
-use Rattle.cacheless.specs.Types.{Oid, Kind, Row, Purpose, Command, CommandError, Exec, Opening}
+use Rattle.cacheless.specs.Types.{Oid, Kind, Field, Row, Purpose, Command, CommandError, OpenRelation, Exec, Opening}
 use Rattle.history_model.proofs.Asking.{oid_eq}
 use Rattle.cacheless.specs.Puts.{is_opened, PutOpened, AreGivenBy, PutsOpened}
-use Rattle.cacheless.specs.Session.{none_open, plan_admitted, plan_first}
+use Rattle.cacheless.specs.Session.{outcome_of, is_settled, plan_admitted, plan_first}
 
 puts_if_passes : (opened : List Opening) (passes : Bool) (error : CommandError) (plan : Plan) → PutsOpened opened plan → PutsOpened opened (if_passes passes error plan)
 puts_if_passes opened true error plan puts = puts
@@ -43,6 +44,11 @@ puts_found : (opened : List Opening) (name : List ℕ) (rest : Oid → Kind → 
 puts_found opened name rest puts [] = tt
 puts_found opened name rest puts (rows.Class oid own kind fill ∷ more) = puts oid kind
 puts_found opened name rest puts (row ∷ more) = tt
+
+-- a plan that has come out writes nothing
+pub puts_out : (opened : List Opening) (plan : Plan) → is_settled (outcome_of plan) ≡ true → PutsOpened opened plan
+puts_out opened (Do act rest) out = absurd (cc)
+puts_out opened plan out = tt
 
 -- a write that only adds rows, or puts none of a relation, puts no other relation's
 puts_inserting : (opened : List Opening) (row : Row) → PutsOpened opened (changing (Insert row ∷ []))
@@ -114,8 +120,12 @@ puts_removing : (opened : List Opening) (key : RowKey) (given : List Row) → Al
 puts_removing opened key [] = (tt, tt)
 puts_removing opened key (row ∷ given) = (tt, puts_removing opened key given)
 
-puts_dropping : (opened : List Opening) (name : List ℕ) (rel : Oid) (kind : Kind) → PutsOpened opened (altering name drop_table rel kind)
-puts_dropping opened name rel kind = puts_if_passes opened (is_table kind) (errors.NotTable name) (opening rel kind (drop_table rel)) (λ given. λ columns asked. (puts_removing (opened ++ record { rel = rel; kind = kind } ∷ []) (keys.Class rel) columns, λ wrote. tt))
+-- an alteration is made only of a table that isn't open
+puts_open : (opened : List Opening) (opens : List OpenRelation) (name : List ℕ) (rel : Oid) (kind : Kind) (plan : Plan) → PutsOpened opened plan → PutsOpened opened (if_passes (is_table kind) (errors.NotTable name) (if_passes (not (has_open rel opens)) (errors.InUse rel) plan))
+puts_open opened opens name rel kind plan puts = puts_if_passes opened (is_table kind) (errors.NotTable name) (if_passes (not (has_open rel opens)) (errors.InUse rel) plan) (puts_if_passes opened (not (has_open rel opens)) (errors.InUse rel) plan puts)
+
+puts_dropping : (opened : List Opening) (opens : List OpenRelation) (name : List ℕ) (rel : Oid) (kind : Kind) → PutsOpened opened (altering opens name drop_table rel kind)
+puts_dropping opened opens name rel kind = puts_open opened opens name rel kind (opening rel kind (drop_table rel)) (λ given. λ columns asked. (puts_removing (opened ++ record { rel = rel; kind = kind } ∷ []) (keys.Class rel) columns, λ wrote. tt))
 
 -- an alteration, once the table's descriptor is open
 pub puts_altered : (opened : List Opening) (alteration : Alteration) (rel : Oid) → is_opened opened rel ≡ true → PutsOpened opened (altered alteration rel)
@@ -133,8 +143,8 @@ puts_altered opened (alterations.SetFillfactor fill) rel opens = puts_if_passes 
 opened_last : (opened : List Opening) (rel : Oid) (kind : Kind) → is_opened (opened ++ record { rel = rel; kind = kind } ∷ []) rel ≡ true
 opened_last opened rel kind = list_any-append (λ o. same_oid o.rel rel) opened (record { rel = rel; kind = kind } ∷ []) ∙ ap (λ t. is_opened opened rel || (t || false)) (eq-eqb rel.0 rel.0 refl) ∙ or-true (is_opened opened rel)
 
-puts_altering : (opened : List Opening) (name : List ℕ) (alteration : Alteration) (rel : Oid) (kind : Kind) → PutsOpened opened (altering name (altered alteration) rel kind)
-puts_altering opened name alteration rel kind = puts_if_passes opened (is_table kind) (errors.NotTable name) (opening rel kind (altered alteration rel)) (λ given. puts_altered (opened ++ record { rel = rel; kind = kind } ∷ []) alteration rel (opened_last opened rel kind))
+puts_altering : (opened : List Opening) (opens : List OpenRelation) (name : List ℕ) (alteration : Alteration) (rel : Oid) (kind : Kind) → PutsOpened opened (altering opens name (altered alteration) rel kind)
+puts_altering opened opens name alteration rel kind = puts_open opened opens name rel kind (opening rel kind (altered alteration rel)) (λ given. puts_altered (opened ++ record { rel = rel; kind = kind } ∷ []) alteration rel (opened_last opened rel kind))
 
 -- a command that finds a relation first
 puts_told : (opened : List Opening) (column : List ℕ) (given : List Row) → PutsOpened opened (telling_column column given)
@@ -142,29 +152,30 @@ puts_told opened column [] = tt
 puts_told opened column (rows.Att rel num own col_type stat live ∷ more) = tt
 puts_told opened column (row ∷ more) = tt
 
-puts_found_by : (opened : List Opening) (finding : Finding) (rel : Oid) (kind : Kind) → PutsOpened opened (plan_found finding rel kind)
-puts_found_by opened (findings.Show name) rel kind = λ given. tt
-puts_found_by opened (findings.ShowField name field) rel kind = puts_if_passes opened (has_field kind field) (errors.NoField name field) (showing (Some field) rel kind) (λ given. tt)
-puts_found_by opened (findings.LockTable name mode) rel kind = puts_if_passes opened (is_table kind) (errors.NotTable name) (Done tells.Ok) tt
-puts_found_by opened (findings.DropTable name) rel kind = puts_dropping opened name rel kind
-puts_found_by opened (findings.Columns name) rel kind = puts_if_passes opened (is_table kind) (errors.NotTable name) (searching (scans.AttList rel) telling_columns) (λ given asked. tt)
-puts_found_by opened (findings.Column name column) rel kind = puts_if_passes opened (is_table kind) (errors.NotTable name) (searching (scans.AttName rel column) (telling_column column)) (λ given asked. puts_told opened column given)
+puts_found_by : (opened : List Opening) (opens : List OpenRelation) (finding : Finding) (rel : Oid) (kind : Kind) → PutsOpened opened (plan_found opens finding rel kind)
+puts_found_by opened opens (findings.Show name) rel kind = λ given. tt
+puts_found_by opened opens (findings.ShowField name field) rel kind = puts_if_passes opened (has_field kind field) (errors.NoField name field) (showing (Some field) rel kind) (λ given. tt)
+puts_found_by opened opens (findings.OpenRel name) rel kind = λ given. tt
+puts_found_by opened opens (findings.LockTable name mode) rel kind = puts_if_passes opened (is_table kind) (errors.NotTable name) (Done tells.Ok) tt
+puts_found_by opened opens (findings.DropTable name) rel kind = puts_dropping opened opens name rel kind
+puts_found_by opened opens (findings.Columns name) rel kind = puts_if_passes opened (is_table kind) (errors.NotTable name) (searching (scans.AttList rel) telling_columns) (λ given asked. tt)
+puts_found_by opened opens (findings.Column name column) rel kind = puts_if_passes opened (is_table kind) (errors.NotTable name) (searching (scans.AttName rel column) (telling_column column)) (λ given asked. puts_told opened column given)
 
-pub puts_sought : (opened : List Opening) (finding : Finding) → PutsOpened opened (plan_at (stages.Finding finding))
-puts_sought opened finding = puts_found opened (name_sought finding) (plan_found finding) (puts_found_by opened finding)
+pub puts_sought : (opened : List Opening) (opens : List OpenRelation) (finding : Finding) → PutsOpened opened (plan_at opens (stages.Finding finding))
+puts_sought opened opens finding = puts_found opened (name_sought finding) (plan_found opens finding) (puts_found_by opened opens finding)
 
-pub puts_finding : (opened : List Opening) (name : List ℕ) (alteration : Alteration) → PutsOpened opened (altering_at (alters.Finding name alteration))
-puts_finding opened name alteration = puts_found opened name (altering name (altered alteration)) (puts_altering opened name alteration)
+pub puts_finding : (opened : List Opening) (opens : List OpenRelation) (name : List ℕ) (alteration : Alteration) → PutsOpened opened (altering_at opens (alters.Finding name alteration))
+puts_finding opened opens name alteration = puts_found opened name (altering opens name (altered alteration)) (puts_altering opened opens name alteration)
 
 -- so does a command whose lookup is made anew
-alters_again : (opened : List Opening) (altering : Altering) → PutsOpened opened (altering_at altering) → PutsOpened opened (altering_again altering)
-alters_again opened (alters.Missing name alteration) puts = puts_finding opened name alteration
-alters_again opened stage puts = puts
+alters_again : (opened : List Opening) (opens : List OpenRelation) (altering : Altering) → PutsOpened opened (altering_at opens altering) → PutsOpened opened (altering_again opens altering)
+alters_again opened opens (alters.Missing name alteration) puts = puts_finding opened opens name alteration
+alters_again opened opens stage puts = puts
 
-pub puts_again : (opened : List Opening) (exec : Exec) → PutsOpened opened (plan_at exec) → PutsOpened opened (plan_again exec)
-puts_again opened (stages.Missing finding) puts = puts_sought opened finding
-puts_again opened (stages.Altering altering) puts = alters_again opened altering puts
-puts_again opened stage puts = puts
+pub puts_again : (opened : List Opening) (opens : List OpenRelation) (exec : Exec) → PutsOpened opened (plan_at opens exec) → PutsOpened opened (plan_again opens exec)
+puts_again opened opens (stages.Missing finding) puts = puts_sought opened opens finding
+puts_again opened opens (stages.Altering altering) puts = alters_again opened opens altering puts
+puts_again opened opens stage puts = puts
 
 -- and a command at its beginning
 puts_columns : (opened : List Opening) (columns : List (ℕ × NewColumn)) → AllByRecursion (PutOpened opened 1) (map new_column columns)
@@ -176,27 +187,39 @@ puts_creating opened name columns false twice = tt
 puts_creating opened name columns true (Some column) = tt
 puts_creating opened name columns true None = ((tt, puts_columns opened (enumerate_from 1 columns)), λ given. tt)
 
-puts_plan : (opened : List Opening) (command : Command) → PutsOpened opened (plan_of none_open command)
-puts_plan opened (commands.Show name None) = puts_sought opened (findings.Show name)
-puts_plan opened (commands.Show name (Some field)) = puts_sought opened (findings.ShowField name field)
-puts_plan opened (commands.Columns name) = puts_sought opened (findings.Columns name)
-puts_plan opened (commands.Column name column) = puts_sought opened (findings.Column name column)
-puts_plan opened (commands.Regclass oid) = λ given asked. tt
-puts_plan opened (commands.LockTable name mode) = puts_sought opened (findings.LockTable name mode)
-puts_plan opened (commands.CreateTable name columns) = puts_creating opened name columns (nat_le (length columns) MOST_COLUMNS) (first_twice [] (map (λ c. c.name) columns))
-puts_plan opened (commands.DropTable name) = puts_sought opened (findings.DropTable name)
-puts_plan opened (commands.RenameTable name to) = puts_finding opened name (alterations.RenameTable to)
-puts_plan opened (commands.AddColumn name column col_type) = puts_finding opened name (alterations.AddColumn column col_type)
-puts_plan opened (commands.DropColumn name column) = puts_finding opened name (alterations.DropColumn column)
-puts_plan opened (commands.RenameColumn name column to) = puts_finding opened name (alterations.RenameColumn column to)
-puts_plan opened (commands.SetStatistics name column stat) = puts_finding opened name (alterations.SetStatistics column stat)
-puts_plan opened (commands.SetFillfactor name fill) = puts_finding opened name (alterations.SetFillfactor fill)
-puts_plan opened command = tt
+puts_peeking : (opened : List Opening) (name : List ℕ) (field : Option Field) (latest : Option OpenRelation) → PutsOpened opened (peeking name field latest)
+puts_peeking opened name field None = tt
+puts_peeking opened name None (Some o) = tt
+puts_peeking opened name (Some field) (Some o) = puts_if_passes opened (has_field o.kind field) (errors.NoField name field) (Done (told_fields (Some field) o.rel o.kind)) tt
 
-pub puts_first : (opened : List Opening) (blocks : Blocks) (o : Option Command) → PutsOpened opened (plan_first blocks o)
-puts_first opened blocks None = tt
-puts_first opened blocks (Some command) = by_blocks (refused_by blocks command)
+puts_closing : (opened : List Opening) (name : List ℕ) (latest : Option OpenRelation) → PutsOpened opened (closing name latest)
+puts_closing opened name None = tt
+puts_closing opened name (Some o) = tt
+
+puts_plan : (opened : List Opening) (opens : List OpenRelation) (command : Command) → PutsOpened opened (plan_of opens command)
+puts_plan opened opens (commands.Show name None) = puts_sought opened opens (findings.Show name)
+puts_plan opened opens (commands.Show name (Some field)) = puts_sought opened opens (findings.ShowField name field)
+puts_plan opened opens (commands.Columns name) = puts_sought opened opens (findings.Columns name)
+puts_plan opened opens (commands.Column name column) = puts_sought opened opens (findings.Column name column)
+puts_plan opened opens (commands.Regclass oid) = λ given asked. tt
+puts_plan opened opens (commands.LockTable name mode) = puts_sought opened opens (findings.LockTable name mode)
+puts_plan opened opens (commands.CreateTable name columns) = puts_creating opened name columns (nat_le (length columns) MOST_COLUMNS) (first_twice [] (map (λ c. c.name) columns))
+puts_plan opened opens (commands.DropTable name) = puts_sought opened opens (findings.DropTable name)
+puts_plan opened opens (commands.RenameTable name to) = puts_finding opened opens name (alterations.RenameTable to)
+puts_plan opened opens (commands.AddColumn name column col_type) = puts_finding opened opens name (alterations.AddColumn column col_type)
+puts_plan opened opens (commands.DropColumn name column) = puts_finding opened opens name (alterations.DropColumn column)
+puts_plan opened opens (commands.RenameColumn name column to) = puts_finding opened opens name (alterations.RenameColumn column to)
+puts_plan opened opens (commands.SetStatistics name column stat) = puts_finding opened opens name (alterations.SetStatistics column stat)
+puts_plan opened opens (commands.SetFillfactor name fill) = puts_finding opened opens name (alterations.SetFillfactor fill)
+puts_plan opened opens (commands.OpenRel name) = puts_sought opened opens (findings.OpenRel name)
+puts_plan opened opens (commands.Peek name field) = puts_peeking opened name field (latest_open name opens)
+puts_plan opened opens (commands.CloseRel name) = puts_closing opened name (latest_open name opens)
+puts_plan opened opens command = tt
+
+pub puts_first : (opened : List Opening) (opens : List OpenRelation) (blocks : Blocks) (o : Option Command) → PutsOpened opened (plan_first blocks opens o)
+puts_first opened opens blocks None = tt
+puts_first opened opens blocks (Some command) = by_blocks (refused_by blocks command)
   where
-    by_blocks : (error : Option CommandError) → PutsOpened opened (plan_admitted error command)
-    by_blocks None = puts_plan opened command
+    by_blocks : (error : Option CommandError) → PutsOpened opened (plan_admitted opens error command)
+    by_blocks None = puts_plan opened opens command
     by_blocks (Some error) = tt

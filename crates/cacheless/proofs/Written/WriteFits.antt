@@ -18,7 +18,9 @@ use Rattle.command_answers.specs.declared.error.CommandError.TheVariants as erro
 use Rattle.ddl_effect.specs.declared.told.Told.TheVariants as tells
 use Rattle.ddl_effect.specs.Plans.{Plan, Do, Done, Fails, Write}
 use Rattle.ddl_effect.specs.Effects.{no_changes}
-use Rattle.ddl_effect.specs.Commands.{plan_of, looking_up, if_passes, if_no_column, first_twice, writing, showing, showing_field, is_table, locking, searching, telling_columns, listing_columns, telling_column, finding_column, regclass_of, new_table}
+use Rattle.ddl_effect.specs.Commands.{plan_of, looking_up, if_passes, if_no_column, first_twice, writing, showing, showing_field, told_fields, keeping, peeking, closing, is_table, locking, searching, telling_columns, listing_columns, telling_column, finding_column, regclass_of, new_table}
+use Rattle.ddl_effect.specs.Opens.{latest_open}
+use Rattle.ddl_effect.proofs.HasPlan.{built_alike}
 use Rattle.cacheless.specs.Runs.{runs}
 use Rattle.history_model.specs.Drawn.{next_oid}
 use Rattle.history_model.specs.Names.{new_names}
@@ -39,8 +41,8 @@ use Rattle.cacheless.proofs.Written.NamesGiven.{AreReadAsNow}
 use Rattle.cacheless.proofs.Written.NewNames.{class_called, table_called, table_apart}
 use Rattle.cacheless.proofs.Written.NewTableItems.{column_item, table_items, drafted_is, table_named, TableKeeps, new_table_keeps}
 use Rattle.cacheless.proofs.Written.WrittenBy.{writes_by}
-use Rattle.cacheless.proofs.Plans.Ways.{NeverWrites, never_reaches, none_reached, write_stays, made_in-over}
-use Rattle.cacheless.specs.Types.{Oid, Mode, Kind, Row, Command, CommandError, Draft, Entry, Item, Opening, OwnLock}
+use Rattle.cacheless.proofs.Plans.Ways.{acts, NeverWrites, never_reaches, none_reached, write_stays, made_in-over}
+use Rattle.cacheless.specs.Types.{Oid, Mode, Kind, Field, Row, Command, CommandError, OpenRelation, Draft, Entry, Item, Opening, OwnLock}
 use Rattle.cacheless.proofs.Written.FitToWrite.{IsFit, KeepsAll}
 use Rattle.cacheless.proofs.Written.NewTable.{new_table_fits, new_table_locks, new_table_names}
 
@@ -124,6 +126,20 @@ told_never column [] = tt
 told_never column (rows.Att rel num own col_type stat live ∷ more) = tt
 told_never column (row ∷ more) = tt
 
+-- neither `peek` nor `close` does an act
+peek_acts : (name : List ℕ) (field : Option Field) (latest : Option OpenRelation) → acts (peeking name field latest) ≡ false
+peek_acts name field None = refl
+peek_acts name None (Some o) = refl
+peek_acts name (Some field) (Some o) = by_test (has_field o.kind field)
+  where
+    by_test : (t : Bool) → acts (if_passes t (errors.NoField name field) (Done (told_fields (Some field) o.rel o.kind))) ≡ false
+    by_test true = refl
+    by_test false = refl
+
+close_acts : (name : List ℕ) (latest : Option OpenRelation) → acts (closing name latest) ≡ false
+close_acts name None = refl
+close_acts name (Some o) = refl
+
 -- `create table` finds no relation
 write_finds_none : (gave : List (List Row)) (draft : Draft) (rest : List Row → Plan) → made_in relation_by gave (Do (Write draft) rest) ≡ []
 write_finds_none [] draft rest = refl
@@ -145,51 +161,55 @@ creates_table gave true (Some name) new draft rest on = absurd (none_reached gav
 creates_table gave false twice new draft rest on = absurd (none_reached gave (Fails errors.TooManyColumns) (Write draft) rest refl on)
 
 -- a command that is about to write alters a table or makes one
-alters_or_makes : (command : Command) (gave : List (List Row)) (draft : Draft) (rest : List Row → Plan) → runs command ≡ true → reached gave (plan_of none_open command) ≡ Do (Write draft) rest → IsAlteration command ⊎ MakesTable command draft
-alters_or_makes commands.Begin gave draft rest built on = absurd (none_reached gave (Done tells.Ok) (Write draft) rest refl on)
-alters_or_makes commands.Commit gave draft rest built on = absurd (none_reached gave (Done tells.Commit) (Write draft) rest refl on)
-alters_or_makes commands.Rollback gave draft rest built on = absurd (none_reached gave (Done tells.Ok) (Write draft) rest refl on)
-alters_or_makes (commands.Show name None) gave draft rest built on = absurd (never_reaches gave (looking_up name AccessShare (showing None)) draft rest (lookup_never name AccessShare (showing None) (λ rel kind given. tt)) on)
-alters_or_makes (commands.Show name (Some field)) gave draft rest built on =
+alters_or_makes : (opens : List OpenRelation) (command : Command) (gave : List (List Row)) (draft : Draft) (rest : List Row → Plan) → runs command ≡ true → reached gave (plan_of opens command) ≡ Do (Write draft) rest → IsAlteration command ⊎ MakesTable command draft
+alters_or_makes opens commands.Begin gave draft rest built on = absurd (none_reached gave (Done tells.Ok) (Write draft) rest refl on)
+alters_or_makes opens commands.Commit gave draft rest built on = absurd (none_reached gave (Done tells.Commit) (Write draft) rest refl on)
+alters_or_makes opens commands.Rollback gave draft rest built on = absurd (none_reached gave (Done tells.Ok) (Write draft) rest refl on)
+alters_or_makes opens (commands.Show name None) gave draft rest built on = absurd (never_reaches gave (looking_up name AccessShare (showing None)) draft rest (lookup_never name AccessShare (showing None) (λ rel kind given. tt)) on)
+alters_or_makes opens (commands.Show name (Some field)) gave draft rest built on =
     absurd (never_reaches gave (looking_up name AccessShare (showing_field name field)) draft rest (lookup_never name AccessShare (showing_field name field) (λ rel kind. passes_never (has_field kind field) (errors.NoField name field) (showing (Some field) rel kind) (λ given. tt))) on)
-alters_or_makes (commands.Columns name) gave draft rest built on =
+alters_or_makes opens (commands.Columns name) gave draft rest built on =
     absurd (never_reaches gave (looking_up name AccessShare (listing_columns name)) draft rest (lookup_never name AccessShare (listing_columns name) (λ rel kind. passes_never (is_table kind) (errors.NotTable name) (searching (scans.AttList rel) telling_columns) (λ given. tt))) on)
-alters_or_makes (commands.Column name column) gave draft rest built on =
+alters_or_makes opens (commands.Column name column) gave draft rest built on =
     absurd (never_reaches gave (looking_up name AccessShare (finding_column name column)) draft rest (lookup_never name AccessShare (finding_column name column) (λ rel kind. passes_never (is_table kind) (errors.NotTable name) (searching (scans.AttName rel column) (telling_column column)) (told_never column))) on)
-alters_or_makes (commands.Regclass oid) gave draft rest built on = absurd (never_reaches gave (regclass_of oid) draft rest (λ given. tt) on)
-alters_or_makes (commands.LockTable name mode) gave draft rest built on =
+alters_or_makes opens (commands.Regclass oid) gave draft rest built on = absurd (never_reaches gave (regclass_of oid) draft rest (λ given. tt) on)
+alters_or_makes opens (commands.LockTable name mode) gave draft rest built on =
     absurd (never_reaches gave (looking_up name mode (locking name)) draft rest (lookup_never name mode (locking name) (λ rel kind. passes_never (is_table kind) (errors.NotTable name) (Done tells.Ok) tt)) on)
-alters_or_makes (commands.CreateTable name columns) gave draft rest built on = inr (creates_table gave (nat_le (length columns) MOST_COLUMNS) (first_twice [] (map (λ (c : NewColumn). c.name) columns)) (new_table name columns) draft rest on)
-alters_or_makes (commands.DropTable name) gave draft rest built on = inl tt
-alters_or_makes (commands.RenameTable name to) gave draft rest built on = inl tt
-alters_or_makes (commands.AddColumn name column col_type) gave draft rest built on = inl tt
-alters_or_makes (commands.DropColumn name column) gave draft rest built on = inl tt
-alters_or_makes (commands.RenameColumn name column to) gave draft rest built on = inl tt
-alters_or_makes (commands.SetStatistics name column stat) gave draft rest built on = inl tt
-alters_or_makes (commands.SetFillfactor name fill) gave draft rest built on = inl tt
-alters_or_makes command gave draft rest built on = absurd (cc)
+alters_or_makes opens (commands.CreateTable name columns) gave draft rest built on = inr (creates_table gave (nat_le (length columns) MOST_COLUMNS) (first_twice [] (map (λ (c : NewColumn). c.name) columns)) (new_table name columns) draft rest on)
+alters_or_makes opens (commands.DropTable name) gave draft rest built on = inl tt
+alters_or_makes opens (commands.RenameTable name to) gave draft rest built on = inl tt
+alters_or_makes opens (commands.AddColumn name column col_type) gave draft rest built on = inl tt
+alters_or_makes opens (commands.DropColumn name column) gave draft rest built on = inl tt
+alters_or_makes opens (commands.RenameColumn name column to) gave draft rest built on = inl tt
+alters_or_makes opens (commands.SetStatistics name column stat) gave draft rest built on = inl tt
+alters_or_makes opens (commands.SetFillfactor name fill) gave draft rest built on = inl tt
+alters_or_makes opens (commands.OpenRel name) gave draft rest built on =
+    absurd (never_reaches gave (looking_up name AccessShare keeping) draft rest (lookup_never name AccessShare keeping (λ rel kind given. tt)) on)
+alters_or_makes opens (commands.Peek name field) gave draft rest built on = absurd (none_reached gave (peeking name field (latest_open name opens)) (Write draft) rest (peek_acts name field (latest_open name opens)) on)
+alters_or_makes opens (commands.CloseRel name) gave draft rest built on = absurd (none_reached gave (closing name (latest_open name opens)) (Write draft) rest (close_acts name (latest_open name opens)) on)
+alters_or_makes opens command gave draft rest built on = absurd (cc)
 
 -- one that makes a table finds no relation
-makes_finds_none : (command : Command) (gave : List (List Row)) (draft : Draft) → MakesTable command draft → made_in relation_by gave (plan_of none_open command) ≡ []
-makes_finds_none (commands.CreateTable name columns) gave draft makes = creates_finds_none gave (nat_le (length columns) MOST_COLUMNS) (first_twice [] (map (λ (c : NewColumn). c.name) columns)) (new_table name columns)
-makes_finds_none command gave draft makes = absurd makes
+makes_finds_none : (opens : List OpenRelation) (command : Command) (gave : List (List Row)) (draft : Draft) → MakesTable command draft → made_in relation_by gave (plan_of opens command) ≡ []
+makes_finds_none opens (commands.CreateTable name columns) gave draft makes = creates_finds_none gave (nat_le (length columns) MOST_COLUMNS) (first_twice [] (map (λ (c : NewColumn). c.name) columns)) (new_table name columns)
+makes_finds_none opens command gave draft makes = absurd makes
 
 -- what a command is about to write, by its way
-pub write_fits : (history : List Entry) (b c : ℕ) (facts : Facts) (command : Command) (gave : List (List Row)) (draft : Draft) (rest : List Row → Plan) → IsSound history → EachEntry WritesColumns history → IsCommand command → runs command ≡ true → WayHolds history b gave (plan_of none_open command)
-    → reached gave (plan_of none_open command) ≡ Do (Write draft) rest → WriteFits history b c facts (made_in relation_by gave (plan_of none_open command)) draft
-write_fits history b c facts command gave draft rest sound kept spelled built way on = by_write
-    (at_write relations opened draft rest (subst (HasCome relations opened) on (has_come gave (plan_of none_open command) (follows_order none_open command built)))).1 (alters_or_makes command gave draft rest built on)
+pub write_fits : (history : List Entry) (b c : ℕ) (facts : Facts) (opens : List OpenRelation) (command : Command) (gave : List (List Row)) (draft : Draft) (rest : List Row → Plan) → IsSound history → EachEntry WritesColumns history → IsCommand command → runs command ≡ true → WayHolds history b gave (plan_of opens command)
+    → reached gave (plan_of opens command) ≡ Do (Write draft) rest → WriteFits history b c facts (made_in relation_by gave (plan_of opens command)) draft
+write_fits history b c facts opens command gave draft rest sound kept spelled built way on = by_write
+    (at_write relations opened draft rest (subst (HasCome relations opened) on (has_come gave (plan_of opens command) (follows_order opens command (built_alike opens none_open command ∙ built))))).1 (alters_or_makes opens command gave draft rest built on)
   where
     relations : List Opening
-    relations = made_in relation_by gave (plan_of none_open command)
+    relations = made_in relation_by gave (plan_of opens command)
 
     opened : List Opening
-    opened = made_in opening_by gave (plan_of none_open command)
+    opened = made_in opening_by gave (plan_of opens command)
 
     by_write : WritesTable relations opened draft ⊎ WritesRows relations opened draft → IsAlteration command ⊎ MakesTable command draft → WriteFits history b c facts relations draft
     by_write (inl table) (inr makes) = table_fits history b c facts relations command draft sound spelled makes
-    by_write (inr altered) (inl alters) = rows_fit history b c facts relations draft altered.rows_are (alteration_may_write history b none_open command gave draft rest sound kept spelled alters way on)
+    by_write (inr altered) (inl alters) = rows_fit history b c facts relations draft altered.rows_are (alteration_may_write history b opens command gave draft rest sound kept spelled alters way on)
     by_write (inl table) (inl alters) =
-        let one = one_found (answer_of history b) relations command draft alters (writes_by (answer_of history b) none_open command gave draft rest way.still on) in
+        let one = one_found (answer_of history b) relations command draft alters (writes_by (answer_of history b) opens command gave draft rest way.still on) in
         absurd (let no : [] ≡ one.0 ∷ [] = sym table.unfound ∙ one.1 in cc no)
-    by_write (inr altered) (inr makes) = absurd (let no : [] ≡ record { rel = altered.rel; kind = Table } ∷ [] = sym (makes_finds_none command gave draft makes) ∙ altered.found_is in cc no)
+    by_write (inr altered) (inr makes) = absurd (let no : [] ≡ record { rel = altered.rel; kind = Table } ∷ [] = sym (makes_finds_none opens command gave draft makes) ∙ altered.found_is in cc no)

@@ -31,7 +31,7 @@ write_some history b s command items sound columns spelled follows writes = by_p
     by_plan : (p : Plan) → s.left ≡ p → IsWrite (next_oid history) p items → 0 < length items
     by_plan (Do (Write draft) rest) at are =
         let way = on_its_way history b s command (Write draft) rest follows at in
-        subst (λ l. 0 < length l) (sym are) (write_fits history b (number_of s) (facts_of history b) command way.gave draft rest sound columns spelled way.runs way.holds (sym way.plan ∙ at)).some
+        subst (λ l. 0 < length l) (sym are) (write_fits history b (number_of s) (facts_of history b) s.opens command way.gave draft rest sound columns spelled way.runs way.holds (sym way.plan ∙ at)).some
     by_plan (Do (Lookup name mode) rest) at are = absurd are
     by_plan (Do (Open rel kind) rest) at are = absurd are
     by_plan (Do (Search scan) rest) at are = absurd are

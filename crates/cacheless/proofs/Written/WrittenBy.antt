@@ -16,8 +16,9 @@ use Rattle.base_types.specs.declared.scan.Purpose.TheVariants as scans
 use Rattle.command_answers.specs.declared.error.CommandError.TheVariants as errors
 use Rattle.ddl_effect.specs.Plans.{Plan, Fails, Absent, Do, Write}
 use Rattle.ddl_effect.specs.Effects.{Effect, Writes, effect_at, no_changes}
-use Rattle.ddl_effect.specs.Commands.{plan_of, found as found_rows, looking_up, if_passes, altering, removing, drop_table, renaming_table, rename_table, column_there, with_column, column_free, without_column, reading, changing, adding, add_column, is_default_of, column_number, deleting, as_dropped, dropping, drop_column, with_name, renaming, rename_column, most_stat, with_stat, targeting, set_statistics, with_fill, filling, set_fillfactor}
-use Rattle.cacheless.specs.Types.{Oid, Mode, AccessExclusive, Row, Purpose, Command, CommandError, Draft, Opening}
+use Rattle.ddl_effect.specs.Commands.{plan_of, found as found_rows, looking_up, if_passes, opening, altering, removing, drop_table, renaming_table, rename_table, column_there, with_column, column_free, without_column, reading, changing, adding, add_column, is_default_of, column_number, deleting, as_dropped, dropping, drop_column, with_name, renaming, rename_column, most_stat, with_stat, targeting, set_statistics, with_fill, filling, set_fillfactor}
+use Rattle.ddl_effect.specs.Opens.{has_open}
+use Rattle.cacheless.specs.Types.{Oid, Mode, AccessExclusive, Row, Purpose, Command, CommandError, OpenRelation, Draft, Opening}
 use Rattle.cacheless.specs.ActsDone.{reached, made_in, opening_by, relation_by, BeginWith, AreStill}
 use Rattle.cacheless.specs.Settled.{found_by}
 use Rattle.cacheless.proofs.Plans.EffectAlong.{GoesByRelation, effect_along}
@@ -69,26 +70,39 @@ record TableFound (now : Purpose → List Row) (relations : List Opening) (furth
   found : List (Option Oid)
   comes : effect_at now found (further rel) ≡ Writes draft
 
-table_was_found : (now : Purpose → List Row) (name : List ℕ) (mode : Mode) (further : Oid → Plan) (gave : List (List Row)) (draft : Draft) (rest : List Row → Plan) → GoesByRelation (looking_up name mode (altering name further))
-    → AreStill now (looking_up name mode (altering name further)) gave → reached gave (looking_up name mode (altering name further)) ≡ Do (Write draft) rest
-    → TableFound now (made_in relation_by gave (looking_up name mode (altering name further))) further draft
-table_was_found now name mode further [] draft rest goes still on = absurd (let no : true ≡ false = ap goes_past on in cc no)
-table_was_found now name mode further ([] ∷ gave) draft rest goes still on = absurd (none_reached gave (Absent name) (Write draft) rest refl on)
-table_was_found now name mode further ((rows.Class rel own Table fill ∷ more) ∷ []) draft rest goes still on = absurd (let no : true ≡ false = ap goes_past on in cc no)
-table_was_found now name mode further ((rows.Class rel own Table fill ∷ more) ∷ opened ∷ gave) draft rest goes still on = record {
+-- a test has passed before a write
+write_passed : (passes : Bool) (error : CommandError) (plan : Plan) (gave : List (List Row)) (draft : Draft) (rest : List Row → Plan) → reached gave (if_passes passes error plan) ≡ Do (Write draft) rest → passes ≡ true
+write_passed true error plan gave draft rest on = refl
+write_passed false error plan gave draft rest on = absurd (none_reached gave (Fails error) (Write draft) rest refl on)
+
+-- so a table that is altered isn't open, and its descriptor is opened
+opens_then : (opens : List OpenRelation) (name : List ℕ) (further : Oid → Plan) (rel : Oid) (gave : List (List Row)) (draft : Draft) (rest : List Row → Plan) → reached gave (altering opens name further rel Table) ≡ Do (Write draft) rest → altering opens name further rel Table ≡ opening rel Table (further rel)
+opens_then opens name further rel gave draft rest on =
+    ap (λ passes. if_passes passes (errors.InUse rel) (opening rel Table (further rel))) (write_passed (not (has_open rel opens)) (errors.InUse rel) (opening rel Table (further rel)) gave draft rest on)
+
+table_was_found : (now : Purpose → List Row) (opens : List OpenRelation) (name : List ℕ) (mode : Mode) (further : Oid → Plan) (gave : List (List Row)) (draft : Draft) (rest : List Row → Plan) → GoesByRelation (looking_up name mode (altering opens name further))
+    → AreStill now (looking_up name mode (altering opens name further)) gave → reached gave (looking_up name mode (altering opens name further)) ≡ Do (Write draft) rest
+    → TableFound now (made_in relation_by gave (looking_up name mode (altering opens name further))) further draft
+table_was_found now opens name mode further [] draft rest goes still on = absurd (let no : true ≡ false = ap goes_past on in cc no)
+table_was_found now opens name mode further ([] ∷ gave) draft rest goes still on = absurd (none_reached gave (Absent name) (Write draft) rest refl on)
+table_was_found now opens name mode further ((rows.Class rel own Table fill ∷ more) ∷ []) draft rest goes still on = absurd (let no : true ≡ false = ap goes_past (sym (opens_then opens name further rel [] draft rest on) ∙ on) in cc no)
+table_was_found now opens name mode further ((rows.Class rel own Table fill ∷ more) ∷ opened ∷ gave) draft rest goes still on = record {
   rel = rel;
   others = made_in relation_by gave (further rel);
-  first = refl;
+  first = ap (λ p. record { rel = rel; kind = Table } ∷ made_in relation_by (opened ∷ gave) p) then;
   begins = still.0;
   found = later;
-  comes = sym (ap (λ l. effect_at now later (found_rows name (altering name further) l)) still.0.are)
-      ∙ effect_along now (looking_up name mode (altering name further)) ((rows.Class rel own Table fill ∷ more) ∷ opened ∷ gave) [] goes still ∙ ap (effect_at now []) on;
+  comes = sym (ap (effect_at now later) then) ∙ sym (ap (λ l. effect_at now later (found_rows name (altering opens name further) l)) still.0.are)
+      ∙ effect_along now (looking_up name mode (altering opens name further)) ((rows.Class rel own Table fill ∷ more) ∷ opened ∷ gave) [] goes still ∙ ap (effect_at now []) on;
 }
   where
+    then : altering opens name further rel Table ≡ opening rel Table (further rel)
+    then = opens_then opens name further rel (opened ∷ gave) draft rest on
+
     later : List (Option Oid)
-    later = made_in found_by gave (further rel) ++ []
-table_was_found now name mode further ((rows.Class rel own Index fill ∷ more) ∷ gave) draft rest goes still on = absurd (none_reached gave (Fails (errors.NotTable name)) (Write draft) rest refl on)
-table_was_found now name mode further ((row ∷ more) ∷ gave) draft rest goes still on = absurd (none_reached gave (Absent name) (Write draft) rest refl on)
+    later = made_in found_by (opened ∷ gave) (altering opens name further rel Table) ++ []
+table_was_found now opens name mode further ((rows.Class rel own Index fill ∷ more) ∷ gave) draft rest goes still on = absurd (none_reached gave (Fails (errors.NotTable name)) (Write draft) rest refl on)
+table_was_found now opens name mode further ((row ∷ more) ∷ gave) draft rest goes still on = absurd (none_reached gave (Absent name) (Write draft) rest refl on)
 
 abbrev others_of : List Opening → List Opening
 others_of [] = []
@@ -178,40 +192,40 @@ WritesBy now relations (commands.SetStatistics name column stat) draft = SetsSta
 WritesBy now relations (commands.SetFillfactor name fill) draft = SetsFillfactor now relations fill draft
 WritesBy now relations command draft = ⊤
 
-removes_table : (now : Purpose → List Row) (held : List Oid) (name : List ℕ) (gave : List (List Row)) (draft : Draft) (rest : List Row → Plan)
-    → AreStill now (plan_of held (commands.DropTable name)) gave → reached gave (plan_of held (commands.DropTable name)) ≡ Do (Write draft) rest
-    → RemovesTable now (made_in relation_by gave (plan_of held (commands.DropTable name))) draft
-removes_table now held name gave draft rest still on =
-    let table = table_was_found now name AccessExclusive drop_table gave draft rest (goes_by_relation held (commands.DropTable name) refl) still on in
+removes_table : (now : Purpose → List Row) (opens : List OpenRelation) (name : List ℕ) (gave : List (List Row)) (draft : Draft) (rest : List Row → Plan)
+    → AreStill now (plan_of opens (commands.DropTable name)) gave → reached gave (plan_of opens (commands.DropTable name)) ≡ Do (Write draft) rest
+    → RemovesTable now (made_in relation_by gave (plan_of opens (commands.DropTable name))) draft
+removes_table now opens name gave draft rest still on =
+    let table = table_was_found now opens name AccessExclusive drop_table gave draft rest (goes_by_relation opens (commands.DropTable name) refl) still on in
     record {
       rel = table.rel;
-      found_is = only_one gave (plan_of held (commands.DropTable name)) draft rest (record { rel = table.rel; kind = Table }) table.others (follows_order held (commands.DropTable name) refl) on table.first;
+      found_is = only_one gave (plan_of opens (commands.DropTable name)) draft rest (record { rel = table.rel; kind = Table }) table.others (follows_order opens (commands.DropTable name) refl) on table.first;
       begins = table.begins;
       is = draft_is (rows_draft (removing (now (scans.Attribute table.rel)) ++ Delete (keys.Class table.rel) ∷ [])) draft table.comes;
     }
 
-renames_table : (now : Purpose → List Row) (held : List Oid) (name to : List ℕ) (gave : List (List Row)) (draft : Draft) (rest : List Row → Plan)
-    → AreStill now (plan_of held (commands.RenameTable name to)) gave → reached gave (plan_of held (commands.RenameTable name to)) ≡ Do (Write draft) rest
-    → RenamesTable now (made_in relation_by gave (plan_of held (commands.RenameTable name to))) to draft
-renames_table now held name to gave draft rest still on =
-    let table = table_was_found now name AccessExclusive (rename_table to) gave draft rest (goes_by_relation held (commands.RenameTable name to) refl) still on in
+renames_table : (now : Purpose → List Row) (opens : List OpenRelation) (name to : List ℕ) (gave : List (List Row)) (draft : Draft) (rest : List Row → Plan)
+    → AreStill now (plan_of opens (commands.RenameTable name to)) gave → reached gave (plan_of opens (commands.RenameTable name to)) ≡ Do (Write draft) rest
+    → RenamesTable now (made_in relation_by gave (plan_of opens (commands.RenameTable name to))) to draft
+renames_table now opens name to gave draft rest still on =
+    let table = table_was_found now opens name AccessExclusive (rename_table to) gave draft rest (goes_by_relation opens (commands.RenameTable name to) refl) still on in
     record {
       rel = table.rel;
-      found_is = only_one gave (plan_of held (commands.RenameTable name to)) draft rest (record { rel = table.rel; kind = Table }) table.others (follows_order held (commands.RenameTable name to) refl) on table.first;
+      found_is = only_one gave (plan_of opens (commands.RenameTable name to)) draft rest (record { rel = table.rel; kind = Table }) table.others (follows_order opens (commands.RenameTable name to) refl) on table.first;
       begins = table.begins;
       is = draft_is (rows_draft (Replace (rows.Class table.rel to Table table.begins.fill) ∷ [])) draft (sym (ap (λ l. effect_at now table.found (renaming_table to l)) table.begins.are) ∙ table.comes);
     }
 
-adds_column : (now : Purpose → List Row) (held : List Oid) (name column : List ℕ) (col_type : ColType) (gave : List (List Row)) (draft : Draft) (rest : List Row → Plan)
-    → AreStill now (plan_of held (commands.AddColumn name column col_type)) gave → reached gave (plan_of held (commands.AddColumn name column col_type)) ≡ Do (Write draft) rest
-    → AddsColumn now (made_in relation_by gave (plan_of held (commands.AddColumn name column col_type))) column col_type draft
-adds_column now held name column col_type gave draft rest still on =
-    let table = table_was_found now name AccessExclusive (add_column column col_type) gave draft rest (goes_by_relation held (commands.AddColumn name column col_type) refl) still on in
+adds_column : (now : Purpose → List Row) (opens : List OpenRelation) (name column : List ℕ) (col_type : ColType) (gave : List (List Row)) (draft : Draft) (rest : List Row → Plan)
+    → AreStill now (plan_of opens (commands.AddColumn name column col_type)) gave → reached gave (plan_of opens (commands.AddColumn name column col_type)) ≡ Do (Write draft) rest
+    → AddsColumn now (made_in relation_by gave (plan_of opens (commands.AddColumn name column col_type))) column col_type draft
+adds_column now opens name column col_type gave draft rest still on =
+    let table = table_was_found now opens name AccessExclusive (add_column column col_type) gave draft rest (goes_by_relation opens (commands.AddColumn name column col_type) refl) still on in
     let free = column_is_free now table.found table.rel column (reading (scans.Attribute table.rel) (adding table.rel column col_type)) draft table.comes in
     let test = passed now table.found (nat_lt (length (now (scans.Attribute table.rel))) MOST_COLUMNS) errors.TooManyColumns (changing (added table.rel)) draft free.1 in
     record {
       rel = table.rel;
-      found_is = only_one gave plan draft rest (record { rel = table.rel; kind = Table }) table.others (follows_order held (commands.AddColumn name column col_type) refl) on table.first;
+      found_is = only_one gave plan draft rest (record { rel = table.rel; kind = Table }) table.others (follows_order opens (commands.AddColumn name column col_type) refl) on table.first;
       begins = table.begins;
       free = free.0;
       few = test.0;
@@ -219,20 +233,20 @@ adds_column now held name column col_type gave draft rest still on =
     }
   where
     plan : Plan
-    plan = plan_of held (commands.AddColumn name column col_type)
+    plan = plan_of opens (commands.AddColumn name column col_type)
 
     added : Oid → List Change
     added rel = Insert (rows.Att rel (length (now (scans.Attribute rel)) + 1) column col_type (negsuc 0) true) ∷ []
 
-drops_column : (now : Purpose → List Row) (held : List Oid) (name column : List ℕ) (gave : List (List Row)) (draft : Draft) (rest : List Row → Plan)
-    → AreStill now (plan_of held (commands.DropColumn name column)) gave → reached gave (plan_of held (commands.DropColumn name column)) ≡ Do (Write draft) rest
-    → DropsColumn now (made_in relation_by gave (plan_of held (commands.DropColumn name column))) column draft
-drops_column now held name column gave draft rest still on =
-    let table = table_was_found now name AccessExclusive (drop_column column) gave draft rest (goes_by_relation held (commands.DropColumn name column) refl) still on in
+drops_column : (now : Purpose → List Row) (opens : List OpenRelation) (name column : List ℕ) (gave : List (List Row)) (draft : Draft) (rest : List Row → Plan)
+    → AreStill now (plan_of opens (commands.DropColumn name column)) gave → reached gave (plan_of opens (commands.DropColumn name column)) ≡ Do (Write draft) rest
+    → DropsColumn now (made_in relation_by gave (plan_of opens (commands.DropColumn name column))) column draft
+drops_column now opens name column gave draft rest still on =
+    let table = table_was_found now opens name AccessExclusive (drop_column column) gave draft rest (goes_by_relation opens (commands.DropColumn name column) refl) still on in
     let there = column_is_there now table.found table.rel column (λ row. reading (scans.AttrDef table.rel) (dropping row)) draft table.comes in
     record {
       rel = table.rel;
-      found_is = only_one gave (plan_of held (commands.DropColumn name column)) draft rest (record { rel = table.rel; kind = Table }) table.others (follows_order held (commands.DropColumn name column) refl) on table.first;
+      found_is = only_one gave (plan_of opens (commands.DropColumn name column)) draft rest (record { rel = table.rel; kind = Table }) table.others (follows_order opens (commands.DropColumn name column) refl) on table.first;
       begins = table.begins;
       row = there.row;
       more = there.more;
@@ -240,16 +254,16 @@ drops_column now held name column gave draft rest still on =
       is = draft_is (rows_draft (deleting (find (is_default_of (column_number there.row)) (now (scans.AttrDef table.rel))) ++ Replace (as_dropped there.row) ∷ [])) draft there.comes;
     }
 
-renames_column : (now : Purpose → List Row) (held : List Oid) (name column to : List ℕ) (gave : List (List Row)) (draft : Draft) (rest : List Row → Plan)
-    → AreStill now (plan_of held (commands.RenameColumn name column to)) gave → reached gave (plan_of held (commands.RenameColumn name column to)) ≡ Do (Write draft) rest
-    → RenamesColumn now (made_in relation_by gave (plan_of held (commands.RenameColumn name column to))) column to draft
-renames_column now held name column to gave draft rest still on =
-    let table = table_was_found now name AccessExclusive (rename_column column to) gave draft rest (goes_by_relation held (commands.RenameColumn name column to) refl) still on in
+renames_column : (now : Purpose → List Row) (opens : List OpenRelation) (name column to : List ℕ) (gave : List (List Row)) (draft : Draft) (rest : List Row → Plan)
+    → AreStill now (plan_of opens (commands.RenameColumn name column to)) gave → reached gave (plan_of opens (commands.RenameColumn name column to)) ≡ Do (Write draft) rest
+    → RenamesColumn now (made_in relation_by gave (plan_of opens (commands.RenameColumn name column to))) column to draft
+renames_column now opens name column to gave draft rest still on =
+    let table = table_was_found now opens name AccessExclusive (rename_column column to) gave draft rest (goes_by_relation opens (commands.RenameColumn name column to) refl) still on in
     let there = column_is_there now table.found table.rel column (renaming to table.rel) draft table.comes in
     let free = column_is_free now table.found table.rel to (changing (Replace (with_name to there.row) ∷ [])) draft there.comes in
     record {
       rel = table.rel;
-      found_is = only_one gave (plan_of held (commands.RenameColumn name column to)) draft rest (record { rel = table.rel; kind = Table }) table.others (follows_order held (commands.RenameColumn name column to) refl) on table.first;
+      found_is = only_one gave (plan_of opens (commands.RenameColumn name column to)) draft rest (record { rel = table.rel; kind = Table }) table.others (follows_order opens (commands.RenameColumn name column to) refl) on table.first;
       begins = table.begins;
       row = there.row;
       more = there.more;
@@ -262,16 +276,16 @@ not_true : (t : Bool) → not t ≡ true → t ≡ false
 not_true true is = absurd (cc is)
 not_true false is = refl
 
-sets_statistics : (now : Purpose → List Row) (held : List Oid) (name column : List ℕ) (stat : ℤ) (gave : List (List Row)) (draft : Draft) (rest : List Row → Plan)
-    → AreStill now (plan_of held (commands.SetStatistics name column stat)) gave → reached gave (plan_of held (commands.SetStatistics name column stat)) ≡ Do (Write draft) rest
-    → SetsStatistics now (made_in relation_by gave (plan_of held (commands.SetStatistics name column stat))) column stat draft
-sets_statistics now held name column stat gave draft rest still on =
-    let table = table_was_found now name ShareUpdateExclusive (set_statistics column stat) gave draft rest (goes_by_relation held (commands.SetStatistics name column stat) refl) still on in
+sets_statistics : (now : Purpose → List Row) (opens : List OpenRelation) (name column : List ℕ) (stat : ℤ) (gave : List (List Row)) (draft : Draft) (rest : List Row → Plan)
+    → AreStill now (plan_of opens (commands.SetStatistics name column stat)) gave → reached gave (plan_of opens (commands.SetStatistics name column stat)) ≡ Do (Write draft) rest
+    → SetsStatistics now (made_in relation_by gave (plan_of opens (commands.SetStatistics name column stat))) column stat draft
+sets_statistics now opens name column stat gave draft rest still on =
+    let table = table_was_found now opens name ShareUpdateExclusive (set_statistics column stat) gave draft rest (goes_by_relation opens (commands.SetStatistics name column stat) refl) still on in
     let test = passed now table.found (not (int_lt stat (negsuc 0))) (errors.OutOfRange stat) (with_column table.rel column (targeting stat)) draft table.comes in
     let there = column_is_there now table.found table.rel column (targeting stat) draft test.1 in
     record {
       rel = table.rel;
-      found_is = only_one gave (plan_of held (commands.SetStatistics name column stat)) draft rest (record { rel = table.rel; kind = Table }) table.others (follows_order held (commands.SetStatistics name column stat) refl) on table.first;
+      found_is = only_one gave (plan_of opens (commands.SetStatistics name column stat)) draft rest (record { rel = table.rel; kind = Table }) table.others (follows_order opens (commands.SetStatistics name column stat) refl) on table.first;
       begins = table.begins;
       least = not_true (int_lt stat (negsuc 0)) test.0;
       row = there.row;
@@ -280,15 +294,15 @@ sets_statistics now held name column stat gave draft rest still on =
       is = draft_is (rows_draft (Replace (with_stat (int_min stat most_stat) there.row) ∷ [])) draft there.comes;
     }
 
-sets_fillfactor : (now : Purpose → List Row) (held : List Oid) (name : List ℕ) (fill : ℕ) (gave : List (List Row)) (draft : Draft) (rest : List Row → Plan)
-    → AreStill now (plan_of held (commands.SetFillfactor name fill)) gave → reached gave (plan_of held (commands.SetFillfactor name fill)) ≡ Do (Write draft) rest
-    → SetsFillfactor now (made_in relation_by gave (plan_of held (commands.SetFillfactor name fill))) fill draft
-sets_fillfactor now held name fill gave draft rest still on =
-    let table = table_was_found now name ShareUpdateExclusive (set_fillfactor fill) gave draft rest (goes_by_relation held (commands.SetFillfactor name fill) refl) still on in
+sets_fillfactor : (now : Purpose → List Row) (opens : List OpenRelation) (name : List ℕ) (fill : ℕ) (gave : List (List Row)) (draft : Draft) (rest : List Row → Plan)
+    → AreStill now (plan_of opens (commands.SetFillfactor name fill)) gave → reached gave (plan_of opens (commands.SetFillfactor name fill)) ≡ Do (Write draft) rest
+    → SetsFillfactor now (made_in relation_by gave (plan_of opens (commands.SetFillfactor name fill))) fill draft
+sets_fillfactor now opens name fill gave draft rest still on =
+    let table = table_was_found now opens name ShareUpdateExclusive (set_fillfactor fill) gave draft rest (goes_by_relation opens (commands.SetFillfactor name fill) refl) still on in
     let test = passed now table.found (nat_le 10 fill && nat_le fill 100) (errors.OutOfRange (pos fill)) (reading (scans.Class table.rel) (filling fill)) draft table.comes in
     record {
       rel = table.rel;
-      found_is = only_one gave (plan_of held (commands.SetFillfactor name fill)) draft rest (record { rel = table.rel; kind = Table }) table.others (follows_order held (commands.SetFillfactor name fill) refl) on table.first;
+      found_is = only_one gave (plan_of opens (commands.SetFillfactor name fill)) draft rest (record { rel = table.rel; kind = Table }) table.others (follows_order opens (commands.SetFillfactor name fill) refl) on table.first;
       begins = table.begins;
       in_range = test.0;
       is = draft_is (rows_draft (Replace (with_fill fill (rows.Class table.rel table.begins.name Table table.begins.fill)) ∷ [])) draft
@@ -296,13 +310,13 @@ sets_fillfactor now held name fill gave draft rest still on =
     }
 
 -- each alteration writes what it has to by the rows of now
-pub writes_by : (now : Purpose → List Row) (held : List Oid) (command : Command) (gave : List (List Row)) (draft : Draft) (rest : List Row → Plan)
-    → AreStill now (plan_of held command) gave → reached gave (plan_of held command) ≡ Do (Write draft) rest → WritesBy now (made_in relation_by gave (plan_of held command)) command draft
-writes_by now held (commands.DropTable name) gave draft rest still on = removes_table now held name gave draft rest still on
-writes_by now held (commands.RenameTable name to) gave draft rest still on = renames_table now held name to gave draft rest still on
-writes_by now held (commands.AddColumn name column col_type) gave draft rest still on = adds_column now held name column col_type gave draft rest still on
-writes_by now held (commands.DropColumn name column) gave draft rest still on = drops_column now held name column gave draft rest still on
-writes_by now held (commands.RenameColumn name column to) gave draft rest still on = renames_column now held name column to gave draft rest still on
-writes_by now held (commands.SetStatistics name column stat) gave draft rest still on = sets_statistics now held name column stat gave draft rest still on
-writes_by now held (commands.SetFillfactor name fill) gave draft rest still on = sets_fillfactor now held name fill gave draft rest still on
-writes_by now held command gave draft rest still on = tt
+pub writes_by : (now : Purpose → List Row) (opens : List OpenRelation) (command : Command) (gave : List (List Row)) (draft : Draft) (rest : List Row → Plan)
+    → AreStill now (plan_of opens command) gave → reached gave (plan_of opens command) ≡ Do (Write draft) rest → WritesBy now (made_in relation_by gave (plan_of opens command)) command draft
+writes_by now opens (commands.DropTable name) gave draft rest still on = removes_table now opens name gave draft rest still on
+writes_by now opens (commands.RenameTable name to) gave draft rest still on = renames_table now opens name to gave draft rest still on
+writes_by now opens (commands.AddColumn name column col_type) gave draft rest still on = adds_column now opens name column col_type gave draft rest still on
+writes_by now opens (commands.DropColumn name column) gave draft rest still on = drops_column now opens name column gave draft rest still on
+writes_by now opens (commands.RenameColumn name column to) gave draft rest still on = renames_column now opens name column to gave draft rest still on
+writes_by now opens (commands.SetStatistics name column stat) gave draft rest still on = sets_statistics now opens name column stat gave draft rest still on
+writes_by now opens (commands.SetFillfactor name fill) gave draft rest still on = sets_fillfactor now opens name fill gave draft rest still on
+writes_by now opens command gave draft rest still on = tt
