@@ -1,11 +1,11 @@
 -- What a backend does without an entry, by what the code holds.
-use Rattle.std.specs.Prelude.{◌≡◌, ℕ, Bool, true, false, Option, Some, None, List, [], ◌∷◌, ◌&&◌, ◌||◌, ◌+◌, ◌-◌, ◌*◌, is_none, is_some, slice_get, length}
+use Rattle.std.specs.Prelude.{◌≡◌, ℕ, Bool, true, false, not, Option, Some, None, List, [], ◌∷◌, ◌&&◌, ◌||◌, ◌+◌, ◌-◌, ◌*◌, is_none, is_some, slice_get, length}
 use Rattle.std.specs.List.{cons_option}
 use Rattle.std.specs.Option.{option_map, option_map_or}
 use Rattle.base_types.specs.declared.row.Row.TheVariants as rows
 use Rattle.lock_modes.specs.Own.{has_lock}
 use Rattle.ddl_effect.specs.Plans.{Plan, Act, Do, Lookup, Open, Search, Read, Lock, Write}
-use Rattle.ddl_effect.specs.Stages.{plan_at, acts_left}
+use Rattle.ddl_effect.specs.Stages.{plan_at, told_of, acts_left}
 use Rattle.ddl_effect.specs.declared.want.Want.{Want}
 use Rattle.ddl_effect.specs.declared.want.Want.TheVariants as wants
 use Rattle.cacheless.specs.Types.{Mode, Row, Command, Line, Opening}
@@ -17,6 +17,7 @@ use Rattle.cacheless.specs.Settled.{if_locked, has_taken_no_other}
 use Rattle.cacheless.specs.State.{Kept, kept_at, rows_kept, row_sought, is_quiet, is_out, end_at}
 use Rattle.cacheless.specs.May.{has_looked_at, has_failed, owes_nothing}
 use Rattle.cacheless.specs.Answering.{IsToldText}
+use Rattle.cacheless.specs.Told.{tells_of_scans}
 
 -- a lookup that found no relation ends: it has locked none, and accepted messages since, and none came
 abbrev pub has_accepted_at : Progress → Bool
@@ -54,9 +55,9 @@ is_ends end = false
 abbrev pub is_finished_at : Command → Progress → Bool
 is_finished_at command s = is_out s && (s.ended || is_ends (end_at s command)) && owes_nothing command s
 
--- the command has come out, and nothing more can change what it answers: it has failed, or nothing has to come before its end
+-- the command has come out, and nothing more can change what it answers: it has failed, or tells of no scan, or nothing has to come before its end
 abbrev pub is_to_answer : Command → Progress → Bool
-is_to_answer command s = is_out s && (has_failed s || owes_nothing command s)
+is_to_answer command s = is_out s && (has_failed s || not (tells_of_scans (told_of (plan_at s.opens s.exec))) || owes_nothing command s)
 
 -- the same of the running command, if there is one
 abbrev pub is_to_answer_at : Progress → Bool

@@ -1,5 +1,5 @@
 -- What the running command answers, by what the last scans of its backend gave and by its locks.
-use Rattle.std.specs.Prelude.{ℕ, Some, None, List, map, if◌then◌else◌}
+use Rattle.std.specs.Prelude.{ℕ, Bool, true, false, Some, None, List, map, if◌then◌else◌}
 use Rattle.base_types.specs.Fields.{field_text, fields_of, read_by}
 use Rattle.base_types.specs.declared.scan.Purpose.TheVariants as scans
 use Rattle.command_answers.specs.declared.answer.Answer.TheVariants as answers
@@ -38,6 +38,12 @@ told_left rows places locks block (Done told) = told_well rows places locks bloc
 told_left rows places locks block (Fails error) = answers.Error error
 told_left rows places locks block (Absent name) = answers.Error (NoRelation name (places (scans.RelName name)))
 told_left rows places locks block plan = answers.Ok
+
+-- what is told rests on scans, and not only on the command
+abbrev pub tells_of_scans : Told → Bool
+tells_of_scans tells.Ok = false
+tells_of_scans tells.Commit = false
+tells_of_scans told = true
 
 -- what the running command answers, once it has come out
 abbrev pub told : (Purpose → List Row) → (Purpose → ℕ) → Session → Answer

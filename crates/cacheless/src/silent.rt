@@ -1,7 +1,8 @@
 // What a backend does without an entry.
 
 ghost use Rattle.std.specs.Prelude.{◌≡◌, ◌≤◌, ◌<◌, ◌&&◌, List, [], None, true, All, OnOk, OnErr, IfOk, is_none, is_some, slice_get, length};
-ghost use Rattle.ddl_effect.specs.Stages.{plan_at, want_of};
+ghost use Rattle.ddl_effect.specs.Stages.{plan_at, told_of, want_of};
+ghost use Rattle.cacheless.specs.Told.{tells_of_scans as rests_on_scans};
 ghost use Rattle.cacheless.specs.Runs.{runs};
 ghost use Rattle.cacheless.specs.State.{blocks_passed, rows_kept as kept_rows};
 ghost use Rattle.cacheless.specs.Silently.{rows_for as gives_rows};
@@ -11,7 +12,7 @@ use crate::begun::begun;
 use crate::opens::{openings_of, opens_after, pin_anew};
 use crate::{Counts, Due, Opening, Progress};
 use base_types::{Command, Kind, Listed, Mode, Name, NoMemory, Oid, Purpose, Row};
-use ddl_effect::{Exec, OpenRelation, Want};
+use ddl_effect::{Exec, OpenRelation, Told, Want};
 use event_kinds::Line;
 use local_caches::LocalCaches;
 use std::alloc::Global;
@@ -155,7 +156,16 @@ impl Progress {
     fn answers(&self, command: &Command) -> bool
         ensures { result ≡ (is_none self.now.answer && is_to_answer command.now self.now) }
     {
-        self.answer.is_none() && self.is_out() && (self.has_failed() || self.owes_nothing(command))
+        self.answer.is_none()
+            && self.is_out()
+            && (self.has_failed() || !self.tells_of_scans() || self.owes_nothing(command))
+    }
+
+    // Whether what it answers rests on scans, and not only on the command.
+    fn tells_of_scans(&self) -> bool
+        ensures { result ≡ rests_on_scans (told_of (plan_at self.now.opens self.now.exec)) }
+    {
+        !matches!(self.exec.told(), None | Some(Told::Ok | Told::Commit))
     }
 
     // Whether the command is finished.

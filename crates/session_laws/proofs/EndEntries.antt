@@ -1,7 +1,7 @@
 -- The entries of a command's end: before each the command has its answer, and after taking back its end isn't whole.
-use Rattle.std.proofs.Common.{◌≡◌, ◌∙◌, ◌&&◌, ◌||◌, ℕ, Bool, true, false, not, Option, Some, None, List, [], ◌∷◌, ◌++◌, refl, sym, ap, subst, map, length, is_none, zero, suc}
+use Rattle.std.proofs.Common.{◌≡◌, ◌∙◌, ◌&&◌, ◌||◌, ◌⊎◌, inl, inr, ℕ, Bool, true, false, not, Option, Some, None, List, [], ◌∷◌, ◌++◌, refl, sym, ap, subst, map, length, is_none, zero, suc}
 use Rattle.std.specs.Option.{option_map_or}
-use Rattle.std.proofs.Math.Bool.{and-false}
+use Rattle.std.proofs.Math.Bool.{and-false, or-true}
 use Rattle.base_types.specs.declared.command.Command.TheVariants as commands
 use Rattle.base_types.specs.declared.scan.Purpose.{Purpose}
 use Rattle.event_kinds.specs.declared.entry.Event.TheVariants as events
@@ -9,8 +9,9 @@ use Rattle.inval_messages.specs.Lists.{has_write_from}
 use Rattle.txn_blocks.specs.Blocks.{Block, Outside, Inside, Failed, no_block, ends_block, refused_by}
 use Rattle.ddl_effect.specs.Commands.{plan_of}
 use Rattle.ddl_effect.specs.Plans.{Plan, Done, Fails, Absent, NotBuilt, Do, Write}
-use Rattle.ddl_effect.specs.Stages.{plan_at}
+use Rattle.ddl_effect.specs.Stages.{plan_at, told_of}
 use Rattle.ddl_effect.specs.declared.told.Told.{Told}
+use Rattle.ddl_effect.specs.declared.told.Told.TheVariants as tells
 use Rattle.history_model.specs.Sent.{unsent_in}
 use Rattle.history_model.specs.Transactions.{Running, begun, is_visible, running_by}
 use Rattle.history_model.specs.Writes.{is_empty}
@@ -21,12 +22,13 @@ use Rattle.cacheless.specs.May.{owes_nothing}
 use Rattle.cacheless.specs.OnCourse.{DoesNoAct}
 use Rattle.cacheless.specs.Owed.{Owes, OwesLook, OwesScan, begins, owed_at_start, owed_after, builds_owed, act_owed, scans_owed, owed_of}
 use Rattle.cacheless.specs.Plays.{owed_at_end, IsEnd, MayPlay}
-use Rattle.cacheless.specs.Session.{Session, Outcome, Unsettled, Well, Badly, none_open, number_of, outcome_of, is_settled}
+use Rattle.cacheless.specs.Session.{Session, Outcome, Unsettled, Well, Badly, number_of, outcome_of, is_settled}
 use Rattle.cacheless.specs.Sessions.{noted, ends_command, entered}
 use Rattle.cacheless.specs.Settled.{is_finished}
 use Rattle.cacheless.specs.Silently.{is_to_answer}
 use Rattle.cacheless.specs.State.{Rest, session_at}
 use Rattle.cacheless.specs.Telling.{IsOnItsEnd}
+use Rattle.cacheless.specs.Told.{tells_of_scans}
 use Rattle.cacheless.proofs.Allowed.OwnEntries.{ends_out}
 use Rattle.cacheless.proofs.Allowed.Releases.{OwesNoScan, ends_free, written_ended, resumed_ended}
 use Rattle.cacheless.proofs.Same.{owes_nothing_is}
@@ -57,9 +59,9 @@ taken_back_ends facts command s from is = absurd (by_block s.blocks.block is)
     by_block Inside end = cc end
     by_block Failed end = cc end
 
--- before an entry of its end nothing has to come of a command that came out well
-pub owes_none : (facts : Facts) (command : Command) (s : Session) → ((told : Told) → plan_of none_open command ≡ Done told → DoesNoAct s told) → outcome_of s.left ≡ Well → owed_at_end facts command s ≡ [] → owed_of facts command s ≡ []
-owes_none facts command s plain well none = by_end (end_well facts command s) refl (sym (ap (λ o. owed_if (end_if o)) well) ∙ none)
+-- before an entry of its end a command that came out well ends a block, or nothing has to come of it
+ends_or_owes_none : (facts : Facts) (command : Command) (s : Session) → outcome_of s.left ≡ Well → owed_at_end facts command s ≡ [] → (ends_block command ≡ true) ⊎ (owed_of facts command s ≡ [])
+ends_or_owes_none facts command s well none = by_end (end_well facts command s) refl (sym (ap (λ o. owed_if (end_if o)) well) ∙ none)
   where
     end_if : Outcome → End
     end_if o = elim o as (λ x. End) [ Well ↦ end_well facts command s | Badly ↦ end_badly s | Unsettled ↦ Ends ]
@@ -67,34 +69,33 @@ owes_none facts command s plain well none = by_end (end_well facts command s) re
     owed_if : End → List Owes
     owed_if end = elim end as (λ x. List Owes) [ TakesBack from ↦ owed_after facts.last | other ↦ owed_of facts command s ]
 
-    free : OwesNoScan facts s
-    free = ends_free facts command s plain well none
+    by_end : (end : End) → end_well facts command s ≡ end → owed_if end ≡ [] → (ends_block command ≡ true) ⊎ (owed_of facts command s ≡ [])
+    by_end Ends is nothing = inr nothing
+    by_end (Commits first) is nothing = inr nothing
+    by_end (TakesBack from) is after = inl (taken_back_ends facts command s from is)
 
-    by_plan : (p : Plan) → s.left ≡ p → outcome_of p ≡ Well → act_owed facts p ≡ []
-    by_plan (Done told) at w = free.1 told at
-    by_plan (Fails error) at w = absurd (cc w)
-    by_plan (Absent name) at w = absurd (cc w)
-    by_plan NotBuilt at w = absurd (cc w)
-    by_plan (Do act rest) at w = absurd (cc w)
-
-    scans : scans_owed facts s ≡ []
-    scans = ap (λ o. elim o as (λ x. List Purpose) [ Badly ↦ [] | other ↦ builds_owed facts s.opened ++ act_owed facts s.left ]) well ∙ ap (λ l. l ++ act_owed facts s.left) free.0 ∙ by_plan s.left refl well
-
-    by_end : (end : End) → end_well facts command s ≡ end → owed_if end ≡ [] → owed_of facts command s ≡ []
-    by_end Ends is nothing = nothing
-    by_end (Commits first) is nothing = nothing
-    by_end (TakesBack from) is after = ap (λ l. l ++ owed_after facts.last ++ map OwesScan (scans_owed facts s)) (none_at_start facts command s (taken_back_ends facts command s from is))
-        ∙ ap (λ l. l ++ map OwesScan (scans_owed facts s)) after ∙ ap (map OwesScan) scans
+-- a command that ends blocks tells of no scan
+ends_plainly : (command : Command) (s : Session) → ((told : Told) → plan_of s.opens command ≡ Done told → DoesNoAct s told) → ends_block command ≡ true → outcome_of s.left ≡ Well → tells_of_scans (told_of s.left) ≡ false
+ends_plainly commands.Commit s plain ends well = ap (λ p. tells_of_scans (told_of p)) ((plain tells.Commit refl).left well)
+ends_plainly commands.Rollback s plain ends well = ap (λ p. tells_of_scans (told_of p)) ((plain tells.Ok refl).left well)
+ends_plainly command s plain ends well = absurd (cc ends)
 
 -- before an entry of its end a command is to be answered
-pub end_answers : (facts : Facts) (command : Command) (p : Progress) (rest : Rest) (event : Event) → FactsFit facts p → ((told : Told) → plan_of none_open command ≡ Done told → DoesNoAct (session_at p rest) told) → IsEnd facts command (session_at p rest) event → is_to_answer command p ≡ true
+pub end_answers : (facts : Facts) (command : Command) (p : Progress) (rest : Rest) (event : Event) → FactsFit facts p → ((told : Told) → plan_of p.opens command ≡ Done told → DoesNoAct (session_at p rest) told) → IsEnd facts command (session_at p rest) event → is_to_answer command p ≡ true
 end_answers facts command p rest event fits plain ends = by_outcome (outcome_of (plan_at p.opens p.exec)) refl (ends_out facts command (session_at p rest) event ends.1)
   where
+    told_of_scans : Bool
+    told_of_scans = tells_of_scans (told_of (plan_at p.opens p.exec))
+
+    by_side : outcome_of (plan_at p.opens p.exec) ≡ Well → (ends_block command ≡ true) ⊎ (owed_of facts command (session_at p rest) ≡ []) → (not told_of_scans || owes_nothing command p) ≡ true
+    by_side well (inl block) = ap (λ t. not t || owes_nothing command p) (ends_plainly command (session_at p rest) plain block well)
+    by_side well (inr none) = ap (λ t. not told_of_scans || t) (sym (owes_nothing_is facts command p rest fits) ∙ ap is_empty none) ∙ or-true (not told_of_scans)
+
     by_outcome : (o : Outcome) → outcome_of (plan_at p.opens p.exec) ≡ o → is_settled o ≡ true → is_to_answer command p ≡ true
     by_outcome Unsettled is out = absurd (cc out)
-    by_outcome Badly is out = ap (λ x. is_settled x && (elim x as (λ y. Bool) [ Badly ↦ true | other ↦ false ] || owes_nothing command p)) is
-    by_outcome Well is out = ap (λ x. is_settled x && (elim x as (λ y. Bool) [ Badly ↦ true | other ↦ false ] || owes_nothing command p)) is
-        ∙ sym (owes_nothing_is facts command p rest fits) ∙ ap is_empty (owes_none facts command (session_at p rest) plain is ends.0)
+    by_outcome Badly is out = ap (λ x. is_settled x && (elim x as (λ y. Bool) [ Badly ↦ true | other ↦ false ] || not told_of_scans || owes_nothing command p)) is
+    by_outcome Well is out = ap (λ x. is_settled x && (elim x as (λ y. Bool) [ Badly ↦ true | other ↦ false ] || not told_of_scans || owes_nothing command p)) is
+        ∙ by_side is (ends_or_owes_none facts command (session_at p rest) is ends.0)
 
 -- an entry by which an end begins to take back is of one that takes back
 taking_back : (facts : Facts) (end : End) (from : ℕ) → next_of_end facts end ≡ Some (events.Gone from) → end ≡ TakesBack from

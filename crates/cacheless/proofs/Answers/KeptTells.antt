@@ -1,5 +1,5 @@
 -- What the code answers is the line of its command: the scans that it keeps are the last ones.
-use Rattle.std.proofs.Common.{◌≡◌, ◌≤◌, ◌∙◌, ◌||◌, ◌⊎◌, inl, inr, ℕ, Bool, true, false, Option, None, Some, IfSome, is_some, List, [], ◌∷◌, refl, sym, ap, length, drop}
+use Rattle.std.proofs.Common.{◌≡◌, ◌≤◌, ◌∙◌, ◌||◌, ◌⊎◌, inl, inr, ℕ, Bool, true, false, not, Option, None, Some, IfSome, is_some, List, [], ◌∷◌, refl, sym, ap, length, drop}
 use Rattle.std.specs.List.{AllByRecursion}
 use Rattle.std.specs.Option.{option_map_or}
 use Rattle.base_types.specs.declared.scan.Purpose.TheVariants as scans
@@ -8,7 +8,7 @@ use Rattle.local_caches.specs.Kept.{Read}
 use Rattle.std.proofs.lemmas.Bool.{and_parts}
 use Rattle.command_answers.specs.Answers.{answer_text}
 use Rattle.ddl_effect.specs.Plans.{Absent}
-use Rattle.ddl_effect.specs.Stages.{plan_at}
+use Rattle.ddl_effect.specs.Stages.{plan_at, told_of}
 use Rattle.history_model.specs.Lives.{last_event_of}
 use Rattle.history_model.specs.Read.{place_read, rows_read, is_usable}
 use Rattle.cacheless.specs.Types.{Purpose, Command, Opening, Scenario, Entry}
@@ -23,6 +23,7 @@ use Rattle.cacheless.specs.Settled.{finished_as, settled}
 use Rattle.cacheless.specs.State.{Kept, kept_at, is_kept, rows_kept, place_kept, is_out, Rest, session_at}
 use Rattle.cacheless.specs.May.{has_failed, owes_nothing}
 use Rattle.cacheless.specs.Silently.{is_to_answer}
+use Rattle.cacheless.specs.Told.{tells_of_scans}
 use Rattle.cacheless.specs.Holds.{FactsFit, Holds}
 use Rattle.cacheless.specs.Answering.{told_at, IsToldText, AreLastScans}
 use Rattle.cacheless.proofs.Same.{owes_nothing_is}
@@ -74,7 +75,7 @@ KeepsMissed p = (name : List ℕ) → plan_at p.opens p.exec ≡ Absent name →
 pub answer_kept : (scenario : Scenario) (seen : List Entry) (p : Progress) (rest : Rest) (command : Command) → HasComeOut scenario seen p.id (session_at p rest) command → FactsFit (facts_of seen p.id) p → AreLastScans seen p.id (kept_at p)
     → KeepsMissed p → answer_judged scenario seen p.id (number_of (session_at p rest)) (finished_as (session_at p rest)) command rest.refused ≡ told_at p
 answer_kept scenario seen p rest command come fits at missed = answer_told_by (rows_kept (kept_at p)) (place_kept (kept_at p)) scenario seen p.id (session_at p rest) command come (record {
-  opened = λ well. opened_alike seen p p.opened fits at (come.builds well);
+  opened = λ well tells. opened_alike seen p p.opened fits at (come.builds well tells);
   absent = λ name is. sym (kept_place (place_read seen p.id) (kept_at p) (scans.RelName name) (at (scans.RelName name)) (missed name is));
   named = λ oid is. kept_alike seen p (scans.RelOid oid) fits at (come.named oid is);
 })
@@ -108,9 +109,13 @@ told_now scenario seen p command text played holds follows stands judged at miss
     (has_come_out scenario seen p.id (session_at p holds.rest) command (session_held scenario seen p played holds) follows parts.0 stands (by_failed (has_failed p) refl parts.1))
     holds.facts at missed judged told
   where
-    parts : (is_out p ≡ true) × ((has_failed p || owes_nothing command p) ≡ true)
-    parts = and_parts (is_out p) (has_failed p || owes_nothing command p) out
+    parts : (is_out p ≡ true) × ((has_failed p || not (tells_of_scans (told_of (plan_at p.opens p.exec))) || owes_nothing command p) ≡ true)
+    parts = and_parts (is_out p) (has_failed p || not (tells_of_scans (told_of (plan_at p.opens p.exec))) || owes_nothing command p) out
 
-    by_failed : (t : Bool) → has_failed p ≡ t → (t || owes_nothing command p) ≡ true → (outcome_of (plan_at p.opens p.exec) ≡ Badly) ⊎ (owed_of (facts_of seen p.id) command (session_at p holds.rest) ≡ [])
+    by_told : (t : Bool) → tells_of_scans (told_of (plan_at p.opens p.exec)) ≡ t → (not t || owes_nothing command p) ≡ true → (tells_of_scans (told_of (plan_at p.opens p.exec)) ≡ false) ⊎ (owed_of (facts_of seen p.id) command (session_at p holds.rest) ≡ [])
+    by_told false plain any = inl plain
+    by_told true tells owes = inr (empty_list (owed_of (facts_of seen p.id) command (session_at p holds.rest)) (owes_nothing_is (facts_of seen p.id) command p holds.rest holds.facts ∙ owes))
+
+    by_failed : (t : Bool) → has_failed p ≡ t → (t || not (tells_of_scans (told_of (plan_at p.opens p.exec))) || owes_nothing command p) ≡ true → (outcome_of (plan_at p.opens p.exec) ≡ Badly) ⊎ (tells_of_scans (told_of (plan_at p.opens p.exec)) ≡ false) ⊎ (owed_of (facts_of seen p.id) command (session_at p holds.rest) ≡ [])
     by_failed true failed any = inl (failed_badly (outcome_of (plan_at p.opens p.exec)) failed)
-    by_failed false going owes = inr (empty_list (owed_of (facts_of seen p.id) command (session_at p holds.rest)) (owes_nothing_is (facts_of seen p.id) command p holds.rest holds.facts ∙ owes))
+    by_failed false going owes = inr (by_told (tells_of_scans (told_of (plan_at p.opens p.exec))) refl owes)

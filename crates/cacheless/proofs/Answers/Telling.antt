@@ -1,5 +1,5 @@
 -- What a backend answers without an entry is what the history says.
-use Rattle.std.proofs.Common.{◌≡◌, ◌≤◌, ◌+◌, ◌∙◌, ◌&&◌, ◌||◌, ℕ, Bool, true, false, Option, Some, None, List, [], ◌∷◌, ◌++◌, refl, sym, ap, subst, length, drop, slice_get, is_some, is_none, unwrap_or, arith}
+use Rattle.std.proofs.Common.{◌≡◌, ◌≤◌, ◌+◌, ◌∙◌, ◌&&◌, ◌||◌, ℕ, Bool, true, false, not, Option, Some, None, List, [], ◌∷◌, ◌++◌, refl, sym, ap, subst, length, drop, slice_get, is_some, is_none, unwrap_or, arith}
 use Rattle.std.specs.Option.{option_map}
 use Rattle.std.proofs.Math.Bool.{or-true}
 use Rattle.std.proofs.lemmas.Bool.{both_ways, and_parts}
@@ -9,7 +9,7 @@ use Rattle.base_types.specs.declared.row.Row.TheVariants as rows
 use Rattle.base_types.specs.declared.scan.Purpose.TheVariants as scans
 use Rattle.event_kinds.specs.declared.entry.Event.TheVariants as events
 use Rattle.ddl_effect.specs.Plans.{Plan, Act, Absent, Do, Lookup, Open, Search, Read, Lock, Write}
-use Rattle.ddl_effect.specs.Stages.{plan_at}
+use Rattle.ddl_effect.specs.Stages.{plan_at, told_of}
 use Rattle.txn_blocks.specs.Blocks.{Blocks}
 use Rattle.history_model.specs.Lives.{last_event_of}
 use Rattle.cacheless.specs.Types.{Mode, Row, Command, OwnLock, Scenario, Entry, Event, Line}
@@ -27,6 +27,7 @@ use Rattle.cacheless.specs.Silently.{acts_on, is_ends, is_finished_at, is_to_ans
 use Rattle.cacheless.specs.State.{kept_at, is_kept, is_out, end_at, Rest, session_at}
 use Rattle.cacheless.specs.Telling.{AreLines, IsJudgedHere, TellsNow, HasGoneOn}
 use Rattle.cacheless.proofs.Plans.ActOrder.{at_lookup}
+use Rattle.cacheless.specs.Told.{tells_of_scans}
 use Rattle.cacheless.proofs.Plans.AfterActs.{IsUnfound, after_lookup, after_opening, opening_alike, after_search, after_reading, no_lock}
 use Rattle.cacheless.proofs.Plans.SilentActs.{on_its_way, its_place, IsDoneHere, is_done_here}
 use Rattle.cacheless.proofs.Entries.EnteredLooks.{not_absent}
@@ -49,7 +50,8 @@ answered_at_rest s command at none asked = answered_if s command none (sym (ap (
 
 -- a command that is finished is to be answered
 finished_asks : (s : Progress) (command : Command) → is_finished_at command s ≡ true → is_to_answer command s ≡ true
-finished_asks s command finished = both_true (is_out s) (has_failed s || owes_nothing command s) (and_parts (is_out s) _ parts.0).0 (ap (λ t. has_failed s || t) parts.1 ∙ or-true (has_failed s))
+finished_asks s command finished = both_true (is_out s) (has_failed s || not (tells_of_scans (told_of (plan_at s.opens s.exec))) || owes_nothing command s) (and_parts (is_out s) _ parts.0).0
+    (ap (λ t. has_failed s || not (tells_of_scans (told_of (plan_at s.opens s.exec))) || t) parts.1 ∙ or-true (has_failed s || not (tells_of_scans (told_of (plan_at s.opens s.exec)))))
   where
     parts : ((is_out s && (s.ended || is_ends (end_at s command))) ≡ true) × (owes_nothing command s ≡ true)
     parts = and_parts (is_out s && (s.ended || is_ends (end_at s command))) (owes_nothing command s) finished

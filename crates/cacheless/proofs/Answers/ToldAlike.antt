@@ -16,7 +16,8 @@ use Rattle.cacheless.specs.Lines.{name_in, answer_judged}
 use Rattle.cacheless.specs.Protected.{protects}
 use Rattle.cacheless.specs.Session.{Session, Well, number_of, outcome_of}
 use Rattle.cacheless.specs.Settled.{finished_as}
-use Rattle.cacheless.specs.Told.{told_field, told_name, told_well, told_left, told}
+use Rattle.ddl_effect.specs.Stages.{told_of}
+use Rattle.cacheless.specs.Told.{tells_of_scans, told_field, told_name, told_well, told_left, told}
 use Rattle.cacheless.proofs.Plans.ActOrder.{TellsOpen}
 use Rattle.cacheless.proofs.Answers.ToldAnswers.{HasComeOut, stays, stays_open, answer_told}
 use Rattle.cacheless.proofs.Answers.ToldFields.{field_among, each_has, map_same}
@@ -32,7 +33,7 @@ AreAlike rows now places at opened = AllByRecursion (λ o. AllByRecursion (IsAli
 
 -- and all that a command tells of that has come out
 pub record TellsAlike (rows now : Purpose → List Row) (places at : Purpose → ℕ) (s : Session) : Type 0 where
-  pub opened : outcome_of s.left ≡ Well → AreAlike rows now places at s.opened
+  pub opened : outcome_of s.left ≡ Well → tells_of_scans (told_of s.left) ≡ true → AreAlike rows now places at s.opened
   pub absent : (name : List ℕ) → s.left ≡ Absent name → at (scans.RelName name) ≡ places (scans.RelName name)
   pub named : (oid : Oid) → s.left ≡ Done (tells.Regclass oid) → IsAlike rows now places at (scans.RelOid oid)
 
@@ -48,11 +49,11 @@ name_alike : (rows now : Purpose → List Row) (places at : Purpose → ℕ) (oi
 name_alike rows now places at oid alike = λ i. answers.Regclass oid (name_in (alike.rows_are i)) (alike.place_is i)
 
 -- so is a command that came out well
-well_alike : (rows now : Purpose → List Row) (places at : Purpose → ℕ) (locks : List OwnLock) (block : Block) (opened : List Opening) (told : Told) → TellsOpen opened told → AreAlike rows now places at opened → ((oid : Oid) → told ≡ tells.Regclass oid → IsAlike rows now places at (scans.RelOid oid))
+well_alike : (rows now : Purpose → List Row) (places at : Purpose → ℕ) (locks : List OwnLock) (block : Block) (opened : List Opening) (told : Told) → TellsOpen opened told → (tells_of_scans told ≡ true → AreAlike rows now places at opened) → ((oid : Oid) → told ≡ tells.Regclass oid → IsAlike rows now places at (scans.RelOid oid))
     → told_well now at locks block told ≡ told_well rows places locks block told
 well_alike rows now places at locks block opened (tells.Relation rel kind) is all named = ap (answers.Shown kind rel)
-    (map_same (λ field. has_field kind field ≡ true) (told_field now at locks rel kind) (told_field rows places locks rel kind) (λ field has. field_alike rows now places at locks rel kind field has (subst (AreAlike rows now places at) is all).0) (fields_of kind) (each_has kind))
-well_alike rows now places at locks block opened (tells.Field rel kind field) is all named = ap answers.One (field_alike rows now places at locks rel kind field is.1 (subst (AreAlike rows now places at) is.0 all).0)
+    (map_same (λ field. has_field kind field ≡ true) (told_field now at locks rel kind) (told_field rows places locks rel kind) (λ field has. field_alike rows now places at locks rel kind field has (subst (AreAlike rows now places at) is (all refl)).0) (fields_of kind) (each_has kind))
+well_alike rows now places at locks block opened (tells.Field rel kind field) is all named = ap answers.One (field_alike rows now places at locks rel kind field is.1 (subst (AreAlike rows now places at) is.0 (all refl)).0)
 well_alike rows now places at locks block opened (tells.Regclass oid) is all named = name_alike rows now places at oid (named oid refl)
 well_alike rows now places at locks block opened told is all named = refl
 
@@ -65,7 +66,7 @@ told_alike rows now places at scenario seen b s command come alike = by_plan s.l
     unrefused t done (Some error) is = absurd (let both : Done t ≡ Fails error = sym done ∙ come.follows.refused error is in cc both)
 
     by_plan : (p : Plan) → s.left ≡ p → told_left now at s.locks s.blocks.block p ≡ told_left rows places s.locks s.blocks.block p
-    by_plan (Done t) done = well_alike rows now places at s.locks s.blocks.block s.opened t (stays_open seen b s command t (stays scenario seen b s command come (unrefused t done s.refused refl)) done) (alike.opened (ap outcome_of done)) (λ oid is. alike.named oid (done ∙ ap Done is))
+    by_plan (Done t) done = well_alike rows now places at s.locks s.blocks.block s.opened t (stays_open seen b s command t (stays scenario seen b s command come (unrefused t done s.refused refl)) done) (λ tells. alike.opened (ap outcome_of done) (ap (λ p. tells_of_scans (told_of p)) done ∙ tells)) (λ oid is. alike.named oid (done ∙ ap Done is))
     by_plan (Fails error) is = refl
     by_plan (Absent name) is = ap (λ place. answers.Error (errors.NoRelation name place)) (alike.absent name is)
     by_plan NotBuilt is = refl

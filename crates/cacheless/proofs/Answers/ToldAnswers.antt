@@ -21,20 +21,20 @@ use Rattle.cacheless.specs.Owed.{builds_owed, owed_of}
 use Rattle.cacheless.proofs.Allowed.Releases.{OwesNoScan, owes_no_scan}
 use Rattle.cacheless.specs.Session.{Session, none_open, number_of, outcome_of, is_settled, Well, Badly}
 use Rattle.cacheless.specs.Settled.{found_by, finished_as}
-use Rattle.cacheless.specs.Told.{told_well, told_left, told_read}
+use Rattle.cacheless.specs.Told.{tells_of_scans, told_well, told_left, told_read}
 use Rattle.cacheless.proofs.Plans.ActOrder.{TellsOpen, HasCome, has_come, at_end, follows_order, goes_by_relation}
 use Rattle.cacheless.proofs.Plans.EffectAlong.{effect_along}
 use Rattle.cacheless.proofs.Allowed.SettledCourse.{HasSession}
 use Rattle.cacheless.proofs.Answers.ReadPlaces.{read_at_place}
 use Rattle.cacheless.proofs.Answers.ToldFields.{none_unusable, field_told, fields_told}
 
--- a command that has come out, before anything of it is taken back or released; if it came out well, its backend may rely on all scans for the descriptors that it has opened, and on that of the oid of which it tells
+-- a command that has come out, before anything of it is taken back or released; if it came out well and tells of scans, its backend may rely on all scans for the descriptors that it has opened, and on that of the oid of which it tells
 pub record HasComeOut (scenario : Scenario) (seen : List Entry) (b : ℕ) (s : Session) (command : Command) : Type 0 where
   pub has : HasSession scenario seen b s.locks
   pub follows : FollowsPlan seen b s command
   pub out : is_settled (outcome_of s.left) ≡ true
   pub stands : is_over (last_event_of seen b) s ≡ false
-  pub builds : outcome_of s.left ≡ Well → builds_owed (facts_of seen b) s.opened ≡ []
+  pub builds : outcome_of s.left ≡ Well → tells_of_scans (told_of s.left) ≡ true → builds_owed (facts_of seen b) s.opened ≡ []
   pub named : (oid : Oid) → s.left ≡ Done (tells.Regclass oid) → is_usable seen b (scans.RelOid oid) ≡ true
 
 -- by what it is on its way to, or has written
@@ -71,9 +71,9 @@ well_read seen b s told = told_well (rows_read seen b) (place_read seen b) s.loc
 -- what a command answers that came out well
 well_told : (scenario : Scenario) (seen : List Entry) (b : ℕ) (s : Session) (command : Command) (told : Told) → HasComeOut scenario seen b s command → s.left ≡ Done told → TellsOpen s.opened told → answer_well scenario seen b (finished_as s) told ≡ well_read seen b s told
 well_told scenario seen b s command (tells.Relation rel kind) come done opened =
-    ap (answers.Shown kind rel) (fields_told scenario seen b s.locks (record { rel = rel; kind = kind }) (record { has = come.has; builds = ap (builds_owed (facts_of seen b)) (sym opened) ∙ come.builds (ap outcome_of done) }))
+    ap (answers.Shown kind rel) (fields_told scenario seen b s.locks (record { rel = rel; kind = kind }) (record { has = come.has; builds = ap (builds_owed (facts_of seen b)) (sym opened) ∙ come.builds (ap outcome_of done) (ap (λ p. tells_of_scans (told_of p)) done) }))
 well_told scenario seen b s command (tells.Field rel kind field) come done opened =
-    ap answers.One (field_told scenario seen b s.locks (record { rel = rel; kind = kind }) field (record { has = come.has; builds = ap (builds_owed (facts_of seen b)) (sym opened.0) ∙ come.builds (ap outcome_of done) }) opened.1)
+    ap answers.One (field_told scenario seen b s.locks (record { rel = rel; kind = kind }) field (record { has = come.has; builds = ap (builds_owed (facts_of seen b)) (sym opened.0) ∙ come.builds (ap outcome_of done) (ap (λ p. tells_of_scans (told_of p)) done) }) opened.1)
 well_told scenario seen b s command (tells.Regclass oid) come done opened = ap (λ given. answers.Regclass oid (name_in given) (place_read seen b (scans.RelOid oid))) (read_at_place seen b (scans.RelOid oid))
 well_told scenario seen b s command told come done opened = refl
 
@@ -116,18 +116,19 @@ line_told scenario seen b s command come judged = ap (λ h. line_by h) (take_all
     line_by : List Entry → Line
     line_by h = record { backend = b; command = number_of s; text = answer_text (answer_judged scenario h b (number_of s) (finished_as s) command s.refused) }
 
--- a command that came out of itself and owes nothing, or has failed, has come out so, where its last entry takes nothing back and is no release
+-- a command that came out of itself and owes nothing or tells of no scan, or has failed, has come out so, where its last entry takes nothing back and is no release
 pub has_come_out : (scenario : Scenario) (seen : List Entry) (b : ℕ) (s : Session) (command : Command) → HasSession scenario seen b s.locks → FollowsPlan seen b s command → is_settled (outcome_of s.left) ≡ true → is_over (last_event_of seen b) s ≡ false
-    → (outcome_of s.left ≡ Badly) ⊎ (owed_of (facts_of seen b) command s ≡ []) → HasComeOut scenario seen b s command
+    → (outcome_of s.left ≡ Badly) ⊎ (tells_of_scans (told_of s.left) ≡ false) ⊎ (owed_of (facts_of seen b) command s ≡ []) → HasComeOut scenario seen b s command
 has_come_out scenario seen b s command has follows out stands owes = record {
   has = has;
   follows = follows;
   out = out;
   stands = stands;
-  builds = λ well. (by_side owes well).0;
-  named = λ oid is. (none_unusable (facts_of seen b) (scans.RelOid oid ∷ []) ((by_side owes (ap outcome_of is)).1 (tells.Regclass oid) is)).0;
+  builds = λ well tells. (by_side owes well tells).0;
+  named = λ oid is. (none_unusable (facts_of seen b) (scans.RelOid oid ∷ []) ((by_side owes (ap outcome_of is) (ap (λ p. tells_of_scans (told_of p)) is)).1 (tells.Regclass oid) is)).0;
 }
   where
-    by_side : (outcome_of s.left ≡ Badly) ⊎ (owed_of (facts_of seen b) command s ≡ []) → outcome_of s.left ≡ Well → OwesNoScan (facts_of seen b) s
-    by_side (inl failed) well = absurd (let both : Well ≡ Badly = sym well ∙ failed in cc both)
-    by_side (inr none) well = owes_no_scan (facts_of seen b) command s well none
+    by_side : (outcome_of s.left ≡ Badly) ⊎ (tells_of_scans (told_of s.left) ≡ false) ⊎ (owed_of (facts_of seen b) command s ≡ []) → outcome_of s.left ≡ Well → tells_of_scans (told_of s.left) ≡ true → OwesNoScan (facts_of seen b) s
+    by_side (inl failed) well tells = absurd (let both : Well ≡ Badly = sym well ∙ failed in cc both)
+    by_side (inr (inl plain)) well tells = absurd (let both : true ≡ false = sym tells ∙ plain in cc both)
+    by_side (inr (inr none)) well tells = owes_no_scan (facts_of seen b) command s well none
