@@ -327,15 +327,23 @@ acted_keeps was exec opened caches want acts wants on again opens keeps scenario
     by_plan (Absent name) at parts = absurd (let both : false ≡ true = sym (ap (gives_next was) at) ∙ parts.1 in cc)
     by_plan NotBuilt at parts = absurd (let both : false ≡ true = sym (ap (gives_next was) at) ∙ parts.1 in cc)
 
+-- the same by the rows that the code gives, and by the relations that it goes by
+pub acted_code : (was : Progress) (exec : Exec) (opened : List Opening) (caches : LocalCaches) (want : Want) (opens : List OpenRelation) (given : List Row) (acts : Acts was) → want ≡ want_of (plan_at was.opens was.exec) → given ≡ rows_given was want → opens ≡ was.opens
+    → plan_at opens exec ≡ after_act given (plan_at opens was.exec) → ((name : List ℕ) → 0 < acts_left was.exec → plan_at opens exec ≡ Absent name → plan_again opens exec ≡ plan_at opens was.exec) → opened ≡ was.opened ++ opened_for want → kept_of caches ≡ kept_at was
+    → (scenario : Scenario) (seen : List Entry) (held : Holds scenario seen was) → HasActed scenario seen was held (record was { exec = exec; opened = opened; caches = caches; taken = None })
+acted_code was exec opened caches want opens given acts wants gives same on again pushes keeps = acted_keeps was exec opened caches want acts wants
+    (subst (λ o. plan_at o exec ≡ after_act given (plan_at o was.exec)) same on ∙ ap (λ l. after_act l (plan_at was.opens was.exec)) gives)
+    (subst (λ o. (name : List ℕ) → 0 < acts_left was.exec → plan_at o exec ≡ Absent name → plan_again o exec ≡ plan_at o was.exec) same again) pushes keeps
+
 -- the code's step to the next command
-pub finish_code : (was : Progress) (exec : Exec) (blocked : Bool) (blocks : Blocks) (tally : Counts) (opens : List OpenRelation) (opened : List Opening) (caches : LocalCaches) (answer : Option (List ℕ)) (commands : List Command) (command : Command) → Finishes was → slice_get was.commands was.finished ≡ Some command
-    → blocks ≡ blocks_passed (plan_at was.opens was.exec) (was.finished + 1) command was.blocks → opens ≡ opens_passed (plan_at was.opens was.exec) (was.finished + 1) command was.opened was.opens → commands ≡ was.commands → plan_at opens exec ≡ plan_first blocks opens (slice_get commands (was.finished + 1)) → blocked ≡ is_some (refused_first blocks (slice_get commands (was.finished + 1))) → tally ≡ no_counts → opened ≡ map opening_of opens → kept_of caches ≡ kept_at was → answer ≡ None
+pub finish_code : (was : Progress) (exec : Exec) (blocked : Bool) (blocks : Blocks) (tally : Counts) (opens : List OpenRelation) (opened : List Opening) (caches : LocalCaches) (answer : Option (List ℕ)) (were : List OpenRelation) (held_before : List Opening) (are : List OpenRelation) (commands : List Command) (command : Command) → Finishes was → slice_get was.commands was.finished ≡ Some command
+    → blocks ≡ blocks_passed (plan_at was.opens was.exec) (was.finished + 1) command was.blocks → were ≡ was.opens → held_before ≡ was.opened → opens ≡ opens_passed (plan_at were was.exec) (was.finished + 1) command held_before were → commands ≡ was.commands → are ≡ opens → plan_at are exec ≡ plan_first blocks are (slice_get commands (was.finished + 1)) → blocked ≡ is_some (refused_first blocks (slice_get commands (was.finished + 1))) → tally ≡ no_counts → opened ≡ map opening_of opens → kept_of caches ≡ kept_at was → answer ≡ None
     → (scenario : Scenario) (seen : List Entry) (held : Holds scenario seen was)
     → HasPassed scenario seen was held (record was { finished = was.finished + 1; exec = exec; blocked = blocked; ended = false; tally = tally; blocks = blocks; opens = opens; taken = None; opened = opened; caches = caches; answer = answer })
-finish_code was exec blocked blocks tally opens opened caches answer commands command finishes at passes after same on refuses fresh pinned keeps taken scenario seen held =
+finish_code was exec blocked blocks tally opens opened caches answer were held_before are commands command finishes at passes was_open was_held after same is_open on refuses fresh pinned keeps taken scenario seen held =
     subst (HasPassed scenario seen was held) (λ i. record (at_next was exec blocked blocks opens opened caches) { tally = sym fresh i; answer = sym taken i })
-    (finish_passes scenario seen was exec blocked blocks opens opened caches command held at (subst (λ c. is_finished_at c was ≡ true) one finishes.finished) passes after pinned keeps
-    (on ∙ ap (λ l. plan_first blocks opens (slice_get l (was.finished + 1))) same) (refuses ∙ ap (λ l. is_some (refused_first blocks (slice_get l (was.finished + 1)))) same))
+    (finish_passes scenario seen was exec blocked blocks opens opened caches command held at (subst (λ c. is_finished_at c was ≡ true) one finishes.finished) passes (after ∙ (λ i. opens_passed (plan_at (was_open i) was.exec) (was.finished + 1) command (was_held i) (was_open i))) pinned keeps
+    (subst (λ o. plan_at o exec ≡ plan_first blocks o (slice_get commands (was.finished + 1))) is_open on ∙ ap (λ l. plan_first blocks opens (slice_get l (was.finished + 1))) same) (refuses ∙ ap (λ l. is_some (refused_first blocks (slice_get l (was.finished + 1)))) same))
   where
     one : finishes.command ≡ command
     one = ap (λ o. unwrap_or o finishes.command) (sym finishes.at ∙ at)

@@ -15,7 +15,7 @@ use Rattle.cacheless.specs.Types.{Row, Scenario, Command, Entry, Event}
 use Rattle.cacheless.specs.Facts.{Facts, facts_of}
 use Rattle.cacheless.specs.Judged.{ArePlaced}
 use Rattle.cacheless.specs.Lines.{answer_judged, line_of, lines_from}
-use Rattle.cacheless.specs.Session.{Session, Finished, first_of, at_command}
+use Rattle.cacheless.specs.Session.{Session, Finished, first_of, none_open, at_command}
 use Rattle.cacheless.specs.Sessions.{ends_command, placed_at, counted, commands_left, entered, session_by, session_of}
 use Rattle.cacheless.specs.Settled.{done_here, act_done, acted_on, acted, is_finished, finished_as, next_session, settled}
 use Rattle.cacheless.proofs.Allowed.NextOnCourse.{counted_tally, noted_finished}
@@ -116,7 +116,7 @@ entered-placed n facts left c event s placed = record {
 
 session-placed : (scenario : Scenario) (facts : Facts) (b n c : ℕ) (event : Event) (o : Option Session) → PlacedAt n o → PlacedAt (n + 1) (session_by scenario facts b (n + 1) c event o)
 session-placed scenario facts b n c events.Start o placed =
-    settled-placed (n + 1) facts (commands_of scenario b) (at_command no_block [] [] (n + 1) (first_of (commands_of scenario b))) (record { finished = tt; judged = at_most; last = at_most })
+    settled-placed (n + 1) facts (commands_of scenario b) (at_command no_block none_open [] [] (n + 1) (first_of (commands_of scenario b))) (record { finished = tt; judged = at_most; last = at_most })
   where
     at_most : n + 1 ≤ n + 1
     at_most = omega arith

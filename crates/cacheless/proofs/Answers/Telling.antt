@@ -21,7 +21,7 @@ use Rattle.cacheless.specs.Lines.{line_of, lines_from}
 use Rattle.cacheless.specs.OnCourse.{is_absent, is_over, OnItsWay, EntersCourse}
 use Rattle.cacheless.specs.Session.{Session, number_of, first_of, outcome_of, is_settled}
 use Rattle.cacheless.specs.Owed.{act_owed}
-use Rattle.cacheless.specs.Settled.{class_oid, if_locked, looked_up, act_done, blocks_after, finished_as, next_session}
+use Rattle.cacheless.specs.Settled.{class_oid, if_locked, looked_up, act_done, blocks_after, opens_after, finished_as, next_session}
 use Rattle.cacheless.specs.May.{has_failed, owes_nothing}
 use Rattle.cacheless.specs.Silently.{acts_on, is_ends, is_finished_at, is_to_answer, is_to_answer_at, Answers, Finishes, IsSettled, HasAnswered, IsLineOf}
 use Rattle.cacheless.specs.State.{kept_at, is_kept, is_out, end_at, Rest, session_at}
@@ -216,7 +216,7 @@ answer_places seen s text places = record { kept = places.kept; absent = λ name
 pub pass_places : (scenario : Scenario) (seen : List Entry) (was p : Progress) (held : Holds scenario seen was) (passed : HasPassed scenario seen was held p) → kept_at p ≡ kept_at was → PlacesFit seen was → PlacesFit seen p
 pass_places scenario seen was p held passed kept places = record {
   kept = subst (λ b. AreLastScans seen b (kept_at p)) (sym passed.id) (subst (AreLastScans seen was.id) (sym kept) places.kept);
-  absent = λ name missed whole. absurd (both_ways _ (not_absent blocks next) (ap is_absent (sym (ap (λ x. x.left) passed.session) ∙ missed)));
+  absent = λ name missed whole. absurd (both_ways _ (not_absent blocks (opens_after passed.command (session_at was held.rest)) next) (ap is_absent (sym (ap (λ x. x.left) passed.session) ∙ missed)));
 }
   where
     next : Option Command

@@ -1,6 +1,7 @@
 -- A command is told alike by other rows and places, where they are those of the last scans for the descriptors that it has opened, of the name that it failed to find, and of the oid of which it tells.
-use Rattle.std.proofs.Common.{◌≡◌, ◌∙◌, ℕ, true, Option, Some, None, List, if◌then◌else◌, refl, sym, ap, subst}
+use Rattle.std.proofs.Common.{◌≡◌, ◌∙◌, ℕ, true, Option, Some, None, List, if◌then◌else◌, Contains, refl, sym, ap}
 use Rattle.std.specs.List.{AllByRecursion}
+use Rattle.std.proofs.lemmas.List.Elements.{All-contains, All-from_recursion}
 use Rattle.base_types.specs.Fields.{field_text, fields_of, has_field}
 use Rattle.base_types.specs.Scans.{build_scans}
 use Rattle.base_types.specs.declared.scan.Purpose.TheVariants as scans
@@ -48,12 +49,19 @@ field_alike rows now places at locks rel kind field has all =
 name_alike : (rows now : Purpose → List Row) (places at : Purpose → ℕ) (oid : Oid) → IsAlike rows now places at (scans.RelOid oid) → told_name now at oid ≡ told_name rows places oid
 name_alike rows now places at oid alike = λ i. answers.Regclass oid (name_in (alike.rows_are i)) (alike.place_is i)
 
+-- what holds for each descriptor holds for one of them
+one_alike : (rows now : Purpose → List Row) (places at : Purpose → ℕ) (opened : List Opening) (o : Opening) → Contains opened o → AreAlike rows now places at opened → AllByRecursion (IsAlike rows now places at) (build_scans o.kind o.rel)
+one_alike rows now places at opened o has all = All-contains Alike opened o (All-from_recursion Alike opened all) has
+  where
+    Alike : Opening → Type 0
+    Alike d = AllByRecursion (IsAlike rows now places at) (build_scans d.kind d.rel)
+
 -- so is a command that came out well
 well_alike : (rows now : Purpose → List Row) (places at : Purpose → ℕ) (locks : List OwnLock) (block : Block) (opened : List Opening) (told : Told) → TellsOpen opened told → (tells_of_scans told ≡ true → AreAlike rows now places at opened) → ((oid : Oid) → told ≡ tells.Regclass oid → IsAlike rows now places at (scans.RelOid oid))
     → told_well now at locks block told ≡ told_well rows places locks block told
 well_alike rows now places at locks block opened (tells.Relation rel kind) is all named = ap (answers.Shown kind rel)
-    (map_same (λ field. has_field kind field ≡ true) (told_field now at locks rel kind) (told_field rows places locks rel kind) (λ field has. field_alike rows now places at locks rel kind field has (subst (AreAlike rows now places at) is (all refl)).0) (fields_of kind) (each_has kind))
-well_alike rows now places at locks block opened (tells.Field rel kind field) is all named = ap answers.One (field_alike rows now places at locks rel kind field is.1 (subst (AreAlike rows now places at) is.0 (all refl)).0)
+    (map_same (λ field. has_field kind field ≡ true) (told_field now at locks rel kind) (told_field rows places locks rel kind) (λ field has. field_alike rows now places at locks rel kind field has (one_alike rows now places at opened (record { rel = rel; kind = kind }) is (all refl))) (fields_of kind) (each_has kind))
+well_alike rows now places at locks block opened (tells.Field rel kind field) is all named = ap answers.One (field_alike rows now places at locks rel kind field is.1 (one_alike rows now places at opened (record { rel = rel; kind = kind }) is.0 (all refl)))
 well_alike rows now places at locks block opened (tells.Regclass oid) is all named = name_alike rows now places at oid (named oid refl)
 well_alike rows now places at locks block opened told is all named = refl
 

@@ -1,10 +1,11 @@
 -- What a command has to answer by the history is what its backend tells by its last scans and its locks.
-use Rattle.std.proofs.Common.{◌≡◌, ◌≤◌, ◌∙◌, ℕ, true, false, Option, Some, None, List, [], ◌∷◌, refl, sym, ap, subst, length, ◌⊎◌, inl, inr}
+use Rattle.std.proofs.Common.{◌≡◌, ◌≤◌, ◌∙◌, ℕ, true, false, Option, Some, None, List, [], ◌∷◌, refl, sym, ap, subst, map, length, ◌⊎◌, inl, inr}
 use Rattle.std.proofs.lemmas.List.{append-nil, take_all}
 use Rattle.command_answers.specs.Answers.{answer_text}
 use Rattle.command_answers.specs.declared.answer.Answer.TheVariants as answers
 use Rattle.base_types.specs.declared.scan.Purpose.TheVariants as scans
 use Rattle.ddl_effect.specs.Commands.{plan_of}
+use Rattle.ddl_effect.proofs.HasPlan.{built_alike}
 use Rattle.ddl_effect.specs.Effects.{effect_at}
 use Rattle.ddl_effect.specs.Stages.{told_of}
 use Rattle.ddl_effect.specs.declared.told.Told.TheVariants as tells
@@ -13,20 +14,21 @@ use Rattle.history_model.specs.Lives.{last_event_of}
 use Rattle.history_model.specs.Read.{place_read, rows_read, is_usable}
 use Rattle.history_model.specs.Versions.{answer_of}
 use Rattle.cacheless.specs.Types.{Oid, Command, CommandError, Answer, Told, Scenario, Entry, Line}
-use Rattle.cacheless.specs.ActsDone.{made_in, opening_by, relation_by}
+use Rattle.cacheless.specs.ActsDone.{made_in}
 use Rattle.cacheless.specs.Facts.{facts_of}
 use Rattle.cacheless.specs.Lines.{name_in, answer_well, answer_by, effect_judged, answer_judged, line_of}
 use Rattle.cacheless.specs.OnCourse.{OnItsWay, HasWritten, is_over, Way, Begun, Wrote, Unbuilt, Over, FollowsPlan}
 use Rattle.cacheless.specs.Owed.{builds_owed, owed_of}
 use Rattle.cacheless.proofs.Allowed.Releases.{OwesNoScan, owes_no_scan}
-use Rattle.cacheless.specs.Session.{Session, none_open, number_of, outcome_of, is_settled, Well, Badly}
+use Rattle.cacheless.specs.Session.{Session, none_open, opening_of, number_of, outcome_of, is_settled, Well, Badly}
 use Rattle.cacheless.specs.Settled.{found_by, finished_as}
 use Rattle.cacheless.specs.Told.{tells_of_scans, told_well, told_left, told_read}
-use Rattle.cacheless.proofs.Plans.ActOrder.{TellsOpen, HasCome, has_come, at_end, follows_order, goes_by_relation}
+use Rattle.cacheless.proofs.Plans.ActOrder.{TellsOpen, follows_order, goes_by_relation}
+use Rattle.cacheless.proofs.Plans.ToldHeld.{tells_first, ends_told}
 use Rattle.cacheless.proofs.Plans.EffectAlong.{effect_along}
 use Rattle.cacheless.proofs.Allowed.SettledCourse.{HasSession}
 use Rattle.cacheless.proofs.Answers.ReadPlaces.{read_at_place}
-use Rattle.cacheless.proofs.Answers.ToldFields.{none_unusable, field_told, fields_told}
+use Rattle.cacheless.proofs.Answers.ToldFields.{none_unusable, one_owes_none, field_told, fields_told}
 
 -- a command that has come out, before anything of it is taken back or released; if it came out well and tells of scans, its backend may rely on all scans for the descriptors that it has opened, and on that of the oid of which it tells
 pub record HasComeOut (scenario : Scenario) (seen : List Entry) (b : ℕ) (s : Session) (command : Command) : Type 0 where
@@ -54,10 +56,7 @@ stays scenario seen b s command come none = by_way (come.follows.way none)
 -- what is told of a command that came out well, once it is on its way
 tells_open : (seen : List Entry) (b : ℕ) (s : Session) (command : Command) (told : Told) → OnItsWay seen b s command → s.left ≡ Done told → TellsOpen s.opened told
 tells_open seen b s command told way done = subst (λ l. TellsOpen l told) (sym way.opened)
-    (at_end (made_in relation_by way.gave plan) (made_in opening_by way.gave plan) told (subst (HasCome (made_in relation_by way.gave plan) (made_in opening_by way.gave plan)) (sym way.plan ∙ done) (has_come way.gave plan (follows_order none_open command way.runs))))
-  where
-    plan : Plan
-    plan = plan_of none_open command
+    (ends_told (map opening_of s.opens) way.gave (plan_of s.opens command) told (follows_order s.opens command (built_alike s.opens none_open command ∙ way.runs)) (tells_first s.opens command) (sym way.plan ∙ done))
 
 -- of a relation only what is open is told, and a field only where the relation has it
 pub stays_open : (seen : List Entry) (b : ℕ) (s : Session) (command : Command) (told : Told) → Stays seen b s command → s.left ≡ Done told → TellsOpen s.opened told
@@ -71,9 +70,9 @@ well_read seen b s told = told_well (rows_read seen b) (place_read seen b) s.loc
 -- what a command answers that came out well
 well_told : (scenario : Scenario) (seen : List Entry) (b : ℕ) (s : Session) (command : Command) (told : Told) → HasComeOut scenario seen b s command → s.left ≡ Done told → TellsOpen s.opened told → answer_well scenario seen b (finished_as s) told ≡ well_read seen b s told
 well_told scenario seen b s command (tells.Relation rel kind) come done opened =
-    ap (answers.Shown kind rel) (fields_told scenario seen b s.locks (record { rel = rel; kind = kind }) (record { has = come.has; builds = ap (builds_owed (facts_of seen b)) (sym opened) ∙ come.builds (ap outcome_of done) (ap (λ p. tells_of_scans (told_of p)) done) }))
+    ap (answers.Shown kind rel) (fields_told scenario seen b s.locks (record { rel = rel; kind = kind }) (record { has = come.has; builds = one_owes_none (facts_of seen b) s.opened (record { rel = rel; kind = kind }) opened (come.builds (ap outcome_of done) (ap (λ p. tells_of_scans (told_of p)) done)) }))
 well_told scenario seen b s command (tells.Field rel kind field) come done opened =
-    ap answers.One (field_told scenario seen b s.locks (record { rel = rel; kind = kind }) field (record { has = come.has; builds = ap (builds_owed (facts_of seen b)) (sym opened.0) ∙ come.builds (ap outcome_of done) (ap (λ p. tells_of_scans (told_of p)) done) }) opened.1)
+    ap answers.One (field_told scenario seen b s.locks (record { rel = rel; kind = kind }) field (record { has = come.has; builds = one_owes_none (facts_of seen b) s.opened (record { rel = rel; kind = kind }) opened.0 (come.builds (ap outcome_of done) (ap (λ p. tells_of_scans (told_of p)) done)) }) opened.1)
 well_told scenario seen b s command (tells.Regclass oid) come done opened = ap (λ given. answers.Regclass oid (name_in given) (place_read seen b (scans.RelOid oid))) (read_at_place seen b (scans.RelOid oid))
 well_told scenario seen b s command told come done opened = refl
 
@@ -94,8 +93,8 @@ stays_told scenario seen b s command come (Written wrote) =
 stays_told scenario seen b s command come (Unwritten way) =
     ap (λ t. answer_by scenario seen b (finished_as s) (effect_judged seen b (finished_as s) t command)) way.unwritten
     ∙ ap (answer_by scenario seen b (finished_as s)) (
-    ap (λ l. effect_at (answer_of seen b) l (plan_of none_open command)) (way.found ∙ sym (append-nil (made_in found_by way.gave (plan_of none_open command))))
-    ∙ effect_along (answer_of seen b) (plan_of none_open command) way.gave [] (goes_by_relation none_open command way.runs) way.holds.still
+    ap (λ l. effect_at (answer_of seen b) l (plan_of s.opens command)) (way.found ∙ sym (append-nil (made_in found_by way.gave (plan_of s.opens command))))
+    ∙ effect_along (answer_of seen b) (plan_of s.opens command) way.gave [] (goes_by_relation s.opens command (built_alike s.opens none_open command ∙ way.runs)) way.holds.still
     ∙ ap (effect_at (answer_of seen b) []) (sym way.plan)
     )
     ∙ left_told scenario seen b s s.left come.out (λ told done. well_told scenario seen b s command told come done (tells_open seen b s command told way done))

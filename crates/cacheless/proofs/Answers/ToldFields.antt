@@ -1,6 +1,7 @@
 -- A field as it is told by the last scan for it is what the definition shows.
-use Rattle.std.proofs.Common.{◌≡◌, ◌∙◌, ℕ, Bool, true, false, not, Some, None, List, [], ◌∷◌, cond, if◌then◌else◌, refl, ap, map}
+use Rattle.std.proofs.Common.{◌≡◌, ◌∙◌, ℕ, Bool, true, false, not, Some, None, List, [], ◌∷◌, ◌++◌, Contains, cond, if◌then◌else◌, refl, ap, map}
 use Rattle.std.specs.List.{AllByRecursion}
+use Rattle.std.proofs.lemmas.List.Elements.{All-contains, All-from_recursion}
 use Rattle.std.specs.Option.{option_map_or}
 use Rattle.base_types.specs.Fields.{field_text, fields_of, has_field, read_by}
 use Rattle.base_types.specs.Scans.{build_scans}
@@ -47,6 +48,17 @@ none_unusable facts (scan ∷ wanted) none = by_first (facts.usable scan) refl n
         → (facts.usable scan ≡ true) × AllByRecursion (λ s. facts.usable s ≡ true) wanted
     by_first true is nothing rest = (is, rest nothing)
     by_first false is nothing rest = absurd (cc nothing)
+
+-- what is owed for no descriptor is owed for none of them
+each_owes_none : (facts : Facts) (opened : List Opening) → builds_owed facts opened ≡ [] → AllByRecursion (λ o. unusable facts (build_scans o.kind o.rel) ≡ []) opened
+each_owes_none facts [] none = tt
+each_owes_none facts (one ∷ opened) none = let parts = both_empty (unusable facts (build_scans one.kind one.rel)) (builds_owed facts opened) none in (parts.0, each_owes_none facts opened parts.1)
+
+pub one_owes_none : (facts : Facts) (opened : List Opening) (o : Opening) → Contains opened o → builds_owed facts opened ≡ [] → builds_owed facts (o ∷ []) ≡ []
+one_owes_none facts opened o has none = ap (λ l. l ++ []) (All-contains Owes opened o (All-from_recursion Owes opened (each_owes_none facts opened none)) has)
+  where
+    Owes : Opening → Type 0
+    Owes d = unusable facts (build_scans d.kind d.rel) ≡ []
 
 -- a backend in a played history, which has these locks and may rely on all scans for the descriptor of a relation
 pub record CanTell (scenario : Scenario) (seen : List Entry) (b : ℕ) (locks : List OwnLock) (o : Opening) : Type 0 where

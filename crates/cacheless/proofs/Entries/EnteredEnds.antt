@@ -142,14 +142,14 @@ gone_holds scenario old was from cats rels caches lists locks rests cats_are rel
     after = facts_after old was event
 
 -- the state after a release
-abbrev pub let_go : Progress → ℕ → Held → Roomy OwnLock → Progress
-let_go was from lists locks = record was { due = dues.Nothing; ended = true; opened = []; running = released_own from (begun_own (was.finished + 1) was.running); lists = lists; locks = locks }
+abbrev pub let_go : Progress → ℕ → LocalCaches → Held → Roomy OwnLock → Progress
+let_go was from caches lists locks = record was { due = dues.Nothing; ended = true; opened = []; running = released_own from (begun_own (was.finished + 1) was.running); caches = caches; lists = lists; locks = locks }
 
-pub release_holds : (scenario : Scenario) (old : List Entry) (was : Progress) (from : ℕ) (lists : Held) (held locks : Roomy OwnLock) (rests : Rests scenario old was) → is_out was ≡ true
+pub release_holds : (scenario : Scenario) (old : List Entry) (was : Progress) (from : ℕ) (caches : LocalCaches) (lists : Held) (held locks : Roomy OwnLock) (rests : Rests scenario old was) → is_out was ≡ true → kept_of caches ≡ kept_at was
     → all_lists lists.lists ≡ lists_left (ends_own from was.running) (lists_at was) → held.items ≡ filter (λ lock. nat_lt lock.command from) was.locks.items
-    → locks.items ≡ locks_accepted (is_in_accept (let_go was from lists held) (slice_get was.commands was.finished)) held.items
-    → HasEntered scenario old was (events.Release from) rests (with_locks (let_go was from lists held) locks)
-release_holds scenario old was from lists held locks rests out left stay items = own_entered scenario old was (let_go was from lists held) event locks rests (record { session = λ _ _ _ _ _ _. refl; finished = λ _. refl }) (record {
+    → locks.items ≡ locks_accepted (is_in_accept (let_go was from caches lists held) (slice_get was.commands was.finished)) held.items
+    → HasEntered scenario old was (events.Release from) rests (with_locks (let_go was from caches lists held) locks)
+release_holds scenario old was from caches lists held locks rests out keeps left stay items = own_entered scenario old was (let_go was from caches lists held) event locks rests (record { session = λ _ _ _ _ _ _. refl; finished = λ _. refl }) (record {
   moves = record { id = refl; commands = refl; finished = refl };
   session = λ i. record (noted_after old was event rests.holds.rest) { locks = sym stay i };
   facts = let f = rests.holds.facts in record {
@@ -157,8 +157,8 @@ release_holds scenario old was from lists held locks rests out left stay items =
     lists = ap (λ o. lists_left (ends_transaction from o) (facts_of old was.id).lists) f.running ∙ ap (λ t. lists_left t (facts_of old was.id).lists) (ends_same from was.running) ∙ ap (lists_left (ends_own from was.running)) f.lists ∙ sym left;
     owed = refl;
     quiet = refl;
-    usable = f.usable;
-    kept = f.kept;
+    usable = λ scan. f.usable scan ∙ ap (λ k. is_kept k scan) (sym keeps);
+    kept = subst (AreRight after.rows) (sym keeps) f.kept;
   };
   counts = counts_stay rests.holds.counts;
   order = subst (AllByRecursion (λ (list : Written). list.command ≤ was.finished + 1)) (sym left) (left_low (ends_own from was.running));
@@ -168,6 +168,9 @@ release_holds scenario old was from lists held locks rests out left stay items =
   where
     event : Event
     event = events.Release from
+
+    after : Facts
+    after = facts_after old was event
 
     left_low : (t : Bool) → AllByRecursion (λ (list : Written). list.command ≤ was.finished + 1) (lists_left t (lists_at was))
     left_low true = tt

@@ -14,7 +14,7 @@ use Rattle.ddl_effect.specs.Stages.{plan_at, want_of}
 use Rattle.ddl_effect.specs.declared.want.Want.TheVariants as wants
 use Rattle.history_model.specs.Log.{fetched_by}
 use Rattle.history_model.specs.Versions.{answer_of}
-use Rattle.cacheless.specs.Types.{Oid, Xid, Mode, Message, Row, Purpose, CommandError, Clash, Scenario, Entry, Item, Opening, OwnLock, Exec}
+use Rattle.cacheless.specs.Types.{Oid, Xid, Mode, Message, Row, Purpose, CommandError, Clash, Scenario, Entry, Item, OpenRelation, Opening, OwnLock, Exec}
 use Rattle.cacheless.specs.declared.progress.Due.{Due}
 use Rattle.cacheless.specs.declared.progress.Due.TheVariants as dues
 use Rattle.txn_blocks.specs.declared.transaction.RunningTransaction.{RunningTransaction}
@@ -119,15 +119,15 @@ built_code was scan rows at own caches locks begins next pushed items scenario s
     subst (HasEntered scenario seen was (events.Scan scan count) rests) (λ i. record (built_scan was caches) { running = Some (sym begins i); locks = locks })
     (built_holds scenario seen was scan count rows.items at caches locks rests next are pushed items)
 
-pub write_code : (was : Progress) (xid : Xid) (messages : List Message) (new_oids : ℕ) (first : Oid) (own : RunningTransaction) (lists : Held) (caches : LocalCaches) (exec : Exec) (opened : List Opening) (locked locks : Roomy OwnLock)
+pub write_code : (was : Progress) (xid : Xid) (messages : List Message) (new_oids : ℕ) (first : Oid) (own : RunningTransaction) (lists : Held) (caches : LocalCaches) (exec : Exec) (open_now : List OpenRelation) (opened : List Opening) (locked locks : Roomy OwnLock)
     → own ≡ record (begun_own (was.finished + 1) was.running) { xid = Some xid } → want_of (plan_at was.opens was.exec) ≡ wants.Write → all_lists lists.lists ≡ lists_at was ++ with_messages messages (new_list (was.finished + 1)) ∷ []
-    → kept_of caches ≡ kept_spared messages (kept_at was) → plan_at was.opens exec ≡ after_act [] (plan_at was.opens was.exec) → opened ≡ map opening_of was.opens → locked.items ≡ locks_written new_oids first (was.finished + 1) was.locks.items
+    → kept_of caches ≡ kept_spared messages (kept_at was) → open_now ≡ was.opens → plan_at open_now exec ≡ after_act [] (plan_at open_now was.exec) → opened ≡ map opening_of was.opens → locked.items ≡ locks_written new_oids first (was.finished + 1) was.locks.items
     → locks.items ≡ locks_accepted (is_in_accept (record was { lists = lists; caches = caches; running = Some own; due = dues.Nothing; exec = exec; opened = opened; taken = None; locks = locked }) (slice_get was.commands was.finished)) locked.items
     → (scenario : Scenario) (seen : List Entry) (items : List Item) → (rests : Rests scenario seen was) → messages ≡ messages_in seen was.id items → flat_map (locked_by (was.finished + 1)) items ≡ locks_made new_oids first (was.finished + 1)
     → HasEntered scenario seen was (events.Write xid items) rests (record was { lists = lists; caches = caches; running = Some own; due = dues.Nothing; exec = exec; opened = opened; taken = None; locks = locks; answer = None })
-write_code was xid messages new_oids first own lists caches exec opened locked locks begins wants_it pushed keeps goes opens held accepts scenario seen items rests are makes =
+write_code was xid messages new_oids first own lists caches exec open_now opened locked locks begins wants_it pushed keeps same goes opens held accepts scenario seen items rests are makes =
     subst (HasEntered scenario seen was (events.Write xid items) rests) (λ i. record (wrote was xid caches lists exec locks) { running = Some (sym begins i); opened = sym opens i })
-    (write_holds scenario seen was xid items messages new_oids first caches lists exec locked locks rests wants_it are makes pushed keeps goes held
+    (write_holds scenario seen was xid items messages new_oids first caches lists exec locked locks rests wants_it are makes pushed keeps (subst (λ o. plan_at o exec ≡ after_act [] (plan_at o was.exec)) same goes) held
     (accepts ∙ (λ i. locks_accepted (is_in_accept (record was { lists = lists; caches = caches; running = Some own; due = dues.Nothing; exec = exec; opened = opens i; taken = None; locks = locked }) (slice_get was.commands was.finished)) locked.items)))
 
 pub visible_code : (was : Progress) (xid : Xid) (own : RunningTransaction) (locks : Roomy OwnLock) → own ≡ begun_own (was.finished + 1) was.running
@@ -152,14 +152,14 @@ gone_code was from own cats rels caches_first caches lists locks begins cats_are
     subst (HasEntered scenario seen was (events.Gone from) rests) (λ i. record (taken_back was caches lists) { running = Some (sym begins i); locks = locks })
     (gone_holds scenario seen was from cats rels caches lists locks rests cats_are rels_are (keeps ∙ ap (kept_spared rels) first) before items)
 
-pub release_code : (was : Progress) (from : ℕ) (first : Bool) (begun : RunningTransaction) (own : Option RunningTransaction) (lists : Held) (opened : List Opening) (held locks : Roomy OwnLock) → is_out was ≡ true → first ≡ ends_own from was.running → begun ≡ begun_own (was.finished + 1) was.running → own ≡ released_own from begun
-    → all_lists lists.lists ≡ lists_left first (lists_at was) → held.items ≡ filter (λ lock. nat_lt lock.command from) was.locks.items → opened ≡ []
-    → locks.items ≡ locks_accepted (is_in_accept (record was { lists = lists; running = own; locks = held; opened = opened; ended = true; due = dues.Nothing }) (slice_get was.commands was.finished)) held.items
-    → (scenario : Scenario) (seen : List Entry) → (rests : Rests scenario seen was) → HasEntered scenario seen was (events.Release from) rests (record was { due = dues.Nothing; ended = true; running = own; lists = lists; opened = opened; locks = locks })
-release_code was from first begun own lists opened held locks out ends begins is left stay none items scenario seen rests =
-    subst (HasEntered scenario seen was (events.Release from) rests) (λ i. record (let_go was from lists locks) { running = sym own_is i; opened = sym none i })
-    (release_holds scenario seen was from lists held locks rests out (left ∙ ap (λ t. lists_left t (lists_at was)) ends) stay
-    (items ∙ (λ i. locks_accepted (is_in_accept (record was { lists = lists; running = own_is i; locks = held; opened = none i; ended = true; due = dues.Nothing }) (slice_get was.commands was.finished)) held.items)))
+pub release_code : (was : Progress) (from : ℕ) (first : Bool) (begun : RunningTransaction) (own : Option RunningTransaction) (lists : Held) (opened : List Opening) (caches : LocalCaches) (held locks : Roomy OwnLock) → is_out was ≡ true → first ≡ ends_own from was.running → begun ≡ begun_own (was.finished + 1) was.running → own ≡ released_own from begun
+    → all_lists lists.lists ≡ lists_left first (lists_at was) → held.items ≡ filter (λ lock. nat_lt lock.command from) was.locks.items → opened ≡ [] → kept_of caches ≡ kept_at was
+    → locks.items ≡ locks_accepted (is_in_accept (record was { lists = lists; running = own; locks = held; opened = opened; caches = caches; ended = true; due = dues.Nothing }) (slice_get was.commands was.finished)) held.items
+    → (scenario : Scenario) (seen : List Entry) → (rests : Rests scenario seen was) → HasEntered scenario seen was (events.Release from) rests (record was { due = dues.Nothing; ended = true; running = own; lists = lists; opened = opened; caches = caches; locks = locks })
+release_code was from first begun own lists opened caches held locks out ends begins is left stay none keeps items scenario seen rests =
+    subst (HasEntered scenario seen was (events.Release from) rests) (λ i. record (let_go was from caches lists locks) { running = sym own_is i; opened = sym none i })
+    (release_holds scenario seen was from caches lists held locks rests out keeps (left ∙ ap (λ t. lists_left t (lists_at was)) ends) stay
+    (items ∙ (λ i. locks_accepted (is_in_accept (record was { lists = lists; running = own_is i; locks = held; opened = none i; caches = caches; ended = true; due = dues.Nothing }) (slice_get was.commands was.finished)) held.items)))
   where
     own_is : own ≡ released_own from (begun_own (was.finished + 1) was.running)
     own_is = is ∙ ap (released_own from) begins
