@@ -20,6 +20,7 @@ pub mod TableMadeAgain
 pub mod TableRenamed
 pub mod ProtectedColumns
 pub mod CatalogCaches
+pub mod OpenTable
 pub mod WrongEntries
 pub mod WrongPlays
 pub mod WrongResets
