@@ -10,10 +10,3 @@ pub returns-in-Cat-clause-ok : goal.returns-in-Cat-clause-ok
 returns-in-Cat-clause-ok c =
     let there = sym c.home_of.ensures ∙ c.in-Cat.is in
     on_ok_weaker c.put.result (λ puts. put_cat c.args.self.now _ c.args.scan.now c.args.rows.items c.args.at c.in-Cat.lookup there refl (subst (λ rows. PutsLookup c.args.self.now.catalogs c.put.new.self c.in-Cat.lookup rows c.args.at) c.from_vec-rows.ensures puts)) c.put.ensures.ok
-
-pub returns-in-Rel-clause-ok : goal.returns-in-Rel-clause-ok
-unfolding kept_of
-returns-in-Rel-clause-ok c =
-    let there = sym c.home_of.ensures ∙ c.in-Rel.is in
-    on_ok_weaker c.put-in-Rel.result (λ adds. put_rel c.args.self.now _ c.args.scan.now c.args.rows.items c.args.at c.in-Rel.rel there refl (sym (ap (read_at c.args.self.now c.args.scan.now) there) ∙ c.requires.new)
-    (subst (λ rows. AddsPart c.args.self.now.descriptors c.put-in-Rel.new.self c.in-Rel.rel (record { scan = c.args.scan.now; rows = rows; at = c.args.at })) c.from_vec-rows.ensures adds)) c.put-in-Rel.ensures.ok
