@@ -5,7 +5,8 @@ use Rattle.std.proofs.lemmas.List.Folds.{list_any_more}
 use Rattle.base_types.specs.Scans.{same_scan}
 use Rattle.base_types.proofs.SameScan.{same_scan-true, same_scan-itself}
 use Rattle.inval_messages.specs.Messages.{covers}
-use Rattle.local_caches.specs.Types.{Oid, Row, Purpose, Message, Lookup, Home, Part}
+use Rattle.local_caches.specs.Types.{Oid, Row, Purpose, Message, Lookup, Home}
+use Rattle.local_caches.specs.declared.part.Part.{Part}
 use Rattle.local_caches.specs.Kept.{Read, Kept, kept_with, kept_spared}
 use Rattle.local_caches.specs.Homes.{home_of}
 use Rattle.local_caches.specs.CatCaches.{looked_up, PutsLookup}

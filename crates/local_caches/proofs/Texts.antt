@@ -9,7 +9,8 @@ use Rattle.base_types.specs.Fields.{field_text, read_by}
 use Rattle.base_types.proofs.SameScan.{same_scan-true}
 use Rattle.rel_desc.specs.KeptRows.{value_in, values_read}
 use Rattle.rel_desc.proofs.KeptRows.{value_found}
-use Rattle.local_caches.specs.Types.{Oid, Row, Purpose, Part}
+use Rattle.local_caches.specs.Types.{Oid, Row, Purpose}
+use Rattle.local_caches.specs.declared.part.Part.{Part}
 use Rattle.local_caches.specs.Homes.{home_of}
 use Rattle.local_caches.specs.Parts.{part_kept, read_part}
 use Rattle.local_caches.specs.Texts.{AreTexts}

@@ -4,7 +4,8 @@ use Rattle.std.specs.Option.{option_map, option_map_or}
 use Rattle.std.specs.List.{find}
 use Rattle.base_types.specs.Scans.{same_scan}
 use Rattle.rel_cache.specs.Caches.{held_of}
-use Rattle.local_caches.specs.Types.{Oid, Row, Purpose, Held, RelCache, Part}
+use Rattle.local_caches.specs.Types.{Oid, Row, Purpose, Held, RelCache}
+use Rattle.local_caches.specs.declared.part.Part.{Part}
 use Rattle.local_caches.specs.Kept.{Read}
 
 -- what a scan gave for a descriptor

@@ -10,8 +10,8 @@ ghost use Rattle.local_caches.specs.Parts.{part_kept, IsPartOf};
 ghost use Rattle.local_caches.specs.Whole.{ArePinned};
 
 use crate::given::Given;
-use crate::part::{Part, part_made};
-use crate::parts::{part_of, put_part};
+use crate::part::Part;
+use crate::parts::{part_made, part_of, put_part};
 use base_types::{Field, Listed, NoMemory, Oid, Purpose, Row, read_by};
 use event_kinds::LineText;
 use rel_cache::{Opened, RelCache};
