@@ -9,19 +9,14 @@ use Rattle.base_types.specs.Fields.{field_text, read_by}
 use Rattle.base_types.proofs.SameScan.{same_scan-true}
 use Rattle.rel_desc.specs.KeptRows.{value_in, values_read}
 use Rattle.rel_desc.proofs.KeptRows.{value_found}
-use Rattle.local_caches.specs.Types.{Oid, Row, Purpose}
+use Rattle.local_caches.specs.Types.{Oid}
 use Rattle.local_caches.specs.declared.part.Part.{Part}
 use Rattle.local_caches.specs.Homes.{home_of}
 use Rattle.local_caches.specs.Parts.{part_kept, read_part}
-use Rattle.local_caches.specs.Texts.{AreTexts}
 use Rattle.local_caches.specs.Descriptors.{parts_of}
 use Rattle.local_caches.specs.Caches.{kept_of, read_at}
 use Rattle.local_caches.specs.declared.home.Home.TheVariants as homes
 use Rattle.local_caches.specs.declared.local_caches.LocalCaches.{LocalCaches}
-
--- texts that were made for one relation are those of the relation that the scan asks for
-pub made_for : (rel : Oid) (scan : Purpose) (given : List Row) → home_of scan ≡ homes.Rel rel → AreTexts scan given (values_read rel scan given)
-made_for rel scan given here other there = let one : rel ≡ other = cc in ap (λ r. values_read r scan given) one
 
 -- what a scan that reads a field gave lies with the descriptor of its relation
 read_home : (rel : Oid) (field : Field) → home_of (read_by field rel) ≡ homes.Rel rel
