@@ -13,10 +13,7 @@ use Rattle.local_caches.specs.Types.{Oid}
 use Rattle.local_caches.specs.declared.part.Part.{Part}
 use Rattle.local_caches.specs.Homes.{home_of}
 use Rattle.local_caches.specs.Parts.{part_kept, read_part}
-use Rattle.local_caches.specs.Descriptors.{parts_of}
-use Rattle.local_caches.specs.Caches.{kept_of, read_at}
 use Rattle.local_caches.specs.declared.home.Home.TheVariants as homes
-use Rattle.local_caches.specs.declared.local_caches.LocalCaches.{LocalCaches}
 
 -- what a scan that reads a field gave lies with the descriptor of its relation
 read_home : (rel : Oid) (field : Field) → home_of (read_by field rel) ≡ homes.Rel rel
@@ -31,10 +28,6 @@ read_home rel fields.Indexes = refl
 read_home rel fields.Triggers = refl
 read_home rel fields.Of = refl
 read_home rel fields.Valid = refl
-
-pub kept_read : (caches : LocalCaches) (rel : Oid) (field : Field) → kept_of caches (read_by field rel) ≡ part_kept (parts_of caches.descriptors rel) (read_by field rel)
-unfolding kept_of
-kept_read caches rel field = ap (read_at caches (read_by field rel)) (read_home rel field)
 
 -- the scan that reads a field has its text
 text_in : (part : Part) (rel : Oid) (field : Field) → same_scan part.scan (read_by field rel) ≡ true → value_in part.texts field ≡ Some (field_text field rel part.rows)
