@@ -1,7 +1,7 @@
 ghost use Rattle.std.specs.Prelude.{◌≤◌, length, IfSome};
 
 use crate::values::name;
-use base_types::{CacheId, Kind, Oid, Purpose, Row};
+use base_types::{CacheId, ColType, Field, Kind, Oid, Purpose, Row};
 use inval_messages::Message;
 use local_caches::LocalCaches;
 use std::alloc::Global;
@@ -17,6 +17,15 @@ const NAMES: &[(&[u8], CacheId, u32, u64)] = &[
     (b"c0", CacheId::RelName, 4078, 0),
     (b"an", CacheId::RelName, 4079, 4),
     (b"an", CacheId::RelOid, 4078, 4),
+];
+
+// The texts of a table's fields where its own row and its columns are kept; the empty text stands for none.
+const TEXTS: &[(Field, &[u8])] = &[
+    (Field::Name, b"an"),
+    (Field::Fillfactor, b"-"),
+    (Field::Columns, b"a:int4"),
+    (Field::Statistics, b"1:-1"),
+    (Field::Triggers, b""),
 ];
 
 fn cat(cache: CacheId, hash: u32) -> Message {
@@ -144,6 +153,69 @@ fn put_again(caches: &mut LocalCaches, alloc: Global) -> bool {
     caches.put(&scan, Vec::new(alloc), 9).is_ok() && caches.at(&scan) == Some(9)
 }
 
+// The row of a column.
+fn one_column(alloc: Global) -> Option<Vec<Row>> {
+    let row = Row::Att {
+        rel: REL,
+        num: 1,
+        name: name(b"a"),
+        col_type: ColType::Int4,
+        stat: -1,
+        live: true,
+    };
+    Vec::from_slice(alloc, &[row]).ok()
+}
+
+// Whether fields have their texts once a table's own row and its columns are read, and whether they have none of another
+// relation, and after a message.
+fn kept_texts(alloc: Global) -> [bool; 3] {
+    let (Some(own), Some(columns)) = (one_row(alloc), one_column(alloc)) else {
+        return [false; 3];
+    };
+    let mut caches = LocalCaches::new(alloc);
+    if !put_both(&mut caches, own, columns) {
+        return [false; 3];
+    }
+    let there = has_texts(&caches);
+    let others = has_none(&caches, OTHER);
+    caches.execute(&[rel(REL)]);
+    [there, others, has_none(&caches, REL)]
+}
+
+// Whether a table's own row and its columns are kept once they are put.
+fn put_both(caches: &mut LocalCaches, own: Vec<Row>, columns: Vec<Row>) -> bool {
+    let scan = Purpose::Class(REL);
+    if caches.has(&scan) || caches.put(&scan, own, 4).is_err() {
+        return false;
+    }
+    let scan = Purpose::Attribute(REL);
+    !caches.has(&scan) && caches.put(&scan, columns, 5).is_ok()
+}
+
+// Whether each field has its text.
+fn has_texts(caches: &LocalCaches) -> bool {
+    for &(field, text) in TEXTS {
+        let found: &[u8] = match caches.value(REL, field) {
+            Some(value) => value.as_bytes(),
+            None => b"",
+        };
+        if found != text {
+            return false;
+        }
+    }
+    true
+}
+
+// Whether no field of a relation has a text.
+fn has_none(caches: &LocalCaches, rel: Oid) -> bool {
+    for &(field, _) in TEXTS {
+        if caches.value(rel, field).is_some() {
+            return false;
+        }
+    }
+    true
+}
+
 #[test]
 fn a_message_for_a_hash_takes_out_what_has_it(rt: HostRuntime) {
     for &(text, cache, hash, there) in NAMES {
@@ -181,4 +253,9 @@ fn what_scans_gave_is_kept_until_a_reset(rt: HostRuntime) {
 fn descriptors_are_built_scan_by_scan(rt: HostRuntime) {
     assert!(rt; missing(rt.alloc()) == [true, true]);
     assert!(rt; built_anew(rt.alloc()) == [true, true, false]);
+}
+
+#[test]
+fn fields_have_the_texts_of_what_scans_gave(rt: HostRuntime) {
+    assert!(rt; kept_texts(rt.alloc()) == [true, true, true]);
 }

@@ -3,3 +3,4 @@ pub mod OfDescriptors
 pub mod Homes
 pub mod Putting
 pub mod Unpinned
+pub mod Texts

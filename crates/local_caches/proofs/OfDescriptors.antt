@@ -9,7 +9,8 @@ use Rattle.pin_pool.specs.declared.reference.Ref.{Ref}
 use Rattle.rel_cache.specs.Descriptors.{renewed}
 use Rattle.rel_cache.specs.Caches.{held_of, HeldUnder, ChangesHeld}
 use Rattle.rel_cache.proofs.Whole.{by_number}
-use Rattle.local_caches.specs.Types.{Oid, Purpose, Held, RelCache, Part}
+use Rattle.local_caches.specs.Types.{Oid, Purpose, Held, RelCache}
+use Rattle.local_caches.specs.declared.part.Part.{Part}
 use Rattle.local_caches.specs.Parts.{parts_held, pins_held, part_kept, read_part}
 
 -- relations are one or not

@@ -10,7 +10,8 @@ use Rattle.rel_cache.specs.declared.opened.Opened.TheVariants.{Valid, Invalid, U
 use Rattle.rel_cache.specs.Descriptors.{opened, opened_once, closed_once}
 use Rattle.rel_cache.specs.Caches.{held_of, ChangesHeld}
 use Rattle.rel_cache.proofs.Whole.{by_number}
-use Rattle.local_caches.specs.Types.{Oid, Held, RelCache, Part}
+use Rattle.local_caches.specs.Types.{Oid, Held, RelCache}
+use Rattle.local_caches.specs.declared.part.Part.{Part}
 use Rattle.local_caches.specs.Parts.{pins_held}
 use Rattle.local_caches.specs.Whole.{times, ArePinned}
 use Rattle.local_caches.proofs.OfDescriptors.{same_or_other}

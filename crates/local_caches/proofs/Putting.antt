@@ -5,11 +5,12 @@ use Rattle.std.proofs.lemmas.List.Folds.{list_any_more}
 use Rattle.base_types.specs.Scans.{same_scan}
 use Rattle.base_types.proofs.SameScan.{same_scan-true, same_scan-itself}
 use Rattle.inval_messages.specs.Messages.{covers}
-use Rattle.local_caches.specs.Types.{Oid, Row, Purpose, Message, Lookup, Home, Part}
+use Rattle.local_caches.specs.Types.{Oid, Row, Purpose, Message, Lookup, Home}
+use Rattle.local_caches.specs.declared.part.Part.{Part}
 use Rattle.local_caches.specs.Kept.{Read, Kept, kept_with, kept_spared}
 use Rattle.local_caches.specs.Homes.{home_of}
 use Rattle.local_caches.specs.CatCaches.{looked_up, PutsLookup}
-use Rattle.local_caches.specs.Parts.{part_kept}
+use Rattle.local_caches.specs.Parts.{part_kept, read_part, IsPartOf}
 use Rattle.local_caches.specs.Descriptors.{parts_of, AddsPart}
 use Rattle.local_caches.specs.Caches.{read_at, kept_of}
 use Rattle.local_caches.specs.declared.home.Home.TheVariants as homes
@@ -41,16 +42,16 @@ module _ (old new : LocalCaches) (scan : Purpose) (rows : List Row) (place : ℕ
       by other differs (homes.Rel rel) is = ap (read_at new other) is ∙ ap (λ d. part_kept (parts_of d rel) other) same ∙ sym (ap (read_at old other) is)
 
   -- a scan is added to a descriptor
-  pub put_rel : (rel : Oid) → home_of scan ≡ homes.Rel rel → new.catalogs ≡ old.catalogs → part_kept (parts_of old.descriptors rel) scan ≡ None → AddsPart old.descriptors new.descriptors rel (record { scan = scan; rows = rows; at = place }) → kept_of new ≡ kept_with scan rows place (kept_of old)
-  put_rel rel here same none adds =
-      with_one (ap (read_at new scan) here ∙ ap (λ parts. part_kept parts scan) adds.at ∙ found_now (parts_of old.descriptors rel) part scan none (same_scan-itself scan)) (λ other is. by other is (home_of other) refl)
+  pub put_rel : (rel : Oid) (part : Part) → home_of scan ≡ homes.Rel rel → new.catalogs ≡ old.catalogs → part_kept (parts_of old.descriptors rel) scan ≡ None → IsPartOf part scan rows place → AddsPart old.descriptors new.descriptors rel part → kept_of new ≡ kept_with scan rows place (kept_of old)
+  put_rel rel part here same none it adds =
+      with_one (ap (read_at new scan) here ∙ ap (λ parts. part_kept parts scan) adds.at ∙ found_now (parts_of old.descriptors rel) part scan none (ap (λ s. same_scan s scan) it.of ∙ same_scan-itself scan) ∙ reads) (λ other is. by other is (home_of other) refl)
     where
-      part : Part
-      part = record { scan = scan; rows = rows; at = place }
+      reads : Some (read_part part) ≡ Some (record { rows = rows; at = place })
+      reads = rw (it.gave, it.at) refl
 
       there : (other : Purpose) → same_scan scan other ≡ false → (own : Oid) → (own ≡ rel) ⊎ (own ≢ rel) → part_kept (parts_of new.descriptors own) other ≡ part_kept (parts_of old.descriptors own) other
       there other is own (inl one) =
-          ap (λ r. part_kept (parts_of new.descriptors r) other) one ∙ ap (λ parts. part_kept parts other) adds.at ∙ found_still (parts_of old.descriptors rel) part other is ∙ sym (ap (λ r. part_kept (parts_of old.descriptors r) other) one)
+          ap (λ r. part_kept (parts_of new.descriptors r) other) one ∙ ap (λ parts. part_kept parts other) adds.at ∙ found_still (parts_of old.descriptors rel) part other (ap (λ s. same_scan s other) it.of ∙ is) ∙ sym (ap (λ r. part_kept (parts_of old.descriptors r) other) one)
       there other is own (inr differs) = ap (λ parts. part_kept parts other) (adds.others own differs)
 
       by : (other : Purpose) → same_scan scan other ≡ false → (home : Home) → home_of other ≡ home → read_at new other (home_of other) ≡ read_at old other (home_of other)

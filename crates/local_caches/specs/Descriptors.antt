@@ -1,7 +1,8 @@
 -- What the descriptors of a backend have together.
 use Rattle.std.specs.Prelude.{◌≡◌, ◌≢◌, ◌++◌, ℕ, Bool, List, [], ◌∷◌, is_some}
 use Rattle.rel_cache.specs.Caches.{held_of}
-use Rattle.local_caches.specs.Types.{Oid, Part}
+use Rattle.local_caches.specs.Types.{Oid}
+use Rattle.local_caches.specs.declared.part.Part.{Part}
 use Rattle.local_caches.specs.Parts.{parts_held, pins_held}
 use Rattle.local_caches.specs.declared.descriptors.Descriptors.{Descriptors}
 

@@ -1,6 +1,7 @@
 pub mod Kept
 pub mod Types
 pub mod Homes
+pub mod Texts
 pub mod Reads
 pub mod Keyed
 pub mod CatCaches

@@ -4,12 +4,19 @@ use Rattle.std.specs.Option.{option_map, option_map_or}
 use Rattle.std.specs.List.{find}
 use Rattle.base_types.specs.Scans.{same_scan}
 use Rattle.rel_cache.specs.Caches.{held_of}
-use Rattle.local_caches.specs.Types.{Oid, Purpose, Held, RelCache, Part}
+use Rattle.local_caches.specs.Types.{Oid, Row, Purpose, Held, RelCache}
+use Rattle.local_caches.specs.declared.part.Part.{Part}
 use Rattle.local_caches.specs.Kept.{Read}
 
 -- what a scan gave for a descriptor
 abbrev pub read_part : Part → Read
 read_part part = record { rows = part.rows; at = part.at }
+
+-- what is kept of a scan is this
+pub record IsPartOf (part : Part) (scan : Purpose) (rows : List Row) (place : ℕ) : Type 0 where
+  pub of : part.scan ≡ scan
+  pub gave : part.rows ≡ rows
+  pub at : part.at ≡ place
 
 -- what the scan gave that is among these
 abbrev pub part_kept : List Part → Purpose → Option Read

@@ -10,6 +10,5 @@ pub use Rattle.inval_messages.specs.declared.message.Message.TheVariants.{Cat, R
 pub use Rattle.cat_cache.specs.declared.cat_cache.CatCache.{CatCache}
 pub use Rattle.rel_cache.specs.declared.rel_cache.RelCache.{RelCache}
 pub use Rattle.rel_cache.specs.Descriptors.{Held}
-pub use Rattle.local_caches.specs.declared.part.Part.{Part}
 pub use Rattle.local_caches.specs.declared.home.Lookup.{Lookup}
 pub use Rattle.local_caches.specs.declared.home.Home.{Home}

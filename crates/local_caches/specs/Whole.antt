@@ -5,7 +5,8 @@ use Rattle.pin_pool.specs.declared.reference.Ref.{Ref}
 use Rattle.base_types.specs.Scans.{same_oid}
 use Rattle.cat_cache.specs.Caches.{cache_id, shown}
 use Rattle.rel_cache.specs.Caches.{held_of}
-use Rattle.local_caches.specs.Types.{Oid, RelName, RelOid, AttName, CatCache, RelCache, Part}
+use Rattle.local_caches.specs.Types.{Oid, RelName, RelOid, AttName, CatCache, RelCache}
+use Rattle.local_caches.specs.declared.part.Part.{Part}
 use Rattle.local_caches.specs.Parts.{pins_held}
 
 -- each cache is of its catalog

@@ -1,16 +1,21 @@
-ghost use Rattle.std.specs.Prelude.{◌≡◌, ◌≢◌, ◌<◌, [], true, cond, OnOk, OnErr};
-ghost use Rattle.std.specs.Option.{option_map};
+ghost use Rattle.std.specs.Prelude.{◌≡◌, ◌≢◌, ◌<◌, [], true, cond, IfOk, OnOk, OnErr};
+ghost use Rattle.std.specs.Option.{option_copied, option_map};
 ghost use Rattle.std.specs.List.{list_any};
 ghost use Rattle.base_types.specs.Scans.{same_oid};
+ghost use Rattle.base_types.specs.Fields.{field_text, read_by as scan_for};
+ghost use Rattle.local_caches.specs.declared.home.Home.TheVariants as homes;
+ghost use Rattle.local_caches.specs.Homes.{home_of};
 ghost use Rattle.local_caches.specs.Reads.{given};
-ghost use Rattle.local_caches.specs.Parts.{part_kept};
+ghost use Rattle.local_caches.specs.Parts.{part_kept, IsPartOf};
 ghost use Rattle.local_caches.specs.Whole.{ArePinned};
 
 use crate::given::Given;
 use crate::part::Part;
-use crate::parts::{part_of, put_part};
-use base_types::{Listed, NoMemory, Oid, Purpose};
+use crate::parts::{part_made, part_of, put_part};
+use base_types::{Field, Listed, NoMemory, Oid, Purpose, Row, read_by};
+use event_kinds::LineText;
 use rel_cache::{Opened, RelCache};
+use rel_desc::value_in;
 use std::alloc::Global;
 
 // The descriptors of a backend (`RelationIdCache` in `src/backend/utils/cache/relcache.c`), each as the
@@ -61,6 +66,30 @@ impl Descriptors {
             }),
             None => None,
         }
+    }
+
+    // The text of a field of a relation, of the rows that the scan which reads it gave.
+    pub(crate) fn value(&self, rel: Oid, field: Field) -> Option<&LineText>
+        ensures { option_copied result ≡ option_map (λ read. field_text field rel read.rows) (part_kept (parts_of self.now rel) (scan_for field rel)) }
+    {
+        match part_of(self.parts(rel), &read_by(field, rel)) {
+            Some(part) => value_in(part.texts.as_slice(), field),
+            None => None,
+        }
+    }
+
+    // What a scan gave for a relation's descriptor, to be put there.
+    pub(crate) fn part(
+        &self,
+        rel: Oid,
+        scan: &Purpose,
+        rows: Listed<Row>,
+        at: u64,
+    ) -> Result<Part, NoMemory>
+        requires { home_of scan.now ≡ homes.Rel rel }
+        ensures { IfOk result (λ part. IsPartOf part scan.now rows at) }
+    {
+        part_made(self.alloc, rel, scan, rows, at)
     }
 
     // Keeps what a scan gave for a relation's descriptor. Out of memory, nothing changes.

@@ -8,8 +8,9 @@
 //!
 //! The promise to the layers above: contracts see [`LocalCaches`] as a function from scans, which gives
 //! nothing, or the rows that the scan gave and the entry of the history at which it was made (`Kept` in
-//! `specs/Kept.antt`). Messages take out exactly the scans that they cover, a reset all. Only `put` and `pin`
-//! take memory.
+//! `specs/Kept.antt`). Messages take out exactly the scans that they cover, a reset all. The texts of a
+//! relation's fields are worked out where a scan of its descriptor is put, so `value` only shows them. Only
+//! `put` and `pin` take memory.
 //!
 //! ```text
 //! if caches.at(&scan).is_none() {

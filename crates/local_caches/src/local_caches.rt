@@ -2,15 +2,16 @@ ghost use Rattle.std.specs.Prelude.{◌≡◌, ◌≤◌, ◌∷◌, [], true, N
 ghost use Rattle.std.specs.Option.{option_copied, option_map};
 ghost use Rattle.std.specs.List.{find};
 ghost use Rattle.base_types.specs.Scans.{build_scans};
+ghost use Rattle.base_types.specs.Fields.{field_text, read_by};
 ghost use Rattle.local_caches.specs.Reads.{given};
 
 use crate::cat_caches::CatCaches;
 use crate::descriptors::Descriptors;
 use crate::given::Given;
 use crate::home::{Home, home_of};
-use crate::part::Part;
 use crate::parts::first_missing_of;
-use base_types::{CacheId, KeyPart, Kind, Listed, NoMemory, Oid, Purpose, Row};
+use base_types::{CacheId, Field, KeyPart, Kind, Listed, NoMemory, Oid, Purpose, Row};
+use event_kinds::LineText;
 use inval_messages::Message;
 use std::alloc::Global;
 
@@ -70,6 +71,14 @@ impl LocalCaches {
         }
     }
 
+    /// The text of a field of a relation, of the rows that the scan which reads it gave. `None`: exactly
+    /// where nothing is kept of that scan. It takes no memory.
+    pub fn value(&self, rel: Oid, field: Field) -> Option<&LineText>
+        ensures { option_copied result ≡ option_map (λ read. field_text field rel read.rows) (kept_of self.now (read_by field rel)) }
+    {
+        self.descriptors.value(rel, field)
+    }
+
     // What is kept of a scan, at its home. The parts of its key are passed as they are: to build a whole key
     // would take longer than to look it up.
     fn find(&self, scan: &Purpose) -> Option<Given<'_>>
@@ -119,8 +128,8 @@ impl LocalCaches {
         match home_of(scan) {
             Home::Cat(lookup) => self.catalogs.put(&lookup, rows, at),
             Home::Rel(rel) => {
-                let scan = *scan;
-                self.descriptors.put(rel, Part { scan, rows, at })
+                let part = self.descriptors.part(rel, scan, rows, at)?;
+                self.descriptors.put(rel, part)
             }
         }
     }

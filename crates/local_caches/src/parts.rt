@@ -1,17 +1,20 @@
 // The scans that a descriptor is built of, and what the relation cache has of them.
 
-ghost use Rattle.std.specs.Prelude.{◌≡◌, ◌≢◌, [], None, Some, not, is_some, OnOk, OnErr};
+ghost use Rattle.std.specs.Prelude.{◌≡◌, ◌≢◌, [], None, Some, not, is_some, IfOk, OnOk, OnErr};
 ghost use Rattle.std.specs.Option.{option_copied, option_map};
 ghost use Rattle.std.specs.List.{find};
 ghost use Rattle.base_types.specs.Scans.{build_scans, same_scan as same};
 ghost use Rattle.rel_cache.specs.Descriptors.{renewed};
 ghost use Rattle.rel_cache.specs.Caches.{held_of, HeldUnder, ChangesHeld};
-ghost use Rattle.local_caches.specs.Parts.{parts_held, PutsPart, KeepsParts};
+ghost use Rattle.local_caches.specs.declared.home.Home.TheVariants as homes;
+ghost use Rattle.local_caches.specs.Homes.{home_of};
+ghost use Rattle.local_caches.specs.Parts.{parts_held, IsPartOf, PutsPart, KeepsParts};
 
 use crate::part::Part;
-use base_types::{Kind, Listed, NoMemory, Oid, Purpose, same_scan, table_scans};
+use base_types::{Kind, Listed, NoMemory, Oid, Purpose, Row, same_scan, table_scans};
 use pin_pool::Ref;
 use rel_cache::RelCache;
+use rel_desc::values_read;
 use std::alloc::Global;
 
 // The first of them that is this scan.
@@ -39,6 +42,26 @@ fn first_of(parts: &[Part], wanted: &[Purpose]) -> Option<Purpose>
         .iter()
         .find(|scan| part_of(parts, scan).is_none())
         .copied()
+}
+
+// What a scan gave for the descriptor of the relation that it asks for, with the texts of its fields.
+pub(crate) fn part_made(
+    alloc: Global,
+    rel: Oid,
+    scan: &Purpose,
+    rows: Listed<Row>,
+    at: u64,
+) -> Result<Part, NoMemory>
+    requires { home_of scan.now ≡ homes.Rel rel }
+    ensures { IfOk result (λ part. IsPartOf part scan.now rows at) }
+{
+    let texts = values_read(alloc, rel, scan, rows.as_slice())?;
+    Ok(Part {
+        scan: *scan,
+        rows,
+        at,
+        texts,
+    })
 }
 
 // Adds a scan to those of a relation's descriptor. Where there is none, or where it is to be built anew, it

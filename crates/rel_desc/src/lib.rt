@@ -31,3 +31,4 @@ mod part;
 
 pub use desc_build::DescBuild;
 pub use descriptor::Descriptor;
+pub use part::{FieldValue, value_in, values_read};

@@ -7,9 +7,9 @@ use base_types::{Field, Listed, NoMemory, Oid, Purpose, Row, field_text, same_sc
 use event_kinds::LineText;
 use std::alloc::Global;
 
-// The value of a field.
+/// The text of a field of a relation.
 #[derive(Drop)]
-pub(crate) struct FieldValue {
+pub struct FieldValue {
     pub(crate) field: Field,
     pub(crate) value: LineText,
 }
@@ -31,8 +31,8 @@ fn part_for(parts: &[Part], scan: Purpose) -> Option<&Part>
     parts.iter().find(|p| same_scan(&p.scan, &scan))
 }
 
-// The value of a field among these.
-fn value_in(values: &[FieldValue], field: Field) -> Option<&LineText>
+/// The text of a field among these.
+pub fn value_in(values: &[FieldValue], field: Field) -> Option<&LineText>
     ensures { option_copied result ≡ value_of_field values.now field }
 {
     match values.iter().find(|v| same_field(v.field, field)) {
@@ -61,8 +61,8 @@ pub(crate) fn value_for(parts: &[Part], scan: Purpose, field: Field) -> Option<&
     }
 }
 
-// The values of the fields that a scan reads, of the rows that it gave.
-pub(crate) fn values_read(
+/// The texts of the fields that a scan reads, of the rows that it gave.
+pub fn values_read(
     alloc: Global,
     rel: Oid,
     scan: &Purpose,
