@@ -3,7 +3,7 @@ use Rattle.std.proofs.Common.{◌≡◌, ◌+◌, ◌∙◌, ℕ, Bool, true, fa
 use Rattle.std.specs.Prelude.{nat_le, nat_lt}
 use Rattle.std.specs.List.{flat_map, list_any, list_all}
 use Rattle.std.specs.Option.{option_map_or}
-use Rattle.std.proofs.lemmas.Bool.{eqb-true, eq-eqb, and_parts, both_ways, leb-true, leb-false, lt-ltb, ltb-true, false_from_ne_true}
+use Rattle.std.proofs.lemmas.Bool.{eqb-true, eq-eqb, and_parts, leb-true, leb-false, lt-ltb, ltb-true, false_from_ne_true}
 use Rattle.base_types.specs.Scans.{same_oid}
 use Rattle.base_types.specs.Modes.{same_mode, conflicts}
 use Rattle.base_types.specs.Scenario.{Scenario}

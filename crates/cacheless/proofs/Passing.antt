@@ -20,7 +20,7 @@ use Rattle.history_model.specs.Versions.{answer_of}
 use Rattle.history_model.proofs.Every.{every-weaker}
 use Rattle.history_model.proofs.Prefixes.{along-keeps}
 use Rattle.history_model.proofs.GivenRows.{given_seen}
-use Rattle.cacheless.specs.Types.{Mode, Row, Purpose, Command, CommandError, Scenario, Entry, OpenRelation, Opening, OwnLock, Exec}
+use Rattle.cacheless.specs.Types.{Mode, Row, Purpose, Command, CommandError, Scenario, Entry, OpenRelation, Opening, Exec}
 use Rattle.cacheless.specs.declared.progress.Counts.{Counts}
 use Rattle.cacheless.specs.declared.progress.Progress.{Progress}
 use Rattle.cacheless.specs.Facts.{Facts, facts_of}

@@ -1,7 +1,6 @@
 -- Where the code finds nothing to do without an entry, its session is settled.
-use Rattle.std.proofs.Common.{◌≡◌, ◌≤◌, ◌<◌, ◌+◌, ◌∙◌, ◌&&◌, ◌||◌, ◌⊎◌, inl, inr, ℕ, Bool, true, false, not, Option, Some, None, List, [], ◌∷◌, ◌++◌, refl, sym, ap, subst, length, drop, is_none, is_some, slice_get, cond, get_or, IfSome, if◌then◌else◌}
+use Rattle.std.proofs.Common.{◌≡◌, ◌≤◌, ◌<◌, ◌+◌, ◌∙◌, ◌&&◌, ◌||◌, ◌⊎◌, inl, inr, ℕ, Bool, true, false, not, Option, Some, None, List, [], ◌∷◌, ◌++◌, refl, sym, ap, length, drop, is_none, is_some, slice_get, cond, get_or, IfSome}
 use Rattle.std.specs.Option.{option_map_or}
-use Rattle.std.specs.List.{cons_option}
 use Rattle.std.proofs.lemmas.List.{drop_more, drop_all}
 use Rattle.std.proofs.lemmas.Option.{slice_get_cases, slice_get_within, get_or_from_slice_get}
 use Rattle.base_types.specs.declared.row.Row.TheVariants as rows
@@ -10,14 +9,14 @@ use Rattle.local_caches.specs.Kept.{Read as KeptRead}
 use Rattle.ddl_effect.specs.Plans.{Plan, Act, Done, Fails, Absent, Do, NotBuilt, Lookup, Open, Search, Read, Lock, Write}
 use Rattle.ddl_effect.specs.Stages.{plan_at}
 use Rattle.history_model.specs.Writes.{is_empty}
-use Rattle.cacheless.specs.Types.{Mode, Row, Purpose, Command, OwnLock, Scenario, Entry, Event}
+use Rattle.cacheless.specs.Types.{Mode, Row, Purpose, Command, Scenario, Entry, Event}
 use Rattle.cacheless.specs.declared.progress.Progress.{Progress}
 use Rattle.cacheless.specs.Facts.{Facts, facts_of}
 use Rattle.cacheless.specs.Session.{Session, Badly, outcome_of, is_settled, first_of}
 use Rattle.cacheless.specs.Owed.{owed_at_start, owed_after, builds_owed, act_owed, owed_of, has_looked}
 use Rattle.cacheless.specs.Ends.{End, Ends, Commits, TakesBack, end_left, end_of, next_of_end}
 use Rattle.cacheless.specs.Settled.{if_locked, has_accepted, gives, looked_up, act_done, done_here, acted_on, is_finished, settled}
-use Rattle.cacheless.specs.State.{owed_at, is_quiet, owed_first, running_of, Kept, kept_at, rows_kept, row_sought, is_kept, missing, builds_missing, act_missing, scans_missing, end_at, Rest, session_at}
+use Rattle.cacheless.specs.State.{owed_at, is_quiet, owed_first, running_of, Kept, kept_at, rows_kept, is_kept, builds_missing, act_missing, scans_missing, end_at, Rest, session_at}
 use Rattle.cacheless.specs.May.{lacks_any, owes_nothing}
 use Rattle.cacheless.specs.Silently.{has_accepted_at, looks_up_at, gives_at, gives_next, acts_on, is_ends, is_finished_at}
 use Rattle.cacheless.specs.Holds.{AreRight, FactsFit, Holds, Rests}

@@ -1,5 +1,5 @@
 -- What the code works out of what it holds is what the definitions work out of the facts.
-use Rattle.std.proofs.Common.{◌≡◌, ◌+◌, ◌*◌, ◌∙◌, ◌==◌, ◌&&◌, ◌||◌, ℕ, Bool, true, false, not, Option, Some, None, List, [], ◌∷◌, ◌++◌, refl, sym, ap, map, filter, is_none, is_some, length, if◌then◌else◌, cond, nat_lt, nat_le}
+use Rattle.std.proofs.Common.{◌≡◌, ◌+◌, ◌*◌, ◌∙◌, ◌==◌, ◌&&◌, ◌||◌, ℕ, Bool, true, false, not, Option, Some, None, List, [], ◌∷◌, ◌++◌, refl, sym, ap, map, filter, is_none, is_some, length, cond, nat_lt, nat_le}
 use Rattle.std.specs.Option.{option_map_or}
 use Rattle.std.specs.List.{find, list_any, flat_map, AllByRecursion}
 use Rattle.std.proofs.Common.{take}

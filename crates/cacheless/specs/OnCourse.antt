@@ -1,7 +1,6 @@
 -- How far a command is in what its plan says, by the session of its backend and the history.
-use Rattle.std.specs.Prelude.{◌≡◌, ◌<◌, ⊤, ℕ, Bool, true, false, Option, Some, None, List, [], ◌∷◌, ◌++◌, map, length, slice_get}
+use Rattle.std.specs.Prelude.{◌≡◌, ◌<◌, ⊤, ℕ, Bool, true, false, Option, Some, None, List, ◌++◌, map, length, slice_get}
 use Rattle.std.specs.List.{AllByRecursion}
-use Rattle.base_types.specs.declared.row.Row.TheVariants as rows
 use Rattle.base_types.specs.declared.scan.Purpose.TheVariants as scans
 use Rattle.event_kinds.specs.declared.entry.Event.TheVariants as events
 use Rattle.lock_modes.specs.Own.{cleared}
@@ -12,7 +11,7 @@ use Rattle.history_model.specs.Lives.{last_event_of}
 use Rattle.history_model.specs.Read.{rows_read}
 use Rattle.history_model.specs.Versions.{answer_of}
 use Rattle.history_model.specs.Writes.{has_written}
-use Rattle.cacheless.specs.Types.{Oid, Mode, Kind, Row, Command, CommandError, Draft, Told, Scenario, Entry, Event}
+use Rattle.cacheless.specs.Types.{Mode, Row, Command, CommandError, Draft, Told, Scenario, Entry, Event}
 use Rattle.cacheless.specs.Facts.{Facts, facts_of}
 use Rattle.cacheless.specs.Owed.{owes_accept}
 use Rattle.cacheless.specs.Runs.{runs}

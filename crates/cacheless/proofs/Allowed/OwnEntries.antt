@@ -1,29 +1,23 @@
 -- An entry of a backend keeps its running command on its course.
-use Rattle.std.proofs.Common.{◌≡◌, ◌+◌, ◌-◌, ◌∙◌, ℕ, Bool, true, false, Option, Some, None, List, [], ◌∷◌, ◌++◌, ◌&&◌, ◌||◌, refl, sym, ap, subst, map, append-nil, length, take, ◌==◌}
+use Rattle.std.proofs.Common.{◌≡◌, ◌+◌, ◌-◌, ◌∙◌, ℕ, Bool, true, false, Option, Some, None, List, [], ◌∷◌, ◌++◌, ◌&&◌, ◌||◌, refl, sym, ap, subst, map, append-nil, length, take}
 use Rattle.std.specs.List.{flat_map, list_any}
 use Rattle.std.proofs.Math.Bool.{or-true}
-use Rattle.std.proofs.lemmas.Bool.{eq-eqb, and_from, or_left}
-use Rattle.base_types.specs.Scans.{same_scan, build_scans, same_oid}
-use Rattle.base_types.specs.Modes.{mode_number, same_mode}
+use Rattle.std.proofs.lemmas.Bool.{eq-eqb}
+use Rattle.base_types.specs.Scans.{same_scan, build_scans}
 use Rattle.base_types.specs.declared.ids.Xid.{Xid}
-use Rattle.base_types.specs.declared.row.Row.TheVariants as rows
 use Rattle.base_types.specs.declared.scan.Purpose.TheVariants as scans
 use Rattle.event_kinds.specs.declared.entry.Event.TheVariants as events
 use Rattle.command_answers.specs.declared.error.CommandError.TheVariants as errors
 use Rattle.ddl_effect.specs.declared.told.Told.TheVariants as tells
 use Rattle.ddl_effect.specs.Plans.{Lookup, Open, Search, Read, Lock, Write, Plan, Done, Fails, Absent, NotBuilt, Do}
 use Rattle.history_model.specs.Drawn.{next_oid}
-use Rattle.history_model.specs.Held.{held_of}
 use Rattle.history_model.specs.Lives.{last_event_of}
-use Rattle.history_model.specs.Orderly.{IsSound, MayComeNext}
-use Rattle.history_model.specs.Prefixes.{EachEntry}
-use Rattle.history_model.specs.Read.{is_scan_of, rows_read, is_usable}
+use Rattle.history_model.specs.Read.{is_scan_of}
 use Rattle.history_model.specs.Writes.{has_written, is_write}
-use Rattle.history_model.proofs.Locked.{IsQuiet, unchanged_answers}
-use Rattle.history_model.proofs.Every.{any-right}
-use Rattle.history_model.proofs.Reading.{has_written-more, last_event_of-own, held_of-more}
+use Rattle.history_model.proofs.Locked.{IsQuiet}
+use Rattle.history_model.proofs.Reading.{has_written-more, last_event_of-own}
 use Rattle.history_model.proofs.Touched.{entry_of}
-use Rattle.cacheless.specs.Types.{Oid, Mode, Purpose, Row, Item, Opening, Command, CommandError, Told, Entry, Event}
+use Rattle.cacheless.specs.Types.{Oid, Mode, Purpose, Item, Opening, Command, CommandError, Told, Entry, Event}
 use Rattle.cacheless.specs.ActsDone.{reached, made_in, opening_by}
 use Rattle.cacheless.specs.Ends.{End, Ends, end_of, next_of_end, end_left, end_well, end_badly}
 use Rattle.cacheless.specs.Facts.{Facts, facts_of}
@@ -39,8 +33,6 @@ use Rattle.cacheless.proofs.Plans.SilentActs.{on_its_way, its_place, unrefused, 
 use Rattle.cacheless.proofs.Allowed.StaysOnCourse.{has_written-quiet, rows_read-unscanned, IsAfter, IsAfterEnd, before_end, plan_same, MayCome, named-more, way-more, sought-more, plain-more, follows-more, over_stays}
 use Rattle.cacheless.proofs.Plans.Ways.{acts, none_reached}
 use Rattle.ddl_effect.specs.Commands.{plan_of}
-use Rattle.lock_modes.specs.declared.grant.Grant.{Grant}
-use Rattle.lock_modes.specs.Grants.{is_lock, holds}
 
 -- an entry that the running command of a backend may make next
 pub record OwnEntry (history : List Entry) (b : ℕ) (s : Session) (command : Command) (event : Event) : Type 0 where

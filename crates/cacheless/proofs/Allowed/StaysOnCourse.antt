@@ -2,28 +2,26 @@
 use Rattle.std.proofs.Common.{◌≡◌, ◌+◌, ◌<◌, ◌∙◌, ℕ, Bool, true, false, Option, Some, List, [], ◌∷◌, ◌++◌, ◌==◌, ◌&&◌, ◌||◌, refl, sym, ap, subst, map, length, arith}
 use Rattle.std.proofs.Math.Bool.{and-false, or-false}
 use Rattle.std.proofs.lemmas.Bool.{ne_eqb}
-use Rattle.base_types.specs.declared.row.Row.TheVariants as rows
 use Rattle.base_types.specs.declared.scan.Purpose.TheVariants as scans
 use Rattle.event_kinds.specs.declared.entry.Event.TheVariants as events
-use Rattle.ddl_effect.specs.Plans.{Plan, Absent, Do, Lookup}
+use Rattle.ddl_effect.specs.Plans.{Plan, Absent}
 use Rattle.ddl_effect.specs.Commands.{plan_of}
 use Rattle.ddl_effect.proofs.HasPlan.{built_alike}
 use Rattle.history_model.specs.Legal.{FollowsGone}
-use Rattle.history_model.specs.Held.{held_of}
 use Rattle.history_model.specs.Lives.{last_event_of}
 use Rattle.history_model.specs.Read.{is_scan_of, rows_read}
 use Rattle.history_model.specs.Versions.{answer_of}
 use Rattle.history_model.specs.Writes.{has_written, is_write}
-use Rattle.history_model.proofs.Locked.{IsQuiet, quiet_keeps, held_bars_exclusive, IsIdle, found_stays}
+use Rattle.history_model.proofs.Locked.{IsQuiet, IsIdle}
 use Rattle.history_model.proofs.Reading.{has_written-more, rows_read-own, rows_read-other}
-use Rattle.cacheless.specs.Types.{Row, Purpose, Command, Told, Entry, Event, Mode}
+use Rattle.cacheless.specs.Types.{Purpose, Command, Told, Entry, Event}
 use Rattle.cacheless.specs.ActsDone.{reached, made_in, opening_by, WayHolds}
 use Rattle.cacheless.specs.OnCourse.{OnItsWay, is_over, Way, Begun, Wrote, Unbuilt, Over, NamedFits, WasSought, DoesNoAct, FollowsPlan}
 use Rattle.cacheless.specs.Session.{Session, none_open, opening_of, number_of, outcome_of, is_settled}
 use Rattle.cacheless.specs.Settled.{class_oid, found_by}
 use Rattle.cacheless.proofs.Plans.ActOrder.{follows_order}
 pub use Rattle.cacheless.proofs.Plans.StillLocked.{MayCome}
-use Rattle.cacheless.proofs.Plans.StillLocked.{held_stays, way_stays}
+use Rattle.cacheless.proofs.Plans.StillLocked.{way_stays}
 
 -- the commands in which a backend has written, after an entry that is no write
 pub has_written-quiet : (history : List Entry) (e : Entry) (b c : ℕ) → is_write e.event ≡ false → has_written (history ++ e ∷ []) b c ≡ has_written history b c

@@ -3,16 +3,14 @@ use Rattle.std.proofs.Common.{◌≡◌, ◌≤◌, ◌+◌, ◌∙◌, ◌&&◌
 use Rattle.std.specs.Option.{option_map}
 use Rattle.std.proofs.Math.Bool.{or-true}
 use Rattle.std.proofs.lemmas.Bool.{both_ways, and_parts}
-use Rattle.lock_modes.specs.Own.{has_lock}
 use Rattle.ddl_effect.specs.Commands.{commands_of}
-use Rattle.base_types.specs.declared.row.Row.TheVariants as rows
 use Rattle.base_types.specs.declared.scan.Purpose.TheVariants as scans
 use Rattle.event_kinds.specs.declared.entry.Event.TheVariants as events
 use Rattle.ddl_effect.specs.Plans.{Plan, Act, Absent, Do, Lookup, Open, Search, Read, Lock, Write}
 use Rattle.ddl_effect.specs.Stages.{plan_at, told_of}
 use Rattle.txn_blocks.specs.Blocks.{Blocks}
 use Rattle.history_model.specs.Lives.{last_event_of}
-use Rattle.cacheless.specs.Types.{Mode, Row, Command, OwnLock, Scenario, Entry, Event, Line}
+use Rattle.cacheless.specs.Types.{Mode, Row, Command, Scenario, Entry, Event, Line}
 use Rattle.cacheless.specs.declared.progress.Progress.{Progress}
 use Rattle.cacheless.specs.Answering.{IsToldText, AreLastScans, IsWhole, PlacesFit}
 use Rattle.cacheless.specs.Facts.{Facts, facts_of}
@@ -21,7 +19,7 @@ use Rattle.cacheless.specs.Lines.{line_of, lines_from}
 use Rattle.cacheless.specs.OnCourse.{is_absent, is_over, OnItsWay, EntersCourse}
 use Rattle.cacheless.specs.Session.{Session, number_of, first_of, outcome_of, is_settled}
 use Rattle.cacheless.specs.Owed.{act_owed}
-use Rattle.cacheless.specs.Settled.{class_oid, if_locked, looked_up, act_done, blocks_after, opens_after, finished_as, next_session}
+use Rattle.cacheless.specs.Settled.{act_done, blocks_after, opens_after, finished_as, next_session}
 use Rattle.cacheless.specs.May.{has_failed, owes_nothing}
 use Rattle.cacheless.specs.Silently.{acts_on, is_ends, is_finished_at, is_to_answer, is_to_answer_at, Answers, Finishes, IsSettled, HasAnswered, IsLineOf}
 use Rattle.cacheless.specs.State.{kept_at, is_kept, is_out, end_at, Rest, session_at}

@@ -15,7 +15,7 @@ use Rattle.history_model.specs.Writes.{is_empty}
 use Rattle.cacheless.specs.Types.{Oid, Mode, Row, Purpose, Command, CommandError, Clash, Scenario, Entry, Event, OwnLock}
 use Rattle.cacheless.specs.declared.progress.Due.TheVariants as dues
 use Rattle.cacheless.specs.declared.progress.Progress.{Progress}
-use Rattle.cacheless.specs.Facts.{Facts, facts_of}
+use Rattle.cacheless.specs.Facts.{facts_of}
 use Rattle.cacheless.specs.Owed.{Owes, OwesLook, owed_after}
 use Rattle.cacheless.specs.Settled.{nothing_waits}
 use Rattle.cacheless.specs.Sessions.{refused_with}

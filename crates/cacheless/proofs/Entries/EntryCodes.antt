@@ -22,8 +22,8 @@ use Rattle.cacheless.specs.declared.progress.Progress.{Progress}
 use Rattle.cacheless.specs.Session.{opening_of}
 use Rattle.cacheless.specs.Locks.{locked_by}
 use Rattle.txn_blocks.specs.Transactions.{begun_own, ends_own, released_own}
-use Rattle.cacheless.specs.State.{due_looked, due_fetched, one_if, lists_at, lists_left, kept_at, nothing_kept, kept_with, kept_spared, row_next, is_full, is_in_accept, locks_accepted, locks_made, locks_written, messages_in, clash_event, error_of, failed_with, FailsWith, SearchesAgain, is_out}
-use Rattle.cacheless.specs.May.{lacks_any, is_lock_at, is_next_at}
+use Rattle.cacheless.specs.State.{due_looked, due_fetched, one_if, lists_at, lists_left, kept_at, nothing_kept, kept_with, kept_spared, is_full, is_in_accept, locks_accepted, locks_made, locks_written, messages_in, clash_event, error_of, failed_with, FailsWith, SearchesAgain, is_out}
+use Rattle.cacheless.specs.May.{is_next_at}
 use Rattle.cacheless.specs.Holds.{Rests, HasEntered}
 use Rattle.cacheless.proofs.Entries.EnteredLooks.{looked, look_holds}
 use Rattle.cacheless.proofs.Entries.EnteredFetches.{fetched_first, fetched, fetch_holds, reset_holds}
