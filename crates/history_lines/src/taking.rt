@@ -42,7 +42,8 @@ pub(crate) fn enter(
         Event::Unlock { rel, mode } => unlock(progress, *rel, *mode),
         Event::Write { xid, items } => write(progress, alloc, ledger, *xid, items.as_slice()),
         Event::Publish { count } => publish(progress, *count),
-        event => enter_alone(progress, alloc, event),
+        Event::Release { from } => release(progress, alloc, *from),
+        event => enter_alone(progress, event),
     }
 }
 
@@ -122,8 +123,21 @@ fn publish(progress: &mut Progress, count: u32) -> Result<(), NoMemory>
     Ok(())
 }
 
+// It released its locks.
+fn release(progress: &mut Progress, alloc: Global, from: u32) -> Result<(), NoMemory>
+    requires few { progress.old.finished ≤ 20000 }
+    ensures same { OnOk result (progress.new.commands ≡ progress.old.commands) }
+    ensures takes { OnOk result ((scenario : Scenario) (seen : List Entry) (rests : Rests scenario seen progress.old) → HasTaken scenario seen progress.old (Event.Release from) rests progress.new) }
+{
+    if !progress.is_out() {
+        return Err(NoMemory);
+    }
+    progress.enter_release(alloc, from);
+    Ok(())
+}
+
 // An event that needs nothing of the ledger.
-fn enter_alone(progress: &mut Progress, alloc: Global, event: &Event) -> Result<(), NoMemory>
+fn enter_alone(progress: &mut Progress, event: &Event) -> Result<(), NoMemory>
     requires few { progress.old.finished ≤ 20000 }
     requires room { HasRoom progress.old }
     ensures same { OnOk result (progress.new.commands ≡ progress.old.commands) }
@@ -142,7 +156,6 @@ fn enter_alone(progress: &mut Progress, alloc: Global, event: &Event) -> Result<
         Event::ClashRunning { name, xid } => progress.enter_clash(*name, Clash::Running(*xid)),
         Event::Visible { xid } => progress.enter_visible(*xid),
         Event::Gone { from } => progress.enter_gone(*from),
-        Event::Release { from } => progress.enter_release(alloc, *from),
         _ => return Err(NoMemory),
     }
     Ok(())

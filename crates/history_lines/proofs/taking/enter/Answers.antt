@@ -26,5 +26,8 @@ returns-in-Write-clause-takes c = takes_reading c.write.result c.args.ledger.now
 pub returns-in-Publish-clause-takes : goal.returns-in-Publish-clause-takes
 returns-in-Publish-clause-takes c = takes_alone c.publish.result c.args.ledger.now c.args.at c.args.progress.now c.publish.new.progress c.args.event.now (events.Publish c.in-Publish.count) c.in-Publish.is c.publish.ensures.takes
 
+pub returns-in-Release-clause-takes : goal.returns-in-Release-clause-takes
+returns-in-Release-clause-takes c = takes_alone c.release.result c.args.ledger.now c.args.at c.args.progress.now c.release.new.progress c.args.event.now (events.Release c.in-Release.from) c.in-Release.is c.release.ensures.takes
+
 pub returns-in_default-clause-takes : goal.returns-in_default-clause-takes
 returns-in_default-clause-takes c = takes_alone c.enter_alone.result c.args.ledger.now c.args.at c.args.progress.now c.enter_alone.new.progress c.args.event.now c.args.event.now refl c.enter_alone.ensures.takes

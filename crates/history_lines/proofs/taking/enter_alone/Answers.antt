@@ -22,6 +22,3 @@ returns-in-Visible-clause-takes c = event_takes c.args.progress.now c.enter_visi
 
 pub returns-in-Gone-clause-takes : goal.returns-in-Gone-clause-takes
 returns-in-Gone-clause-takes c = event_takes c.args.progress.now c.enter_gone.new.self c.args.event.now (events.Gone c.in-Gone.from) c.in-Gone.is c.enter_gone.ensures.holds (λ seen. c.enter_gone.ensures.kept) c.enter_gone.ensures.answer
-
-pub returns-in-Release-clause-takes : goal.returns-in-Release-clause-takes
-returns-in-Release-clause-takes c = event_takes c.args.progress.now c.enter_release.new.self c.args.event.now (events.Release c.in-Release.from) c.in-Release.is c.enter_release.ensures.holds (λ seen. c.enter_release.ensures.kept) c.enter_release.ensures.answer
