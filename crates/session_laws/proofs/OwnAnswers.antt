@@ -18,7 +18,7 @@ use Rattle.cacheless.specs.Lines.{line_of, lines_from, lines_of_backend}
 use Rattle.cacheless.specs.OnCourse.{is_absent, is_over, IsOnCourse, CourseOf, AllOnCourse, EntersCourse}
 use Rattle.cacheless.specs.Played.{AreSpelled, IsPlayed}
 use Rattle.cacheless.specs.Plays.{Plays, MayPlayIn, MayPlayAt, IsNext, IsEnd}
-use Rattle.cacheless.specs.Session.{Session, number_of, outcome_of, is_settled, first_of, at_command}
+use Rattle.cacheless.specs.Session.{Session, number_of, outcome_of, is_settled, first_of, none_open, at_command}
 use Rattle.cacheless.specs.Sessions.{noted, ends_command, placed_at, commands_left, entered, session_of}
 use Rattle.cacheless.specs.Settled.{finished_as, settled}
 use Rattle.cacheless.specs.Silently.{is_to_answer}
@@ -269,19 +269,19 @@ start_answers scenario seen was now before spelled legal plays follows started k
   holds = started.holds;
   places = record {
     kept = subst (AreLastScans (seen ++ e ∷ []) now.id) (sym (kept ∙ before.waits.new.kept)) (λ scan. tt);
-    absent = keeps_none (seen ++ e ∷ []) now (ap is_absent (ap (λ (s : Session). s.left) started.session) ∙ not_absent no_block (slice_get was.commands 0));
+    absent = keeps_none (seen ++ e ∷ []) now (ap is_absent (ap (λ (s : Session). s.left) started.session) ∙ not_absent no_block none_open (slice_get was.commands 0));
   };
   tells = record {
     played = longer.0;
-    course = subst (λ k. EntersCourse scenario (seen ++ e ∷ []) k (session_at now started.holds.rest)) (sym started.moves.id) (subst (EntersCourse scenario (seen ++ e ∷ []) b) (sym (started.session ∙ ap (at_command no_block [] [] (length seen + 1)) first_is))
-        (begins_on_course scenario (seen ++ e ∷ []) b no_block [] [] (length seen + 1) (commands_of scenario b) refl (λ n after. has_written-quiet seen e b n refl ∙ before.unwritten n) refl));
+    course = subst (λ k. EntersCourse scenario (seen ++ e ∷ []) k (session_at now started.holds.rest)) (sym started.moves.id) (subst (EntersCourse scenario (seen ++ e ∷ []) b) (sym (started.session ∙ ap (at_command no_block none_open [] [] (length seen + 1)) first_is))
+        (begins_on_course scenario (seen ++ e ∷ []) b no_block none_open [] [] (length seen + 1) (commands_of scenario b) refl (λ n after. has_written-quiet seen e b n refl ∙ before.unwritten n) refl));
     tells = record {
       answer = λ text command told at. absurd (let both : None ≡ Some text = sym (answer ∙ before.waits.new.answer) ∙ told in cc both);
       out = λ some. absurd (both_ways _ (ap (λ o. is_some o) (answer ∙ before.waits.new.answer)) some);
     };
     here = λ command at none. record {
       judged = omega (arith, length_push seen e, ap (λ (s : Session). s.judged) started.session);
-      stands = (λ i. is_over (last_event_of (seen ++ e ∷ []) (started.moves.id i)) (started.session i)) ∙ ap (λ o. is_over o (at_command no_block [] [] (length seen + 1) (slice_get was.commands 0))) (last_event_of-own seen e b own);
+      stands = (λ i. is_over (last_event_of (seen ++ e ∷ []) (started.moves.id i)) (started.session i)) ∙ ap (λ o. is_over o (at_command no_block none_open [] [] (length seen + 1) (slice_get was.commands 0))) (last_event_of-own seen e b own);
     };
     last = omega (arith, length_push seen e, ap (λ (s : Session). s.last) started.session);
     back = λ from command gone at. absurd (let both : Some events.Start ≡ Some (events.Gone from) = sym (last_event_of-own seen e b own) ∙ ap (last_event_of (seen ++ e ∷ [])) (sym started.moves.id) ∙ gone in cc both);

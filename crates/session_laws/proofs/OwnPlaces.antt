@@ -81,7 +81,7 @@ scan_there facts s scan (Absent name) at is = absurd (both_ways _ (ap (λ p. is_
 scan_there facts s scan plan at is = refl
 
 scan_plays : (next : ℕ) (facts : Facts) (o : Option Command) (s : Session) (scan : Purpose) (count : ℕ) → MayPlayIn next facts o s (events.Scan scan count) → is_absent s.left ≡ false
-scan_plays next facts None s scan count plays = absurd plays
+scan_plays next facts None s scan count plays = scan_there facts s scan s.left refl plays.1
 scan_plays next facts (Some command) s scan count plays = scan_there facts s scan s.left refl plays.1
 
 -- with a fetch a lookup that found no relation is made anew
@@ -89,7 +89,7 @@ fetch_there : (scenario : Scenario) (seen : List Entry) (was : Progress) (rests 
 fetch_there scenario seen was rests = by_plan (plan_at was.opens was.exec) refl
   where
     by_plan : (p : Plan) → plan_at was.opens was.exec ≡ p → is_absent (resumed p (session_at was rests.holds.rest)).left ≡ false
-    by_plan (Absent name) at = ap is_absent (rests.holds.sought (ap is_absent at)) ∙ never_absent was.exec
+    by_plan (Absent name) at = ap is_absent (rests.holds.sought (ap is_absent at)) ∙ never_absent was.opens was.exec
     by_plan p at = ap is_absent at
 
 -- after its write a command has come out well
