@@ -43,7 +43,7 @@ choice_sound scenario seen s waits courses = record {
         quiet : is_quiet s.progress.due ≡ true
         quiet = sym waits.rests.holds.facts.quiet ∙ quiet_look facts.last look owed
 
-        before : LooksFit facts (waiting waits) s.looked s.looked_to_build s.told
+        before : LooksFit facts (waiting waits) s.looked s.frames s.told
         before = waits.fits.looks (going scenario seen s waits courses command at)
 
         has : has_looked_at s.progress ≡ true

@@ -90,7 +90,7 @@ module _ (scenario : Scenario) (seen : List Entry) (s : Backend) (waits : Awaits
   end_plays = (holds_decides s.progress (next_oid seen) event true (sym may_now) scenario seen waits.rests.holds).0 refl
 
   pub end_now : EndsBy (facts_of seen s.progress.id) (command_at s) (waiting waits) event
-  end_now = ends_by (next_oid seen) (facts_of seen s.progress.id) (command_at s) (waiting waits) s.looked s.looked_to_build s.told event ends waits.fits end_plays
+  end_now = ends_by (next_oid seen) (facts_of seen s.progress.id) (command_at s) (waiting waits) s.looked s.frames s.told event ends waits.fits end_plays
 
   -- it may be called for
   pub end_call : FollowsVisible (is_visible (running_transaction_of seen s.progress.id)) event → FollowsGone (last_event_of seen s.progress.id) event → AllowsEvent seen s.progress.id (s.progress.finished + 1) event → MayCall scenario seen (entry_of s.progress.id (s.progress.finished + 1) event)
@@ -113,11 +113,11 @@ built_at scenario seen s waits command at = subst (λ c. runs c ≡ true) (get_o
 pub end_enters : (scenario : Scenario) (old new : List Entry) (had has : ℕ → ℕ) (was : Backend) (event : Event) (p : Progress) (waits : AwaitsEntry scenario old was) → ends_command event ≡ true → IsPlayed scenario old → AllOnCourse scenario old → EndsNext was event
     → HasEntered scenario old was.progress event waits.rests p → KeepsScans old was.progress event p → p.answer ≡ was.progress.answer
     → Fits (facts_by old was.progress.id (was.progress.finished + 1) event (facts_of old was.progress.id)) (command_at was)
-    (entered (facts_of (with_own old was.progress event) was.progress.id) (drop was.progress.finished was.progress.commands) (length old + 1) (was.progress.finished + 1) event (waiting waits)) was.looked was.looked_to_build was.told
+    (entered (facts_of (with_own old was.progress event) was.progress.id) (drop was.progress.finished was.progress.commands) (length old + 1) (was.progress.finished + 1) event (waiting waits)) was.looked was.frames was.told
     → Appends old new had has (entry_of was.progress.id (was.progress.finished + 1) event) → Enters scenario old new had has was (record was { progress = p })
 end_enters scenario old new had has was event p waits ends played courses next goes kept same fits appends =
     own_enters scenario old new had has was (record was { progress = p }) event waits played courses (record { plays = end_plays scenario old was waits event ends next; truly = plain.truly; queue = plain.queue }) goes kept
-    (fits_at scenario old was event waits p goes was.looked was.looked_to_build was.told fits) refl plain.lives refl plain.on (same ∙ sym (plain.answers was.progress.answer)) appends
+    (fits_at scenario old was event waits p goes was.looked was.frames was.told fits) refl plain.lives refl plain.on (same ∙ sym (plain.answers was.progress.answer)) appends
   where
     plain : IsPlain scenario old was.progress.id (was.progress.finished + 1) event
     plain = is_plain scenario old was.progress.id (was.progress.finished + 1) event ends

@@ -79,8 +79,8 @@ pub failed_enters : (scenario : Scenario) (old new : List Entry) (had has : ℕ 
 failed_enters scenario old new had has was p event error command waits played courses acting unlooked shows plays goes kept none appends =
     own_enters scenario old new had has was (record was { progress = p }) event waits played courses (record { plays = plays; truly = shows.truly; queue = shows.queue }) goes
     (shows.keeps p kept)
-    (fits_at scenario old was event waits p goes was.looked was.looked_to_build was.told
-    (inside_fits scenario old was waits courses command acting.at later now was.looked was.looked_to_build was.told same shows.lists shows.last
+    (fits_at scenario old was event waits p goes was.looked was.frames was.told
+    (inside_fits scenario old was waits courses command acting.at later now was.looked was.frames was.told same shows.lists shows.last
     (record { blocks = shows.blocks; finished = ap length shows.finished; blocked = shows.blocked; ended = shows.ended; left = λ is there. absurd (both_ways _ acting.unsettled is) }) acting.runs (Acts acting.unsettled) looks (λ made. absurd (unlooked made)) (subst (TakesFit (number_of now) now.locks now.taken) (sym shows.left) (takes_none now.taken))))
     refl shows.lives refl shows.on (none ∙ sym (shows.unanswered was.progress.answer)) appends
   where
@@ -97,13 +97,13 @@ failed_enters scenario old new had has was p event error command waits played co
     same : later.running ≡ (facts_of old was.progress.id).running
     same = shows.running ∙ runs_on (was.progress.finished + 1) (facts_of old was.progress.id).running acting.runs
 
-    before : LooksFit (facts_of old was.progress.id) (waiting waits) was.looked was.looked_to_build was.told
+    before : LooksFit (facts_of old was.progress.id) (waiting waits) was.looked was.frames was.told
     before = waits.fits.looks (going scenario old was waits courses command acting.at)
 
     started : started_in (number_of now) later ≡ started_in (number_of (waiting waits)) (facts_of old was.progress.id)
     started = (λ i. started_in (length (shows.finished i) + 1) (record (facts_of old was.progress.id) { running = same i }))
 
-    looks : LooksFit later now was.looked was.looked_to_build was.told
+    looks : LooksFit later now was.looked was.frames was.told
     looks = record {
       enough = omega (arith, before.enough, ap looks_due acting.owed, ap looks_due shows.owes, started, ap (λ (t : Tally). t.looks) shows.tally, ap (λ (t : Tally). t.scans) shows.tally, ap (λ (t : Tally). t.grants) shows.tally, ap (λ (t : Tally). t.full) shows.tally);
       within = omega (arith, before.within, ap looks_due acting.owed, ap looks_due shows.owes, started, ap (λ (t : Tally). t.looks) shows.tally, ap (λ (t : Tally). t.scans) shows.tally, ap (λ (t : Tally). t.grants) shows.tally, ap (λ (t : Tally). t.fetches) shows.tally);

@@ -29,7 +29,7 @@ use Rattle.cacheless.specs.State.{owed_at, one_if, kept_at, nothing_kept, kept_s
 use Rattle.session_laws.specs.Awaiting.{KeepsScans, answer_after}
 use Rattle.backend_core.specs.Types.{Oid, Purpose, Command, Scenario, Entry, Event, Message, OwnLock, Progress, Backend}
 use Rattle.backend_core.specs.Agrees.{IsPlayed, command_at, AwaitsEntry}
-use Rattle.backend_core.specs.Fits.{looks_due, LooksFit, TakesFit, IsLookedFor, Lacks, Unfound, Said, lacks_name, finds_no_name, Fits}
+use Rattle.backend_core.specs.Fits.{looks_due, LooksFit, TakesFit, IsLookedFor, Lacks, Unfound, Said, lacks_scan, finds_no_name, Fits}
 use Rattle.backend_core.specs.Steps.{Enters}
 use Rattle.backend_core.specs.Words.{is_unfound, finds_none, has_begun, marks_build, told_after}
 use Rattle.backend_core.proofs.Choosing.Chosen.{Busy, due_busy, may_call, hidden, one_at_most, started_still}
@@ -124,21 +124,21 @@ told_most true more = omega arith
 told_most false more = one_at_most more
 
 -- and of both looks at most one; or messages came since a lookup began
-fewer_by_one : (looked to_build told unfound marked : Bool) → one_if looked + one_if to_build + one_if ((told || (looked && not (not unfound && marked))) && not unfound) ≤ one_if (looked && not unfound) + one_if (to_build && not (not unfound && marked)) + 1 + one_if told
-fewer_by_one looked to_build told true marked = omega (arith, ap one_if (and-false looked), ap one_if (and-true to_build), ap one_if (and-false (told || (looked && true))), one_at_most looked)
-fewer_by_one looked to_build told false true = omega (arith, ap one_if (and-true looked), ap one_if (and-false to_build), ap one_if (and-true (told || (looked && false)) ∙ ap (λ t. told || t) (and-false looked) ∙ or-false told), one_at_most to_build)
-fewer_by_one looked to_build told false false = omega (arith, ap one_if (and-true looked), ap one_if (and-true to_build), ap one_if (and-true (told || (looked && true))), told_most told (looked && true))
+fewer_by_one : (looked frames told unfound marked : Bool) → one_if looked + one_if to_build + one_if ((told || (looked && not (not unfound && marked))) && not unfound) ≤ one_if (looked && not unfound) + one_if (to_build && not (not unfound && marked)) + 1 + one_if told
+fewer_by_one looked frames told true marked = omega (arith, ap one_if (and-false looked), ap one_if (and-true to_build), ap one_if (and-false (told || (looked && true))), one_at_most looked)
+fewer_by_one looked frames told false true = omega (arith, ap one_if (and-true looked), ap one_if (and-false to_build), ap one_if (and-true (told || (looked && false)) ∙ ap (λ t. told || t) (and-false looked) ∙ or-false told), one_at_most to_build)
+fewer_by_one looked frames told false false = omega (arith, ap one_if (and-true looked), ap one_if (and-true to_build), ap one_if (and-true (told || (looked && true))), told_most told (looked && true))
 
 -- what the choice keeps after it
-fetch_fits : (facts : Facts) (o : Option Command) (s now : Session) (event : Event) (usable : Purpose → Bool) (command : Command) (looked to_build told unfound marked : Bool) → ((scan : Purpose) → facts.usable scan ≡ false → usable scan ≡ false) → (is_absent s.left ≡ true → unfound ≡ true) → (finds_no_name facts s.taken s.left ≡ true → unfound ≡ true) → o ≡ Some command → Fits facts o s looked to_build told → IsFetched s now event → is_some facts.running ≡ true → is_visible facts.running ≡ false
+fetch_fits : (facts : Facts) (o : Option Command) (s now : Session) (event : Event) (usable : Purpose → Bool) (command : Command) (looked frames told unfound marked : Bool) → ((scan : Purpose) → facts.usable scan ≡ false → usable scan ≡ false) → (is_absent s.left ≡ true → unfound ≡ true) → (finds_no_name facts s.taken s.left ≡ true → unfound ≡ true) → o ≡ Some command → Fits facts o s looked frames told → IsFetched s now event → is_some facts.running ≡ true → is_visible facts.running ≡ false
     → s.ended ≡ false → owed_after facts.last ≡ OwesFetch ∷ [] → Fits (fetched_facts facts s event usable) o now (looked && not unfound) (to_build && not (not unfound && marked)) ((told || (looked && not (not unfound && marked))) && not unfound)
-fetch_fits facts o s now event usable command looked to_build told unfound marked spares says finds at fits fetched runs hides goes owed = fits_inside facts later o s now looked to_build told (looked && not unfound) (to_build && not (not unfound && marked)) ((told || (looked && not (not unfound && marked))) && not unfound) command at fits
+fetch_fits facts o s now event usable command looked frames told unfound marked spares says finds at fits fetched runs hides goes owed = fits_inside facts later o s now looked frames told (looked && not unfound) (to_build && not (not unfound && marked)) ((told || (looked && not (not unfound && marked))) && not unfound) command at fits
     (record { runs = refl; written = λ is. begun_written (number_of s) facts.running (fits.written is); last = fetched.last }) fetched.stays (Goes runs) hides goes looks sought (fetched.takes fits.takes)
   where
     later : Facts
     later = fetched_facts facts s event usable
 
-    before : LooksFit facts s looked to_build told
+    before : LooksFit facts s looked frames told
     before = fits.looks goes
 
     started : started_in (number_of now) later ≡ started_in (number_of s) facts
@@ -147,14 +147,14 @@ fetch_fits facts o s now event usable command looked to_build told unfound marke
     looks : LooksFit later now (looked && not unfound) (to_build && not (not unfound && marked)) ((told || (looked && not (not unfound && marked))) && not unfound)
     looks = record {
       enough = omega (arith, before.enough, ap looks_due owed, started, fetched.looks, fetched.scans, fetched.grants, fetched.full, fewer_looked to_build (not unfound && marked), fewer_looked looked unfound);
-      within = omega (arith, before.within, ap looks_due owed, started, fetched.looks, fetched.scans, fetched.grants, fetched.fetches, fetched.due, fewer_by_one looked to_build told unfound marked);
+      within = omega (arith, before.within, ap looks_due owed, started, fetched.looks, fetched.scans, fetched.grants, fetched.fetches, fetched.due, fewer_by_one looked frames told unfound marked);
     }
 
     -- what a look was made for that counts still is lacking still
     sought : (looked && not unfound) ≡ true → IsLookedFor later now.taken now.left
     sought made = let parts = and_parts looked (not unfound) made in by_case (not_true unfound parts.1) (fits.sought parts.0)
       where
-        by_plan : (p : Plan) → lacks_name facts p ≡ true → lacks_name later p ≡ true
+        by_plan : (p : Plan) → lacks_scan facts p ≡ true → lacks_scan later p ≡ true
         by_plan (Do (Lookup name mode) rest) is = ap not (spares (scans.RelName name) (not_true (facts.usable (scans.RelName name)) is))
         by_plan (Do (Search scan) rest) is = ap not (spares scan (not_true (facts.usable scan) is))
         by_plan (Done told) is = by_scan (told_rests_on told) is
@@ -164,12 +164,12 @@ fetch_fits facts o s now event usable command looked to_build told unfound marke
             by_scan (Some scan) lacks = ap not (spares scan (not_true (facts.usable scan) lacks))
         by_plan p is = absurd (cc is)
 
-        there : (p : Plan) → lacks_name facts p ≡ true → is_absent p ≡ false
+        there : (p : Plan) → lacks_scan facts p ≡ true → is_absent p ≡ false
         there (Absent name) is = absurd (cc is)
         there p is = refl
 
         by_case : unfound ≡ false → IsLookedFor facts s.taken s.left → IsLookedFor later now.taken now.left
-        by_case none (Lacks is) = Lacks (subst (λ p. lacks_name later p ≡ true) (sym (fetched.left (there s.left is))) (by_plan s.left is))
+        by_case none (Lacks is) = Lacks (subst (λ p. lacks_scan later p ≡ true) (sym (fetched.left (there s.left is))) (by_plan s.left is))
         by_case none (Unfound is look) = absurd (both_ways _ none (finds is))
         by_case none (Said is) = absurd (both_ways _ none (says is))
 
@@ -187,12 +187,12 @@ record BringsBack (scenario : Scenario) (old : List Entry) (was : Backend) (even
 -- after either the backend agrees
 fetch_agrees : (scenario : Scenario) (old new : List Entry) (had has : ℕ → ℕ) (was : Backend) (p : Progress) (event : Event) (unfound marked : Bool) (waits : AwaitsEntry scenario old was) → unfound ≡ finds_none was.progress → IsPlayed scenario old → AllOnCourse scenario old → was.progress.due ≡ dues.Fetch → BringsBack scenario old was event waits
     → HasEntered scenario old was.progress event waits.rests p → KeepsScans old was.progress event p → p.answer ≡ None → Appends old new had has (entry_of was.progress.id (was.progress.finished + 1) event)
-    → Enters scenario old new had has was (record was { progress = p; looked = was.looked && not unfound; looked_to_build = was.looked_to_build && not (not unfound && marked); told = told_after was unfound (not unfound && marked) })
+    → Enters scenario old new had has was (record was { progress = p; looked = was.looked && not unfound; frames = was.frames && not (not unfound && marked); told = told_after was unfound (not unfound && marked) })
 fetch_agrees scenario old new had has was p event unfound marked waits unfound_is played courses is_fetch brings goes kept none appends =
-    own_enters scenario old new had has was (record was { progress = p; looked = was.looked && not unfound; looked_to_build = was.looked_to_build && not (not unfound && marked); told = told_after was unfound (not unfound && marked) }) event waits played courses brings.own goes
+    own_enters scenario old new had has was (record was { progress = p; looked = was.looked && not unfound; frames = was.frames && not (not unfound && marked); told = told_after was unfound (not unfound && marked) }) event waits played courses brings.own goes
     kept
-    (fits_at scenario old was event waits p goes (was.looked && not unfound) (was.looked_to_build && not (not unfound && marked)) (told_after was unfound (not unfound && marked)) (subst (λ f. Fits f (command_at was) (entered (facts_of (with_own old was.progress event) b) (drop was.progress.finished was.progress.commands) (length old + 1) (was.progress.finished + 1) event s) (was.looked && not unfound) (was.looked_to_build && not (not unfound && marked)) (told_after was unfound (not unfound && marked))) (sym brings.facts)
-    (fetch_fits (facts_of old b) (command_at was) s _ event brings.usable due.command was.looked was.looked_to_build was.told unfound marked brings.spares (λ absent. unfound_is ∙ ap (λ t. t || is_unfound was.progress (plan_at was.progress.exec)) absent) (λ finds. unfound_is ∙ ap (λ t. is_absent (plan_at was.progress.exec) || t) (unfound_held (facts_of old b) was.progress (plan_at was.progress.exec) waits.rests.holds.facts finds) ∙ or-true (is_absent (plan_at was.progress.exec))) due.at waits.fits brings.fetched due.runs (hidden scenario old was waits due.command due.at due.busy) (going scenario old was waits courses due.command due.at) due.owed)))
+    (fits_at scenario old was event waits p goes (was.looked && not unfound) (was.frames && not (not unfound && marked)) (told_after was unfound (not unfound && marked)) (subst (λ f. Fits f (command_at was) (entered (facts_of (with_own old was.progress event) b) (drop was.progress.finished was.progress.commands) (length old + 1) (was.progress.finished + 1) event s) (was.looked && not unfound) (was.frames && not (not unfound && marked)) (told_after was unfound (not unfound && marked))) (sym brings.facts)
+    (fetch_fits (facts_of old b) (command_at was) s _ event brings.usable due.command was.looked was.frames was.told unfound marked brings.spares (λ absent. unfound_is ∙ ap (λ t. t || is_unfound was.progress (plan_at was.progress.exec)) absent) (λ finds. unfound_is ∙ ap (λ t. is_absent (plan_at was.progress.exec) || t) (unfound_held (facts_of old b) was.progress (plan_at was.progress.exec) waits.rests.holds.facts finds) ∙ or-true (is_absent (plan_at was.progress.exec))) due.at waits.fits brings.fetched due.runs (hidden scenario old was waits due.command due.at due.busy) (going scenario old was waits courses due.command due.at) due.owed)))
     refl brings.lives refl brings.on (none ∙ sym (brings.unanswered was.progress.answer)) appends
   where
     b : ℕ
@@ -288,7 +288,7 @@ fetched_count old b count due = length-take-le count (drop (position_of old b) (
 pub messages_enter : (scenario : Scenario) (old new : List Entry) (had has : ℕ → ℕ) (was now : Backend) (count : ℕ) (taken given : List Message) (waits : AwaitsEntry scenario old was) → IsPlayed scenario old → AllOnCourse scenario old → was.progress.due ≡ dues.Fetch
     → Fetches scenario.size old new had has was.progress.id (was.progress.finished + 1) taken (fetches.Messages count) → given ≡ taken
     → (given ≡ fetched_by old was.progress.id (length given) → HasEntered scenario old was.progress (events.Fetch (length given)) waits.rests now.progress) → kept_at now.progress ≡ kept_spared given (kept_at was.progress) → now.progress.answer ≡ None
-    → now ≡ record was { progress = now.progress; looked = was.looked && not (finds_none was.progress); looked_to_build = was.looked_to_build && not (not (finds_none was.progress) && marks_build was.progress given); told = told_after was (finds_none was.progress) (not (finds_none was.progress) && marks_build was.progress given) } → Enters scenario old new had has was now
+    → now ≡ record was { progress = now.progress; looked = was.looked && not (finds_none was.progress); frames = was.frames && not (not (finds_none was.progress) && marks_build was.progress given); told = told_after was (finds_none was.progress) (not (finds_none was.progress) && marks_build was.progress given) } → Enters scenario old new had has was now
 messages_enter scenario old new had has was now count taken given waits played courses due gives same goes kept none is =
     subst (Enters scenario old new had has was) (sym is)
     (fetch_agrees scenario old new had has was now.progress (events.Fetch (length given)) (finds_none was.progress) (marks_build was.progress given) waits refl played courses due (messages_bring scenario old was (length given) waits due gives.served) (goes are) (kept ∙ ap (λ m. kept_spared m (kept_at was.progress)) are) none
@@ -303,7 +303,7 @@ messages_enter scenario old new had has was now count taken given waits played c
 -- a reset
 pub reset_enters : (scenario : Scenario) (old new : List Entry) (had has : ℕ → ℕ) (was now : Backend) (given : List Message) (waits : AwaitsEntry scenario old was) → IsPlayed scenario old → AllOnCourse scenario old → was.progress.due ≡ dues.Fetch
     → Fetches scenario.size old new had has was.progress.id (was.progress.finished + 1) given fetches.Reset → HasEntered scenario old was.progress events.FetchReset waits.rests now.progress → kept_at now.progress ≡ nothing_kept → now.progress.answer ≡ None
-    → now ≡ record was { progress = now.progress; looked = was.looked && not (finds_none was.progress); looked_to_build = was.looked_to_build && not (not (finds_none was.progress) && has_begun was.progress); told = told_after was (finds_none was.progress) (not (finds_none was.progress) && has_begun was.progress) } → Enters scenario old new had has was now
+    → now ≡ record was { progress = now.progress; looked = was.looked && not (finds_none was.progress); frames = was.frames && not (not (finds_none was.progress) && has_begun was.progress); told = told_after was (finds_none was.progress) (not (finds_none was.progress) && has_begun was.progress) } → Enters scenario old new had has was now
 reset_enters scenario old new had has was now given waits played courses due gives goes kept none is =
     subst (Enters scenario old new had has was) (sym is)
     (fetch_agrees scenario old new had has was now.progress events.FetchReset (finds_none was.progress) (has_begun was.progress) waits refl played courses due (reset_brings scenario old was waits due gives.lapped) goes kept none gives.appends)

@@ -79,11 +79,11 @@ join_enters scenario old new had has was p before played started kept same appen
       places = answers.places;
     };
     holds = started.holds;
-    fits = subst (λ f. Fits f (slice_get p.commands p.finished) (session_at p started.holds.rest) was.looked was.looked_to_build was.told) (sym facts_are)
-        (subst (λ x. Fits facts (slice_get p.commands p.finished) x was.looked was.looked_to_build was.told) (sym started.session)
-        (subst (λ o. Fits facts o (at_command no_block [] [] (length old + 1) (slice_get was.progress.commands 0)) was.looked was.looked_to_build was.told) (sym first_command)
-        (subst (λ t. Fits facts (slice_get was.progress.commands 0) (at_command no_block [] [] (length old + 1) (slice_get was.progress.commands 0)) was.looked was.looked_to_build t) (sym before.new.told)
-        (subst (λ t. Fits facts (slice_get was.progress.commands 0) (at_command no_block [] [] (length old + 1) (slice_get was.progress.commands 0)) was.looked t false) (sym before.new.looked_to_build)
+    fits = subst (λ f. Fits f (slice_get p.commands p.finished) (session_at p started.holds.rest) was.looked was.frames was.told) (sym facts_are)
+        (subst (λ x. Fits facts (slice_get p.commands p.finished) x was.looked was.frames was.told) (sym started.session)
+        (subst (λ o. Fits facts o (at_command no_block [] [] (length old + 1) (slice_get was.progress.commands 0)) was.looked was.frames was.told) (sym first_command)
+        (subst (λ t. Fits facts (slice_get was.progress.commands 0) (at_command no_block [] [] (length old + 1) (slice_get was.progress.commands 0)) was.looked was.frames t) (sym before.new.told)
+        (subst (λ t. Fits facts (slice_get was.progress.commands 0) (at_command no_block [] [] (length old + 1) (slice_get was.progress.commands 0)) was.looked t false) (sym before.new.frames)
         (subst (λ t. Fits facts (slice_get was.progress.commands 0) (at_command no_block [] [] (length old + 1) (slice_get was.progress.commands 0)) t false false) (sym before.new.looked)
         (fits_first facts (slice_get was.progress.commands 0) (length old + 1) refl (ap (λ f. f.lists) before.facts) refl))))));
     tells = answers.tells;

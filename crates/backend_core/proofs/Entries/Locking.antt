@@ -30,7 +30,7 @@ use Rattle.cacheless.proofs.Allowed.NextKeeps as keeping
 use Rattle.cacheless.proofs.SameRows.{oid_decides}
 use Rattle.backend_core.specs.Types.{Oid, Mode, Row, Scenario, Entry, Event, Progress, Backend}
 use Rattle.backend_core.specs.Agrees.{IsPlayed, command_at, AwaitsEntry}
-use Rattle.backend_core.specs.Fits.{looks_due, LooksFit, IsLookedFor, lacks_name}
+use Rattle.backend_core.specs.Fits.{looks_due, LooksFit, IsLookedFor, lacks_scan}
 use Rattle.backend_core.specs.Steps.{IsLockNext, Enters}
 use Rattle.backend_core.proofs.Choosing.ActsRun.{act_runs}
 use Rattle.backend_core.proofs.Entries.Alike.{alike_enters}
@@ -114,7 +114,7 @@ module _ (scenario : Scenario) (old : List Entry) (was : Backend) (waits : Await
     owed = waits.rests.holds.facts.owed ∙ next.free.due;
   }
 
-  before : LooksFit facts s was.looked was.looked_to_build was.told
+  before : LooksFit facts s was.looked was.frames was.told
   before = waits.fits.looks (going scenario old was waits courses next.command next.free.at)
 
   same : Some (begun (was.progress.finished + 1) facts.running) ≡ facts.running
@@ -126,7 +126,7 @@ module _ (scenario : Scenario) (old : List Entry) (was : Backend) (waits : Await
 
   -- no look was made that isn't used
   unlooked : {X : Type 0} → IsLookedFor facts s.taken s.left → X
-  unlooked = no_look facts s.taken s.left (subst (λ p. lacks_name facts p ≡ false) (sym is_act.is) (act_serves facts is_act.act is_act.rest (nothing_owed facts next.command s is_act.act is_act.rest is_act.is asks.0)))
+  unlooked = no_look facts s.taken s.left (subst (λ p. lacks_scan facts p ≡ false) (sym is_act.is) (act_serves facts is_act.act is_act.rest (nothing_owed facts next.command s is_act.act is_act.rest is_act.is asks.0)))
       (lock_found facts s.taken s.left rel mode asks.2) (ap is_absent is_act.is)
 
   pub lock_free : has_lock was.progress.locks.items rel mode ≡ false
@@ -145,8 +145,8 @@ module _ (scenario : Scenario) (old : List Entry) (was : Backend) (waits : Await
     granted_enters goes appends = alike_enters scenario old new had has first was (record was { progress = p; told = false }) id (
         own_enters scenario old new had has was (record was { progress = p; told = false }) event waits played courses (record { plays = plays event next.may; truly = tt; queue = tt }) goes
         kept
-        (fits_at scenario old was event waits p goes was.looked was.looked_to_build false
-        (inside_fits scenario old was waits courses next.command next.free.at later now was.looked was.looked_to_build false same refl (λ from is. cc is) (record { blocks = refl; finished = refl; blocked = refl; ended = refl; left = λ is there. refl }) acting.runs (Acts acting.unsettled)
+        (fits_at scenario old was event waits p goes was.looked was.frames false
+        (inside_fits scenario old was waits courses next.command next.free.at later now was.looked was.frames false same refl (λ from is. cc is) (record { blocks = refl; finished = refl; blocked = refl; ended = refl; left = λ is there. refl }) acting.runs (Acts acting.unsettled)
         (record { enough = omega (arith, before.enough, ap looks_due acting.owed, started); within = omega (arith, before.within, ap looks_due acting.owed, started) })
         (λ made. unlooked (waits.fits.sought made)) (takes_cleared _ (number_of s) (s.locks ++ record { rel = rel; mode = mode; command = was.progress.finished + 1; clear = false } ∷ []) (Some rel) s.left
         (takes_granted facts (number_of s) (was.progress.finished + 1) s.locks s.left rel mode (ap (λ n. n + 1) (sym waits.rests.holds.count)) asks.2))))

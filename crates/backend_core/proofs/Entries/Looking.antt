@@ -24,7 +24,7 @@ use Rattle.cacheless.specs.Schedule.{LooksTruly}
 use Rattle.cacheless.specs.Session.{Session, number_of, is_settled, outcome_of}
 use Rattle.cacheless.specs.Sessions.{entered}
 use Rattle.cacheless.specs.State.{kept_at, owed_at, owed_first, begins_in, one_if, running_of}
-use Rattle.backend_core.specs.Types.{Command, Scenario, Entry, Event, Progress, Backend}
+use Rattle.backend_core.specs.Types.{Command, Scenario, Entry, Event, Progress, Backend, Frame}
 use Rattle.backend_core.specs.Agrees.{IsPlayed, command_at, AwaitsEntry}
 use Rattle.backend_core.specs.Fits.{looks_due, LooksFit, Fits, IsLookedFor, Lacks, Unfound, Said}
 use Rattle.backend_core.specs.Steps.{OwesLookNow, IsLookNext, Enters, IsScanNext, FindsNone, Looks, Says, IsAcceptNext}
@@ -98,19 +98,19 @@ abbrev looked_facts : Facts → Session → Bool → Facts
 looked_facts facts s some_wait = record facts { last = Some (events.Look some_wait); running = Some (begun (number_of s) facts.running) }
 
 -- a look that the choice makes: its transaction runs, or begins with it, and it is counted once at most; where it isn't, messages had come since a lookup began
-pub record LookCounts (facts : Facts) (s : Session) (command : Command) (looked to_build told looked_now to_build_now told_now : Bool) : Type 0 where
+pub record LookCounts (facts : Facts) (s : Session) (command : Command) (looked frames told looked_now to_build_now told_now : Bool) : Type 0 where
   pub goes : RunsHere facts (Some command) s
   pub owes : (owed_after facts.last ≡ []) ⊎ (owed_after facts.last ≡ OwesLook ∷ [])
   pub most : looks_due (owed_after facts.last) + (started_by (number_of s) (Some (begun (number_of s) facts.running)) + one_if looked_now + one_if to_build_now) ≤ started_in (number_of s) facts + one_if looked + one_if to_build + 1
   pub least : started_in (number_of s) facts + one_if looked + one_if to_build + 1 + one_if told_now ≤ looks_due (owed_after facts.last) + (started_by (number_of s) (Some (begun (number_of s) facts.running)) + one_if looked_now + one_if to_build_now) + one_if told
 
 -- in an accept
-counts_due : (facts : Facts) (s : Session) (command : Command) (looked to_build told : Bool) → owed_after facts.last ≡ OwesLook ∷ [] → is_some facts.running ≡ true → LookCounts facts s command looked to_build told looked to_build told
-counts_due facts s command looked to_build told owed runs = record { goes = Goes runs; owes = inr owed; most = omega (arith, ap looks_due owed, started_still (number_of s) (number_of s) facts.running runs); least = omega (arith, ap looks_due owed, started_still (number_of s) (number_of s) facts.running runs) }
+counts_due : (facts : Facts) (s : Session) (command : Command) (looked : Bool) (frames : List Frame) (told : Bool) → owed_after facts.last ≡ OwesLook ∷ [] → is_some facts.running ≡ true → LookCounts facts s command looked frames told looked frames told
+counts_due facts s command looked frames told owed runs = record { goes = Goes runs; owes = inr owed; most = omega (arith, ap looks_due owed, started_still (number_of s) (number_of s) facts.running runs); least = omega (arith, ap looks_due owed, started_still (number_of s) (number_of s) facts.running runs) }
 
 -- at the transaction's start
-counts_start : (facts : Facts) (s : Session) (command : Command) (looked to_build told : Bool) → owed_after facts.last ≡ [] → begins command s ≡ true → facts.running ≡ None → LookCounts facts s command looked to_build told looked to_build told
-counts_start facts s command looked to_build told owed starts none = record { goes = Starts command refl starts (begins_outside command s starts) none; owes = inl owed; most = omega (arith, ap looks_due owed, started_now (number_of s) facts.running none, none_before); least = omega (arith, ap looks_due owed, started_now (number_of s) facts.running none, none_before) }
+counts_start : (facts : Facts) (s : Session) (command : Command) (looked : Bool) (frames : List Frame) (told : Bool) → owed_after facts.last ≡ [] → begins command s ≡ true → facts.running ≡ None → LookCounts facts s command looked frames told looked frames told
+counts_start facts s command looked frames told owed starts none = record { goes = Starts command refl starts (begins_outside command s starts) none; owes = inl owed; most = omega (arith, ap looks_due owed, started_now (number_of s) facts.running none, none_before); least = omega (arith, ap looks_due owed, started_now (number_of s) facts.running none, none_before) }
   where
     none_before : started_in (number_of s) facts ≡ 0
     none_before = ap (λ o. started_by (number_of s) o) none
@@ -122,8 +122,8 @@ one_more false looked true none = ap (λ t. one_if (t || true) + 1) none ∙ sym
 one_more false looked false none = ap (λ t. one_if (t || true) + 0) none ∙ sym (ap (λ t. one_if t + 0 + 1) none)
 
 -- before a scan
-counts_scan : (facts : Facts) (s : Session) (command : Command) (builds looked to_build told looked_now to_build_now : Bool) → looked_now ≡ (looked || not builds) → to_build_now ≡ (to_build || builds) → owed_after facts.last ≡ [] → is_some facts.running ≡ true → elim builds [ true ↦ to_build | false ↦ looked ] ≡ false → LookCounts facts s command looked to_build told looked_now to_build_now told
-counts_scan facts s command builds looked to_build told looked_now to_build_now looked_is to_build_is owed runs none = record {
+counts_scan : (facts : Facts) (s : Session) (command : Command) (builds looked frames told looked_now to_build_now : Bool) → looked_now ≡ (looked || not builds) → to_build_now ≡ (to_build || builds) → owed_after facts.last ≡ [] → is_some facts.running ≡ true → elim builds [ true ↦ to_build | false ↦ looked ] ≡ false → LookCounts facts s command looked frames told looked_now to_build_now told
+counts_scan facts s command builds looked frames told looked_now to_build_now looked_is to_build_is owed runs none = record {
   goes = Goes runs;
   owes = inl owed;
   most = omega (arith, ap looks_due owed, started_still (number_of s) (number_of s) facts.running runs, ap one_if looked_is, ap one_if to_build_is, one_more builds looked to_build none);
@@ -138,8 +138,8 @@ told_less false true side = omega arith
 told_less false false side = omega arith
 
 -- before a lookup says that there is no relation
-counts_accept : (facts : Facts) (s : Session) (command : Command) (looked to_build told : Bool) → owed_after facts.last ≡ [] → is_some facts.running ≡ true → (looked ≡ false) ⊎ (told ≡ true) → LookCounts facts s command looked to_build told true to_build (told && not looked)
-counts_accept facts s command looked to_build told owed runs side = record {
+counts_accept : (facts : Facts) (s : Session) (command : Command) (looked : Bool) (frames : List Frame) (told : Bool) → owed_after facts.last ≡ [] → is_some facts.running ≡ true → (looked ≡ false) ⊎ (told ≡ true) → LookCounts facts s command looked frames told true to_build (told && not looked)
+counts_accept facts s command looked frames told owed runs side = record {
   goes = Goes runs;
   owes = inl owed;
   most = omega (arith, ap looks_due owed, started_still (number_of s) (number_of s) facts.running runs);
@@ -163,8 +163,8 @@ module _ (scenario : Scenario) (old : List Entry) (was : Backend) (waits : Await
   later_is : facts_by old was.progress.id (was.progress.finished + 1) event facts ≡ looked_facts facts s some_wait
   later_is = λ i. record facts { last = Some event; running = Some (begun (sym waits.rests.holds.count i + 1) facts.running) }
 
-  module _ (looked to_build told : Bool) (counts : LookCounts facts s command was.looked was.looked_to_build was.told looked to_build told) where
-    before : LooksFit facts s was.looked was.looked_to_build was.told
+  module _ (looked : Bool) (frames : List Frame) (told : Bool) (counts : LookCounts facts s command was.looked was.frames was.told looked frames told) where
+    before : LooksFit facts s was.looked was.frames was.told
     before = waits.fits.looks (going scenario old was waits courses command at)
 
     -- the look stays within its bound
@@ -172,23 +172,23 @@ module _ (scenario : Scenario) (old : List Entry) (was : Backend) (waits : Await
     within = omega (arith, before.within, counts.least, started_most (number_of s) (looked_facts facts s some_wait), one_at_most looked, one_at_most to_build)
 
     -- and is counted
-    looks_more : LooksFit (looked_facts facts s some_wait) now looked to_build told
+    looks_more : LooksFit (looked_facts facts s some_wait) now looked frames told
     looks_more = record { enough = omega (arith, before.enough, counts.most, looked_due some_wait); within = omega (arith, before.within, counts.least, looked_due some_wait) }
 
-    look_fits : is_visible facts.running ≡ false → (looked ≡ true → IsLookedFor (looked_facts facts s some_wait) s.taken s.left) → Fits (facts_by old was.progress.id (was.progress.finished + 1) event facts) (command_at was) now looked to_build told
-    look_fits hides sought = subst (λ f. Fits f (command_at was) now looked to_build told) (sym later_is) (subst (λ o. Fits (looked_facts facts s some_wait) o now looked to_build told) (sym at)
-        (fits_inside facts (looked_facts facts s some_wait) (Some command) s now was.looked was.looked_to_build was.told looked to_build told command refl (subst (λ o. Fits facts o s was.looked was.looked_to_build was.told) at waits.fits)
+    look_fits : is_visible facts.running ≡ false → (looked ≡ true → IsLookedFor (looked_facts facts s some_wait) s.taken s.left) → Fits (facts_by old was.progress.id (was.progress.finished + 1) event facts) (command_at was) now looked frames told
+    look_fits hides sought = subst (λ f. Fits f (command_at was) now looked frames told) (sym later_is) (subst (λ o. Fits (looked_facts facts s some_wait) o now looked frames told) (sym at)
+        (fits_inside facts (looked_facts facts s some_wait) (Some command) s now was.looked was.frames was.told looked frames told command refl (subst (λ o. Fits facts o s was.looked was.frames was.told) at waits.fits)
         (record { runs = refl; written = λ is. begun_written (number_of s) facts.running (waits.fits.written is); last = λ from is. cc is })
         (record { blocks = refl; finished = refl; blocked = refl; ended = refl; left = λ is there. refl }) counts.goes hides (going scenario old was waits courses command at) looks_more sought (takes_cleared _ (number_of s) s.locks s.taken s.left waits.fits.takes)))
 
     -- so after it the backend agrees
     pub look_agrees : (new : List Entry) (had has : ℕ → ℕ) (p : Progress) → IsPlayed scenario old → some_wait ≡ is_waiting old was.progress.id → Busy was.progress command → (looked ≡ true → IsLookedFor (looked_facts facts s some_wait) s.taken s.left) → HasEntered scenario old was.progress event waits.rests p → kept_at p ≡ kept_at was.progress → p.answer ≡ None
-        → Appends old new had has (entry_of was.progress.id (was.progress.finished + 1) event) → Enters scenario old new had has was (record was { progress = p; looked = looked; looked_to_build = to_build; told = told })
+        → Appends old new had has (entry_of was.progress.id (was.progress.finished + 1) event) → Enters scenario old new had has was (record was { progress = p; looked = looked; frames = to_build; told = told })
     look_agrees new had has p played is busy sought goes kept none appends =
-        own_enters scenario old new had has was (record was { progress = p; looked = looked; looked_to_build = to_build; told = told }) event waits played courses
+        own_enters scenario old new had has was (record was { progress = p; looked = looked; frames = to_build; told = told }) event waits played courses
         (record { plays = subst (λ o. MayPlayIn (next_oid old) facts o s event) (sym at) (look_may facts s counts.owes within); truly = look_true old was.progress.id some_wait (sym is); queue = tt })
         goes kept
-        (fits_at scenario old was event waits p goes looked to_build told (look_fits (hidden scenario old was waits command at busy) sought))
+        (fits_at scenario old was event waits p goes looked frames told (look_fits (hidden scenario old was waits command at busy) sought))
         refl refl refl (λ stop. cc stop) none appends
 
 -- the look that is owed
@@ -196,17 +196,17 @@ pub look_enters : (scenario : Scenario) (old new : List Entry) (had has : ℕ �
     → HasEntered scenario old was.progress (events.Look some_wait) waits.rests p → kept_at p ≡ kept_at was.progress → p.answer ≡ None
     → Appends old new had has (entry_of was.progress.id (was.progress.finished + 1) (events.Look some_wait)) → Enters scenario old new had has was (record was { progress = p })
 look_enters scenario old new had has was p some_wait waits played courses next is goes kept none appends =
-    look_agrees scenario old was waits courses next.command next.at some_wait was.looked was.looked_to_build was.told (by_side next.owes) new had has p played is (look_busy was.progress next)
+    look_agrees scenario old was waits courses next.command next.at some_wait was.looked was.frames was.told (by_side next.owes) new had has p played is (look_busy was.progress next)
     (λ made. sought_looked facts (looked_facts facts (waiting waits) some_wait) (waiting waits).taken (waiting waits).left refl refl refl (waits.fits.sought made)) goes kept none appends
   where
     facts : Facts
     facts = facts_of old was.progress.id
 
-    by_side : (was.progress.due ≡ dues.Look) ⊎ ((owed_at was.progress.due ≡ []) × (owed_first was.progress next.command ≢ [])) → LookCounts facts (waiting waits) next.command was.looked was.looked_to_build was.told was.looked was.looked_to_build was.told
+    by_side : (was.progress.due ≡ dues.Look) ⊎ ((owed_at was.progress.due ≡ []) × (owed_first was.progress next.command ≢ [])) → LookCounts facts (waiting waits) next.command was.looked was.frames was.told was.looked was.frames was.told
     by_side (inl due) = let owed : owed_after facts.last ≡ OwesLook ∷ [] = waits.rests.holds.facts.owed ∙ ap owed_at due in
-        counts_due facts (waiting waits) next.command was.looked was.looked_to_build was.told owed (waits.fits.accepts (ap is_empty owed))
+        counts_due facts (waiting waits) next.command was.looked was.frames was.told owed (waits.fits.accepts (ap is_empty owed))
     by_side (inr (due, owes)) = let starts : StartsNow was.progress next.command = starts_now was.progress next.command owes in
-        counts_start facts (waiting waits) next.command was.looked was.looked_to_build was.told (waits.rests.holds.facts.owed ∙ due) starts.begins (waits.rests.holds.facts.running ∙ ap running_of starts.none)
+        counts_start facts (waiting waits) next.command was.looked was.frames was.told (waits.rests.holds.facts.owed ∙ due) starts.begins (waits.rests.holds.facts.running ∙ ap running_of starts.none)
 
 -- where a scan is missing something is owed
 pub scan_busy : (p : Progress) (command : Command) → lacks_any p ≡ true → Busy p command
@@ -218,12 +218,12 @@ look_before_call scenario seen s some_wait builds waits played next is = may_cal
     (look_allowed scenario seen s.progress.id (s.progress.finished + 1) some_wait played (sym is))
 
 pub look_before_enters : (scenario : Scenario) (old new : List Entry) (had has : ℕ → ℕ) (was : Backend) (p : Progress) (some_wait builds looked to_build : Bool) (waits : AwaitsEntry scenario old was) → IsPlayed scenario old → AllOnCourse scenario old → IsLookNext builds was → some_wait ≡ is_waiting old was.progress.id
-    → looked ≡ (was.looked || not builds) → to_build ≡ (was.looked_to_build || builds)
+    → looked ≡ (was.looked || not builds) → to_build ≡ (was.frames || builds)
     → HasEntered scenario old was.progress (events.Look some_wait) waits.rests p → kept_at p ≡ kept_at was.progress → p.answer ≡ None
-    → Appends old new had has (entry_of was.progress.id (was.progress.finished + 1) (events.Look some_wait)) → Enters scenario old new had has was (record was { progress = p; looked = looked; looked_to_build = to_build })
+    → Appends old new had has (entry_of was.progress.id (was.progress.finished + 1) (events.Look some_wait)) → Enters scenario old new had has was (record was { progress = p; looked = looked; frames = to_build })
 look_before_enters scenario old new had has was p some_wait builds looked to_build waits played courses next is looked_is to_build_is goes kept none appends =
     look_agrees scenario old was waits courses next.next.command next.next.free.at some_wait looked to_build was.told
-    (counts_scan (facts_of old was.progress.id) (waiting waits) next.next.command builds was.looked was.looked_to_build was.told looked to_build looked_is to_build_is (waits.rests.holds.facts.owed ∙ next.next.free.due)
+    (counts_scan (facts_of old was.progress.id) (waiting waits) next.next.command builds was.looked was.frames was.told looked to_build looked_is to_build_is (waits.rests.holds.facts.owed ∙ next.next.free.due)
     (scan_runs scenario old was waits courses next.next.command next.next.free.at next.scan next.next.next next.next.free.first) (unlooked builds next.unlooked))
     new had has p played is (scan_busy was.progress next.next.command next.next.lacks) (λ made. sought builds next.next (sym (looked_is) ∙ made)) goes kept none appends
   where
@@ -238,7 +238,7 @@ look_before_enters scenario old new had has was p some_wait builds looked to_bui
     sought true scan made = sought_looked facts later (waiting waits).taken (waiting waits).left refl refl refl (waits.fits.sought (sym (or-false was.looked) ∙ made))
     sought false scan made = Lacks (next_name facts was.progress next.scan waits.rests.holds.facts scan.next scan.kind)
 
-    unlooked : (t : Bool) → is_looked_for t was ≡ false → elim t as (λ x. Bool) [ true ↦ was.looked_to_build | false ↦ was.looked ] ≡ false
+    unlooked : (t : Bool) → is_looked_for t was ≡ false → elim t as (λ x. Bool) [ true ↦ was.frames | false ↦ was.looked ] ≡ false
     unlooked true none = none
     unlooked false none = none
 
@@ -260,8 +260,8 @@ pub accept_enters : (scenario : Scenario) (old new : List Entry) (had has : ℕ 
     → HasEntered scenario old was.progress (events.Look some_wait) waits.rests p → kept_at p ≡ kept_at was.progress → p.answer ≡ None
     → Appends old new had has (entry_of was.progress.id (was.progress.finished + 1) (events.Look some_wait)) → Enters scenario old new had has was (record was { progress = p; looked = true; told = told })
 accept_enters scenario old new had has was p some_wait told waits played courses next is told_is goes kept none appends =
-    look_agrees scenario old was waits courses next.command next.free.at some_wait true was.looked_to_build told
-    (subst (LookCounts facts (waiting waits) next.command was.looked was.looked_to_build was.told true was.looked_to_build) (sym told_is) (counts_accept facts (waiting waits) next.command was.looked was.looked_to_build was.told (waits.rests.holds.facts.owed ∙ next.free.due) runs next.unlooked))
+    look_agrees scenario old was waits courses next.command next.free.at some_wait true was.frames told
+    (subst (LookCounts facts (waiting waits) next.command was.looked was.frames was.told true was.frames) (sym told_is) (counts_accept facts (waiting waits) next.command was.looked was.frames was.told (waits.rests.holds.facts.owed ∙ next.free.due) runs next.unlooked))
     new had has p played is (find_busy was.progress next.command next.finds) (λ made. by_side next.finds) goes kept none appends
   where
     facts : Facts

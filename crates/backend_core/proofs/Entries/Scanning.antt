@@ -22,7 +22,7 @@ use Rattle.cacheless.specs.State.{kept_at, kept_with, is_absent, one_if, is_kept
 use Rattle.cacheless.proofs.OneOfKey.{one_of_key}
 use Rattle.cacheless.proofs.Same.{next_same}
 use Rattle.cacheless.proofs.Tests.{and_true, not_true, or_either}
-use Rattle.backend_core.specs.Types.{Mode, Row, Purpose, Scenario, Entry, Event, Progress, Backend, Opening}
+use Rattle.backend_core.specs.Types.{Mode, Row, Purpose, Scenario, Entry, Event, Progress, Backend, Opening, Frame}
 use Rattle.backend_core.specs.Agrees.{IsPlayed, command_at, AwaitsEntry}
 use Rattle.backend_core.specs.Fits.{looks_due, LooksFit, Fits, IsLookedFor, Lacks, Unfound, Said, finds_no_name}
 use Rattle.backend_core.specs.Steps.{IsScanNext, MakesEntry, Enters}
@@ -52,8 +52,8 @@ one_less false true true l t is left right = omega (arith, ap one_if left, ap on
 one_less false true false l t is left right = omega (arith, ap one_if left, ap one_if right)
 one_less false false to_build l t is left right = absurd (cc is)
 
-looked_enough : (facts : Facts) (s : Session) (looked to_build told : Bool) → LooksFit facts s looked to_build told → owed_after facts.last ≡ [] → 1 ≤ one_if looked + one_if to_build → has_looked facts s ≡ true
-looked_enough facts s looked to_build told fits none some = lt-ltb (s.tally.scans + s.tally.grants + started_in (number_of s) facts + s.tally.full) s.tally.looks (omega (arith, fits.enough, ap looks_due none, some))
+looked_enough : (facts : Facts) (s : Session) (looked : Bool) (frames : List Frame) (told : Bool) → LooksFit facts s looked frames told → owed_after facts.last ≡ [] → 1 ≤ one_if looked + one_if to_build → has_looked facts s ≡ true
+looked_enough facts s looked frames told fits none some = lt-ltb (s.tally.scans + s.tally.grants + started_in (number_of s) facts + s.tally.full) s.tally.looks (omega (arith, fits.enough, ap looks_due none, some))
 
 -- where it asks for the row of a key it gives one at most
 pub scan_one : (scenario : Scenario) (old : List Entry) (b : ℕ) (scan : Purpose) (rows : List Row) → IsPlayed scenario old → rows ≡ answer_of old b scan → is_keyed scan ≡ true → length rows ≤ 1
@@ -79,14 +79,14 @@ module _ (scenario : Scenario) (old : List Entry) (was : Backend) (waits : Await
   owed : owed_after facts.last ≡ []
   owed = waits.rests.holds.facts.owed ∙ next.free.due
 
-  looked_flag : elim builds as (λ x. Bool) [ true ↦ was.looked_to_build | false ↦ was.looked ] ≡ true
+  looked_flag : elim builds as (λ x. Bool) [ true ↦ was.frames | false ↦ was.looked ] ≡ true
   looked_flag = by_kind builds looked_for
     where
-      by_kind : (t : Bool) → is_looked_for t was ≡ true → elim t as (λ x. Bool) [ true ↦ was.looked_to_build | false ↦ was.looked ] ≡ true
+      by_kind : (t : Bool) → is_looked_for t was ≡ true → elim t as (λ x. Bool) [ true ↦ was.frames | false ↦ was.looked ] ≡ true
       by_kind true is = is
       by_kind false is = is
 
-  before : LooksFit facts s was.looked was.looked_to_build was.told
+  before : LooksFit facts s was.looked was.frames was.told
   before = waits.fits.looks (going scenario old was waits courses next.command next.free.at)
 
   scan_own : OwnEntry scenario old was event waits
@@ -94,7 +94,7 @@ module _ (scenario : Scenario) (old : List Entry) (was : Backend) (waits : Await
     plays = subst (λ o. MayPlayIn (next_oid old) facts o s event) (sym next.free.at) (
       owed,
       next_same facts was.progress waits.rests.holds.rest scan waits.rests.holds.facts ∙ next.next,
-      looked_enough facts s was.looked was.looked_to_build was.told before owed (omega (arith, one_less builds was.looked was.looked_to_build (was.looked && not (not builds)) (was.looked_to_build && not builds) looked_flag refl refl)),
+      looked_enough facts s was.looked was.frames was.told before owed (omega (arith, one_less builds was.looked was.frames (was.looked && not (not builds)) (was.frames && not builds) looked_flag refl refl)),
     );
     truly = tt;
     queue = tt;
@@ -107,10 +107,10 @@ module _ (scenario : Scenario) (old : List Entry) (was : Backend) (waits : Await
   same : later.running ≡ facts.running
   same = runs_on (was.progress.finished + 1) facts.running (scan_runs scenario old was waits courses next.command next.free.at scan next.next next.free.first)
 
-  looks_less : (l t : Bool) → l ≡ (was.looked && not (not builds)) → t ≡ (was.looked_to_build && not builds) → LooksFit later now l t was.told
+  looks_less : (l t : Bool) → l ≡ (was.looked && not (not builds)) → t ≡ (was.frames && not builds) → LooksFit later now l t was.told
   looks_less l t left right = record {
-    enough = omega (arith, before.enough, ap looks_due owed, started, one_less builds was.looked was.looked_to_build l t looked_flag left right);
-    within = omega (arith, before.within, ap looks_due owed, started, one_less builds was.looked was.looked_to_build l t looked_flag left right);
+    enough = omega (arith, before.enough, ap looks_due owed, started, one_less builds was.looked was.frames l t looked_flag left right);
+    within = omega (arith, before.within, ap looks_due owed, started, one_less builds was.looked was.frames l t looked_flag left right);
   }
     where
       started : started_in (number_of now) later ≡ started_in (number_of s) facts
@@ -124,7 +124,7 @@ module _ (scenario : Scenario) (old : List Entry) (was : Backend) (waits : Await
       by_plan (Absent name) at = absurd (both_ways _ (not_true (has_failed was.progress) (and_true (not (has_failed was.progress)) _ next.next).0) (ap (λ p. elim (outcome_of p) as (λ x. Bool) [ Badly ↦ true | other ↦ false ]) at))
       by_plan p at = refl
 
-  scan_fits : (l t : Bool) → l ≡ (was.looked && not (not builds)) → t ≡ (was.looked_to_build && not builds) → Fits later (command_at was) now l t was.told
+  scan_fits : (l t : Bool) → l ≡ (was.looked && not (not builds)) → t ≡ (was.frames && not builds) → Fits later (command_at was) now l t was.told
   scan_fits l t left right = inside_fits scenario old was waits courses next.command next.free.at later now l t was.told same refl (λ from is. cc is) (record { blocks = refl; finished = refl; blocked = refl; ended = refl; left = λ is there. refl })
       (scan_runs scenario old was waits courses next.command next.free.at scan next.next next.free.first) (scan_busy was.progress next.command next.lacks) (looks_less l t left right)
       (λ made. sought builds refl (and_parts was.looked (not (not builds)) (sym left ∙ made))) (takes_cleared _ (number_of s) s.locks s.taken s.left waits.fits.takes)
@@ -160,10 +160,10 @@ module _ (scenario : Scenario) (old : List Entry) (was : Backend) (waits : Await
   -- so after it the backend agrees
   pub scan_enters : (new : List Entry) (had has : ℕ → ℕ) (p : Progress) (l t : Bool) (rows : List Row) (at : ℕ) → IsPlayed scenario old → HasEntered scenario old was.progress event waits.rests p → rows ≡ answer_of old was.progress.id scan → at ≡ length old + 1
       → kept_at p ≡ kept_with scan rows at (kept_at was.progress) → p.answer ≡ None
-      → l ≡ (was.looked && not (not builds)) → t ≡ (was.looked_to_build && not builds)
-      → Appends old new had has (entry_of was.progress.id (was.progress.finished + 1) event) → Enters scenario old new had has was (record was { progress = p; looked = l; looked_to_build = t })
+      → l ≡ (was.looked && not (not builds)) → t ≡ (was.frames && not builds)
+      → Appends old new had has (entry_of was.progress.id (was.progress.finished + 1) event) → Enters scenario old new had has was (record was { progress = p; looked = l; frames = t })
   scan_enters new had has p l t rows at played goes rows_are at_is kept none left right appends =
-      own_enters scenario old new had has was (record was { progress = p; looked = l; looked_to_build = t }) event waits played courses scan_own goes
+      own_enters scenario old new had has was (record was { progress = p; looked = l; frames = t }) event waits played courses scan_own goes
       (kept ∙ (λ i. kept_with scan (rows_are i) (at_is i) (kept_at was.progress)))
       (fits_at scenario old was event waits p goes l t was.told (scan_fits l t left right))
       refl refl refl (λ stop. cc stop) none appends

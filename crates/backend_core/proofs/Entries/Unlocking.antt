@@ -26,7 +26,7 @@ use Rattle.cacheless.proofs.Written.Listed.{lists_before_it}
 use Rattle.backend_core.specs.Types.{Oid, Mode, Row, Scenario, Entry, Event, Progress, Backend}
 use Rattle.backend_core.specs.Agrees.{IsPlayed, command_at, AwaitsEntry}
 use Rattle.cacheless.specs.OnCourse.{OnItsWay, AllOnCourse}
-use Rattle.backend_core.specs.Fits.{looks_due, LooksFit, TakesFit, IsLookedFor, lacks_name}
+use Rattle.backend_core.specs.Fits.{looks_due, LooksFit, TakesFit, IsLookedFor, lacks_scan}
 use Rattle.backend_core.specs.Steps.{IsUnlockNext, Enters}
 use Rattle.backend_core.proofs.Choosing.ActsRun.{act_runs}
 use Rattle.backend_core.proofs.Choosing.Chosen.{Acts, may_call, now_plays}
@@ -123,7 +123,7 @@ module _ (scenario : Scenario) (old : List Entry) (was : Backend) (waits : Await
   pub unlock_call : MayCall scenario old (entry_of was.progress.id (was.progress.finished + 1) event)
   unlock_call = may_call scenario old was waits next.command next.free.at event (Acts acting.unsettled) refl allows
 
-  before : LooksFit facts s was.looked was.looked_to_build was.told
+  before : LooksFit facts s was.looked was.frames was.told
   before = waits.fits.looks (going scenario old was waits courses next.command next.free.at)
 
   same : Some (begun (was.progress.finished + 1) facts.running) ≡ facts.running
@@ -131,7 +131,7 @@ module _ (scenario : Scenario) (old : List Entry) (was : Backend) (waits : Await
 
   -- no look was made that isn't used
   unlooked : {X : Type 0} → IsLookedFor facts s.taken s.left → X
-  unlooked = no_look facts s.taken s.left (subst (λ p. lacks_name facts p ≡ false) (sym lookup.is) (act_serves facts act lookup.rest (nothing_owed facts next.command s act lookup.rest lookup.is asks.0)))
+  unlooked = no_look facts s.taken s.left (subst (λ p. lacks_scan facts p ≡ false) (sym lookup.is) (act_serves facts act lookup.rest (nothing_owed facts next.command s act lookup.rest lookup.is asks.0)))
       (unlock_found facts s.taken s.left rel lookup.took) (ap is_absent lookup.is)
 
   -- after it the backend agrees
@@ -140,8 +140,8 @@ module _ (scenario : Scenario) (old : List Entry) (was : Backend) (waits : Await
   unlock_enters new had has p goes kept none appends =
       own_enters scenario old new had has was (record was { progress = p }) event waits played courses (record { plays = plays; truly = tt; queue = tt }) goes
       kept
-      (fits_at scenario old was event waits p goes was.looked was.looked_to_build was.told
-      (inside_fits scenario old was waits courses next.command next.free.at later now was.looked was.looked_to_build was.told same refl (λ from is. cc is) (record { blocks = refl; finished = refl; blocked = refl; ended = refl; left = λ is there. refl }) acting.runs (Acts acting.unsettled)
+      (fits_at scenario old was event waits p goes was.looked was.frames was.told
+      (inside_fits scenario old was waits courses next.command next.free.at later now was.looked was.frames was.told same refl (λ from is. cc is) (record { blocks = refl; finished = refl; blocked = refl; ended = refl; left = λ is there. refl }) acting.runs (Acts acting.unsettled)
       (record { enough = omega (arith, before.enough, ap looks_due acting.owed, started); within = omega (arith, before.within, ap looks_due acting.owed, started) })
       (λ made. unlooked (waits.fits.sought made)) tt))
       refl refl refl (λ stop. cc stop) none appends

@@ -142,8 +142,8 @@ module _ (scenario : Scenario) (old : List Entry) (was : Backend) (draft : Draft
   wrote_enters new had has p xid goes kept none appends =
       own_enters scenario old new had has was (record was { progress = p }) event waits played courses (write_own xid) goes
       kept
-      (fits_at scenario old was event waits p goes was.looked was.looked_to_build was.told
-      (entry_fits scenario old was waits courses next.command next.free.at later now was.looked was.looked_to_build was.told
+      (fits_at scenario old was event waits p goes was.looked was.frames was.told
+      (entry_fits scenario old was waits courses next.command next.free.at later now was.looked was.frames was.told
       (record { runs = λ i. Some (record (begun (sym waits.rests.holds.count i + 1) facts.running) { xid = Some xid.0 }); written = λ is. refl; last = λ from is. cc is })
       (record { blocks = ap (λ q. (written q s).blocks) at; finished = ap (λ q. length (written q s).finished) at; blocked = ap (λ q. (written q s).blocked) at; ended = ap (λ q. (written q s).ended) at; left = λ is there. absurd (both_ways _ acting.unsettled is) })
       acting.runs (Acts acting.unsettled)
@@ -160,7 +160,7 @@ module _ (scenario : Scenario) (old : List Entry) (was : Backend) (draft : Draft
       now : Session
       now = entered (facts_of (with_own old was.progress event) was.progress.id) (drop was.progress.finished was.progress.commands) (length old + 1) (was.progress.finished + 1) event s
 
-      before : LooksFit facts s was.looked was.looked_to_build was.told
+      before : LooksFit facts s was.looked was.frames was.told
       before = waits.fits.looks (going scenario old was waits courses next.command next.free.at)
 
       started : started_in (number_of now) later ≡ started_in (number_of s) facts

@@ -17,7 +17,7 @@ use Rattle.cacheless.specs.Facts.{Facts}
 use Rattle.cacheless.proofs.Allowed.Releases.{OwesNoScan}
 use Rattle.cacheless.specs.Owed.{Owes, OwesLook, OwesScan, unusable, owed_at_start, owed_after, begins, builds_owed, act_owed, scans_owed, owed_of, started_in}
 use Rattle.cacheless.specs.Session.{Session, Outcome, Well, Badly, Unsettled, number_of, outcome_of, is_settled}
-use Rattle.backend_core.specs.Types.{Purpose, Command, Event, OwnLock}
+use Rattle.backend_core.specs.Types.{Purpose, Command, Event, OwnLock, Frame}
 use Rattle.backend_core.specs.Fits.{looks_due, first_at, RunsBlock, RunsBy, RunsAfter, TransactionFits, OnCommit, OnTakingBack, Fits, IsLookedFor, Lacks, Unfound, Said, TakesFit}
 use Rattle.backend_core.proofs.Choosing.EndsNow.{end_by, EndsBy, IsCommit, commit_first}
 use Rattle.backend_core.proofs.Fitting.NextTransaction.{failed_on}
@@ -117,7 +117,7 @@ takes_out number locks number' locks' (Some rel) (Done told) out takes = tt
 takes_out number locks number' locks' (Some rel) (Fails error) out takes = tt
 takes_out number locks number' locks' (Some rel) NotBuilt out takes = tt
 
-module _ (facts later : Facts) (o : Option Command) (s : Session) (looked to_build told : Bool) (event : Event) (locks : List OwnLock) (at : ℕ) (fits : Fits facts o s looked to_build told) (ends : EndsBy facts o s event) where
+module _ (facts later : Facts) (o : Option Command) (s : Session) (looked : Bool) (frames : List Frame) (told : Bool) (event : Event) (locks : List OwnLock) (at : ℕ) (fits : Fits facts o s looked frames told) (ends : EndsBy facts o s event) where
   runs_later : GoesOn facts later → (t : Bool) → TransactionFits facts o s t → s.ended ≡ t → TransactionFits later o (later_at s locks at) t
   runs_later goes true none is = absurd (both_ways _ ends.going is)
   runs_later goes false by is = by_block s.blocks.block by
@@ -136,7 +136,7 @@ module _ (facts later : Facts) (o : Option Command) (s : Session) (looked to_bui
 
   -- where the transaction goes on
   pub fits_ending : GoesOn facts later → ((scan : Purpose) → facts.usable scan ≡ false → later.usable scan ≡ false) → (has_write_from 0 later.lists ≡ true → option_map_or (λ t. is_some t.xid) later.running false ≡ true)
-      → (is_visible later.running ≡ true → OnCommit later o (later_at s locks at)) → ((from : ℕ) → later.last ≡ Some (events.Gone from) → OnTakingBack later o (later_at s locks at) from) → Fits later o (later_at s locks at) looked to_build told
+      → (is_visible later.running ≡ true → OnCommit later o (later_at s locks at)) → ((from : ℕ) → later.last ≡ Some (events.Gone from) → OnTakingBack later o (later_at s locks at) from) → Fits later o (later_at s locks at) looked frames told
   fits_ending goes spares written visible taken = record {
     looks = λ going. let l = fits.looks going in record { enough = omega (arith, l.enough, started, due, due_now); within = omega (arith, l.within, started, due, due_now) };
     transaction = runs_later goes s.ended fits.transaction refl;
@@ -172,7 +172,7 @@ module _ (facts later : Facts) (o : Option Command) (s : Session) (looked to_bui
       begun_is (Some t) n some = refl
 
       first_is : first_at later ≡ commit.first
-      first_is = first_same facts later goes ∙ begun_is facts.running (number_of s) goes.runs ∙ commit_first facts o s looked to_build told commit.first fits ends.going commit.is
+      first_is = first_same facts later goes ∙ begun_is facts.running (number_of s) goes.runs ∙ commit_first facts o s looked frames told commit.first fits ends.going commit.is
 
       all_back : (own : Option Running) → option_map_or (λ t. TakesBack t.first) own Ends ≡ Commits commit.first → ⊥
       all_back None is = cc is
@@ -200,7 +200,7 @@ module _ (facts later : Facts) (o : Option Command) (s : Session) (looked to_bui
 
   -- the release is made: what runs then fits the blocks after the command, and isn't visible
   pub fits_released : (from : ℕ) → later.last ≡ Some (events.Release from) → ((scan : Purpose) → facts.usable scan ≡ false → later.usable scan ≡ false) → first_at later ≤ number_of s → (has_write_from 0 later.lists ≡ true → option_map_or (λ t. is_some t.xid) later.running false ≡ true) → is_visible later.running ≡ false → RunsAfter later o s
-      → Fits later o (record s { ended = true; locks = locks; last = at }) looked to_build told
+      → Fits later o (record s { ended = true; locks = locks; last = at }) looked frames told
   fits_released from last spares low written hidden runs_on = record {
     looks = λ going. absurd (cc going);
     transaction = by_command o runs_on;

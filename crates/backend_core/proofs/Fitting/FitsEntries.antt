@@ -86,9 +86,9 @@ module _ (facts later : Facts) (o : Option Command) (s now : Session) (command :
       none_runs none (Starts c here starts outside none') = absurd (let both : Failed ≡ Outside = sym is ∙ outside in cc both)
 
 -- what the choice keeps
-pub fits_inside : (facts later : Facts) (o : Option Command) (s now : Session) (looked to_build told looked_now to_build_now told_now : Bool) (command : Command) → o ≡ Some command → Fits facts o s looked to_build told → StaysInside facts later (number_of s) → StaysAt s now → RunsHere facts o s → is_visible facts.running ≡ false → s.ended ≡ false
+pub fits_inside : (facts later : Facts) (o : Option Command) (s now : Session) (looked frames told looked_now to_build_now told_now : Bool) (command : Command) → o ≡ Some command → Fits facts o s looked frames told → StaysInside facts later (number_of s) → StaysAt s now → RunsHere facts o s → is_visible facts.running ≡ false → s.ended ≡ false
     → LooksFit later now looked_now to_build_now told_now → (looked_now ≡ true → IsLookedFor later now.taken now.left) → TakesFit (number_of now) now.locks now.taken now.left → Fits later o now looked_now to_build_now told_now
-fits_inside facts later o s now looked to_build told looked_now to_build_now told_now command at fits stays same goes hidden going looks sought takes = record {
+fits_inside facts later o s now looked frames told looked_now to_build_now told_now command at fits stays same goes hidden going looks sought takes = record {
   looks = λ _. looks;
   transaction = subst (TransactionFits later o now) (sym (same.ended ∙ going)) (subst (λ b. RunsBy later o now b.block) (sym same.blocks) (runs_now facts later o s now command at fits.first stays same goes s.blocks.block refl (subst (TransactionFits facts o s) going fits.transaction)));
   first = first_low facts later o s now command at fits.first stays same goes;

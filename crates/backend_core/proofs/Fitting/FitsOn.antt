@@ -15,7 +15,7 @@ use Rattle.cacheless.specs.Owed.{OwesScan, owed_at_start, owed_after, scans_owed
 use Rattle.cacheless.specs.Ends.{End, Ends, Commits, TakesBack, end_of, end_of_all, end_left, next_of_end}
 use Rattle.cacheless.specs.Settled.{act_done, is_finished, blocks_after, finished_as, next_session, class_oid}
 use Rattle.cacheless.proofs.Plans.SilentActs.{both_empty, empty_list, IsDoneHere, kept_already, gives_class}
-use Rattle.backend_core.specs.Types.{Row, Command, Event}
+use Rattle.backend_core.specs.Types.{Row, Command, Event, Frame}
 use Rattle.backend_core.specs.Fits.{looks_due, first_at, LevelsRise, RunsAt, RunsIn, RunsBy, RunsAfter, TransactionFits, IsPast, Fits, IsLookedFor, Lacks, Unfound, Said}
 use Rattle.backend_core.proofs.Fitting.NextTransaction.{LevelsFit, levels_next, next_silent}
 use Rattle.cacheless.specs.Types.{Mode}
@@ -34,8 +34,8 @@ sought_act facts s (Lookup name mode) further given done says (Unfound is look) 
 sought_act facts s act further given done says (Unfound is look) = absurd (cc is)
 
 -- an act that is done without an entry
-pub fits_act : (facts : Facts) (o : Option Command) (s : Session) (looked to_build told : Bool) (command : Command) (act : Act) (further : List Row → Plan) (given : List Row) → o ≡ Some command → s.left ≡ Do act further → s.ended ≡ false → IsDoneHere facts s act further given → ((name : List ℕ) (mode : Mode) → act ≡ Lookup name mode → class_oid given ≡ None → is_absent (further given) ≡ true) → Fits facts o s looked to_build told → Fits facts o (act_done act given (further given) s) looked to_build told
-fits_act facts o s looked to_build told command act further given at left going done says fits = record {
+pub fits_act : (facts : Facts) (o : Option Command) (s : Session) (looked : Bool) (frames : List Frame) (told : Bool) (command : Command) (act : Act) (further : List Row → Plan) (given : List Row) → o ≡ Some command → s.left ≡ Do act further → s.ended ≡ false → IsDoneHere facts s act further given → ((name : List ℕ) (mode : Mode) → act ≡ Lookup name mode → class_oid given ≡ None → is_absent (further given) ≡ true) → Fits facts o s looked frames told → Fits facts o (act_done act given (further given) s) looked frames told
+fits_act facts o s looked frames told command act further given at left going done says fits = record {
   looks = λ _. let l = fits.looks going in record { enough = l.enough; within = l.within };
   transaction = subst (TransactionFits facts o (act_done act given (further given) s)) (sym going) (by_block s.blocks.block (subst (TransactionFits facts o s) going fits.transaction));
   first = fits.first;
@@ -87,8 +87,8 @@ none_ends facts (Commits first) is = absurd (cc)
 none_ends facts (TakesBack from) is = absurd (cc)
 
 -- the transaction before the next command
-passes_to : (facts : Facts) (o : Option Command) (s : Session) (looked to_build told : Bool) (command : Command) → o ≡ Some command → IsFinished facts command s → Fits facts o s looked to_build told → RunsIn facts (blocks_after command s)
-passes_to facts o s looked to_build told command at done fits = by_ended s.ended refl fits.transaction done.none
+passes_to : (facts : Facts) (o : Option Command) (s : Session) (looked : Bool) (frames : List Frame) (told : Bool) (command : Command) → o ≡ Some command → IsFinished facts command s → Fits facts o s looked frames told → RunsIn facts (blocks_after command s)
+passes_to facts o s looked frames told command at done fits = by_ended s.ended refl fits.transaction done.none
   where
     by_ended : (t : Bool) → s.ended ≡ t → TransactionFits facts o s t → is_none (elim t as (λ x. Option Event) [ true ↦ None | false ↦ next_of_end facts (end_of facts command s) ]) ≡ true → RunsIn facts (blocks_after command s)
     by_ended true is runs over = subst (λ x. RunsAfter facts x s) at runs
@@ -105,8 +105,8 @@ on_its_way : (facts : Facts) (command : Command) (s : Session) (event : Event) �
 on_its_way facts command s event done going comes = both_ways _ (ap (λ e. is_none e) comes) (subst (λ t. is_none (elim t as (λ x. Option Event) [ true ↦ None | false ↦ next_of_end facts (end_of facts command s) ]) ≡ true) going done.none)
 
 -- where the last entry took writes back the command isn't finished
-gone_unfinished : (facts : Facts) (o : Option Command) (s : Session) (looked to_build told : Bool) (command : Command) (from : ℕ) → o ≡ Some command → is_finished facts command s ≡ true → Fits facts o s looked to_build told → facts.last ≡ Some (events.Gone from) → ⊥
-gone_unfinished facts o s looked to_build told command from at finished fits is = on_its_way facts command s _ (parts_of facts command s finished) (fits.taken from is).going
+gone_unfinished : (facts : Facts) (o : Option Command) (s : Session) (looked : Bool) (frames : List Frame) (told : Bool) (command : Command) (from : ℕ) → o ≡ Some command → is_finished facts command s ≡ true → Fits facts o s looked frames told → facts.last ≡ Some (events.Gone from) → ⊥
+gone_unfinished facts o s looked frames told command from at finished fits is = on_its_way facts command s _ (parts_of facts command s finished) (fits.taken from is).going
     (ap (next_of_end facts) (subst (λ x. elim x as (λ y. Type 0) [ Some c ↦ (end_of facts c s ≡ TakesBack from) × (owed_of facts c s ≡ []) | None ↦ end_of_all facts ≡ TakesBack from ]) at (fits.taken from is).end).0)
 
 not_started : (number : ℕ) (own : Option Running) → option_map_or (λ t. t.first) own 0 ≤ number → option_map_or (λ t. elim (t.first == number + 1) as (λ x. ℕ) [ true ↦ 1 | false ↦ 0 ]) own 0 ≡ 0
@@ -114,13 +114,13 @@ not_started number None low = refl
 not_started number (Some t) low = ap (λ x. elim x as (λ y. ℕ) [ true ↦ 1 | false ↦ 0 ]) (ne_eqb t.first (number + 1) (λ same. absurd (omega (arith, same, low))))
 
 -- a command that is finished is passed over
-pub fits_pass : (facts : Facts) (o : Option Command) (s : Session) (looked to_build told : Bool) (command : Command) (next : Option Command) → o ≡ Some command → is_finished facts command s ≡ true → Fits facts o s looked to_build told → Fits facts next (next_session command next s) false false false
-fits_pass facts o s looked to_build told command next at finished fits = record {
+pub fits_pass : (facts : Facts) (o : Option Command) (s : Session) (looked : Bool) (frames : List Frame) (told : Bool) (command : Command) (next : Option Command) → o ≡ Some command → is_finished facts command s ≡ true → Fits facts o s looked frames told → Fits facts next (next_session command next s) false false false
+fits_pass facts o s looked frames told command next at finished fits = record {
   looks = λ going. record {
     enough = omega (arith, started);
     within = omega (arith, ap looks_due done.after);
   };
-  transaction = runs_next facts next now now.blocks.block (passes_to facts o s looked to_build told command at done fits);
+  transaction = runs_next facts next now now.blocks.block (passes_to facts o s looked frames told command at done fits);
   first = subst (λ n. first_at facts ≤ n) (sym counts) (omega (arith, fits.first));
   opens = levels.opens;
   levels = subst (λ n. LevelsRise 0 n now.blocks.levels) (sym counts) levels.rise;
@@ -129,7 +129,7 @@ fits_pass facts o s looked to_build told command next at finished fits = record 
   written = fits.written;
   visible = λ is. absurd (on_its_way facts command s _ done (fits.visible is).going (let c = fits.visible is in
       ap (next_of_end facts) (subst (λ x. end_of facts x s ≡ Commits (first_at facts)) (one c.command c.at) c.end)));
-  taken = λ from is. absurd (gone_unfinished facts o s looked to_build told command from at finished fits is);
+  taken = λ from is. absurd (gone_unfinished facts o s looked frames told command from at finished fits is);
   accepts = fits.accepts;
   past = λ none. subst (λ x. IsPast facts (next_session command x s)) (sym none) (record { out = refl; opened = refl; free = done.after });
   sought = λ is. absurd (cc is);
