@@ -1,8 +1,9 @@
 // The rebuilds of held descriptors that are on their way (`RelationRebuildRelation` in
 // `src/backend/utils/cache/relcache.c`, each within an acceptance of messages of the one below it).
 
-ghost use Rattle.std.specs.Prelude.{◌≡◌, None, map, OnOk};
-ghost use Rattle.std.specs.List.{list_any};
+ghost use Rattle.std.specs.Prelude.{◌≡◌, ◌&&◌, map, OnOk};
+ghost use Rattle.std.specs.List.{find};
+ghost use Rattle.base_types.specs.Scans.{same_oid};
 ghost use Rattle.local_caches.specs.Caches.{kept_of};
 ghost use Rattle.local_caches.specs.Kept.{is_kept};
 ghost use Rattle.backend_core.specs.Frames.{lacks, left_of, restarted, told_if, lesser};
@@ -126,8 +127,8 @@ impl Frames {
             tell_each_frame(&mut self.items, caches, rel);
             return Ok(());
         }
-        match held.iter().find(|o| rel.0 == o.rel.0) {
-            Some(o) => self.push(*o, false),
+        match held_of(held, rel) {
+            Some(o) => self.push(o, false),
             None => Ok(()),
         }
     }
@@ -204,10 +205,23 @@ fn lacking_of(caches: &LocalCaches, held: &[Opening], frame: &Frame) -> Option<O
     if lacks_some(caches, &frame.opening) {
         return Some(frame.opening);
     }
-    let rel = frame.opening.rel;
+    lacking_held(caches, held, frame.opening.rel)
+}
+
+// The first held descriptor of a relation that lacks a scan.
+fn lacking_held(caches: &LocalCaches, held: &[Opening], rel: Oid) -> Option<Opening>
+    ensures { result ≡ find (λ o. same_oid rel o.rel && lacks (is_kept (kept_of caches.now)) o) held.now }
+{
     held.iter()
         .find(|o| rel.0 == o.rel.0 && lacks_some(caches, o))
         .copied()
+}
+
+// The first held descriptor of a relation.
+fn held_of(held: &[Opening], rel: Oid) -> Option<Opening>
+    ensures { result ≡ find (λ o. same_oid rel o.rel) held.now }
+{
+    held.iter().find(|o| rel.0 == o.rel.0).copied()
 }
 
 // The one of lesser oid.

@@ -1,8 +1,9 @@
 -- The rebuilds as a list: one more is put on, all are changed, and the one on top is taken off.
-use Rattle.std.proofs.Common.{◌≡◌, ◌≤◌, ◌<◌, ◌+◌, ◌-◌, ◌∙◌, ◌⊎◌, inl, inr, ℕ, Bool, true, false, Option, Some, None, List, [], ◌∷◌, ◌++◌, ◌||◌, cond, refl, sym, ap, subst, map, take, length, slice_get, slice_set, arith}
+use Rattle.std.proofs.Common.{◌≡◌, ◌≤◌, ◌<◌, ◌+◌, ◌-◌, ◌∙◌, ◌⊎◌, inl, inr, ℕ, Bool, true, false, Option, Some, None, List, [], ◌∷◌, ◌++◌, ◌||◌, cond, refl, sym, ap, subst, map, take, length, drop, get_or, slice_get, slice_set, arith}
 use Rattle.std.specs.List.{list_any, AllByRecursion}
 use Rattle.std.proofs.lemmas.Bool.{or_parts, or_from, or_left, or_right}
-use Rattle.std.proofs.lemmas.List.{length_push, get_or_push, set-append_right, take-append-le}
+use Rattle.std.proofs.lemmas.List.Edits.{map_over_more}
+use Rattle.std.proofs.lemmas.List.{get_or_default, length_push, get_or_push, set-append_right, take-append-le}
 use Rattle.std.proofs.lemmas.List.Folds.{list_any-append}
 use Rattle.std.proofs.lemmas.Option.{slice_get-get_or}
 use Rattle.std.proofs.Math.Seq.{take-length}
@@ -129,3 +130,8 @@ pub found_to : (has now : Purpose → Bool) (frames later : List Frame) (o : Ope
 found_to has now frames later o whole on resets (inl is) = whole is
 found_to has now frames later o whole on resets (inr (inl is)) = on is
 found_to has now frames later o whole on resets (inr (inr is)) = resets is
+
+-- one more of the rebuilds is changed
+pub changed_more : (change : Frame → Frame) (frames now : List Frame) (i : ℕ) (d x : Frame) → i < length frames → length now ≡ length frames → now ≡ map change (take i frames) ++ drop i frames → x ≡ change (get_or now i d)
+    → slice_set now i x ≡ map change (take (i + 1) frames) ++ drop (i + 1) frames
+changed_more change frames now i d x within long done is = ap (slice_set now i) is ∙ map_over_more change frames now i (get_or now i d) within done (get_or_default now i d (get_or now i d) (omega (arith, within, long)))
