@@ -87,7 +87,7 @@ answer_goes was p (Err e) asked has = tt
 
 -- it passes to its next command
 pass_agrees : (scenario : Scenario) (seen : List Entry) (was : Backend) (p : Progress) (lines : List Line) (line : Line) (now : AgreesNow scenario seen was) → HasPassed scenario seen was.progress now.holds p → kept_at p ≡ kept_at was.progress → p.answer ≡ None
-    → IsLineOf was.progress line → lines ≡ was.lines ++ line ∷ [] → AgreesNow scenario seen (record was { progress = p; lines = lines; looked = false; frames = false; told = false })
+    → IsLineOf was.progress line → lines ≡ was.lines ++ line ∷ [] → AgreesNow scenario seen (record was { progress = p; lines = lines; looked = false; frames = []; told = false })
 pass_agrees scenario seen was p lines line now passed kept none says pushed = record {
   keeps = record {
     alive = now.keeps.alive;
@@ -96,9 +96,9 @@ pass_agrees scenario seen was p lines line now passed kept none says pushed = re
     places = pass_places scenario seen was.progress p now.holds passed kept now.keeps.places;
   };
   holds = passed.holds;
-  fits = subst (λ f. Fits f (slice_get p.commands p.finished) (session_at p passed.holds.rest) false false false) (sym (ap (facts_of seen) passed.id))
-      (subst (λ o. Fits (facts_of seen was.progress.id) o (session_at p passed.holds.rest) false false false) (sym next_command)
-      (subst (λ x. Fits (facts_of seen was.progress.id) next x false false false) (sym passed.session)
+  fits = subst (λ f. Fits f (slice_get p.commands p.finished) (session_at p passed.holds.rest) false [] false) (sym (ap (facts_of seen) passed.id))
+      (subst (λ o. Fits (facts_of seen was.progress.id) o (session_at p passed.holds.rest) false [] false) (sym next_command)
+      (subst (λ x. Fits (facts_of seen was.progress.id) next x false [] false) (sym passed.session)
       (fits_pass (facts_of seen was.progress.id) (command_at was) (session_at was.progress now.holds.rest) was.looked was.frames was.told passed.command next passed.at passed.over now.fits)));
   tells = pass_tells scenario seen was.progress p now.holds now.tells passed none;
   lines = pushed ∙ pass_lines scenario seen was.progress p now.holds now.tells passed was.lines line says now.lines;
@@ -111,7 +111,7 @@ pass_agrees scenario seen was p lines line now passed kept none says pushed = re
     next_command = ap (λ l. slice_get l p.finished) passed.commands ∙ ap (slice_get was.progress.commands) passed.finished
 
 pub pass_goes : (was : Backend) (p : Progress) (lines : List Line) (line : Line) → ((scenario : Scenario) (seen : List Entry) (held : Holds scenario seen was.progress) → HasPassed scenario seen was.progress held p) → kept_at p ≡ kept_at was.progress → p.answer ≡ None → IsLineOf was.progress line → lines ≡ was.lines ++ line ∷ []
-    → (scenario : Scenario) (seen : List Entry) → AgreesNow scenario seen was → GoesOn scenario seen was (record was { progress = p; lines = lines; looked = false; frames = false; told = false })
+    → (scenario : Scenario) (seen : List Entry) → AgreesNow scenario seen was → GoesOn scenario seen was (record was { progress = p; lines = lines; looked = false; frames = []; told = false })
 pass_goes was p lines line passes kept none says pushed scenario seen now = record { agrees = pass_agrees scenario seen was p lines line now (passes scenario seen now.holds) kept none says pushed; id = (passes scenario seen now.holds).id }
 
 -- where nothing is left to be done without an entry it waits for one

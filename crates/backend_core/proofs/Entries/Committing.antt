@@ -9,7 +9,7 @@ use Rattle.history_model.specs.Drawn.{next_oid}
 use Rattle.history_model.specs.Legal.{FollowsVisible, FollowsGone}
 use Rattle.history_model.specs.Sent.{unsent_in, unsent_of}
 use Rattle.history_model.specs.Transactions.{Running, begun, has_xid, is_visible}
-use Rattle.seg_calls.specs.Calls.{entry_of, ArePublishedNext, MayCall, Appends}
+use Rattle.seg_calls.specs.Calls.{entry_of, ArePublishedNext, MayCall, Appends, took_back}
 use Rattle.txn_blocks.specs.declared.transaction.RunningTransaction.{RunningTransaction}
 use Rattle.cacheless.specs.Ends.{Ends, Commits, TakesBack}
 use Rattle.cacheless.specs.Facts.{Facts, facts_of}
@@ -29,6 +29,7 @@ use Rattle.backend_core.proofs.Entries.EndEntries.{end_plays, end_now, end_call,
 use Rattle.backend_core.proofs.Choosing.EndsNow.{end_by, is_end, EndsBy, IsCommit, ShowsNow, PublishesNow, comes_now, back_end}
 use Rattle.backend_core.proofs.Fitting.FitsEnds.{later_at, GoesOn, fits_ending, commits_on, write_from_first, goes_first, begun_xid, written_runs}
 use Rattle.backend_core.proofs.Own.{waiting}
+use Rattle.backend_core.proofs.Fitting.Rebuilding.{same_fits}
 
 -- the Xid of a transaction that has written
 xid_own : (own : Option Running) (xid : ℕ) → option_map_or (λ t. is_some t.xid) own false ≡ true → xid ≡ option_map_or (λ t. unwrap_or t.xid 0) own 0 → has_xid xid own ≡ true
@@ -42,6 +43,10 @@ xid_own (Some t) xid some is = by_xid t.xid some is
 -- where a commit comes next nothing was taken back
 untaken : (facts : Facts) (o : Option Command) (s : Session) (looked : Bool) (frames : List Frame) (told : Bool) → Fits facts o s looked frames told → IsCommit facts (end_by facts o s) → (from : ℕ) → facts.last ≡ Some (events.Gone from) → ⊥
 untaken facts o s looked frames told fits commit from is = let no : TakesBack from ≡ Commits commit.first = sym (back_end facts o s looked frames told from fits is) ∙ commit.is in cc no
+
+not_back : (last : Option Event) → ((from : ℕ) → last ≡ Some (events.Gone from) → ⊥) → took_back last ≡ false
+not_back (Some (events.Gone from)) never = absurd (never from refl)
+not_back last never = refl
 
 none_gone : (facts : Facts) (o : Option Command) (s : Session) (looked : Bool) (frames : List Frame) (told : Bool) (event : Event) → Fits facts o s looked frames told → IsCommit facts (end_by facts o s) → FollowsGone facts.last event
 none_gone facts o s looked frames told event fits commit = by_last facts.last refl
@@ -127,7 +132,8 @@ module _ (scenario : Scenario) (old : List Entry) (was : Backend) (event : Event
   after_commit = record before { last = Some event; running = Some (record { first = (begun (was.progress.finished + 1) before.running).first; xid = (begun (was.progress.finished + 1) before.running).xid; published = published; visible = visible }) }
 
   commit_fits : (locks : List OwnLock) (at : ℕ) → owed_after (Some event) ≡ [] → ((from : ℕ) → Some event ≡ Some (events.Gone from) → ⊥) → Fits after_commit (command_at was) (later_at (waiting waits) locks at) was.looked was.frames was.told
-  commit_fits locks at free standing = fits_ending before after_commit (command_at was) (waiting waits) was.looked was.frames was.told event locks at waits.fits now goes (λ scan none. none)
+  commit_fits locks at free standing = fits_ending before after_commit (command_at was) (waiting waits) was.looked was.frames was.told event locks at waits.fits now goes
+      (same_fits before after_commit (command_at was) (waiting waits) (later_at (waiting waits) locks at) was.frames refl refl refl refl (not_back (Some event) standing ∙ sym (not_back before.last (untaken before (command_at was) (waiting waits) was.looked was.frames was.told waits.fits commit))) waits.fits.rebuilds) (λ scan none. none)
       (λ is. begun_xid (was.progress.finished + 1) before.running (waits.fits.written is))
       (λ is. commits_on before after_commit (command_at was) (waiting waits) was.looked was.frames was.told event locks at waits.fits now goes commit refl
       (commit_free before (command_at was) (waiting waits) was.looked was.frames was.told (next_oid old) event ends waits.fits (end_plays scenario old was waits event ends next) commit))

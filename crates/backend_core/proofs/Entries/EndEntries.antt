@@ -30,6 +30,10 @@ use Rattle.backend_core.specs.Steps.{EndsNext, InCommand, AfterAll, Enters}
 use Rattle.backend_core.proofs.Choosing.EndsNow.{EndsBy, ends_by}
 use Rattle.backend_core.proofs.Fitting.Entered.{fits_at}
 use Rattle.backend_core.proofs.Own.{waiting, own_enters}
+use Rattle.backend_core.proofs.Fitting.Rebuilding.{owed_bare}
+use Rattle.cacheless.specs.Owed.{owed_of}
+use Rattle.cacheless.proofs.Same.{owes_nothing_is}
+use Rattle.cacheless.proofs.Plans.SilentActs.{empty_list}
 
 may_end : (next : ℕ) (command : Command) (p : Progress) (event : Event) → ends_command event ≡ true → may_end_at command p event ≡ true → may_play_at next command p event ≡ true
 may_end next command p (events.Visible xid) ends may = may
@@ -84,6 +88,15 @@ module _ (scenario : Scenario) (seen : List Entry) (s : Backend) (waits : Awaits
       by_case (InCommand command free out owes accepted may) = ap (λ o. elim o as (λ x. Bool) [ Some c ↦ may_play_at (next_oid seen) c s.progress event | None ↦ may_last_at s.progress event ]) free.at ∙ may_end (next_oid seen) command s.progress event ends may
       by_case (AfterAll past comes) = ap (λ o. elim o as (λ x. Bool) [ Some c ↦ may_play_at (next_oid seen) c s.progress event | None ↦ may_last_at s.progress event ]) past
           ∙ may_last s.progress event ends (sym waits.rests.holds.facts.owed ∙ (waits.fits.past past).free) comes
+
+  -- nothing is rebuilt
+  pub end_bare : s.frames ≡ []
+  end_bare = by_case next
+    where
+      by_case : EndsNext s event → s.frames ≡ []
+      by_case (InCommand command free out owes accepted may) = owed_bare (facts_of seen s.progress.id) (command_at s) (waiting waits) s.frames command waits.fits.rebuilds
+          (empty_list (owed_of (facts_of seen s.progress.id) command (waiting waits)) (owes_nothing_is (facts_of seen s.progress.id) command s.progress waits.rests.holds.rest waits.rests.holds.facts ∙ owes))
+      by_case (AfterAll past comes) = waits.fits.rebuilds.past past
 
   -- it may come next by the script
   pub end_plays : MayPlayIn (next_oid seen) (facts_of seen s.progress.id) (command_at s) (waiting waits) event

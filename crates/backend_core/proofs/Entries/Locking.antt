@@ -34,7 +34,7 @@ use Rattle.backend_core.specs.Fits.{looks_due, LooksFit, IsLookedFor, lacks_scan
 use Rattle.backend_core.specs.Steps.{IsLockNext, Enters}
 use Rattle.backend_core.proofs.Choosing.ActsRun.{act_runs}
 use Rattle.backend_core.proofs.Entries.Alike.{alike_enters}
-use Rattle.backend_core.proofs.Choosing.Chosen.{Acts, may_request, now_plays}
+use Rattle.backend_core.proofs.Choosing.Chosen.{Acts, may_request, now_plays, standing}
 use Rattle.backend_core.proofs.Fitting.Entered.{fits_at}
 use Rattle.backend_core.proofs.Entries.Failing.{IsActing, held_shows, failed_enters}
 use Rattle.backend_core.proofs.Entries.Inside.{runs_on, inside_fits}
@@ -43,6 +43,7 @@ use Rattle.backend_core.proofs.Fitting.Sought.{takes_cleared, no_look, act_serve
 use Rattle.cacheless.proofs.Allowed.NextKeeps.{nothing_owed}
 use Rattle.cacheless.specs.Types.{Row}
 use Rattle.std.proofs.Math.Bool.{and-true}
+use Rattle.backend_core.proofs.Fitting.Rebuilding.{same_fits, owed_bare}
 
 unlocked_still : (t : Bool) (given : List Row) → is_some (if_locked t given) ≡ false → t ≡ false
 unlocked_still true given gives = absurd (cc gives)
@@ -112,6 +113,7 @@ module _ (scenario : Scenario) (old : List Entry) (was : Backend) (waits : Await
     unsettled = ap (λ p. is_settled (outcome_of p)) is_act.is;
     runs = act_runs scenario old was waits courses next.command next.free.at is_act.act is_act.rest is_act.is next.free.first;
     owed = waits.rests.holds.facts.owed ∙ next.free.due;
+    bare = owed_bare facts (command_at was) s was.frames next.command waits.fits.rebuilds asks.0;
   }
 
   before : LooksFit facts s was.looked was.frames was.told
@@ -148,6 +150,7 @@ module _ (scenario : Scenario) (old : List Entry) (was : Backend) (waits : Await
         (fits_at scenario old was event waits p goes was.looked was.frames false
         (inside_fits scenario old was waits courses next.command next.free.at later now was.looked was.frames false same refl (λ from is. cc is) (record { blocks = refl; finished = refl; blocked = refl; ended = refl; left = λ is there. refl }) acting.runs (Acts acting.unsettled)
         (record { enough = omega (arith, before.enough, ap looks_due acting.owed, started); within = omega (arith, before.within, ap looks_due acting.owed, started) })
+        (same_fits facts later (command_at was) s now was.frames refl refl refl refl (sym (standing scenario old was waits next.command next.free.at (Acts acting.unsettled))) waits.fits.rebuilds)
         (λ made. unlooked (waits.fits.sought made)) (takes_cleared _ (number_of s) (s.locks ++ record { rel = rel; mode = mode; command = was.progress.finished + 1; clear = false } ∷ []) (Some rel) s.left
         (takes_granted facts (number_of s) (was.progress.finished + 1) s.locks s.left rel mode (ap (λ n. n + 1) (sym waits.rests.holds.count)) asks.2))))
         refl refl refl (λ stop. cc stop) none appends)

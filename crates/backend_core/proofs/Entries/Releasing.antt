@@ -20,7 +20,7 @@ use Rattle.backend_core.specs.Types.{Command, Scenario, Entry, Event, OwnLock, M
 use Rattle.backend_core.specs.Agrees.{IsPlayed, command_at, AwaitsEntry}
 use Rattle.backend_core.specs.Fits.{first_at, RunsAfter, Fits}
 use Rattle.backend_core.specs.Steps.{EndsNext, Enters}
-use Rattle.backend_core.proofs.Entries.EndEntries.{end_now, end_call, built_at, end_enters}
+use Rattle.backend_core.proofs.Entries.EndEntries.{end_now, end_call, built_at, end_enters, end_bare}
 use Rattle.backend_core.proofs.Choosing.EndsNow.{end_by, EndsBy, LetsGo, AllSent, NoWrite, Releases, Whole, Inner, comes_now, from_of, first_begun, commit_first, end_releases, commit_end, back_end}
 use Rattle.backend_core.proofs.Fitting.FitsEnds.{fits_released, ended_running, ended_lists, kept_running, kept_lists}
 use Rattle.backend_core.proofs.Own.{waiting}
@@ -126,7 +126,7 @@ module _ (scenario : Scenario) (old : List Entry) (was : Backend) (from : ℕ) (
 
       fits_here : first_at later ≤ number_of s → (has_write_from 0 later.lists ≡ true → option_map_or (λ (t : Running). is_some t.xid) later.running false ≡ true) → is_visible later.running ≡ false → RunsAfter later (command_at was) s
           → Fits later (command_at was) (record s { ended = true; locks = locks; last = at }) was.looked was.frames was.told
-      fits_here low written hidden runs = fits_released facts later (command_at was) s was.looked was.frames was.told (events.Release from) locks at waits.fits now from refl (λ scan none. none) low written hidden runs
+      fits_here low written hidden runs = fits_released facts later (command_at was) s was.looked was.frames was.told (events.Release from) locks at waits.fits now from refl (end_bare scenario old was waits (events.Release from) refl next) (λ scan none. none) low written hidden runs
 
       -- a level that is released alone isn't that of a commit
       inner_hidden : first_at facts + 1 ≤ from → is_some facts.running ≡ true → LetsGo facts (end_by facts (command_at was) s) from → is_visible facts.running ≡ false

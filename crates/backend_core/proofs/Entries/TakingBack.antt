@@ -21,18 +21,15 @@ use Rattle.cacheless.specs.State.{lists_at, kept_at, kept_spared}
 use Rattle.cacheless.proofs.Allowed.Releases.{OwesNoScan, ends_free}
 use Rattle.backend_core.specs.Types.{Command, Scenario, Entry, Event, OwnLock, Progress, Backend, Frame}
 use Rattle.backend_core.specs.Agrees.{IsPlayed, command_at, AwaitsEntry}
-use Rattle.backend_core.specs.Fits.{first_at, Fits}
+use Rattle.backend_core.specs.Fits.{first_at, Fits, FramesFit}
 use Rattle.backend_core.specs.Steps.{EndsNext, Enters}
-use Rattle.backend_core.proofs.Entries.EndEntries.{end_now, end_call, end_enters}
+use Rattle.backend_core.proofs.Entries.EndEntries.{end_now, end_call, end_enters, end_bare}
 use Rattle.backend_core.proofs.Choosing.EndsNow.{end_by, EndsBy, comes_now, commit_end, back_end}
 use Rattle.backend_core.proofs.Fitting.FitsEnds.{later_at, GoesOn, end_same, fits_ending, takes_back_on, write_from_first, none_from, goes_first, begun_xid, begun_visible, written_runs}
 use Rattle.backend_core.proofs.Own.{waiting, follows}
 use Rattle.std.proofs.Math.Bool.{and-false}
 use Rattle.inval_messages.specs.Messages.{is_spared}
-
--- after the last command no scan is owed
-past_free : (facts : Facts) (s : Session) → s.opened ≡ [] → s.left ≡ Done tells.Ok → OwesNoScan facts s
-past_free facts s opened left = (ap (builds_owed facts) opened, λ told is. ap (λ t. unusable facts (cons_option (told_rests_on t) [])) (ap told_of (sym is ∙ left)))
+use Rattle.backend_core.proofs.Fitting.Rebuilding.{bare_fits}
 
 -- a transaction that is taken back isn't visible
 back_hidden : (facts : Facts) (o : Option Command) (s : Session) (looked : Bool) (frames : List Frame) (told : Bool) (from : ℕ) → Fits facts o s looked frames told → end_by facts o s ≡ TakesBack from → is_visible facts.running ≡ false
@@ -77,16 +74,14 @@ module _ (scenario : Scenario) (old : List Entry) (was : Backend) (from : ℕ) (
   goes_on = record { runs = written_runs facts.running written; some = refl; same = goes_first (was.progress.finished + 1) facts.running (written_runs facts.running written); free = refl }
 
   -- a command that comes out well and is taken back owes no scan
-  takes_free : AllOnCourse scenario old → (locks : List OwnLock) (at : ℕ) → outcome_of s.left ≡ Well → OwesNoScan later s
-  takes_free courses locks at well = by_command (command_at was) refl
-    where
-      by_command : (o : Option Command) → command_at was ≡ o → OwesNoScan later s
-      by_command None past = past_free later s (waits.fits.past past).opened (waits.fits.settled (ap (λ o. is_settled (outcome_of (plan_first s.blocks o))) past) ∙ ap (plan_first s.blocks) past)
-      by_command (Some command) is = ends_free later command (later_at s locks at) (λ told none. let alone = (follows scenario old was waits courses command is).plain told none in record { opened = alone.opened; left = alone.left }) well
-          (ap (λ e. elim e as (λ x. List Owes) [ TakesBack n ↦ owed_after later.last | end ↦ owed_of later command (later_at s locks at) ]) (end_same facts later command s locks at goes_on ∙ ap (λ o. end_by facts o s) (sym is) ∙ takes.0))
+  takes_free : AllOnCourse scenario old → (locks : List OwnLock) (at : ℕ) (command : Command) → command_at was ≡ Some command → outcome_of s.left ≡ Well → OwesNoScan later s
+  takes_free courses locks at command is well = ends_free later command (later_at s locks at) (λ told none. let alone = (follows scenario old was waits courses command is).plain told none in record { opened = alone.opened; left = alone.left }) well
+      (ap (λ e. elim e as (λ x. List Owes) [ TakesBack n ↦ owed_after later.last | end ↦ owed_of later command (later_at s locks at) ]) (end_same facts later command s locks at goes_on ∙ ap (λ o. end_by facts o s) (sym is) ∙ takes.0))
 
   take_back_fits : AllOnCourse scenario old → (locks : List OwnLock) (at : ℕ) → Fits later (command_at was) (later_at s locks at) was.looked was.frames was.told
-  take_back_fits courses locks at = fits_ending facts later (command_at was) s was.looked was.frames was.told (events.Gone from) locks at waits.fits now goes_on (λ scan none. ap (λ t. is_spared scan (sent_in (lists_from from facts.lists)) && t) none ∙ and-false (is_spared scan (sent_in (lists_from from facts.lists))))
+  take_back_fits courses locks at = fits_ending facts later (command_at was) s was.looked was.frames was.told (events.Gone from) locks at waits.fits now goes_on
+      (subst (FramesFit later (command_at was) (later_at s locks at)) (sym (end_bare scenario old was waits (events.Gone from) refl next)) (bare_fits later (command_at was) (later_at s locks at) (λ keeps. absurd (cc keeps))))
+      (λ scan none. ap (λ t. is_spared scan (sent_in (lists_from from facts.lists)) && t) none ∙ and-false (is_spared scan (sent_in (lists_from from facts.lists))))
       (λ is. begun_xid (was.progress.finished + 1) facts.running written)
       (λ is. absurd (both_ways _ hidden (sym (begun_visible (was.progress.finished + 1) facts.running) ∙ is)))
       (λ n is. let same : from ≡ n = (let both : Some (events.Gone from) ≡ Some (events.Gone n) = is in cc both) in

@@ -1,6 +1,6 @@
 -- What the rebuilds see to, by the facts and the session.
-use Rattle.std.proofs.Common.{◌≡◌, ◌∙◌, inl, inr, Bool, true, false, not, Option, Some, None, List, [], ◌∷◌, ◌++◌, ◌&&◌, ◌||◌, cond, refl, sym, ap, subst, map, filter, is_some}
-use Rattle.std.specs.List.{find, list_any}
+use Rattle.std.proofs.Common.{◌≡◌, ◌∙◌, inl, inr, Bool, true, false, not, Option, Some, None, List, [], ◌∷◌, ◌++◌, ◌&&◌, ◌||◌, cond, refl, sym, ap, subst, map, filter, is_some, ◌⊎◌}
+use Rattle.std.specs.List.{find, list_any, AllByRecursion}
 use Rattle.std.proofs.Math.Bool.{and-false}
 use Rattle.std.proofs.lemmas.Bool.{both_ways, false_from_ne_true}
 use Rattle.base_types.specs.Scans.{build_scans}
@@ -17,11 +17,12 @@ use Rattle.cacheless.proofs.Plans.SilentActs.{both_empty}
 use Rattle.backend_core.specs.Types.{Purpose, Command, Opening, Frame, Progress}
 use Rattle.backend_core.specs.Fits.{keeps_whole, FramesFit}
 use Rattle.backend_core.specs.Words.{has_error}
-use Rattle.backend_core.specs.Frames.{lacks, IsAmong, IsFound, IsStack}
+use Rattle.backend_core.specs.Frames.{lacks, IsAmong, IsFound, IsStack, top, IsRebuilt}
 use Rattle.backend_core.proofs.Stacking.Among.{found_any, any_among}
+use Rattle.backend_core.proofs.Stacking.Stacks.{IsSplit, split, top_push, each_under}
 
 -- what is owed of no descriptor is kept of each
-found_none : (f : Purpose → Bool) (xs : List Purpose) → filter f xs ≡ [] → is_some (find f xs) ≡ false
+pub found_none : (f : Purpose → Bool) (xs : List Purpose) → filter f xs ≡ [] → is_some (find f xs) ≡ false
 found_none f [] none = refl
 found_none f (x ∷ xs) none = by_test (f x) none (found_none f xs)
   where
@@ -102,3 +103,25 @@ usable_is facts s fits = λ i scan. fits.usable scan i
 
 pub kept_lacks : (s : Progress) → lacks_opened (kept_at s) s.opened ≡ list_any (lacks (is_kept (kept_at s))) s.opened
 kept_lacks s = found_any (lacks (is_kept (kept_at s))) s.opened
+
+-- the rebuild on top is of a held descriptor that lacks a scan
+pub top_rebuilt : (facts : Facts) (o : Option Command) (s : Session) (frames : List Frame) (f : Frame) → FramesFit facts o s frames → top frames ≡ Some f → IsRebuilt facts.usable s.opened f
+top_rebuilt facts o s frames f fits on = by_split (split frames)
+  where
+    by_keeps : (g : IsSplit frames) → (t : Bool) → keeps_whole facts s ≡ t → IsRebuilt facts.usable s.opened f
+    by_keeps g true keeps = let one : g.one ≡ f = (let both : Some g.one ≡ Some f = sym (ap top g.is ∙ top_push g.under g.one) ∙ on in cc both) in
+        subst (IsRebuilt facts.usable s.opened) one (each_under facts.usable s.opened g.under g.one (subst (λ l. AllByRecursion (IsRebuilt facts.usable s.opened) l) g.is (fits.stack keeps).each)).1
+    by_keeps g false over = absurd (let none : None ≡ Some f = sym (ap top (fits.over over)) ∙ on in cc none)
+
+    by_split : (frames ≡ []) ⊎ IsSplit frames → IsRebuilt facts.usable s.opened f
+    by_split (inl none) = absurd (let no_top : None ≡ Some f = sym (ap top none) ∙ on in cc no_top)
+    by_split (inr g) = by_keeps g (keeps_whole facts s) refl
+
+-- where nothing is owed, and the command hasn't failed, no descriptor is
+pub owed_builds : (facts : Facts) (s : Session) (command : Command) → (outcome_of s.left ≡ Badly → ⊥) → owed_of facts command s ≡ [] → builds_owed facts s.opened ≡ []
+owed_builds facts s command goes none = by_outcome (outcome_of s.left) refl (no_scan (scans_owed facts s) (both_empty (owed_at_start facts command s ++ owed_after facts.last) (map OwesScan (scans_owed facts s)) none).1)
+  where
+    by_outcome : (x : Outcome) → outcome_of s.left ≡ x → elim x as (λ y. List Purpose) [ Badly ↦ [] | other ↦ builds_owed facts s.opened ++ act_owed facts s.left ] ≡ [] → builds_owed facts s.opened ≡ []
+    by_outcome Badly is owed = absurd (goes is)
+    by_outcome Well is owed = (both_empty (builds_owed facts s.opened) (act_owed facts s.left) owed).0
+    by_outcome Unsettled is owed = (both_empty (builds_owed facts s.opened) (act_owed facts s.left) owed).0
