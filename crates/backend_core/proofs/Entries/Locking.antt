@@ -44,6 +44,7 @@ use Rattle.cacheless.proofs.Allowed.NextKeeps.{nothing_owed}
 use Rattle.cacheless.specs.Types.{Row}
 use Rattle.std.proofs.Math.Bool.{and-true}
 use Rattle.backend_core.proofs.Fitting.Rebuilding.{same_fits, owed_bare}
+use Rattle.backend_core.proofs.Stacking.Looked.{told_none}
 
 unlocked_still : (t : Bool) (given : List Row) → is_some (if_locked t given) ≡ false → t ≡ false
 unlocked_still true given gives = absurd (cc gives)
@@ -149,7 +150,7 @@ module _ (scenario : Scenario) (old : List Entry) (was : Backend) (waits : Await
         kept
         (fits_at scenario old was event waits p goes was.looked was.frames false
         (inside_fits scenario old was waits courses next.command next.free.at later now was.looked was.frames false same refl (λ from is. cc is) (record { blocks = refl; finished = refl; blocked = refl; ended = refl; left = λ is there. refl }) acting.runs (Acts acting.unsettled)
-        (record { enough = omega (arith, before.enough, ap looks_due acting.owed, started); within = omega (arith, before.within, ap looks_due acting.owed, started) })
+        (record { enough = omega (arith, before.enough, ap looks_due acting.owed, started); within = omega (arith, told_none was.told was.frames, before.within, ap looks_due acting.owed, started) })
         (same_fits facts later (command_at was) s now was.frames refl refl refl refl (sym (standing scenario old was waits next.command next.free.at (Acts acting.unsettled))) waits.fits.rebuilds)
         (λ made. unlooked (waits.fits.sought made)) (takes_cleared _ (number_of s) (s.locks ++ record { rel = rel; mode = mode; command = was.progress.finished + 1; clear = false } ∷ []) (Some rel) s.left
         (takes_granted facts (number_of s) (was.progress.finished + 1) s.locks s.left rel mode (ap (λ n. n + 1) (sym waits.rests.holds.count)) asks.2))))

@@ -17,9 +17,9 @@ use Rattle.cacheless.proofs.Plans.SilentActs.{both_empty}
 use Rattle.backend_core.specs.Types.{Purpose, Command, Opening, Frame, Progress}
 use Rattle.backend_core.specs.Fits.{keeps_whole, FramesFit}
 use Rattle.backend_core.specs.Words.{has_error}
-use Rattle.backend_core.specs.Frames.{lacks, IsAmong, IsFound, IsStack, top, IsRebuilt}
+use Rattle.backend_core.specs.Frames.{lacks, IsAmong, IsFound, IsStack, top, IsRebuilt, on_top, with_look}
 use Rattle.backend_core.proofs.Stacking.Among.{found_any, any_among}
-use Rattle.backend_core.proofs.Stacking.Stacks.{IsSplit, split, top_push, each_under}
+use Rattle.backend_core.proofs.Stacking.Stacks.{IsSplit, split, top_push, each_under, stack_look}
 
 -- what is owed of no descriptor is kept of each
 pub found_none : (f : Purpose → Bool) (xs : List Purpose) → filter f xs ≡ [] → is_some (find f xs) ≡ false
@@ -125,3 +125,12 @@ owed_builds facts s command goes none = by_outcome (outcome_of s.left) refl (no_
     by_outcome Badly is owed = absurd (goes is)
     by_outcome Well is owed = (both_empty (builds_owed facts s.opened) (act_owed facts s.left) owed).0
     by_outcome Unsettled is owed = (both_empty (builds_owed facts s.opened) (act_owed facts s.left) owed).0
+
+-- a look for the one on top changes nothing of it
+pub look_fit : (facts : Facts) (o : Option Command) (s : Session) (frames : List Frame) → FramesFit facts o s frames → FramesFit facts o s (on_top with_look frames)
+look_fit facts o s frames fits = record {
+  stack = λ keeps. stack_look facts.usable s.opened frames (fits.stack keeps);
+  over = λ over. ap (on_top with_look) (fits.over over);
+  badly = λ is. ap (on_top with_look) (fits.badly is);
+  past = λ none. ap (on_top with_look) (fits.past none);
+}

@@ -33,6 +33,10 @@ pub told_most : (told : Bool) (frames : List Frame) → told_owed told frames �
 told_most told [] = one_most told
 told_most told (f ∷ frames) = omega arith
 
+pub told_none : (told : Bool) (frames : List Frame) → told_owed false frames ≤ told_owed told frames
+told_none told [] = omega arith
+told_none told (f ∷ frames) = omega arith
+
 -- a look may not count any more
 looked_less : (looked begun : Bool) → one_if (looked && not begun) ≤ one_if looked
 looked_less true true = omega arith

@@ -9,7 +9,7 @@ use Rattle.std.proofs.lemmas.Option.{slice_get-get_or}
 use Rattle.std.proofs.Math.Seq.{take-length}
 use Rattle.base_types.specs.Scans.{same_oid}
 use Rattle.backend_core.specs.Types.{Oid, Purpose, Opening, Frame}
-use Rattle.backend_core.specs.Frames.{is_of, is_rebuilding, is_resetting, top, below, on_top, IsAmong, IsFound, IsRebuilt, AreApart, lacks}
+use Rattle.backend_core.specs.Frames.{is_of, is_rebuilding, is_resetting, top, below, on_top, IsAmong, IsFound, IsRebuilt, AreApart, lacks, IsStack, with_look, looked_if}
 use Rattle.backend_core.proofs.Stacking.Among.{oid_apart}
 
 -- the one on top, and those below it
@@ -135,3 +135,26 @@ found_to has now frames later o whole on resets (inr (inr is)) = resets is
 pub changed_more : (change : Frame → Frame) (frames now : List Frame) (i : ℕ) (d x : Frame) → i < length frames → length now ≡ length frames → now ≡ map change (take i frames) ++ drop i frames → x ≡ change (get_or now i d)
     → slice_set now i x ≡ map change (take (i + 1) frames) ++ drop (i + 1) frames
 changed_more change frames now i d x within long done is = ap (slice_set now i) is ∙ map_over_more change frames now i (get_or now i d) within done (get_or_default now i d (get_or now i d) (omega (arith, within, long)))
+
+-- the one on top changes, but for its descriptor and whether a reset goes on after it
+any_last : (p : Frame → Bool) (under : List Frame) (f g : Frame) → p g ≡ p f → list_any p (under ++ g ∷ []) ≡ list_any p (under ++ f ∷ [])
+any_last p under f g same = list_any-append p under (g ∷ []) ∙ ap (λ t. list_any p under || (t || false)) same ∙ sym (list_any-append p under (f ∷ []))
+
+stack_again : (has : Purpose → Bool) (held : List Opening) (under : List Frame) (f g : Frame) → g.opening ≡ f.opening → g.of_reset ≡ f.of_reset → IsStack has held (under ++ f ∷ []) → IsStack has held (under ++ g ∷ [])
+stack_again has held under f g opening of_reset stack = record {
+  found = λ o among. found_to has has (under ++ f ∷ []) (under ++ g ∷ []) o (λ whole. inl whole) (λ on. inr (inl (any_last (is_of o.rel) under f g (ap (λ (x : Opening). same_oid o.rel x.rel) opening) ∙ on))) (λ on. inr (inr (any_last (λ x. x.of_reset) under f g of_reset ∙ on))) (stack.found o among);
+  each = let both = each_under has held under f stack.each in each_push has held under g both.0 (record { among = subst (IsAmong held) (sym opening) both.1.among; lacking = ap (lacks has) opening ∙ both.1.lacking });
+  once = let both = once_under under f stack.once in once_push under g both.0 (ap (λ (x : Opening). is_rebuilding under x.rel) opening ∙ both.1);
+}
+
+-- as by a look
+pub stack_look : (has : Purpose → Bool) (held : List Opening) (frames : List Frame) → IsStack has held frames → IsStack has held (on_top with_look frames)
+stack_look has held frames stack = by_split (split frames)
+  where
+    by_split : (frames ≡ []) ⊎ IsSplit frames → IsStack has held (on_top with_look frames)
+    by_split (inl none) = subst (IsStack has held) (sym (ap (on_top with_look) none)) (subst (IsStack has held) none stack)
+    by_split (inr s) = subst (IsStack has held) (sym (ap (on_top with_look) s.is ∙ on_top_push with_look s.under s.one)) (stack_again has held s.under s.one (with_look s.one) refl refl (subst (IsStack has held) s.is stack))
+
+pub look_empty : (looks : Bool) → looked_if looks [] ≡ []
+look_empty true = refl
+look_empty false = refl

@@ -6,3 +6,4 @@ use Rattle.backend_core.proofs.Entries.Locking.{granted_enters}
 use Rattle.backend_core.proofs.Entries.Unlocking.{unlock_enters}
 use Rattle.backend_core.proofs.Entries.Joining.{join_enters}
 use Rattle.backend_core.proofs.Choosing.Sound.{choice_sound}
+use Rattle.backend_core.proofs.Entries.Looking.{accept_enters}
