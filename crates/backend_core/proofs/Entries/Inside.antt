@@ -1,5 +1,5 @@
 -- What the choice keeps with an entry of a command whose transaction runs, if the entry isn't a write.
-use Rattle.std.proofs.Common.{◌≡◌, ◌∙◌, ℕ, Bool, true, false, Option, Some, None, List, Result, Ok, Err, OnErr, refl, sym, ap, subst, is_some}
+use Rattle.std.proofs.Common.{◌≡◌, ◌∙◌, ℕ, Bool, true, false, Option, Some, None, List, Result, Ok, Err, OnErr, refl, sym, ap, subst, is_some, OnOk}
 use Rattle.std.specs.Option.{option_map_or}
 use Rattle.event_kinds.specs.declared.entry.Event.TheVariants as events
 use Rattle.inval_messages.specs.Lists.{has_write_from}
@@ -46,3 +46,8 @@ module _ (scenario : Scenario) (old : List Entry) (was : Backend) (waits : Await
     written = λ is. ap (λ o. option_map_or (λ (t : Running). is_some t.xid) o false) same ∙ waits.fits.written (ap (has_write_from 0) (sym lists) ∙ is);
     last = last;
   }) stays runs busy looks rebuilds sought takes
+
+-- what is so of a backend that a call leaves, unless it is refused memory
+pub left_so : {E : Type 0} (P : Backend → Type 0) (now left : Backend) (result : Result (Unit {0}) E) → OnOk result (now ≡ left) → P left → OnOk result (P now)
+left_so P now left (Ok x) is so = subst P (sym is) so
+left_so P now left (Err e) is so = tt
