@@ -72,6 +72,10 @@ with_look f = record f { looked = true }
 abbrev pub looked_if : Bool → List Frame → List Frame
 looked_if looks frames = elim looks [ true ↦ on_top with_look frames | false ↦ frames ]
 
+-- they stay as they are, where that is so
+abbrev pub unless : Bool → List Frame → List Frame → List Frame
+unless stays frames now = elim stays [ true ↦ frames | false ↦ now ]
+
 -- the rebuilds after a fetch: where a full one puts rebuilds on, the look that it asks for is the first of the one on top
 abbrev pub frames_fetched : (Purpose → Bool) → List Opening → List Message → List Frame → List Frame
 frames_fetched has held messages frames = looked_if ((length messages == 32) && nat_lt (length frames) (length (frames_after has held messages frames))) (frames_after has held messages frames)

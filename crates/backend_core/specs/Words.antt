@@ -10,7 +10,7 @@ use Rattle.ddl_effect.specs.Plans.{Plan, Fails, Do, Lookup, Open}
 use Rattle.ddl_effect.specs.Stages.{plan_at}
 use Rattle.cacheless.specs.State.{kept_at, is_kept, is_absent, is_quiet, row_sought}
 use Rattle.backend_core.specs.Types.{Oid, Message, Purpose, Row, Opening, Life, Frame, Progress, Backend}
-use Rattle.backend_core.specs.Frames.{top, on_top, with_look, frames_fetched, frames_reset, frames_scanned}
+use Rattle.backend_core.specs.Frames.{unless, top, on_top, with_look, frames_fetched, frames_reset, frames_scanned}
 use Rattle.backend_core.specs.declared.life.Life.TheVariants as lives
 
 -- the backend has left
@@ -65,11 +65,11 @@ has_error plan = false
 
 -- the rebuilds after a fetch of messages: a command that has failed rebuilds nothing
 abbrev pub frames_given : Backend → List Message → List Frame
-frames_given s messages = elim (has_error (plan_at s.progress.exec)) [ true ↦ s.frames | false ↦ frames_fetched (is_kept (kept_at s.progress)) s.progress.opened messages s.frames ]
+frames_given s messages = unless (has_error (plan_at s.progress.exec)) s.frames (frames_fetched (is_kept (kept_at s.progress)) s.progress.opened messages s.frames)
 
 -- and after one of a reset
 abbrev pub frames_reset_of : Backend → List Opening → List Frame
-frames_reset_of s held = elim (has_error (plan_at s.progress.exec)) [ true ↦ s.frames | false ↦ frames_reset (is_kept (kept_at s.progress)) held s.frames ]
+frames_reset_of s held = unless (has_error (plan_at s.progress.exec)) s.frames (frames_reset (is_kept (kept_at s.progress)) held s.frames)
 
 -- the rebuilds after a look, of the one on top or of the next act
 abbrev pub frames_looked : Bool → List Frame → List Frame

@@ -118,25 +118,17 @@ impl Backend {
     {
         let unfound = self.finds_none();
         let marked = self.is_marked(messages);
-        self.tell_frames(messages)?;
+        let fails = self.has_error();
+        self.frames.fetch(
+            fails,
+            &self.progress.caches,
+            self.progress.opened.as_slice(),
+            messages,
+        )?;
         self.progress.enter_fetch(messages);
         self.told = self.told_after(unfound, marked);
         self.looked = self.looked_after(unfound, marked);
         Ok(())
-    }
-
-    // The rebuilds that they ask for, unless its command has failed.
-    fn tell_frames(&mut self, messages: &[Message]) -> Result<(), NoMemory>
-        ensures { OnOk result (self.new ≡ record self.old { frames = frames_given self.old messages.now }) }
-    {
-        if self.has_error() {
-            return Ok(());
-        }
-        self.frames.fetch(
-            &self.progress.caches,
-            self.progress.opened.as_slice(),
-            messages,
-        )
     }
 
     // It takes a reset: all that it has read goes (`InvalidateSystemCaches` in
@@ -155,14 +147,13 @@ impl Backend {
         let fails = self.has_error();
         self.told = self.told_after(unfound, marked);
         self.looked = self.looked_after(unfound, marked);
-        if fails {
-            self.progress.enter_reset();
-            return Ok(());
-        }
-        self.frames.restart(&self.progress.caches);
+        self.frames.restart(fails, &self.progress.caches);
         self.progress.enter_reset();
-        self.frames
-            .put_rest(&self.progress.caches, self.progress.opened.as_slice())
+        self.frames.reset(
+            fails,
+            &self.progress.caches,
+            self.progress.opened.as_slice(),
+        )
     }
 
     // Whether its command has failed, but for a lookup that found no relation.

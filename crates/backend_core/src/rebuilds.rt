@@ -17,7 +17,7 @@ use std::alloc::Global;
 
 impl Frames {
     ghost use Rattle.std.specs.Prelude.{◌++◌, ◌∷◌, [], length};
-    ghost use Rattle.backend_core.specs.Frames.{is_rebuilding as has_frame_of, is_left as awaits, top as top_of, below, on_top, with_look, new_frame, frames_told, frames_by, frames_after, frames_fetched, least_left as first_left, with_rest, frames_scanned};
+    ghost use Rattle.backend_core.specs.Frames.{unless, is_rebuilding as has_frame_of, is_left as awaits, top as top_of, below, on_top, with_look, new_frame, frames_told, frames_by, frames_after, frames_fetched, least_left as first_left, with_rest, frames_scanned};
 
     // No rebuilds, which takes no memory.
     pub(crate) fn new(alloc: Global) -> Frames
@@ -70,16 +70,20 @@ impl Frames {
         Ok(())
     }
 
-    // The messages of a fetch. Where a full one puts rebuilds on, the look that it asks for is the first of
-    // the one on top.
+    // The messages of a fetch, unless the command has failed. Where a full one puts rebuilds on, the look that
+    // it asks for is the first of the one on top.
     pub(crate) fn fetch(
         &mut self,
+        fails: bool,
         caches: &LocalCaches,
         held: &[Opening],
         messages: &[Message],
     ) -> Result<(), NoMemory>
-        ensures { OnOk result (self.new ≡ frames_fetched (is_kept (kept_of caches.now)) held.now messages.now self.old) }
+        ensures { OnOk result (self.new ≡ unless fails self.old (frames_fetched (is_kept (kept_of caches.now)) held.now messages.now self.old)) }
     {
+        if fails {
+            return Ok(());
+        }
         let before = self.items.len();
         self.tell_each(caches, held, messages)?;
         if messages.len() == 32 && before < self.items.len() {
@@ -133,16 +137,34 @@ impl Frames {
         }
     }
 
-    // A reset: each rebuild starts over whose first scan is made (`RelationCacheInvalidate` there).
-    pub(crate) fn restart(&mut self, caches: &LocalCaches)
-        ensures { self.new ≡ map (restarted (is_kept (kept_of caches.now))) self.old }
+    // A reset: each rebuild starts over whose first scan is made (`RelationCacheInvalidate` there), unless the
+    // command has failed.
+    pub(crate) fn restart(&mut self, fails: bool, caches: &LocalCaches)
+        ensures { self.new ≡ unless fails self.old (map (restarted (is_kept (kept_of caches.now))) self.old) }
     {
-        restart_each(&mut self.items, caches);
+        if !fails {
+            restart_each(&mut self.items, caches);
+        }
+    }
+
+    // After it what is left is rebuilt, unless the command has failed.
+    pub(crate) fn reset(
+        &mut self,
+        fails: bool,
+        caches: &LocalCaches,
+        held: &[Opening],
+    ) -> Result<(), NoMemory>
+        ensures { OnOk result (self.new ≡ unless fails self.old (with_rest (is_kept (kept_of caches.now)) held.now self.old)) }
+    {
+        if fails {
+            return Ok(());
+        }
+        self.put_rest(caches, held)
     }
 
     // After a reset, and after each rebuild that it put on: the next held relation that isn't whole and
     // isn't being rebuilt is.
-    pub(crate) fn put_rest(
+    fn put_rest(
         &mut self,
         caches: &LocalCaches,
         held: &[Opening],

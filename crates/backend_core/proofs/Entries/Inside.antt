@@ -51,3 +51,12 @@ module _ (scenario : Scenario) (old : List Entry) (was : Backend) (waits : Await
 pub left_so : {E : Type 0} (P : Backend → Type 0) (now left : Backend) (result : Result (Unit {0}) E) → OnOk result (now ≡ left) → P left → OnOk result (P now)
 left_so P now left (Ok x) is so = subst P (sym is) so
 left_so P now left (Err e) is so = tt
+
+-- what follows from it
+pub then_so : {E : Type 0} {A B : Type 0} (result : Result (Unit {0}) E) → (A → B) → OnOk result A → OnOk result B
+then_so (Ok x) on so = on so
+then_so (Err e) on so = so
+
+pub so_of_all : {E : Type 0} {A B C D R : Type 0} (result : Result (Unit {0}) E) → (A → B → C → D → R) → OnOk result A → OnOk result B → OnOk result C → OnOk result D → OnOk result R
+so_of_all (Ok x) on a b c d = on a b c d
+so_of_all (Err e) on a b c d = a
