@@ -12,7 +12,7 @@ use Rattle.cacheless.specs.Session.{Session, outcome_of, is_settled}
 use Rattle.cacheless.specs.Silently.{is_to_answer, IsSettled, Answers, HasAnswered, IsLineOf}
 use Rattle.cacheless.specs.State.{kept_at, session_at, is_absent}
 use Rattle.cacheless.proofs.Answers.Telling.{act_places, act_tells, act_lines, with_answer, answer_holds, answer_tells, answer_places, pass_places, pass_tells, pass_lines}
-use Rattle.backend_core.specs.Types.{Command, Scenario, Entry, Line, Progress, Backend}
+use Rattle.backend_core.specs.Types.{Command, Scenario, Entry, Line, Progress, Backend, Frame}
 use Rattle.backend_core.specs.Agrees.{command_at, AgreesNow, GoesOn, AwaitsEntry}
 use Rattle.backend_core.specs.Fits.{Fits}
 use Rattle.backend_core.proofs.Fitting.FitsOn.{fits_act, fits_pass}
@@ -110,9 +110,10 @@ pass_agrees scenario seen was p lines line now passed kept none says pushed = re
     next_command : slice_get p.commands p.finished ≡ next
     next_command = ap (λ l. slice_get l p.finished) passed.commands ∙ ap (slice_get was.progress.commands) passed.finished
 
-pub pass_goes : (was : Backend) (p : Progress) (lines : List Line) (line : Line) → ((scenario : Scenario) (seen : List Entry) (held : Holds scenario seen was.progress) → HasPassed scenario seen was.progress held p) → kept_at p ≡ kept_at was.progress → p.answer ≡ None → IsLineOf was.progress line → lines ≡ was.lines ++ line ∷ []
-    → (scenario : Scenario) (seen : List Entry) → AgreesNow scenario seen was → GoesOn scenario seen was (record was { progress = p; lines = lines; looked = false; frames = []; told = false })
-pass_goes was p lines line passes kept none says pushed scenario seen now = record { agrees = pass_agrees scenario seen was p lines line now (passes scenario seen now.holds) kept none says pushed; id = (passes scenario seen now.holds).id }
+pub pass_goes : (was : Backend) (p : Progress) (frames : List Frame) (lines : List Line) (line : Line) → ((scenario : Scenario) (seen : List Entry) (held : Holds scenario seen was.progress) → HasPassed scenario seen was.progress held p) → kept_at p ≡ kept_at was.progress → p.answer ≡ None → frames ≡ [] → IsLineOf was.progress line → lines ≡ was.lines ++ line ∷ []
+    → (scenario : Scenario) (seen : List Entry) → AgreesNow scenario seen was → GoesOn scenario seen was (record was { progress = p; lines = lines; looked = false; frames = frames; told = false })
+pass_goes was p frames lines line passes kept none bare says pushed scenario seen now = subst (λ l. GoesOn scenario seen was (record was { progress = p; lines = lines; looked = false; frames = l; told = false })) (sym bare)
+    (record { agrees = pass_agrees scenario seen was p lines line now (passes scenario seen now.holds) kept none says pushed; id = (passes scenario seen now.holds).id })
 
 -- where nothing is left to be done without an entry it waits for one
 pub rest_awaits : (scenario : Scenario) (seen : List Entry) (s : Backend) → AgreesNow scenario seen s → IsSettled s.progress → AwaitsEntry scenario seen s
