@@ -1,4 +1,5 @@
 -- What the choice keeps of a session.
+pub mod Rebuilding
 pub mod Entered
 pub mod NextTransaction
 pub mod FitsOn

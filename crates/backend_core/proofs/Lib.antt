@@ -1,5 +1,6 @@
 pub mod Played
 pub mod Own
+pub mod Stacking
 pub mod Fitting
 pub mod Coherent
 pub mod Stepped

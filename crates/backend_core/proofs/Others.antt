@@ -24,7 +24,7 @@ awaits-other scenario seen e s other waits = record {
     places = still.places;
   };
   rests = still.rests;
-  fits = subst (λ f. Fits f (command_at s) (waiting waits) s.looked s.looked_to_build s.told) (sym (facts_of-other seen e s.progress.id other)) waits.fits;
+  fits = subst (λ f. Fits f (command_at s) (waiting waits) s.looked s.frames s.told) (sym (facts_of-other seen e s.progress.id other)) waits.fits;
   lines = still.lines_are;
   tells = still.tells;
   answered = still.answered;

@@ -112,7 +112,7 @@ own_makes scenario old new had has was event waits played courses own appends = 
 -- a backend's own entry
 pub own_enters : (scenario : Scenario) (old new : List Entry) (had has : ℕ → ℕ) (was now : Backend) (event : Event) (waits : AwaitsEntry scenario old was) → IsPlayed scenario old → AllOnCourse scenario old → OwnEntry scenario old was event waits
     → (goes : HasEntered scenario old was.progress event waits.rests now.progress) → KeepsScans old was.progress event now.progress
-    → Fits (facts_of (with_own old was.progress event) now.progress.id) (command_at now) (session_at now.progress goes.holds.rest) now.looked now.looked_to_build now.told
+    → Fits (facts_of (with_own old was.progress event) now.progress.id) (command_at now) (session_at now.progress goes.holds.rest) now.looked now.frames now.told
     → now.life ≡ was.life → life_by (was.progress.finished + 1) event ≡ Alive (was.progress.finished + 1) → now.lines ≡ was.lines → event ≢ events.Stop → now.progress.answer ≡ answer_after event was.progress.answer
     → Appends old new had has (entry_of was.progress.id (was.progress.finished + 1) event) → Enters scenario old new had has was now
 own_enters scenario old new had has was now event waits played courses own goes kept fits life lives lines stays answer appends = record {

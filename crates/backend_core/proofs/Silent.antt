@@ -12,7 +12,7 @@ use Rattle.cacheless.specs.Session.{Session, outcome_of, is_settled}
 use Rattle.cacheless.specs.Silently.{is_to_answer, IsSettled, Answers, HasAnswered, IsLineOf}
 use Rattle.cacheless.specs.State.{kept_at, session_at, is_absent}
 use Rattle.cacheless.proofs.Answers.Telling.{act_places, act_tells, act_lines, with_answer, answer_holds, answer_tells, answer_places, pass_places, pass_tells, pass_lines}
-use Rattle.backend_core.specs.Types.{Command, Scenario, Entry, Line, Progress, Backend}
+use Rattle.backend_core.specs.Types.{Command, Scenario, Entry, Line, Progress, Backend, Frame}
 use Rattle.backend_core.specs.Agrees.{command_at, AgreesNow, GoesOn, AwaitsEntry}
 use Rattle.backend_core.specs.Fits.{Fits}
 use Rattle.backend_core.proofs.Fitting.FitsOn.{fits_act, fits_pass}
@@ -39,10 +39,10 @@ act_agrees scenario seen was p now acted kept same = record {
     places = act_places scenario seen was.progress p now.holds now.tells.course acted kept now.keeps.places;
   };
   holds = acted.holds;
-  fits = subst (λ f. Fits f (slice_get p.commands p.finished) (session_at p acted.holds.rest) was.looked was.looked_to_build was.told) (sym (ap (facts_of seen) acted.moves.id))
-      (subst (λ o. Fits (facts_of seen was.progress.id) o (session_at p acted.holds.rest) was.looked was.looked_to_build was.told) (sym same_command)
-      (subst (λ x. Fits (facts_of seen was.progress.id) (command_at was) x was.looked was.looked_to_build was.told) (sym acted.session)
-      (fits_act (facts_of seen was.progress.id) (command_at was) s was.looked was.looked_to_build was.told acted.command acted.act acted.further acted.given acted.at acted.left going (is_done_here (facts_of seen was.progress.id) s acted.act acted.further acted.given acted.gives) says now.fits)));
+  fits = subst (λ f. Fits f (slice_get p.commands p.finished) (session_at p acted.holds.rest) was.looked was.frames was.told) (sym (ap (facts_of seen) acted.moves.id))
+      (subst (λ o. Fits (facts_of seen was.progress.id) o (session_at p acted.holds.rest) was.looked was.frames was.told) (sym same_command)
+      (subst (λ x. Fits (facts_of seen was.progress.id) (command_at was) x was.looked was.frames was.told) (sym acted.session)
+      (fits_act (facts_of seen was.progress.id) (command_at was) s was.looked was.frames was.told acted.command acted.act acted.further acted.given acted.at acted.left going (is_done_here (facts_of seen was.progress.id) s acted.act acted.further acted.given acted.gives) says now.fits)));
   tells = act_tells scenario seen was.progress p now.holds now.tells acted same;
   lines = act_lines scenario seen was.progress p now.holds acted was.lines now.lines;
 }
@@ -87,7 +87,7 @@ answer_goes was p (Err e) asked has = tt
 
 -- it passes to its next command
 pass_agrees : (scenario : Scenario) (seen : List Entry) (was : Backend) (p : Progress) (lines : List Line) (line : Line) (now : AgreesNow scenario seen was) → HasPassed scenario seen was.progress now.holds p → kept_at p ≡ kept_at was.progress → p.answer ≡ None
-    → IsLineOf was.progress line → lines ≡ was.lines ++ line ∷ [] → AgreesNow scenario seen (record was { progress = p; lines = lines; looked = false; looked_to_build = false; told = false })
+    → IsLineOf was.progress line → lines ≡ was.lines ++ line ∷ [] → AgreesNow scenario seen (record was { progress = p; lines = lines; looked = false; frames = []; told = false })
 pass_agrees scenario seen was p lines line now passed kept none says pushed = record {
   keeps = record {
     alive = now.keeps.alive;
@@ -96,10 +96,10 @@ pass_agrees scenario seen was p lines line now passed kept none says pushed = re
     places = pass_places scenario seen was.progress p now.holds passed kept now.keeps.places;
   };
   holds = passed.holds;
-  fits = subst (λ f. Fits f (slice_get p.commands p.finished) (session_at p passed.holds.rest) false false false) (sym (ap (facts_of seen) passed.id))
-      (subst (λ o. Fits (facts_of seen was.progress.id) o (session_at p passed.holds.rest) false false false) (sym next_command)
-      (subst (λ x. Fits (facts_of seen was.progress.id) next x false false false) (sym passed.session)
-      (fits_pass (facts_of seen was.progress.id) (command_at was) (session_at was.progress now.holds.rest) was.looked was.looked_to_build was.told passed.command next passed.at passed.over now.fits)));
+  fits = subst (λ f. Fits f (slice_get p.commands p.finished) (session_at p passed.holds.rest) false [] false) (sym (ap (facts_of seen) passed.id))
+      (subst (λ o. Fits (facts_of seen was.progress.id) o (session_at p passed.holds.rest) false [] false) (sym next_command)
+      (subst (λ x. Fits (facts_of seen was.progress.id) next x false [] false) (sym passed.session)
+      (fits_pass (facts_of seen was.progress.id) (command_at was) (session_at was.progress now.holds.rest) was.looked was.frames was.told passed.command next passed.at passed.over now.fits)));
   tells = pass_tells scenario seen was.progress p now.holds now.tells passed none;
   lines = pushed ∙ pass_lines scenario seen was.progress p now.holds now.tells passed was.lines line says now.lines;
 }
@@ -110,9 +110,10 @@ pass_agrees scenario seen was p lines line now passed kept none says pushed = re
     next_command : slice_get p.commands p.finished ≡ next
     next_command = ap (λ l. slice_get l p.finished) passed.commands ∙ ap (slice_get was.progress.commands) passed.finished
 
-pub pass_goes : (was : Backend) (p : Progress) (lines : List Line) (line : Line) → ((scenario : Scenario) (seen : List Entry) (held : Holds scenario seen was.progress) → HasPassed scenario seen was.progress held p) → kept_at p ≡ kept_at was.progress → p.answer ≡ None → IsLineOf was.progress line → lines ≡ was.lines ++ line ∷ []
-    → (scenario : Scenario) (seen : List Entry) → AgreesNow scenario seen was → GoesOn scenario seen was (record was { progress = p; lines = lines; looked = false; looked_to_build = false; told = false })
-pass_goes was p lines line passes kept none says pushed scenario seen now = record { agrees = pass_agrees scenario seen was p lines line now (passes scenario seen now.holds) kept none says pushed; id = (passes scenario seen now.holds).id }
+pub pass_goes : (was : Backend) (p : Progress) (frames : List Frame) (lines : List Line) (line : Line) → ((scenario : Scenario) (seen : List Entry) (held : Holds scenario seen was.progress) → HasPassed scenario seen was.progress held p) → kept_at p ≡ kept_at was.progress → p.answer ≡ None → frames ≡ [] → IsLineOf was.progress line → lines ≡ was.lines ++ line ∷ []
+    → (scenario : Scenario) (seen : List Entry) → AgreesNow scenario seen was → GoesOn scenario seen was (record was { progress = p; lines = lines; looked = false; frames = frames; told = false })
+pass_goes was p frames lines line passes kept none bare says pushed scenario seen now = subst (λ l. GoesOn scenario seen was (record was { progress = p; lines = lines; looked = false; frames = l; told = false })) (sym bare)
+    (record { agrees = pass_agrees scenario seen was p lines line now (passes scenario seen now.holds) kept none says pushed; id = (passes scenario seen now.holds).id })
 
 -- where nothing is left to be done without an entry it waits for one
 pub rest_awaits : (scenario : Scenario) (seen : List Entry) (s : Backend) → AgreesNow scenario seen s → IsSettled s.progress → AwaitsEntry scenario seen s

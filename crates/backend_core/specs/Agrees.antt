@@ -39,7 +39,7 @@ pub record Keeps (seen : List Entry) (s : Backend) : Type 0 where
 pub record AgreesNow (scenario : Scenario) (seen : List Entry) (s : Backend) : Type 0 where
   pub keeps : Keeps seen s
   pub holds : Holds scenario seen s.progress
-  pub fits : Fits (facts_of seen s.progress.id) (command_at s) (session_at s.progress holds.rest) s.looked s.looked_to_build s.told
+  pub fits : Fits (facts_of seen s.progress.id) (command_at s) (session_at s.progress holds.rest) s.looked s.frames s.told
   pub tells : TellsNow scenario seen s.progress holds
   pub lines : AreLines scenario seen s.progress (session_at s.progress holds.rest) s.lines
 
@@ -52,7 +52,7 @@ pub record GoesOn (scenario : Scenario) (seen : List Entry) (was now : Backend) 
 pub record AwaitsEntry (scenario : Scenario) (seen : List Entry) (s : Backend) : Type 0 where
   pub keeps : Keeps seen s
   pub rests : Rests scenario seen s.progress
-  pub fits : Fits (facts_of seen s.progress.id) (command_at s) (session_at s.progress rests.holds.rest) s.looked s.looked_to_build s.told
+  pub fits : Fits (facts_of seen s.progress.id) (command_at s) (session_at s.progress rests.holds.rest) s.looked s.frames s.told
   pub tells : Tells scenario seen s.progress (session_at s.progress rests.holds.rest)
   pub lines : AreLines scenario seen s.progress (session_at s.progress rests.holds.rest) s.lines
   pub answered : is_to_answer_at s.progress ≡ true → is_some s.progress.answer ≡ true
@@ -68,7 +68,7 @@ pub record IsNew (s : Backend) (id : ℕ) (commands : List Command) : Type 0 whe
   pub progress : progress.IsNew id commands s.progress
   pub life : s.life ≡ lives.Unstarted
   pub looked : s.looked ≡ false
-  pub looked_to_build : s.looked_to_build ≡ false
+  pub frames : s.frames ≡ []
   pub told : s.told ≡ false
   pub lines : s.lines ≡ []
 

@@ -2,36 +2,54 @@
 use Rattle.std.specs.Prelude.{◌≡◌, ◌≤◌, ◌+◌, ◌*◌, ◌==◌, ◌&&◌, ◌⊎◌, ⊤, ℕ, Bool, true, false, Option, Some, None, List, [], ◌∷◌, is_none, is_some, slice_get, not}
 use Rattle.std.specs.Option.{option_map_or}
 use Rattle.std.specs.List.{list_any}
+use Rattle.base_types.specs.Scans.{same_oid}
 use Rattle.base_types.specs.declared.scan.Purpose.TheVariants as scans
 use Rattle.event_kinds.specs.declared.entry.Event.TheVariants as events
 use Rattle.inval_messages.specs.Lists.{has_write_from}
 use Rattle.lock_modes.specs.Own.{is_own}
-use Rattle.ddl_effect.specs.Plans.{Plan, Done, Absent, Do, Lookup, Search, told_rests_on}
+use Rattle.ddl_effect.specs.Plans.{Plan, Done, Absent, Do, Lookup, Open, Search, told_rests_on}
 use Rattle.txn_blocks.specs.Blocks.{Block, Level, Blocks, Outside, Inside, Failed, is_open}
 use Rattle.history_model.specs.Transactions.{is_visible}
 use Rattle.history_model.specs.Writes.{is_empty}
 use Rattle.cacheless.specs.Facts.{Facts}
-use Rattle.cacheless.specs.Session.{Session, number_of, outcome_of, is_settled, plan_first, refused_first}
+use Rattle.seg_calls.specs.Calls.{took_back}
+use Rattle.cacheless.specs.Session.{Session, Badly, number_of, outcome_of, is_settled, plan_first, refused_first}
 use Rattle.cacheless.specs.Owed.{Owes, OwesLook, owed_after, owed_of, begins, started_in}
 use Rattle.cacheless.specs.Ends.{Commits, TakesBack, end_of, end_of_all}
 use Rattle.cacheless.specs.Settled.{blocks_after}
 use Rattle.cacheless.specs.State.{one_if, is_absent}
-use Rattle.backend_core.specs.Types.{Oid, Command, Event, OwnLock}
-use Rattle.backend_core.specs.Words.{relation_named}
+use Rattle.backend_core.specs.Types.{Oid, Command, Event, OwnLock, Opening, Frame}
+use Rattle.backend_core.specs.Frames.{lacks, IsStack}
+use Rattle.backend_core.specs.Words.{relation_named, has_error}
 
 -- 1 if a look is owed in an accept of messages
 abbrev pub looks_due : List Owes → ℕ
 looks_due (OwesLook ∷ owed) = 1
 looks_due owed = 0
 
--- how many looks the command owed for its scans, its grants and its transaction's start, with those that were made for the next scans
-abbrev pub looks_owed : Facts → Session → Bool → Bool → ℕ
-looks_owed facts s looked to_build = s.tally.scans + s.tally.grants + started_in (number_of s) facts + one_if looked + one_if to_build
+-- how many looks the command owed for its scans, its grants and its transaction's start
+abbrev pub looks_owed : Facts → Session → ℕ
+looks_owed facts s = s.tally.scans + s.tally.grants + started_in (number_of s) facts
 
--- its looks are as many as these and its full fetches that ask for one, and no more than these and two for each fetch; where messages came since a lookup began, one more may be made
-pub record LooksFit (facts : Facts) (s : Session) (looked to_build told : Bool) : Type 0 where
-  pub enough : s.tally.full + looks_owed facts s looked to_build ≤ s.tally.looks + looks_due (owed_after facts.last)
-  pub within : s.tally.looks + looks_due (owed_after facts.last) + one_if told ≤ 2 * s.tally.fetches + looks_owed facts s looked to_build
+-- how many of the rebuilds have made the look for their next scan
+abbrev pub looked_in : List Frame → ℕ
+looked_in [] = 0
+looked_in (f ∷ frames) = one_if f.looked + looked_in frames
+
+-- 1 if the rebuild on top has, or the next act, where nothing is rebuilt
+abbrev pub looked_on_top : Bool → List Frame → ℕ
+looked_on_top looked [] = one_if looked
+looked_on_top looked (f ∷ frames) = looked_on_top f.looked frames
+
+-- 1 if messages came since a lookup began, or may have, where something is rebuilt
+abbrev pub told_owed : Bool → List Frame → ℕ
+told_owed told [] = one_if told
+told_owed told (f ∷ frames) = 1
+
+-- its looks are as many as these, those that were made for next scans and its full fetches that ask for one, and no more than these, that for the scan that comes next and two for each fetch; where messages came since a lookup began, one more may be made
+pub record LooksFit (facts : Facts) (s : Session) (looked : Bool) (frames : List Frame) (told : Bool) : Type 0 where
+  pub enough : s.tally.full + looks_owed facts s + one_if looked + looked_in frames ≤ s.tally.looks + looks_due (owed_after facts.last)
+  pub within : s.tally.looks + looks_due (owed_after facts.last) + told_owed told frames ≤ 2 * s.tally.fetches + looks_owed facts s + looked_on_top looked frames
 
 -- the first command of the running transaction, or 0
 abbrev pub first_at : Facts → ℕ
@@ -110,7 +128,6 @@ pub record OnTakingBack (facts : Facts) (o : Option Command) (s : Session) (from
 -- after the last command
 pub record IsPast (facts : Facts) (s : Session) : Type 0 where
   pub out : is_settled (outcome_of s.left) ≡ true
-  pub opened : s.opened ≡ []
   pub free : owed_after facts.last ≡ []
 
 -- the lock that a lookup took is held by a grant of its command; one that found no relation took none
@@ -119,12 +136,13 @@ TakesFit number locks (Some rel) (Do (Lookup name mode) rest) = list_any (λ loc
 TakesFit number locks (Some rel) (Absent name) = ⊥
 TakesFit number locks taken plan = ⊤
 
--- the next act, or the answer, lacks a scan of a catalog cache
-abbrev pub lacks_name : Facts → Plan → Bool
-lacks_name facts (Do (Lookup name mode) rest) = not (facts.usable (scans.RelName name))
-lacks_name facts (Do (Search scan) rest) = not (facts.usable scan)
-lacks_name facts (Done told) = option_map_or (λ scan. not (facts.usable scan)) (told_rests_on told) false
-lacks_name facts plan = false
+-- the next act, or the answer, lacks a scan
+abbrev pub lacks_scan : Facts → Plan → Bool
+lacks_scan facts (Do (Lookup name mode) rest) = not (facts.usable (scans.RelName name))
+lacks_scan facts (Do (Search scan) rest) = not (facts.usable scan)
+lacks_scan facts (Do (Open rel kind) rest) = lacks facts.usable (record { rel = rel; kind = kind })
+lacks_scan facts (Done told) = option_map_or (λ scan. not (facts.usable scan)) (told_rests_on told) false
+lacks_scan facts plan = false
 
 -- the next act is a lookup that has found no relation, by a scan that is usable, and holds no lock that it took
 abbrev pub finds_no_name : Facts → Option Oid → Plan → Bool
@@ -136,15 +154,32 @@ abbrev pub is_look : Option Event → Bool
 is_look (Some (events.Look some_wait)) = true
 is_look last = false
 
--- what a look was made for: a scan of a catalog cache that is lacked, a lookup that has found no relation, after which nothing else came, or one that says so
+-- what a look was made for: a scan that the next act lacks, a lookup that has found no relation, after which nothing else came, or one that says so
 pub data IsLookedFor (facts : Facts) (taken : Option Oid) (plan : Plan) : Type 0 where
-  Lacks : lacks_name facts plan ≡ true → IsLookedFor facts taken plan
+  Lacks : lacks_scan facts plan ≡ true → IsLookedFor facts taken plan
   Unfound : finds_no_name facts taken plan ≡ true → is_look facts.last ≡ true → IsLookedFor facts taken plan
   Said : is_absent plan ≡ true → IsLookedFor facts taken plan
 
+-- the descriptor that the next act opens isn't held yet
+abbrev pub IsUnheld : List Opening → Plan → Type 0
+IsUnheld held (Do (Open rel kind) rest) = list_any (λ o. same_oid rel o.rel) held ≡ false
+IsUnheld held plan = ⊤
+
+-- what is held is kept whole: the command hasn't failed, and its end isn't made, nor is anything taken back
+abbrev pub keeps_whole : Facts → Session → Bool
+keeps_whole facts s = not (took_back facts.last) && not s.ended && not (has_error s.left)
+
+-- the rebuilds: while what is held is kept whole, they see to that; else there are none, and none in a command that has failed, or after the last one
+pub record FramesFit (facts : Facts) (o : Option Command) (s : Session) (frames : List Frame) : Type 0 where
+  pub stack : keeps_whole facts s ≡ true → IsStack facts.usable s.opened frames
+  pub over : keeps_whole facts s ≡ false → frames ≡ []
+  pub badly : outcome_of s.left ≡ Badly → frames ≡ []
+  pub past : o ≡ None → frames ≡ []
+
 -- what the choice keeps
-pub record Fits (facts : Facts) (o : Option Command) (s : Session) (looked to_build told : Bool) : Type 0 where
-  pub looks : s.ended ≡ false → LooksFit facts s looked to_build told
+pub record Fits (facts : Facts) (o : Option Command) (s : Session) (looked : Bool) (frames : List Frame) (told : Bool) : Type 0 where
+  pub looks : s.ended ≡ false → LooksFit facts s looked frames told
+  pub rebuilds : FramesFit facts o s frames
   pub transaction : TransactionFits facts o s s.ended
   pub first : first_at facts ≤ number_of s
   pub opens : is_open s.blocks ≡ not (is_empty s.blocks.levels)
@@ -158,3 +193,4 @@ pub record Fits (facts : Facts) (o : Option Command) (s : Session) (looked to_bu
   pub past : o ≡ None → IsPast facts s
   pub sought : looked ≡ true → IsLookedFor facts s.taken s.left
   pub takes : TakesFit (number_of s) s.locks s.taken s.left
+  pub unheld : looked ≡ true → IsUnheld s.opened s.left

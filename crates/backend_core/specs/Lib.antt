@@ -1,4 +1,5 @@
 pub mod Types
+pub mod Frames
 pub mod Words
 pub mod Fits
 pub mod Agrees

@@ -1,22 +1,22 @@
 -- What a step of a backend does, and what it does next.
 use Rattle.std.specs.Prelude.{◌≡◌, ◌≢◌, ◌≤◌, ◌+◌, ◌⊎◌, ◌++◌, ◌∷◌, ℕ, Bool, true, false, Option, Some, None, List, [], slice_get, length, take}
 use Rattle.std.specs.Option.{IsSomeAnd}
-use Rattle.base_types.specs.Scans.{is_build_scan}
 use Rattle.event_kinds.specs.declared.entry.Event.TheVariants as events
 use Rattle.ddl_effect.specs.Stages.{plan_at, want_of}
 use Rattle.ddl_effect.specs.declared.want.Want.TheVariants as wants
 use Rattle.seg_calls.specs.Calls.{IsUnchanged}
 use Rattle.cacheless.specs.declared.progress.Due.TheVariants as dues
-use Rattle.cacheless.specs.May.{is_next_at, lacks_any, owes_nothing, may_lock_at, may_unlock_at, may_end_at, is_next_of_end, is_next_of_commit, is_next_of_back}
+use Rattle.cacheless.specs.May.{is_next_at, is_next_of_act, has_failed, lacks_opened, lacks_any, owes_nothing, may_lock_at, may_unlock_at, may_end_at, is_next_of_end, is_next_of_commit, is_next_of_back}
 use Rattle.cacheless.specs.MayEnter.{MayEnter}
 use Rattle.cacheless.specs.Silently.{has_accepted_at}
-use Rattle.cacheless.specs.State.{owed_at, is_quiet, is_absent, kept_at, owed_first, unsent_at, is_out, end_of_running}
-use Rattle.backend_core.specs.Types.{Oid, Mode, Purpose, Command, Scenario, Entry, Event, Next, Progress, Backend}
+use Rattle.cacheless.specs.State.{owed_at, is_quiet, is_absent, is_kept, kept_at, owed_first, unsent_at, is_out, end_of_running}
+use Rattle.backend_core.specs.Types.{Oid, Mode, Purpose, Command, Scenario, Entry, Event, Next, Frame, Progress, Backend}
 use Rattle.backend_core.specs.declared.next.Next.TheVariants as nexts
 use Rattle.backend_core.specs.Agrees.{AgreesNow, Stands}
 use Rattle.backend_core.specs.Coherent.{IsCoherent}
 use Rattle.backend_core.specs.Fits.{TakesFit}
-use Rattle.backend_core.specs.Words.{is_unfound, build_first, is_looked_for, accepts_again}
+use Rattle.backend_core.specs.Frames.{top, IsRebuilt}
+use Rattle.backend_core.specs.Words.{is_unfound, scan_on_top, is_looked_for, accepts_again}
 
 -- one entry of the backend is appended, which the history and the script allow; of the places that are promised it takes at most one, of its own, and none is promised
 pub record MakesEntry (scenario : Scenario) (old new : List Entry) (had has : ℕ → ℕ) (b : ℕ) : Type 0 where
@@ -58,14 +58,18 @@ pub record OwesLookNow (s : Progress) : Type 0 where
   pub at : slice_get s.commands s.finished ≡ Some command
   pub owes : (s.due ≡ dues.Look) ⊎ ((owed_at s.due ≡ []) × (owed_first s command ≢ []))
 
--- this scan comes next, one for a descriptor, or one of a catalog cache: what the opened descriptors lack comes before what the act lacks, and of several the first
-pub record IsScanNext (s : Progress) (scan : Purpose) (builds : Bool) : Type 0 where
+-- a scan is the first of the rebuild on top, or the first that the next act lacks, where nothing is rebuilt
+abbrev pub IsInTurn : Bool → Backend → Purpose → Type 0
+IsInTurn true s scan = scan_on_top s ≡ Some scan
+IsInTurn false s scan = (s.frames ≡ []) × (is_next_of_act scan s.progress (plan_at s.progress.exec) ≡ true)
+
+-- this scan comes next, of the rebuild on top or of the next act
+pub record IsScanNext (s : Backend) (scan : Purpose) (rebuilds : Bool) : Type 0 where
   pub command : Command
-  pub free : IsFree s command
-  pub lacks : lacks_any s ≡ true
-  pub next : is_next_at scan s ≡ true
-  pub first : (other : Purpose) → build_first (kept_at s) s.opened ≡ Some other → scan ≡ other
-  pub kind : is_build_scan scan ≡ builds
+  pub free : IsFree s.progress command
+  pub lacks : lacks_any s.progress ≡ true
+  pub next : is_next_at scan s.progress ≡ true
+  pub turn : IsInTurn rebuilds s scan
 
 -- this lock comes next
 pub record IsLockNext (s : Progress) (rel : Oid) (mode : Mode) : Type 0 where
@@ -103,16 +107,18 @@ pub data EndsNext (s : Backend) (event : Event) : Type 0 where
   InCommand : (command : Command) → IsFree s.progress command → is_out s.progress ≡ true → owes_nothing command s.progress ≡ true → accepts_again s ≡ false → may_end_at command s.progress event ≡ true → EndsNext s event
   AfterAll : slice_get s.progress.commands s.progress.finished ≡ None → is_next_of_end s.progress event (end_of_running s.progress.running) ≡ true → EndsNext s event
 
--- a scan of this kind comes next, for which no look was made
-pub record IsLookNext (builds : Bool) (s : Backend) : Type 0 where
+-- such a scan comes next, for which no look was made
+pub record IsLookNext (rebuilds : Bool) (s : Backend) : Type 0 where
   pub scan : Purpose
-  pub next : IsScanNext s.progress scan builds
-  pub unlooked : is_looked_for builds s ≡ false
+  pub next : IsScanNext s scan rebuilds
+  pub unlooked : is_looked_for rebuilds s ≡ false
 
--- what the choice rests on: a lock that the running lookup took is held by a grant of its command, and where a look was made for a lookup that has found no relation, the lookup ends
+-- what the choice rests on: a lock that the running lookup took is held by a grant of its command, where a look was made for a lookup that has found no relation, the lookup ends, the rebuild on top is of a held descriptor that lacks a scan, and where nothing is rebuilt none does
 pub record IsChoiceSound (s : Backend) : Type 0 where
   pub takes : TakesFit (s.progress.finished + 1) s.progress.locks.items s.progress.taken (plan_at s.progress.exec)
   pub accepts : s.looked ≡ true → is_unfound s.progress (plan_at s.progress.exec) ≡ true → owed_at s.progress.due ≡ [] → has_accepted_at s.progress ≡ true
+  pub builds : (f : Frame) → top s.frames ≡ Some f → IsRebuilt (is_kept (kept_at s.progress)) s.progress.opened f
+  pub whole : (command : Command) → slice_get s.progress.commands s.progress.finished ≡ Some command → s.frames ≡ [] → has_failed s.progress ≡ false → lacks_opened (kept_at s.progress) s.progress.opened ≡ false
 
 -- the event, where it is one of an end
 abbrev pub end_event : Progress → Next → Option Event
@@ -125,10 +131,10 @@ end_event s next = None
 -- what comes next, with all that it needs
 abbrev pub IsNextOf : Backend → Next → Type 0
 IsNextOf s nexts.Look = OwesLookNow s.progress
-IsNextOf s (nexts.LookBeforeScan builds) = IsLookNext builds s
+IsNextOf s (nexts.LookBeforeScan rebuilds) = IsLookNext rebuilds s
 IsNextOf s nexts.LookBeforeAbsent = IsAcceptNext s
 IsNextOf s nexts.Fetch = s.progress.due ≡ dues.Fetch
-IsNextOf s (nexts.Scan scan builds) = IsScanNext s.progress scan builds × (is_looked_for builds s ≡ true)
+IsNextOf s (nexts.Scan scan rebuilds) = IsScanNext s scan rebuilds × (is_looked_for rebuilds s ≡ true)
 IsNextOf s (nexts.Lock rel mode) = IsLockNext s.progress rel mode
 IsNextOf s (nexts.Unlock rel mode) = IsUnlockNext s.progress rel mode
 IsNextOf s nexts.Write = IsWriteNext s.progress

@@ -21,6 +21,7 @@ pub use Rattle.ddl_effect.specs.declared.exec.Exec.{Exec}
 pub use Rattle.cacheless.specs.declared.opening.Opening.{Opening}
 pub use Rattle.backend_core.specs.declared.backend.Backend.{Backend}
 pub use Rattle.backend_core.specs.declared.next.Next.{Next}
+pub use Rattle.backend_core.specs.declared.frame.Frame.{Frame}
 pub use Rattle.backend_core.specs.declared.life.Life.{Life}
 pub use Rattle.local_caches.specs.Kept.{Read, Kept}
 pub use Rattle.cacheless.specs.declared.progress.Progress.{Progress}

@@ -2,14 +2,15 @@
 use Rattle.std.specs.Prelude.{Bool, true, false, Option, Some, None, List, ◌&&◌, ◌||◌, not, is_none, is_some}
 use Rattle.std.specs.Option.{option_map_or}
 use Rattle.std.specs.List.{find, list_any}
-use Rattle.base_types.specs.Scans.{build_scans}
+use Rattle.base_types.specs.Scans.{same_scan, build_scans}
 use Rattle.base_types.specs.declared.row.Row.TheVariants as rows
 use Rattle.base_types.specs.declared.scan.Purpose.TheVariants as scans
 use Rattle.inval_messages.specs.Messages.{covers}
-use Rattle.ddl_effect.specs.Plans.{Plan, Do, Lookup, Open}
+use Rattle.ddl_effect.specs.Plans.{Plan, Fails, Do, Lookup, Open}
 use Rattle.ddl_effect.specs.Stages.{plan_at}
 use Rattle.cacheless.specs.State.{kept_at, is_kept, is_absent, is_quiet, row_sought}
-use Rattle.backend_core.specs.Types.{Oid, Message, Purpose, Row, Opening, Kept, Life, Progress, Backend}
+use Rattle.backend_core.specs.Types.{Oid, Message, Purpose, Row, Opening, Life, Frame, Progress, Backend}
+use Rattle.backend_core.specs.Frames.{unless, top, on_top, with_look, frames_fetched, frames_reset, frames_scanned}
 use Rattle.backend_core.specs.declared.life.Life.TheVariants as lives
 
 -- the backend has left
@@ -17,9 +18,9 @@ abbrev pub has_left : Life → Bool
 has_left lives.Stopped = true
 has_left life = false
 
--- a look was made for the next scan: for a descriptor, or of a catalog cache
+-- a look was made for the next scan: of the rebuild on top, or of the next act
 abbrev pub is_looked_for : Bool → Backend → Bool
-is_looked_for true s = s.looked_to_build
+is_looked_for true s = option_map_or (λ f. f.looked) (top s.frames) false
 is_looked_for false s = s.looked
 
 -- the relation of a row, if there is one and it is a relation's
@@ -41,29 +42,50 @@ abbrev pub relation_to_open : Plan → Option Oid
 relation_to_open (Do (Open rel kind) rest) = Some rel
 relation_to_open plan = None
 
--- the first of these descriptors that lacks a scan
-abbrev pub lacking_first : Kept → List Opening → Option Opening
-lacking_first kept opened = find (λ o. is_some (find (λ scan. not (is_kept kept scan)) (build_scans o.kind o.rel))) opened
-
--- the first scan that these descriptors lack
-abbrev pub build_first : Kept → List Opening → Option Purpose
-build_first kept opened = elim (lacking_first kept opened) [ Some o ↦ find (λ scan. not (is_kept kept scan)) (build_scans o.kind o.rel) | None ↦ None ]
-
--- the relation of the descriptor that is being built: the first opened one that lacks a scan, or the one that is to be opened
-abbrev pub built_relation : Progress → Option Oid
-built_relation s = elim (lacking_first (kept_at s) s.opened) [ Some o ↦ Some o.rel | None ↦ relation_to_open (plan_at s.exec) ]
-
--- the descriptor that is being built has made its first scan
+-- the descriptor that is to be opened has made its first scan
 abbrev pub has_begun : Progress → Bool
-has_begun s = option_map_or (λ rel. is_kept (kept_at s) (scans.Class rel)) (built_relation s) false
+has_begun s = option_map_or (λ rel. is_kept (kept_at s) (scans.Class rel)) (relation_to_open (plan_at s.exec)) false
 
--- messages mark the descriptor that is being built: its first scan is made, and one of them is for its relation, so that the build starts over, with another look
+-- messages mark it: its first scan is made, and one of them is for its relation, so that the build starts over, with another look
 abbrev pub marks_build : Progress → List Message → Bool
-marks_build s messages = option_map_or (λ rel. is_kept (kept_at s) (scans.Class rel) && list_any (covers (scans.Class rel)) messages) (built_relation s) false
+marks_build s messages = option_map_or (λ rel. is_kept (kept_at s) (scans.Class rel) && list_any (covers (scans.Class rel)) messages) (relation_to_open (plan_at s.exec)) false
 
--- messages came since the lookup began, after a fetch: one that had found no relation begins again; to one that looked before its scan they came, unless they mark a descriptor
+-- the look for the next scan of the act counts still, after a fetch
+abbrev pub looked_after : Backend → Bool → Bool → Bool
+looked_after s unfound marked = s.looked && not unfound && not marked
+
+-- messages came since the lookup began, after a fetch: one that had found no relation begins again; to one that looked before its scan they came, unless they mark the descriptor that is to be opened
 abbrev pub told_after : Backend → Bool → Bool → Bool
 told_after s unfound marked = (s.told || (s.looked && not marked)) && not unfound
+
+-- the command has failed, but for a lookup that found no relation
+abbrev pub has_error : Plan → Bool
+has_error (Fails error) = true
+has_error plan = false
+
+-- the rebuilds after a fetch of messages: a command that has failed rebuilds nothing
+abbrev pub frames_given : Backend → List Message → List Frame
+frames_given s messages = unless (has_error (plan_at s.progress.exec)) s.frames (frames_fetched (is_kept (kept_at s.progress)) s.progress.opened messages s.frames)
+
+-- and after one of a reset
+abbrev pub frames_reset_of : Backend → List Opening → List Frame
+frames_reset_of s held = unless (has_error (plan_at s.progress.exec)) s.frames (frames_reset (is_kept (kept_at s.progress)) held s.frames)
+
+-- the rebuilds after a look, of the one on top or of the next act
+abbrev pub frames_looked : Bool → List Frame → List Frame
+frames_looked rebuilds frames = elim rebuilds [ true ↦ on_top with_look frames | false ↦ frames ]
+
+-- the rebuilds after a scan, of the one on top or of the next act
+abbrev pub frames_noted : Bool → (Purpose → Bool) → List Opening → List Frame → List Frame
+frames_noted rebuilds has held frames = elim rebuilds [ true ↦ frames_scanned has held frames | false ↦ frames ]
+
+-- by what is kept with it
+abbrev pub frames_with_scan : Bool → Purpose → Backend → List Frame
+frames_with_scan rebuilds scan s = frames_noted rebuilds (λ other. same_scan scan other || is_kept (kept_at s.progress) other) s.progress.opened s.frames
+
+-- the next scan of the rebuild on top
+abbrev pub scan_on_top : Backend → Option Purpose
+scan_on_top s = elim (top s.frames) [ Some f ↦ find (λ scan. not (is_kept (kept_at s.progress) scan)) (build_scans f.opening.kind f.opening.rel) | None ↦ None ]
 
 -- it has found no relation, but messages came since the lookup began, or since it looked whether some wait: it looks once more before it says so
 abbrev pub accepts_again : Backend → Bool

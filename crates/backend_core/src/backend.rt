@@ -1,4 +1,4 @@
-use crate::Life;
+use crate::{Frames, Life};
 use base_types::{Command, Listed, NoMemory};
 use cacheless::Progress;
 use event_kinds::Line;
@@ -11,11 +11,10 @@ use std::alloc::Global;
 pub struct Backend {
     pub(crate) progress: Progress,
     pub(crate) life: Life,
-    // a look was made for the next scan of a catalog cache, or before a name is told as absent, and one for
-    // the next scan for a descriptor: where a reset takes an opened descriptor away before a column is
-    // looked up, both may be
+    // the look for the next scan of the next act is made, or before a name is told as absent
     pub(crate) looked: bool,
-    pub(crate) looked_to_build: bool,
+    // the rebuilds of held descriptors that are on their way, the last one on top: each has a look of its own
+    pub(crate) frames: Frames,
     // messages came since the lookup of a relation by its name began
     pub(crate) told: bool,
     pub(crate) lines: Listed<Line>,
@@ -39,7 +38,7 @@ impl Backend {
             progress: Progress::new(alloc, id, commands)?,
             life: Life::Unstarted,
             looked: false,
-            looked_to_build: false,
+            frames: Frames::new(alloc),
             told: false,
             lines: Listed::new(alloc),
         })

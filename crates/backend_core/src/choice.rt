@@ -7,12 +7,13 @@ ghost use Rattle.cacheless.specs.OpenedReads.{ReadsOpened};
 ghost use Rattle.cacheless.specs.Silently.{IsAtRest};
 ghost use Rattle.cacheless.specs.State.{owed_at, is_out, row_sought};
 ghost use Rattle.cacheless.specs.May.{has_failed, lacks_opened, lacks_any, owes_nothing};
-ghost use Rattle.backend_core.specs.Words.{relation_named, build_first, accepts_again as accepts_once_more};
+ghost use Rattle.backend_core.specs.Frames.{top};
+ghost use Rattle.backend_core.specs.Words.{relation_named, accepts_again as accepts_once_more};
 ghost use Rattle.backend_core.specs.Steps.{IsNextOf, IsChoiceSound, IsFree, IsScanNext, ComesOfBack, ComesOfCommit};
 
-use crate::{Backend, Next};
+use crate::{Backend, Frame, Next};
 use base_types::{Command, Mode, Name, Oid, Purpose, Row, Xid};
-use cacheless::{Due, Ending, first_lacking};
+use cacheless::{Due, Ending};
 use ddl_effect::Want;
 
 impl Backend {
@@ -97,7 +98,7 @@ impl Backend {
             && (!self.looked || self.told)
     }
 
-    // In a command that hasn't failed: first what its opened descriptors lack.
+    // In a command that hasn't failed: first the rebuild on top.
     fn next_of_going(&self, command: &Command, want: &Want) -> Next
         requires few { self.now.progress.finished ≤ 20000 }
         requires still { IsAtRest self.now.progress }
@@ -108,20 +109,30 @@ impl Backend {
         requires goes { has_failed self.now.progress ≡ false }
         ensures { IsNextOf self.now result }
     {
-        match self.first_build() {
-            Some(scan) => self.next_of_build(scan),
+        match self.frames.top() {
+            Some(frame) => self.next_of_rebuild(command, &frame),
             None => self.next_of_want(command, want),
         }
     }
 
-    // The first scan that its opened descriptors lack.
-    fn first_build(&self) -> Option<Purpose>
-        ensures { result ≡ build_first (kept_at self.now.progress) self.now.progress.opened }
+    // The rebuild on top: the look for its next scan, or that scan.
+    fn next_of_rebuild(&self, command: &Command, frame: &Frame) -> Next
+        requires chosen { IsChoiceSound self.now }
+        requires free { IsFree self.now.progress command.now }
+        requires goes { has_failed self.now.progress ≡ false }
+        requires top { top self.now.frames ≡ Some frame.now }
+        ensures { IsNextOf self.now result }
     {
-        let caches = &self.progress.caches;
-        match first_lacking(caches, self.progress.opened.as_slice()) {
-            Some(o) => caches.first_missing(o.kind, o.rel),
-            None => None,
+        if !frame.looked {
+            return Next::LookBeforeScan { rebuilds: true };
+        }
+        let o = frame.opening;
+        match self.progress.caches.first_missing(o.kind, o.rel) {
+            Some(scan) => Next::Scan {
+                scan,
+                rebuilds: true,
+            },
+            None => unreachable!(),
         }
     }
 
@@ -134,14 +145,15 @@ impl Backend {
         requires free { IsFree self.now.progress command.now }
         requires want { want_of (plan_at self.now.progress.exec) ≡ want.now }
         requires goes { has_failed self.now.progress ≡ false }
+        requires bare { self.now.frames ≡ [] }
         requires whole { lacks_opened (kept_at self.now.progress) self.now.progress.opened ≡ false }
         ensures { IsNextOf self.now result }
     {
         match want {
             Want::Lookup { name, mode } => self.next_of_lookup(command, *name, *mode),
-            Want::Search(scan) => self.next_of_name(*scan),
+            Want::Search(scan) => self.next_of_act(*scan),
             Want::Open { rel, kind } => match self.progress.caches.first_missing(*kind, *rel) {
-                Some(scan) => self.next_of_build(scan),
+                Some(scan) => self.next_of_act(scan),
                 None => unreachable!(),
             },
             Want::Lock { rel, mode } => Next::Lock {
@@ -150,37 +162,25 @@ impl Backend {
             },
             Want::Write => Next::Write,
             Want::Done(Some(scan)) if !self.progress.owes_nothing(command) => {
-                self.next_of_name(*scan)
+                self.next_of_act(*scan)
             }
             Want::Done(_) => self.next_of_end(command),
             Want::Read(_) | Want::Fails(_) | Want::Absent(_) => unreachable!(),
         }
     }
 
-    // A scan for a descriptor, which has a look of its own before it.
-    fn next_of_build(&self, scan: Purpose) -> Next
-        requires next { IsScanNext self.now.progress scan true }
-        ensures { IsNextOf self.now result }
-    {
-        if self.looked_to_build {
-            Next::Scan { scan, builds: true }
-        } else {
-            Next::LookBeforeScan { builds: true }
-        }
-    }
-
-    // A scan of a catalog cache, which has a look of its own before it.
-    fn next_of_name(&self, scan: Purpose) -> Next
-        requires next { IsScanNext self.now.progress scan false }
+    // A scan that the act lacks, which has a look of its own before it.
+    fn next_of_act(&self, scan: Purpose) -> Next
+        requires next { IsScanNext self.now scan false }
         ensures { IsNextOf self.now result }
     {
         if self.looked {
             Next::Scan {
                 scan,
-                builds: false,
+                rebuilds: false,
             }
         } else {
-            Next::LookBeforeScan { builds: false }
+            Next::LookBeforeScan { rebuilds: false }
         }
     }
 
@@ -190,11 +190,12 @@ impl Backend {
         requires chosen { IsChoiceSound self.now }
         requires free { IsFree self.now.progress command.now }
         requires want { want_of (plan_at self.now.progress.exec) ≡ Want.Lookup name mode }
+        requires bare { self.now.frames ≡ [] }
         requires whole { lacks_opened (kept_at self.now.progress) self.now.progress.opened ≡ false }
         ensures { IsNextOf self.now result }
     {
         if !self.progress.owes_nothing(command) {
-            return self.next_of_name(Purpose::RelName(name));
+            return self.next_of_act(Purpose::RelName(name));
         }
         match relation_of(&self.progress.row_sought(name)) {
             Some(rel) => self.next_of_found(command, name, rel, mode),

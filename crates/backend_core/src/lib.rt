@@ -6,11 +6,13 @@
 //! (`AcceptInvalidationMessages` in `src/backend/utils/cache/inval.c`) at a transaction's start,
 //! after each grant and before each scan, and the scans that the act needs and that aren't kept
 //! from earlier ones. Where messages wait it fetches them, at most 32, and drops the scans that one
-//! of them covers, those of an open descriptor too, which it then makes again; after a fetch of 32
-//! it looks again. A backend that the queue has lapped fetches a reset in their place: all scans are
-//! dropped, a build that has made its first scan starts over with another look, and what an opened
-//! descriptor lacks is scanned before the command goes on. A command that has come out is answered, and
-//! then ended: a transaction of its own is committed or taken back, a block goes on, fails or ends
+//! of them covers; after a fetch of 32 it looks again. A held descriptor that a message is for is rebuilt at
+//! once, each scan after a look of its own; where messages ask for several rebuilds, or one of them for
+//! another, the last one comes first (`src/rebuilds.rt`). A backend that the queue has lapped fetches a reset in
+//! their place: all scans are dropped, a build that has made its first scan starts over with another look,
+//! and the held descriptors are rebuilt in the order of their oids before the command goes on. A command that
+//! has come out is answered, and then ended: a transaction of its own is committed or taken back, a block goes
+//! on, fails or ends
 //! (`src/backend/access/transam/xact.c`). A commit publishes the messages of its writes between its
 //! visibility step and its release, at most 64 at a time, all for the catalog caches before all for
 //! descriptors; what a rollback takes back is never published. One step makes exactly one entry;
@@ -48,16 +50,21 @@
 mod backend;
 mod choice;
 mod ends;
+mod frame;
+mod frames;
 mod join;
 mod life;
 mod locks;
 mod looks;
 mod next;
+mod rebuilds;
 mod scans;
 mod settle;
 mod steps;
 mod writes;
 
 pub use backend::Backend;
+pub(crate) use frame::Frame;
+pub(crate) use frames::Frames;
 pub use life::Life;
 pub(crate) use next::Next;

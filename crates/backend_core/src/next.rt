@@ -7,14 +7,14 @@ use base_types::{Mode, Oid, Purpose, Xid};
 pub enum Next {
     /// The look at its transaction's start, after a grant, or after a fetch of the most messages.
     Look,
-    /// The look before a scan: one for a descriptor, or one of a catalog cache.
-    LookBeforeScan { builds: bool },
+    /// The look before a scan: one of the rebuild on top, or one of the next act.
+    LookBeforeScan { rebuilds: bool },
     /// The look of a lookup that found no relation, before it says so.
     LookBeforeAbsent,
     /// It fetches the messages that wait.
     Fetch,
-    /// A scan, for a descriptor, or of a catalog cache.
-    Scan { scan: Purpose, builds: bool },
+    /// A scan, of the rebuild on top, or of the next act.
+    Scan { scan: Purpose, rebuilds: bool },
     /// It asks for a lock.
     Lock { rel: Oid, mode: Mode },
     /// It unlocks a relation that its lookup no longer finds.

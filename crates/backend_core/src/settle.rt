@@ -61,7 +61,7 @@ impl Backend {
         let line = self.progress.finish(alloc)?;
         self.lines.push(line)?;
         self.looked = false;
-        self.looked_to_build = false;
+        self.frames.clear();
         self.told = false;
         Ok(())
     }

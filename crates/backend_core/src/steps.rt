@@ -40,10 +40,10 @@ impl Backend {
     {
         match next {
             Next::Look => self.look(seg),
-            Next::LookBeforeScan { builds } => self.look_before_scan(seg, *builds),
+            Next::LookBeforeScan { rebuilds } => self.look_before_scan(seg, *rebuilds),
             Next::LookBeforeAbsent => self.look_before_absent(seg),
-            Next::Fetch => self.fetch(seg),
-            Next::Scan { scan, builds } => self.scan(seg, scan, *builds)?,
+            Next::Fetch => self.fetch(seg)?,
+            Next::Scan { scan, rebuilds } => self.scan(seg, scan, *rebuilds)?,
             Next::Lock { rel, mode } => self.lock(seg, *rel, *mode)?,
             Next::Unlock { rel, mode } => self.unlock(seg, *rel, *mode),
             Next::Write => self.write(alloc, seg)?,

@@ -24,7 +24,7 @@ use Rattle.cacheless.proofs.Entries.EnteredLooks.{not_absent}
 use Rattle.cacheless.proofs.Plans.SilentActs.{on_its_way}
 use Rattle.cacheless.proofs.Tests.{and_true, not_true, or_either}
 use Rattle.cacheless.proofs.Plans.Ways.{acts as acting, none_reached}
-use Rattle.backend_core.specs.Types.{Row, Purpose, Command, Scenario, Entry, Backend}
+use Rattle.backend_core.specs.Types.{Row, Purpose, Command, Scenario, Entry, Backend, Frame}
 use Rattle.backend_core.specs.Agrees.{command_at, AwaitsEntry}
 use Rattle.backend_core.specs.Fits.{RunsBy, TransactionFits, Fits}
 use Rattle.backend_core.specs.Steps.{FindsNone, Looks, Says}
@@ -62,9 +62,9 @@ none_left : {X : Type 0} (o : Option X) → is_some o ≡ false → is_none o �
 none_left None is = refl
 none_left (Some x) is = absurd (cc is)
 
-pub acts_run : (facts : Facts) (o : Option Command) (s : Session) (looked to_build told : Bool) (command : Command) → o ≡ Some command → Fits facts o s looked to_build told → s.ended ≡ false → s.blocked ≡ false → runs command ≡ true → DoesSome (plan_of none_open command) → owed_at_start facts command s ≡ []
+pub acts_run : (facts : Facts) (o : Option Command) (s : Session) (looked : Bool) (frames : List Frame) (told : Bool) (command : Command) → o ≡ Some command → Fits facts o s looked frames told → s.ended ≡ false → s.blocked ≡ false → runs command ≡ true → DoesSome (plan_of none_open command) → owed_at_start facts command s ≡ []
     → is_some facts.running ≡ true
-acts_run facts o s looked to_build told command at fits going unblocked built acts free = by_block s.blocks.block refl (subst (TransactionFits facts o s) going fits.transaction)
+acts_run facts o s looked frames told command at fits going unblocked built acts free = by_block s.blocks.block refl (subst (TransactionFits facts o s) going fits.transaction)
   where
     admitted : is_some (refused_in s.blocks.block command) ≡ false
     admitted = ap (λ c. is_some (refused_first s.blocks c)) (sym at) ∙ sym fits.blocked ∙ unblocked
@@ -94,7 +94,7 @@ module _ (scenario : Scenario) (seen : List Entry) (s : Backend) (waits : Awaits
       by_test true is = absurd (let badly : outcome_of (plan_first (waiting waits).blocks (command_at s)) ≡ Badly = refused_badly (command_at s) (waiting waits) (sym waits.fits.blocked ∙ is) in goes (ap outcome_of (waits.fits.settled (ap is_settled badly)) ∙ badly))
 
   runs_here : owed_first s.progress command ≡ [] → outcome_of (plan_at s.progress.exec) ≢ Badly → DoesSome (plan_of none_open command) → is_some (facts_of seen s.progress.id).running ≡ true
-  runs_here free goes acts = acts_run (facts_of seen s.progress.id) (command_at s) (waiting waits) s.looked s.looked_to_build s.told command at waits.fits (going scenario seen s waits courses command at) (unblocked_here goes) built acts
+  runs_here free goes acts = acts_run (facts_of seen s.progress.id) (command_at s) (waiting waits) s.looked s.frames s.told command at waits.fits (going scenario seen s waits courses command at) (unblocked_here goes) built acts
       (start_owed (facts_of seen s.progress.id) command s.progress waits.rests.holds.rest waits.rests.holds.facts ∙ free)
 
   -- its plan isn't an answer alone
@@ -108,7 +108,7 @@ module _ (scenario : Scenario) (seen : List Entry) (s : Backend) (waits : Awaits
 
   -- where the command says that there is no relation of a name
   absent_runs : (name : List ℕ) → plan_at s.progress.exec ≡ Absent name → owed_first s.progress command ≡ [] → is_some (facts_of seen s.progress.id).running ≡ true
-  absent_runs name says free = acts_run (facts_of seen s.progress.id) (command_at s) (waiting waits) s.looked s.looked_to_build s.told command at waits.fits (going scenario seen s waits courses command at) unblocked built acts
+  absent_runs name says free = acts_run (facts_of seen s.progress.id) (command_at s) (waiting waits) s.looked s.frames s.told command at waits.fits (going scenario seen s waits courses command at) unblocked built acts
       (start_owed (facts_of seen s.progress.id) command s.progress waits.rests.holds.rest waits.rests.holds.facts ∙ free)
     where
       unblocked : s.progress.blocked ≡ false

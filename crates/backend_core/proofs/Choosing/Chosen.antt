@@ -114,7 +114,7 @@ module _ (scenario : Scenario) (seen : List Entry) (s : Backend) (waits : Awaits
           not_busy (subst (λ x. owed_of facts x (waiting waits) ≡ []) one c.free) c.out busy (λ absent quiet. never_commits (first_at facts) (subst (λ x. end_of facts x (waiting waits) ≡ Commits (first_at facts)) one c.end) absent))
 
   -- and the last entry took nothing back
-  standing : Busy s.progress command → took_back facts.last ≡ false
+  pub standing : Busy s.progress command → took_back facts.last ≡ false
   standing busy = by_last facts.last refl
     where
       by_last : (last : Option Event) → facts.last ≡ last → took_back last ≡ false

@@ -21,7 +21,7 @@ use Rattle.cacheless.specs.Sessions.{ends_command}
 use Rattle.cacheless.specs.Types.{CommandError}
 use Rattle.cacheless.proofs.Allowed.OwnEntries.{ends_out}
 use Rattle.cacheless.proofs.Plans.SilentActs.{both_empty}
-use Rattle.backend_core.specs.Types.{Xid, Command, Event}
+use Rattle.backend_core.specs.Types.{Xid, Command, Event, Frame}
 use Rattle.backend_core.specs.Fits.{LevelsRise, first_at, RunsBlock, RunsFailed, RunsAt, RunsIn, RunsBy, RunsAfter, TransactionFits, Fits}
 use Rattle.backend_core.proofs.Fitting.NextTransaction.{some_first, rise_within, rise_above, blocks_out}
 
@@ -51,8 +51,8 @@ is_last facts s (events.Visible xid) ends is = absurd is
 is_last facts s (events.Publish count) ends is = absurd is
 is_last facts s event ends is = absurd (cc ends)
 
-pub ends_by : (next : ℕ) (facts : Facts) (o : Option Command) (s : Session) (looked to_build told : Bool) (event : Event) → ends_command event ≡ true → Fits facts o s looked to_build told → MayPlayIn next facts o s event → EndsBy facts o s event
-ends_by next facts (Some command) s looked to_build told event ends fits plays = by_ended s.ended refl end.1
+pub ends_by : (next : ℕ) (facts : Facts) (o : Option Command) (s : Session) (looked : Bool) (frames : List Frame) (told : Bool) (event : Event) → ends_command event ≡ true → Fits facts o s looked frames told → MayPlayIn next facts o s event → EndsBy facts o s event
+ends_by next facts (Some command) s looked frames told event ends fits plays = by_ended s.ended refl end.1
   where
     end : IsEnd facts command s event
     end = is_end next facts command s event ends plays
@@ -68,7 +68,7 @@ ends_by next facts (Some command) s looked to_build told event ends fits plays =
     by_ended : (t : Bool) → s.ended ≡ t → elim t as (λ x. Option Event) [ true ↦ None | false ↦ next_of_end facts (end_of facts command s) ] ≡ Some event → EndsBy facts (Some command) s event
     by_ended true is none = absurd (cc none)
     by_ended false is comes = record { going = is; out = ends_out facts command s event end.1; after = by_end (end_of facts command s) end.0; comes = comes }
-ends_by next facts None s looked to_build told event ends fits plays = record { going = by_ended s.ended refl fits.transaction; out = (fits.past refl).out; after = end.0; comes = end.1 }
+ends_by next facts None s looked frames told event ends fits plays = record { going = by_ended s.ended refl fits.transaction; out = (fits.past refl).out; after = end.0; comes = end.1 }
   where
     end : IsLastEnd facts event
     end = is_last facts s event ends plays
@@ -231,7 +231,7 @@ badly_back s first is = by_blocked s.blocked is
     by_blocked true end = cc end
     by_blocked false end = cc end
 
-module _ (facts : Facts) (o : Option Command) (s : Session) (looked to_build told : Bool) (command : Command) (at : o ≡ Some command) (fits : Fits facts o s looked to_build told) (going : s.ended ≡ false) where
+module _ (facts : Facts) (o : Option Command) (s : Session) (looked : Bool) (frames : List Frame) (told : Bool) (command : Command) (at : o ≡ Some command) (fits : Fits facts o s looked frames told) (going : s.ended ≡ false) where
   runs_by : RunsBy facts o s s.blocks.block
   runs_by = subst (TransactionFits facts o s) going fits.transaction
 
@@ -300,22 +300,22 @@ module _ (facts : Facts) (o : Option Command) (s : Session) (looked to_build tol
       by_outcome Unsettled outcome end = absurd (cc end)
 
 -- a commit is that of the running transaction as a whole
-pub commit_first : (facts : Facts) (o : Option Command) (s : Session) (looked to_build told : Bool) (first : ℕ) → Fits facts o s looked to_build told → s.ended ≡ false → end_by facts o s ≡ Commits first → first_begun facts s ≡ first
-commit_first facts None s looked to_build told first fits going is = from_all facts.running (number_of s) first (ap end_from is)
-commit_first facts (Some command) s looked to_build told first fits going is = first_of_commit facts (Some command) s looked to_build told command refl fits going first is
+pub commit_first : (facts : Facts) (o : Option Command) (s : Session) (looked : Bool) (frames : List Frame) (told : Bool) (first : ℕ) → Fits facts o s looked frames told → s.ended ≡ false → end_by facts o s ≡ Commits first → first_begun facts s ≡ first
+commit_first facts None s looked frames told first fits going is = from_all facts.running (number_of s) first (ap end_from is)
+commit_first facts (Some command) s looked frames told first fits going is = first_of_commit facts (Some command) s looked frames told command refl fits going first is
 
 -- what an end releases; after the last command all that runs
-pub end_releases : (facts : Facts) (o : Option Command) (s : Session) (looked to_build told : Bool) (from : ℕ) → ((command : Command) → o ≡ Some command → runs command ≡ true) → Fits facts o s looked to_build told → s.ended ≡ false → end_from (end_by facts o s) ≡ Some from → Releases facts o s from
-end_releases facts None s looked to_build told from built fits going is = Whole (from_all facts.running (number_of s) from is) (λ later none. none)
-end_releases facts (Some command) s looked to_build told from built fits going is = released_by facts (Some command) s looked to_build told command refl fits going from (built command refl) is
+pub end_releases : (facts : Facts) (o : Option Command) (s : Session) (looked : Bool) (frames : List Frame) (told : Bool) (from : ℕ) → ((command : Command) → o ≡ Some command → runs command ≡ true) → Fits facts o s looked frames told → s.ended ≡ false → end_from (end_by facts o s) ≡ Some from → Releases facts o s from
+end_releases facts None s looked frames told from built fits going is = Whole (from_all facts.running (number_of s) from is) (λ later none. none)
+end_releases facts (Some command) s looked frames told from built fits going is = released_by facts (Some command) s looked frames told command refl fits going from (built command refl) is
 
 -- a visible transaction is on its commit
-pub commit_end : (facts : Facts) (o : Option Command) (s : Session) (looked to_build told : Bool) → Fits facts o s looked to_build told → is_visible facts.running ≡ true → end_by facts o s ≡ Commits (first_at facts)
-commit_end facts o s looked to_build told fits visible = let c = fits.visible visible in ap (λ x. end_by facts x s) c.at ∙ c.end
+pub commit_end : (facts : Facts) (o : Option Command) (s : Session) (looked : Bool) (frames : List Frame) (told : Bool) → Fits facts o s looked frames told → is_visible facts.running ≡ true → end_by facts o s ≡ Commits (first_at facts)
+commit_end facts o s looked frames told fits visible = let c = fits.visible visible in ap (λ x. end_by facts x s) c.at ∙ c.end
 
 -- and what is taken back on its taking back
-pub back_end : (facts : Facts) (o : Option Command) (s : Session) (looked to_build told : Bool) (from : ℕ) → Fits facts o s looked to_build told → facts.last ≡ Some (events.Gone from) → end_by facts o s ≡ TakesBack from
-back_end facts o s looked to_build told from fits gone = by_command o (fits.taken from gone).end
+pub back_end : (facts : Facts) (o : Option Command) (s : Session) (looked : Bool) (frames : List Frame) (told : Bool) (from : ℕ) → Fits facts o s looked frames told → facts.last ≡ Some (events.Gone from) → end_by facts o s ≡ TakesBack from
+back_end facts o s looked frames told from fits gone = by_command o (fits.taken from gone).end
   where
     by_command : (x : Option Command) → elim x as (λ y. Type 0) [ Some c ↦ (end_of facts c s ≡ TakesBack from) × (owed_of facts c s ≡ []) | None ↦ end_of_all facts ≡ TakesBack from ] → end_by facts x s ≡ TakesBack from
     by_command (Some c) both = both.0

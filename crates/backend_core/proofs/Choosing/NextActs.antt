@@ -4,7 +4,7 @@ use Rattle.std.specs.List.{find, list_any}
 use Rattle.std.specs.Option.{option_map_or}
 use Rattle.std.proofs.Math.Bool.{or-true}
 use Rattle.std.proofs.lemmas.Bool.{both_ways, eq-eqb, eqb-true, and_parts}
-use Rattle.base_types.specs.Scans.{same_oid, same_scan, is_build_scan, build_scans}
+use Rattle.base_types.specs.Scans.{same_oid, same_scan, build_scans}
 use Rattle.base_types.specs.Modes.{mode_number, same_mode}
 use Rattle.base_types.specs.declared.row.Row.TheVariants as rows
 use Rattle.base_types.specs.declared.scan.Purpose.TheVariants as scans
@@ -20,7 +20,6 @@ use Rattle.cacheless.specs.OpenedReads.{ReadsOpened}
 use Rattle.cacheless.specs.Session.{Badly, outcome_of}
 use Rattle.cacheless.specs.Silently.{gives_at, gives_next, IsAtRest, looks_up_at, has_accepted_at}
 use Rattle.cacheless.specs.State.{kept_at, is_kept, row_sought, builds_missing, act_missing, owed_at, owed_first}
-use Rattle.cacheless.proofs.ReadsBuilds.{ReadsBuilds, stage_reads}
 use Rattle.cacheless.proofs.Same.{lacks_opened_is}
 use Rattle.cacheless.proofs.Plans.SilentActs.{empty_list}
 use Rattle.cacheless.proofs.Tests.{both_true, not_true}
@@ -28,7 +27,7 @@ use Rattle.backend_core.specs.Types.{Oid, Mode, Kind, Row, Purpose, Command, Pro
 use Rattle.backend_core.specs.Steps.{IsFree, IsScanNext, IsLockNext, IsUnlockNext, IsChoiceSound, Looks, IsAcceptNext}
 use Rattle.backend_core.specs.Words.{relation_named, is_unfound}
 use Rattle.cacheless.proofs.Answers.KeptReads.{kept_opened}
-use Rattle.backend_core.proofs.Choosing.Nexting.{out_owes, none_built, find_all, each_builds}
+use Rattle.backend_core.proofs.Choosing.Nexting.{out_owes}
 use Rattle.backend_core.specs.Fits.{TakesFit}
 use Rattle.cacheless.specs.Settled.{has_taken_no_other, if_locked}
 use Rattle.history_model.proofs.Every.{any-weaker}
@@ -102,9 +101,12 @@ named_none None rel none = refl
 named_none (Some (rows.Class oid name kind fill)) rel none = absurd (cc none)
 named_none (Some row) rel none = refl
 
-module _ (p : Progress) (command : Command) (still : IsAtRest p) (free : IsFree p command) (whole : lacks_opened (kept_at p) p.opened ≡ false) where
+module _ (s : Backend) (command : Command) (still : IsAtRest s.progress) (free : IsFree s.progress command) (bare : s.frames ≡ []) (whole : lacks_opened (kept_at s.progress) s.progress.opened ≡ false) where
+  abbrev p : Progress
+  p = s.progress
+
   -- the scan of a name
-  pub lookup_next : (name : List ℕ) (mode : Mode) → want_of (plan_at p.exec) ≡ wants.Lookup name mode → owes_nothing command p ≡ false → IsScanNext p (scans.RelName name) false
+  pub lookup_next : (name : List ℕ) (mode : Mode) → want_of (plan_at p.exec) ≡ wants.Lookup name mode → owes_nothing command p ≡ false → IsScanNext s (scans.RelName name) false
   lookup_next name mode want owes = by_test (is_kept (kept_at p) (scans.RelName name)) refl
     where
       act : Wants (plan_at p.exec) (Lookup name mode)
@@ -113,19 +115,21 @@ module _ (p : Progress) (command : Command) (still : IsAtRest p) (free : IsFree 
       lacks : (t : Bool) → is_kept (kept_at p) (scans.RelName name) ≡ t → lacks_any p ≡ not t
       lacks t is = lacks_is p (Lookup name mode) act whole ∙ one_lacks (is_kept (kept_at p) (scans.RelName name)) (scans.RelName name) ∙ ap not is
 
-      by_test : (t : Bool) → is_kept (kept_at p) (scans.RelName name) ≡ t → IsScanNext p (scans.RelName name) false
+      first_of : is_kept (kept_at p) (scans.RelName name) ≡ false → (not (is_kept (kept_at p) (scans.RelName name)) && same_scan (scans.RelName name) (scans.RelName name)) ≡ true
+      first_of has = (λ i. not (has i) && same_scan (scans.RelName name) (scans.RelName name)) ∙ same_scan-itself (scans.RelName name)
+
+      by_test : (t : Bool) → is_kept (kept_at p) (scans.RelName name) ≡ t → IsScanNext s (scans.RelName name) false
       by_test true has = absurd (both_ways _ owes (out_owes p command free (lacks true has)))
       by_test false has = record {
         command = command;
         free = free;
         lacks = lacks false has;
-        next = next_is p (Lookup name mode) act (scans.RelName name) ((λ i. not (has i) && same_scan (scans.RelName name) (scans.RelName name)) ∙ same_scan-itself (scans.RelName name));
-        first = λ other. none_built (kept_at p) p.opened (scans.RelName name) other whole;
-        kind = refl;
+        next = next_is p (Lookup name mode) act (scans.RelName name) (first_of has);
+        turn = (bare, ap (is_next_of_act (scans.RelName name) p) act.is ∙ first_of has);
       }
 
   -- the scan of a catalog cache
-  pub search_next : (scan : Purpose) → want_of (plan_at p.exec) ≡ wants.Search scan → IsScanNext p scan false
+  pub search_next : (scan : Purpose) → want_of (plan_at p.exec) ≡ wants.Search scan → IsScanNext s scan false
   search_next scan want = by_kept (is_kept (kept_at p) scan) refl
     where
       act : Wants (plan_at p.exec) (Search scan)
@@ -134,26 +138,24 @@ module _ (p : Progress) (command : Command) (still : IsAtRest p) (free : IsFree 
       lacks : (t : Bool) → is_kept (kept_at p) scan ≡ t → lacks_any p ≡ not t
       lacks t is = lacks_is p (Search scan) act whole ∙ one_lacks (is_kept (kept_at p) scan) scan ∙ ap not is
 
-      by_kept : (t : Bool) → is_kept (kept_at p) scan ≡ t → IsScanNext p scan false
+      by_kept : (t : Bool) → is_kept (kept_at p) scan ≡ t → IsScanNext s scan false
       by_kept true is = absurd (not_at_rest p command (Search scan) still free act (out_owes p command free (lacks true is)) refl)
       by_kept false is = record {
         command = command;
         free = free;
         lacks = lacks false is;
         next = next_is p (Search scan) act scan (ap (λ t. not t && same_scan scan scan) is ∙ same_scan-itself scan);
-        first = λ other. none_built (kept_at p) p.opened scan other whole;
-        kind = subst ReadsBuilds act.is (stage_reads p.exec);
+        turn = (bare, ap (is_next_of_act scan p) act.is ∙ ap (λ t. not t && same_scan scan scan) is ∙ same_scan-itself scan);
       }
 
   -- the first scan of a descriptor that is to be opened
-  pub open_next : (rel : Oid) (kind : Kind) (scan : Purpose) → want_of (plan_at p.exec) ≡ wants.Open rel kind → find (λ d. not (is_kept (kept_at p) d)) (build_scans kind rel) ≡ Some scan → IsScanNext p scan true
+  pub open_next : (rel : Oid) (kind : Kind) (scan : Purpose) → want_of (plan_at p.exec) ≡ wants.Open rel kind → find (λ d. not (is_kept (kept_at p) d)) (build_scans kind rel) ≡ Some scan → IsScanNext s scan false
   open_next rel kind scan want is = record {
     command = command;
     free = free;
     lacks = lacks_is p (Open rel kind) act whole ∙ ap not (found_lacks (λ d. not (is_kept (kept_at p) d)) (build_scans kind rel)) ∙ ap (λ f. not (not (is_some f))) is;
-    first = λ other. none_built (kept_at p) p.opened scan other whole;
     next = next_is p (Open rel kind) act scan (ap (λ f. option_map_or (same_scan scan) f false) is ∙ same_scan-itself scan);
-    kind = find_all (λ d. is_build_scan d ≡ true) (λ d. not (is_kept (kept_at p) d)) (build_scans kind rel) scan (each_builds kind rel) is;
+    turn = (bare, ap (is_next_of_act scan p) act.is ∙ ap (λ f. option_map_or (same_scan scan) f false) is ∙ same_scan-itself scan);
   }
     where
       act : Wants (plan_at p.exec) (Open rel kind)

@@ -1,11 +1,10 @@
 -- What a backend does next.
 use Rattle.std.proofs.Common.{◌≡◌, ◌∙◌, ℕ, Bool, true, false, not, ◌&&◌, ◌||◌, Option, Some, None, List, [], ◌∷◌, ◌++◌, cond, refl, sym, ap, subst, append_assoc, is_some, slice_get}
-use Rattle.std.specs.List.{find, list_any, AllByRecursion}
+use Rattle.std.specs.List.{find, list_any}
 use Rattle.std.specs.Option.{IsSomeAnd, option_map_or}
 use Rattle.std.proofs.lemmas.List.{append-nil}
 use Rattle.std.proofs.lemmas.Bool.{both_ways}
-use Rattle.base_types.specs.Scans.{same_scan, is_build_scan, build_scans}
-use Rattle.base_types.specs.declared.kind.Kind.TheVariants.{Table, Index}
+use Rattle.base_types.specs.Scans.{same_scan, build_scans}
 use Rattle.base_types.proofs.SameScan.{same_scan-itself}
 use Rattle.txn_blocks.specs.Blocks.{Inside}
 use Rattle.ddl_effect.specs.Commands.{plan_of, commands_of}
@@ -25,20 +24,22 @@ use Rattle.cacheless.specs.Silently.{is_ends, IsAtRest}
 use Rattle.cacheless.specs.State.{kept_at, is_kept, is_absent, is_quiet, act_missing, is_out, end_at}
 use Rattle.cacheless.proofs.Answers.OpenedReads.{reads_out, reads_first, reads_after}
 use Rattle.cacheless.proofs.Tests.{both_true, not_both}
-use Rattle.backend_core.specs.Types.{Oid, Kind, Event, Row, Purpose, Command, CommandError, Opening, Kept, Scenario, Entry, Next, Progress, Backend}
+use Rattle.backend_core.specs.Types.{Oid, Kind, Event, Row, Purpose, Command, CommandError, Opening, Scenario, Entry, Next, Frame, Progress, Backend}
 use Rattle.backend_core.specs.declared.next.Next.TheVariants as nexts
 use Rattle.backend_core.specs.Agrees.{command_at, AwaitsEntry}
-use Rattle.backend_core.specs.Steps.{IsFree, IsScanNext, EndsNext, InCommand, end_event, IsNextOf, ComesOfCommit, ComesOfBack}
-use Rattle.backend_core.specs.Words.{lacking_first, build_first, accepts_again}
+use Rattle.backend_core.specs.Steps.{IsFree, IsScanNext, IsLookNext, IsChoiceSound, EndsNext, InCommand, end_event, IsNextOf, ComesOfCommit, ComesOfBack}
+use Rattle.backend_core.specs.Frames.{lacks, top, IsRebuilt}
+use Rattle.backend_core.specs.Words.{is_looked_for, accepts_again}
+use Rattle.backend_core.proofs.Fitting.Rebuilding.{kept_lacks}
 use Rattle.backend_core.proofs.Own.{waiting, waiting_course}
 
 -- an end's entry comes next
 ends_next : (s : Backend) (next : Next) → IsSomeAnd (end_event s.progress next) (EndsNext s) → IsNextOf s next
 ends_next s nexts.Look ends = absurd ends
-ends_next s (nexts.LookBeforeScan builds) ends = absurd ends
+ends_next s (nexts.LookBeforeScan rebuilds) ends = absurd ends
 ends_next s nexts.LookBeforeAbsent ends = absurd ends
 ends_next s nexts.Fetch ends = absurd ends
-ends_next s (nexts.Scan scan builds) ends = absurd ends
+ends_next s (nexts.Scan scan rebuilds) ends = absurd ends
 ends_next s (nexts.Lock rel mode) ends = absurd ends
 ends_next s (nexts.Unlock rel mode) ends = absurd ends
 ends_next s nexts.Write ends = absurd ends
@@ -132,76 +133,42 @@ reads_now scenario seen s waits courses = by_command (command_at s) refl
     by_command None at = reads_out s.progress.opened (plan_at s.progress.exec) (waits.fits.past at).out
     by_command (Some command) at = by_refused command (on.follows command (ap (slice_get (commands_of scenario s.progress.id)) waits.rests.holds.count ∙ ap (λ l. slice_get l s.progress.finished) (sym waits.rests.holds.commands) ∙ at)) (waiting waits).refused refl
 
--- what is found of a list is as all its elements are
-pub find_all : {X : Type 0} (P : X → Type 0) (p : X → Bool) (xs : List X) (x : X) → AllByRecursion P xs → find p xs ≡ Some x → P x
-find_all P p [] x all is = absurd (cc is)
-find_all P p (y ∷ xs) x all is = by_test (p y) is (find_all P p xs x all.1)
-  where
-    by_test : (t : Bool) → cond t (Some y) (find p xs) ≡ Some x → (find p xs ≡ Some x → P x) → P x
-    by_test true one more = let same : y ≡ x = cc one in subst P same all.0
-    by_test false later more = more later
+-- a scan is lacking where one is found
+some_scan : (o : Option Purpose) → is_some o ≡ true → (scan : Purpose) × (o ≡ Some scan)
+some_scan None is = absurd (cc is)
+some_scan (Some scan) is = (scan, refl)
 
-pub each_builds : (kind : Kind) (rel : Oid) → AllByRecursion (λ d. is_build_scan d ≡ true) (build_scans kind rel)
-each_builds Table rel = (refl, (refl, (refl, (refl, (refl, (refl, tt))))))
-each_builds Index rel = (refl, (refl, tt))
+-- the rebuild on top of a command that hasn't failed
+module _ (s : Backend) (command : Command) (f : Frame) (sound : IsChoiceSound s) (free : IsFree s.progress command) (goes : has_failed s.progress ≡ false) (on : top s.frames ≡ Some f) where
+  -- its first missing scan comes next
+  pub rebuild_next : (scan : Purpose) → find (λ d. not (is_kept (kept_at s.progress) d)) (build_scans f.opening.kind f.opening.rel) ≡ Some scan → IsScanNext s scan true
+  rebuild_next scan is = record {
+    command = command;
+    free = free;
+    lacks = λ i. not (goes i) && (lacking i || not (is_empty (act_missing s.progress (plan_at s.progress.exec))));
+    next = λ i. not (goes i) && (first i || is_next_of_act scan s.progress (plan_at s.progress.exec));
+    turn = ap (λ o. elim o as (λ x. Option Purpose) [ Some g ↦ find (λ d. not (is_kept (kept_at s.progress) d)) (build_scans g.opening.kind g.opening.rel) | None ↦ None ]) on ∙ is;
+  }
+    where
+      built : IsRebuilt (is_kept (kept_at s.progress)) s.progress.opened f
+      built = sound.builds f on
 
--- a scan that a descriptor lacks
-pub record IsBuildNext (kept : Kept) (opened : List Opening) (scan : Purpose) : Type 0 where
-  pub lacks : lacks_opened kept opened ≡ true
-  pub first : list_any (λ o. is_first_missing scan kept o.kind o.rel) opened ≡ true
-  pub build : is_build_scan scan ≡ true
+      lacking : lacks_opened (kept_at s.progress) s.progress.opened ≡ true
+      lacking = kept_lacks s.progress ∙ built.among (lacks (is_kept (kept_at s.progress))) built.lacking
 
-build_some : (kept : Kept) (opened : List Opening) (scan : Purpose) → build_first kept opened ≡ Some scan → IsBuildNext kept opened scan
-build_some kept [] scan is = absurd (cc is)
-build_some kept (o ∷ opened) scan is = by_first (find (λ d. not (is_kept kept d)) (build_scans o.kind o.rel)) refl is (build_some kept opened scan)
-  where
-    Goal : Bool → Bool → Type 0
-    Goal lacks first = (lacks ≡ true) × (first ≡ true) × (is_build_scan scan ≡ true)
+      first : list_any (λ o. is_first_missing scan (kept_at s.progress) o.kind o.rel) s.progress.opened ≡ true
+      first = built.among (λ o. is_first_missing scan (kept_at s.progress) o.kind o.rel) (ap (λ o. option_map_or (same_scan scan) o false) is ∙ same_scan-itself scan)
 
-    by_first : (f : Option Purpose) → find (λ d. not (is_kept kept d)) (build_scans o.kind o.rel) ≡ f
-        → elim (cond (is_some f) (Some o) (lacking_first kept opened)) as (λ x. Option Purpose) [ Some q ↦ find (λ d. not (is_kept kept d)) (build_scans q.kind q.rel) | None ↦ None ] ≡ Some scan
-        → (build_first kept opened ≡ Some scan → IsBuildNext kept opened scan) → IsBuildNext kept (o ∷ opened) scan
-    by_first (Some x) at one more = let same : x ≡ scan = (let both : Some x ≡ Some scan = sym at ∙ one in cc both) in record {
-      lacks = ap (λ f. is_some (cond (is_some f) (Some o) (lacking_first kept opened))) at;
-      first = ap (λ f. option_map_or (same_scan scan) f false || list_any (λ q. is_first_missing scan kept q.kind q.rel) opened) (at ∙ ap Some same) ∙ ap (λ t. t || list_any (λ q. is_first_missing scan kept q.kind q.rel) opened) (same_scan-itself scan);
-      build = find_all (λ d. is_build_scan d ≡ true) (λ d. not (is_kept kept d)) (build_scans o.kind o.rel) scan (each_builds o.kind o.rel) (at ∙ ap Some same);
-    }
-    by_first None at one more = let later = more one in record {
-      lacks = ap (λ f. is_some (cond (is_some f) (Some o) (lacking_first kept opened))) at ∙ later.lacks;
-      first = ap (λ f. option_map_or (same_scan scan) f false || list_any (λ q. is_first_missing scan kept q.kind q.rel) opened) at ∙ later.first;
-      build = later.build;
-    }
+  -- there is one
+  lacked : (scan : Purpose) × (find (λ d. not (is_kept (kept_at s.progress) d)) (build_scans f.opening.kind f.opening.rel) ≡ Some scan)
+  lacked = some_scan (find (λ d. not (is_kept (kept_at s.progress) d)) (build_scans f.opening.kind f.opening.rel)) (sound.builds f on).lacking
 
--- the first scan that is lacked, of lists that are these
-pub first_built : (kept : Kept) (opened given : List Opening) (lacking : Option Opening) (o : Opening) (result : Option Purpose) → given ≡ opened → lacking ≡ lacking_first kept given → lacking ≡ Some o → result ≡ find (λ d. not (is_kept kept d)) (build_scans o.kind o.rel) → result ≡ build_first kept opened
-first_built kept opened given lacking o result given_is lacking_is some result_is =
-    result_is ∙ sym (ap (λ x. elim x as (λ y. Option Purpose) [ Some q ↦ find (λ d. not (is_kept kept d)) (build_scans q.kind q.rel) | None ↦ None ]) (ap (lacking_first kept) (sym given_is) ∙ sym lacking_is ∙ some))
+  pub rebuild_some : find (λ d. not (is_kept (kept_at s.progress) d)) (build_scans f.opening.kind f.opening.rel) ≡ None → ⊥
+  rebuild_some none = let no_scan : None ≡ Some lacked.0 = sym none ∙ lacked.1 in cc no_scan
 
--- where no scan is found none is lacked
-pub build_none : (kept : Kept) (opened : List Opening) → build_first kept opened ≡ None → lacks_opened kept opened ≡ false
-build_none kept [] is = refl
-build_none kept (o ∷ opened) is = by_first (find (λ d. not (is_kept kept d)) (build_scans o.kind o.rel)) refl is (build_none kept opened)
-  where
-    by_first : (f : Option Purpose) → find (λ d. not (is_kept kept d)) (build_scans o.kind o.rel) ≡ f
-        → elim (cond (is_some f) (Some o) (lacking_first kept opened)) as (λ x. Option Purpose) [ Some q ↦ find (λ d. not (is_kept kept d)) (build_scans q.kind q.rel) | None ↦ None ] ≡ None
-        → (build_first kept opened ≡ None → lacks_opened kept opened ≡ false) → lacks_opened kept (o ∷ opened) ≡ false
-    by_first (Some x) at one more = absurd (let both : Some x ≡ None = sym at ∙ one in cc both)
-    by_first None at one more = ap (λ f. is_some (cond (is_some f) (Some o) (lacking_first kept opened))) at ∙ more one
+  -- and its look, where that wasn't made
+  pub rebuild_look : f.looked ≡ false → IsLookNext true s
+  rebuild_look unlooked = record { scan = lacked.0; next = rebuild_next lacked.0 lacked.1; unlooked = ap (λ o. option_map_or (λ (g : Frame). g.looked) o false) on ∙ unlooked }
 
--- where none is lacked none is found
-pub none_built : (kept : Kept) (opened : List Opening) (scan other : Purpose) → lacks_opened kept opened ≡ false → build_first kept opened ≡ Some other → scan ≡ other
-none_built kept opened scan other whole is = absurd (both_ways _ whole (build_some kept opened other is).lacks)
-
--- it comes next in a command that hasn't failed
-pub build_next : (p : Progress) (command : Command) (scan : Purpose) → IsFree p command → has_failed p ≡ false → build_first (kept_at p) p.opened ≡ Some scan → IsScanNext p scan true
-build_next p command scan free goes is = record {
-  command = command;
-  free = free;
-  lacks = λ i. not (goes i) && (next.lacks i || not (is_empty (act_missing p (plan_at p.exec))));
-  next = λ i. not (goes i) && (next.first i || is_next_of_act scan p (plan_at p.exec));
-  first = λ other at. let both : Some scan ≡ Some other = sym is ∙ at in cc both;
-  kind = next.build;
-}
-  where
-    next : IsBuildNext (kept_at p) p.opened scan
-    next = build_some (kept_at p) p.opened scan is
+  pub rebuild_scan : f.looked ≡ true → (scan : Purpose) → find (λ d. not (is_kept (kept_at s.progress) d)) (build_scans f.opening.kind f.opening.rel) ≡ Some scan → IsScanNext s scan true × (is_looked_for true s ≡ true)
+  rebuild_scan looked scan is = (rebuild_next scan is, ap (λ o. option_map_or (λ (g : Frame). g.looked) o false) on ∙ looked)

@@ -1,16 +1,16 @@
 -- What the choice of the next entry rests on.
-use Rattle.std.proofs.Common.{◌≡◌, ◌+◌, ◌∙◌, ◌&&◌, true, false, Option, Some, None, List, [], refl, sym, ap, subst, is_none, arith}
+use Rattle.std.proofs.Common.{◌≡◌, ◌+◌, ◌∙◌, ◌&&◌, true, false, Option, Some, None, List, [], refl, sym, ap, subst, is_none, arith, Bool, not}
 use Rattle.std.proofs.lemmas.Bool.{both_ways, lt-ltb}
 use Rattle.event_kinds.specs.declared.entry.Event.TheVariants as events
 use Rattle.ddl_effect.specs.Stages.{plan_at}
 use Rattle.cacheless.specs.Facts.{Facts, facts_of}
 use Rattle.cacheless.specs.OnCourse.{AllOnCourse}
-use Rattle.cacheless.specs.Owed.{owed_after, started_in}
-use Rattle.cacheless.specs.Session.{number_of}
+use Rattle.cacheless.specs.Owed.{owed_after, started_in, owed_of}
+use Rattle.cacheless.specs.Session.{number_of, Badly, outcome_of}
 use Rattle.cacheless.specs.Settled.{nothing_waits}
 use Rattle.cacheless.specs.Silently.{has_accepted_at}
-use Rattle.cacheless.specs.May.{has_looked_at}
-use Rattle.cacheless.specs.State.{owed_at, is_quiet, one_if}
+use Rattle.cacheless.specs.May.{has_looked_at, has_failed, lacks_opened}
+use Rattle.cacheless.specs.State.{owed_at, is_quiet, one_if, kept_at}
 use Rattle.cacheless.proofs.Same.{looked_same}
 use Rattle.backend_core.specs.Types.{Command, Scenario, Entry, Event, Backend}
 use Rattle.backend_core.specs.Agrees.{command_at, AwaitsEntry}
@@ -18,6 +18,13 @@ use Rattle.backend_core.specs.Fits.{looks_due, LooksFit, TakesFit, IsLookedFor, 
 use Rattle.backend_core.specs.Steps.{IsChoiceSound}
 use Rattle.backend_core.proofs.Fitting.Sought.{unfound_facts, finds_serves}
 use Rattle.backend_core.proofs.Own.{waiting, going}
+use Rattle.backend_core.proofs.Fitting.Rebuilding.{top_rebuilt, usable_is, kept_lacks, owed_whole, owed_builds, none_lacks}
+use Rattle.backend_core.specs.Frames.{lacks, IsStack, IsRebuilt}
+use Rattle.std.specs.List.{list_any}
+use Rattle.seg_calls.specs.Calls.{took_back}
+use Rattle.backend_core.specs.Words.{has_error}
+use Rattle.ddl_effect.specs.Plans.{Plan, Fails}
+use Rattle.cacheless.specs.Ends.{TakesBack, end_of, end_of_all}
 
 -- a look after which nothing is owed told that nothing waits
 quiet_look : (last : Option Event) → is_look last ≡ true → owed_after last ≡ [] → nothing_waits last ≡ true
@@ -28,11 +35,38 @@ quiet_look last look none = absurd (cc look)
 pub choice_sound : (scenario : Scenario) (seen : List Entry) (s : Backend) → AwaitsEntry scenario seen s → AllOnCourse scenario seen → IsChoiceSound s
 choice_sound scenario seen s waits courses = record {
   takes = subst (λ n. TakesFit (n + 1) s.progress.locks.items s.progress.taken (plan_at s.progress.exec)) waits.rests.holds.count waits.fits.takes;
+  builds = λ f on. subst (λ h. IsRebuilt h s.progress.opened f) (usable_is facts s.progress waits.rests.holds.facts) (top_rebuilt facts (command_at s) (waiting waits) s.frames f waits.fits.rebuilds on);
+  whole = λ command at bare goes. whole_now command at bare goes (took_back facts.last) refl;
   accepts = λ looked unfound none. by_command looked (unfound_facts facts s.progress (plan_at s.progress.exec) waits.rests.holds.facts unfound) none (command_at s) refl;
 }
   where
     facts : Facts
     facts = facts_of seen s.progress.id
+
+    -- it isn't an error by which the command has come out
+    no_error : has_failed s.progress ≡ false → has_error (plan_at s.progress.exec) ≡ false
+    no_error goes = by_plan (plan_at s.progress.exec) goes
+      where
+        by_plan : (p : Plan) → elim (outcome_of p) as (λ x. Bool) [ Badly ↦ true | other ↦ false ] ≡ false → has_error p ≡ false
+        by_plan (Fails error) is = absurd (cc is)
+        by_plan p is = refl
+
+    -- where nothing is rebuilt nothing held lacks a scan
+    lacks_none : list_any (lacks facts.usable) s.progress.opened ≡ false → lacks_opened (kept_at s.progress) s.progress.opened ≡ false
+    lacks_none none = kept_lacks s.progress ∙ ap (λ h. list_any (lacks h) s.progress.opened) (sym (usable_is facts s.progress waits.rests.holds.facts)) ∙ none
+
+    taken_back : (command : Command) → command_at s ≡ Some command → has_failed s.progress ≡ false → (last : Option Event) → facts.last ≡ last → took_back last ≡ true → lacks_opened (kept_at s.progress) s.progress.opened ≡ false
+    taken_back command at goes (Some (events.Gone from)) is back = lacks_none (owed_whole facts s.progress.opened (owed_builds facts (waiting waits) command (has_failed_not goes)
+        (subst (λ o. elim o as (λ x. Type 0) [ Some c ↦ (end_of facts c (waiting waits) ≡ TakesBack from) × (owed_of facts c (waiting waits) ≡ []) | None ↦ end_of_all facts ≡ TakesBack from ]) at (waits.fits.taken from is).end).1))
+      where
+        has_failed_not : has_failed s.progress ≡ false → outcome_of (plan_at s.progress.exec) ≡ Badly → ⊥
+        has_failed_not none badly = both_ways _ none (ap (λ o. elim o as (λ x. Bool) [ Badly ↦ true | other ↦ false ]) badly)
+    taken_back command at goes last is back = absurd (cc back)
+
+    whole_now : (command : Command) → command_at s ≡ Some command → s.frames ≡ [] → has_failed s.progress ≡ false → (t : Bool) → took_back facts.last ≡ t → lacks_opened (kept_at s.progress) s.progress.opened ≡ false
+    whole_now command at bare goes true back = taken_back command at goes facts.last refl back
+    whole_now command at bare goes false stays = lacks_none (none_lacks facts.usable s.progress.opened (subst (IsStack facts.usable s.progress.opened) bare
+        (waits.fits.rebuilds.stack (λ i. not (stays i) && not (going scenario seen s waits courses command at i) && not (no_error goes i)))))
 
     by_look : (command : Command) → command_at s ≡ Some command → s.looked ≡ true → finds_no_name facts s.progress.taken (plan_at s.progress.exec) ≡ true → owed_at s.progress.due ≡ [] → is_look facts.last ≡ true → has_accepted_at s.progress ≡ true
     by_look command at looked finds none look = λ i. (ap (λ o. is_none o) (finds_serves facts s.progress.taken (plan_at s.progress.exec) finds).3) i && quiet i && has i
@@ -43,7 +77,7 @@ choice_sound scenario seen s waits courses = record {
         quiet : is_quiet s.progress.due ≡ true
         quiet = sym waits.rests.holds.facts.quiet ∙ quiet_look facts.last look owed
 
-        before : LooksFit facts (waiting waits) s.looked s.looked_to_build s.told
+        before : LooksFit facts (waiting waits) s.looked s.frames s.told
         before = waits.fits.looks (going scenario seen s waits courses command at)
 
         has : has_looked_at s.progress ≡ true

@@ -58,7 +58,7 @@ module _ (scenario : Scenario) (seen : List Entry) (s : Backend) (exec : Exec) (
       places = record { kept = k.places.kept; absent = λ name missed whole. k.places.absent name (sym plan ∙ missed) (record { untaken = whole.untaken; going = whole.going }) };
     };
     rests = record { holds = holds_same waits.rests.holds; still = still };
-    fits = subst (λ x. Fits (facts_of seen s.progress.id) (command_at s) x s.looked s.looked_to_build s.told) (sym (session_same waits.rests.holds.rest)) waits.fits;
+    fits = subst (λ x. Fits (facts_of seen s.progress.id) (command_at s) x s.looked s.frames s.told) (sym (session_same waits.rests.holds.rest)) waits.fits;
     lines = waits.lines;
     tells = record { answer = waits.tells.answer; out = λ some. ap (λ p. is_settled (outcome_of p)) plan ∙ waits.tells.out some };
     answered = answered;

@@ -9,7 +9,7 @@ use Rattle.history_model.specs.Drawn.{next_oid}
 use Rattle.history_model.specs.Legal.{FollowsVisible, FollowsGone}
 use Rattle.history_model.specs.Sent.{unsent_in, unsent_of}
 use Rattle.history_model.specs.Transactions.{Running, begun, has_xid, is_visible}
-use Rattle.seg_calls.specs.Calls.{entry_of, ArePublishedNext, MayCall, Appends}
+use Rattle.seg_calls.specs.Calls.{entry_of, ArePublishedNext, MayCall, Appends, took_back}
 use Rattle.txn_blocks.specs.declared.transaction.RunningTransaction.{RunningTransaction}
 use Rattle.cacheless.specs.Ends.{Ends, Commits, TakesBack}
 use Rattle.cacheless.specs.Facts.{Facts, facts_of}
@@ -21,7 +21,7 @@ use Rattle.cacheless.specs.Session.{Session, Well, outcome_of}
 use Rattle.cacheless.specs.Sessions.{ends_command}
 use Rattle.cacheless.specs.State.{kept_at, running_of, lists_at, unsent_at}
 use Rattle.cacheless.proofs.Allowed.Releases.{OwesNoScan, owes_no_scan}
-use Rattle.backend_core.specs.Types.{Xid, Command, Scenario, Entry, Event, Message, OwnLock, Progress, Backend}
+use Rattle.backend_core.specs.Types.{Xid, Command, Scenario, Entry, Event, Message, OwnLock, Progress, Backend, Frame}
 use Rattle.backend_core.specs.Agrees.{IsPlayed, command_at, AwaitsEntry}
 use Rattle.backend_core.specs.Fits.{Fits}
 use Rattle.backend_core.specs.Steps.{EndsNext, Enters}
@@ -29,6 +29,7 @@ use Rattle.backend_core.proofs.Entries.EndEntries.{end_plays, end_now, end_call,
 use Rattle.backend_core.proofs.Choosing.EndsNow.{end_by, is_end, EndsBy, IsCommit, ShowsNow, PublishesNow, comes_now, back_end}
 use Rattle.backend_core.proofs.Fitting.FitsEnds.{later_at, GoesOn, fits_ending, commits_on, write_from_first, goes_first, begun_xid, written_runs}
 use Rattle.backend_core.proofs.Own.{waiting}
+use Rattle.backend_core.proofs.Fitting.Rebuilding.{same_fits}
 
 -- the Xid of a transaction that has written
 xid_own : (own : Option Running) (xid : ℕ) → option_map_or (λ t. is_some t.xid) own false ≡ true → xid ≡ option_map_or (λ t. unwrap_or t.xid 0) own 0 → has_xid xid own ≡ true
@@ -40,17 +41,21 @@ xid_own (Some t) xid some is = by_xid t.xid some is
     by_xid (Some x) there at = eq-eqb x xid (sym at)
 
 -- where a commit comes next nothing was taken back
-untaken : (facts : Facts) (o : Option Command) (s : Session) (looked to_build told : Bool) → Fits facts o s looked to_build told → IsCommit facts (end_by facts o s) → (from : ℕ) → facts.last ≡ Some (events.Gone from) → ⊥
-untaken facts o s looked to_build told fits commit from is = let no : TakesBack from ≡ Commits commit.first = sym (back_end facts o s looked to_build told from fits is) ∙ commit.is in cc no
+untaken : (facts : Facts) (o : Option Command) (s : Session) (looked : Bool) (frames : List Frame) (told : Bool) → Fits facts o s looked frames told → IsCommit facts (end_by facts o s) → (from : ℕ) → facts.last ≡ Some (events.Gone from) → ⊥
+untaken facts o s looked frames told fits commit from is = let no : TakesBack from ≡ Commits commit.first = sym (back_end facts o s looked frames told from fits is) ∙ commit.is in cc no
 
-none_gone : (facts : Facts) (o : Option Command) (s : Session) (looked to_build told : Bool) (event : Event) → Fits facts o s looked to_build told → IsCommit facts (end_by facts o s) → FollowsGone facts.last event
-none_gone facts o s looked to_build told event fits commit = by_last facts.last refl
+not_back : (last : Option Event) → ((from : ℕ) → last ≡ Some (events.Gone from) → ⊥) → took_back last ≡ false
+not_back (Some (events.Gone from)) never = absurd (never from refl)
+not_back last never = refl
+
+none_gone : (facts : Facts) (o : Option Command) (s : Session) (looked : Bool) (frames : List Frame) (told : Bool) (event : Event) → Fits facts o s looked frames told → IsCommit facts (end_by facts o s) → FollowsGone facts.last event
+none_gone facts o s looked frames told event fits commit = by_last facts.last refl
   where
     by_last : (last : Option Event) → facts.last ≡ last → FollowsGone last event
-    by_last (Some (events.Gone from)) is = absurd (untaken facts o s looked to_build told fits commit from is)
+    by_last (Some (events.Gone from)) is = absurd (untaken facts o s looked frames told fits commit from is)
     by_last last is = tt
 
-module _ (facts : Facts) (o : Option Command) (s : Session) (looked to_build told : Bool) (next : ℕ) (event : Event) (ends : ends_command event ≡ true) (fits : Fits facts o s looked to_build told) (plays : MayPlayIn next facts o s event) (commit : IsCommit facts (end_by facts o s)) where
+module _ (facts : Facts) (o : Option Command) (s : Session) (looked : Bool) (frames : List Frame) (told : Bool) (next : ℕ) (event : Event) (ends : ends_command event ≡ true) (fits : Fits facts o s looked frames told) (plays : MayPlayIn next facts o s event) (commit : IsCommit facts (end_by facts o s)) where
   -- its command owes no scan
   commit_free : outcome_of s.left ≡ Well → OwesNoScan facts s
   commit_free well = by_command o plays commit
@@ -66,7 +71,7 @@ module _ (facts : Facts) (o : Option Command) (s : Session) (looked to_build tol
 -- it may be entered
 pub commit_call : (scenario : Scenario) (seen : List Entry) (s : Backend) (xid : Xid) → AwaitsEntry scenario seen s → EndsNext s (events.Visible xid) → MayCall scenario seen (entry_of s.progress.id (s.progress.finished + 1) (events.Visible xid))
 commit_call scenario seen s xid waits next = end_call scenario seen s waits (events.Visible xid) refl next (subst (λ v. FollowsVisible v (events.Visible xid)) (sym now.hidden) tt)
-    (none_gone facts (command_at s) (waiting waits) s.looked s.looked_to_build s.told (events.Visible xid) waits.fits now.commit)
+    (none_gone facts (command_at s) (waiting waits) s.looked s.frames s.told (events.Visible xid) waits.fits now.commit)
     (xid_own facts.running xid.0 (waits.fits.written (write_from_first now.commit.first facts.lists now.commit.written)) now.xid_is, write_from_first now.commit.first facts.lists now.commit.written)
   where
     facts : Facts
@@ -110,7 +115,7 @@ module _ (scenario : Scenario) (seen : List Entry) (s : Backend) (messages : Lis
   -- it may be entered
   pub publish_call : MayCall scenario seen (entry_of s.progress.id (s.progress.finished + 1) (events.Publish (length messages)))
   publish_call = end_call scenario seen s waits (events.Publish (length messages)) refl publish_next (shown (is_visible facts.running) (length messages))
-      (none_gone facts (command_at s) (waiting waits) s.looked s.looked_to_build s.told (events.Publish (length messages)) waits.fits publish_now.commit) (publish_now.visible, publish_now.some, publish_now.most)
+      (none_gone facts (command_at s) (waiting waits) s.looked s.frames s.told (events.Publish (length messages)) waits.fits publish_now.commit) (publish_now.visible, publish_now.some, publish_now.most)
 
   -- and these are the next
   pub publish_these : ArePublishedNext seen s.progress.id messages
@@ -126,11 +131,12 @@ module _ (scenario : Scenario) (old : List Entry) (was : Backend) (event : Event
   abbrev after_commit : Facts
   after_commit = record before { last = Some event; running = Some (record { first = (begun (was.progress.finished + 1) before.running).first; xid = (begun (was.progress.finished + 1) before.running).xid; published = published; visible = visible }) }
 
-  commit_fits : (locks : List OwnLock) (at : ℕ) → owed_after (Some event) ≡ [] → ((from : ℕ) → Some event ≡ Some (events.Gone from) → ⊥) → Fits after_commit (command_at was) (later_at (waiting waits) locks at) was.looked was.looked_to_build was.told
-  commit_fits locks at free standing = fits_ending before after_commit (command_at was) (waiting waits) was.looked was.looked_to_build was.told event locks at waits.fits now goes (λ scan none. none)
+  commit_fits : (locks : List OwnLock) (at : ℕ) → owed_after (Some event) ≡ [] → ((from : ℕ) → Some event ≡ Some (events.Gone from) → ⊥) → Fits after_commit (command_at was) (later_at (waiting waits) locks at) was.looked was.frames was.told
+  commit_fits locks at free standing = fits_ending before after_commit (command_at was) (waiting waits) was.looked was.frames was.told event locks at waits.fits now goes
+      (same_fits before after_commit (command_at was) (waiting waits) (later_at (waiting waits) locks at) was.frames refl refl refl refl (not_back (Some event) standing ∙ sym (not_back before.last (untaken before (command_at was) (waiting waits) was.looked was.frames was.told waits.fits commit))) waits.fits.rebuilds) (λ scan none. none)
       (λ is. begun_xid (was.progress.finished + 1) before.running (waits.fits.written is))
-      (λ is. commits_on before after_commit (command_at was) (waiting waits) was.looked was.looked_to_build was.told event locks at waits.fits now goes commit refl
-      (commit_free before (command_at was) (waiting waits) was.looked was.looked_to_build was.told (next_oid old) event ends waits.fits (end_plays scenario old was waits event ends next) commit))
+      (λ is. commits_on before after_commit (command_at was) (waiting waits) was.looked was.frames was.told event locks at waits.fits now goes commit refl
+      (commit_free before (command_at was) (waiting waits) was.looked was.frames was.told (next_oid old) event ends waits.fits (end_plays scenario old was waits event ends next) commit))
       (λ from is. absurd (standing from is))
     where
       now : EndsBy before (command_at was) (waiting waits) event

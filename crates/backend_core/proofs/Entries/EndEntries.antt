@@ -30,6 +30,10 @@ use Rattle.backend_core.specs.Steps.{EndsNext, InCommand, AfterAll, Enters}
 use Rattle.backend_core.proofs.Choosing.EndsNow.{EndsBy, ends_by}
 use Rattle.backend_core.proofs.Fitting.Entered.{fits_at}
 use Rattle.backend_core.proofs.Own.{waiting, own_enters}
+use Rattle.backend_core.proofs.Fitting.Rebuilding.{owed_bare}
+use Rattle.cacheless.specs.Owed.{owed_of}
+use Rattle.cacheless.proofs.Same.{owes_nothing_is}
+use Rattle.cacheless.proofs.Plans.SilentActs.{empty_list}
 
 may_end : (next : ℕ) (command : Command) (p : Progress) (event : Event) → ends_command event ≡ true → may_end_at command p event ≡ true → may_play_at next command p event ≡ true
 may_end next command p (events.Visible xid) ends may = may
@@ -85,12 +89,21 @@ module _ (scenario : Scenario) (seen : List Entry) (s : Backend) (waits : Awaits
       by_case (AfterAll past comes) = ap (λ o. elim o as (λ x. Bool) [ Some c ↦ may_play_at (next_oid seen) c s.progress event | None ↦ may_last_at s.progress event ]) past
           ∙ may_last s.progress event ends (sym waits.rests.holds.facts.owed ∙ (waits.fits.past past).free) comes
 
+  -- nothing is rebuilt
+  pub end_bare : s.frames ≡ []
+  end_bare = by_case next
+    where
+      by_case : EndsNext s event → s.frames ≡ []
+      by_case (InCommand command free out owes accepted may) = owed_bare (facts_of seen s.progress.id) (command_at s) (waiting waits) s.frames command waits.fits.rebuilds
+          (empty_list (owed_of (facts_of seen s.progress.id) command (waiting waits)) (owes_nothing_is (facts_of seen s.progress.id) command s.progress waits.rests.holds.rest waits.rests.holds.facts ∙ owes))
+      by_case (AfterAll past comes) = waits.fits.rebuilds.past past
+
   -- it may come next by the script
   pub end_plays : MayPlayIn (next_oid seen) (facts_of seen s.progress.id) (command_at s) (waiting waits) event
   end_plays = (holds_decides s.progress (next_oid seen) event true (sym may_now) scenario seen waits.rests.holds).0 refl
 
   pub end_now : EndsBy (facts_of seen s.progress.id) (command_at s) (waiting waits) event
-  end_now = ends_by (next_oid seen) (facts_of seen s.progress.id) (command_at s) (waiting waits) s.looked s.looked_to_build s.told event ends waits.fits end_plays
+  end_now = ends_by (next_oid seen) (facts_of seen s.progress.id) (command_at s) (waiting waits) s.looked s.frames s.told event ends waits.fits end_plays
 
   -- it may be called for
   pub end_call : FollowsVisible (is_visible (running_transaction_of seen s.progress.id)) event → FollowsGone (last_event_of seen s.progress.id) event → AllowsEvent seen s.progress.id (s.progress.finished + 1) event → MayCall scenario seen (entry_of s.progress.id (s.progress.finished + 1) event)
@@ -113,11 +126,11 @@ built_at scenario seen s waits command at = subst (λ c. runs c ≡ true) (get_o
 pub end_enters : (scenario : Scenario) (old new : List Entry) (had has : ℕ → ℕ) (was : Backend) (event : Event) (p : Progress) (waits : AwaitsEntry scenario old was) → ends_command event ≡ true → IsPlayed scenario old → AllOnCourse scenario old → EndsNext was event
     → HasEntered scenario old was.progress event waits.rests p → KeepsScans old was.progress event p → p.answer ≡ was.progress.answer
     → Fits (facts_by old was.progress.id (was.progress.finished + 1) event (facts_of old was.progress.id)) (command_at was)
-    (entered (facts_of (with_own old was.progress event) was.progress.id) (drop was.progress.finished was.progress.commands) (length old + 1) (was.progress.finished + 1) event (waiting waits)) was.looked was.looked_to_build was.told
+    (entered (facts_of (with_own old was.progress event) was.progress.id) (drop was.progress.finished was.progress.commands) (length old + 1) (was.progress.finished + 1) event (waiting waits)) was.looked was.frames was.told
     → Appends old new had has (entry_of was.progress.id (was.progress.finished + 1) event) → Enters scenario old new had has was (record was { progress = p })
 end_enters scenario old new had has was event p waits ends played courses next goes kept same fits appends =
     own_enters scenario old new had has was (record was { progress = p }) event waits played courses (record { plays = end_plays scenario old was waits event ends next; truly = plain.truly; queue = plain.queue }) goes kept
-    (fits_at scenario old was event waits p goes was.looked was.looked_to_build was.told fits) refl plain.lives refl plain.on (same ∙ sym (plain.answers was.progress.answer)) appends
+    (fits_at scenario old was event waits p goes was.looked was.frames was.told fits) refl plain.lives refl plain.on (same ∙ sym (plain.answers was.progress.answer)) appends
   where
     plain : IsPlain scenario old was.progress.id (was.progress.finished + 1) event
     plain = is_plain scenario old was.progress.id (was.progress.finished + 1) event ends

@@ -1,5 +1,5 @@
 -- An entry that shows an error, which ends its command: a lock or a write that is refused.
-use Rattle.std.proofs.Common.{◌≡◌, ◌≢◌, ◌+◌, ◌∙◌, ℕ, true, false, Some, None, List, [], refl, sym, ap, subst, length, drop, is_some, arith, Option}
+use Rattle.std.proofs.Common.{◌≡◌, ◌≢◌, ◌+◌, ◌∙◌, ℕ, true, false, Some, None, List, [], refl, sym, ap, subst, length, drop, is_some, arith, Option, not, ◌&&◌}
 use Rattle.std.proofs.lemmas.Bool.{both_ways}
 use Rattle.event_kinds.specs.declared.entry.Event.TheVariants as events
 use Rattle.row_visibility.specs.declared.clash.Clash.{Clash}
@@ -11,7 +11,7 @@ use Rattle.history_model.specs.Drawn.{next_oid}
 use Rattle.history_model.specs.Lapped.{FetchesFrom}
 use Rattle.history_model.specs.Lives.{Alive, life_by}
 use Rattle.history_model.specs.Transactions.{begun}
-use Rattle.seg_calls.specs.Calls.{entry_of, Appends}
+use Rattle.seg_calls.specs.Calls.{entry_of, Appends, took_back}
 use Rattle.cacheless.specs.Facts.{Facts, facts_of, facts_by}
 use Rattle.cacheless.specs.Holds.{HasEntered, with_own}
 use Rattle.cacheless.specs.OnCourse.{AllOnCourse}
@@ -24,13 +24,16 @@ use Rattle.cacheless.specs.State.{kept_at, clash_event, error_of}
 use Rattle.session_laws.specs.Awaiting.{KeepsScans, answer_after}
 use Rattle.backend_core.specs.Types.{Oid, Mode, Command, CommandError, Scenario, Entry, Event, Progress, Backend}
 use Rattle.backend_core.specs.Agrees.{IsPlayed, command_at, AwaitsEntry}
-use Rattle.backend_core.specs.Fits.{looks_due, LooksFit, TakesFit}
+use Rattle.backend_core.specs.Fits.{looks_due, LooksFit, TakesFit, FramesFit}
 use Rattle.backend_core.specs.Steps.{Enters}
 use Rattle.backend_core.proofs.Choosing.Chosen.{Acts}
 use Rattle.backend_core.proofs.Fitting.Entered.{fits_at}
 use Rattle.backend_core.proofs.Entries.Inside.{runs_on, inside_fits}
 use Rattle.backend_core.proofs.Own.{waiting, going, own_enters}
 use Rattle.cacheless.specs.Types.{Oid}
+use Rattle.backend_core.proofs.Fitting.Rebuilding.{bare_fits}
+use Rattle.backend_core.specs.Words.{has_error}
+use Rattle.std.proofs.Math.Bool.{and-false}
 
 -- the facts and the session after such an entry
 abbrev later_of : List Entry → Backend → Event → Facts
@@ -71,6 +74,7 @@ pub record IsActing (scenario : Scenario) (old : List Entry) (was : Backend) (co
   pub unsettled : is_settled (outcome_of (plan_at was.progress.exec)) ≡ false
   pub runs : is_some (facts_of old was.progress.id).running ≡ true
   pub owed : owed_after (facts_of old was.progress.id).last ≡ []
+  pub bare : was.frames ≡ []
 
 -- after it the backend agrees
 pub failed_enters : (scenario : Scenario) (old new : List Entry) (had has : ℕ → ℕ) (was : Backend) (p : Progress) (event : Event) (error : CommandError) (command : Command) (waits : AwaitsEntry scenario old was) → IsPlayed scenario old → AllOnCourse scenario old → IsActing scenario old was command
@@ -79,9 +83,9 @@ pub failed_enters : (scenario : Scenario) (old new : List Entry) (had has : ℕ 
 failed_enters scenario old new had has was p event error command waits played courses acting unlooked shows plays goes kept none appends =
     own_enters scenario old new had has was (record was { progress = p }) event waits played courses (record { plays = plays; truly = shows.truly; queue = shows.queue }) goes
     (shows.keeps p kept)
-    (fits_at scenario old was event waits p goes was.looked was.looked_to_build was.told
-    (inside_fits scenario old was waits courses command acting.at later now was.looked was.looked_to_build was.told same shows.lists shows.last
-    (record { blocks = shows.blocks; finished = ap length shows.finished; blocked = shows.blocked; ended = shows.ended; left = λ is there. absurd (both_ways _ acting.unsettled is) }) acting.runs (Acts acting.unsettled) looks (λ made. absurd (unlooked made)) (subst (TakesFit (number_of now) now.locks now.taken) (sym shows.left) (takes_none now.taken))))
+    (fits_at scenario old was event waits p goes was.looked was.frames was.told
+    (inside_fits scenario old was waits courses command acting.at later now was.looked was.frames was.told same shows.lists shows.last
+    (record { blocks = shows.blocks; finished = ap length shows.finished; blocked = shows.blocked; ended = shows.ended; left = λ is there. absurd (both_ways _ acting.unsettled is) }) acting.runs (Acts acting.unsettled) looks rebuilds (λ made. absurd (unlooked made)) (subst (TakesFit (number_of now) now.locks now.taken) (sym shows.left) (takes_none now.taken))))
     refl shows.lives refl shows.on (none ∙ sym (shows.unanswered was.progress.answer)) appends
   where
     takes_none : (o : Option Oid) → TakesFit (number_of (now_of old was event (waiting waits))) (now_of old was event (waiting waits)).locks o (Fails error)
@@ -97,13 +101,16 @@ failed_enters scenario old new had has was p event error command waits played co
     same : later.running ≡ (facts_of old was.progress.id).running
     same = shows.running ∙ runs_on (was.progress.finished + 1) (facts_of old was.progress.id).running acting.runs
 
-    before : LooksFit (facts_of old was.progress.id) (waiting waits) was.looked was.looked_to_build was.told
+    rebuilds : FramesFit later (command_at was) now was.frames
+    rebuilds = subst (FramesFit later (command_at was) now) (sym acting.bare) (bare_fits later (command_at was) now (λ keeps. absurd (both_ways _ (ap (λ p. not (took_back later.last) && not now.ended && not (has_error p)) shows.left ∙ and-false (not (took_back later.last) && not now.ended)) keeps)))
+
+    before : LooksFit (facts_of old was.progress.id) (waiting waits) was.looked was.frames was.told
     before = waits.fits.looks (going scenario old was waits courses command acting.at)
 
     started : started_in (number_of now) later ≡ started_in (number_of (waiting waits)) (facts_of old was.progress.id)
     started = (λ i. started_in (length (shows.finished i) + 1) (record (facts_of old was.progress.id) { running = same i }))
 
-    looks : LooksFit later now was.looked was.looked_to_build was.told
+    looks : LooksFit later now was.looked was.frames was.told
     looks = record {
       enough = omega (arith, before.enough, ap looks_due acting.owed, ap looks_due shows.owes, started, ap (λ (t : Tally). t.looks) shows.tally, ap (λ (t : Tally). t.scans) shows.tally, ap (λ (t : Tally). t.grants) shows.tally, ap (λ (t : Tally). t.full) shows.tally);
       within = omega (arith, before.within, ap looks_due acting.owed, ap looks_due shows.owes, started, ap (λ (t : Tally). t.looks) shows.tally, ap (λ (t : Tally). t.scans) shows.tally, ap (λ (t : Tally). t.grants) shows.tally, ap (λ (t : Tally). t.fetches) shows.tally);

@@ -30,11 +30,11 @@ use Rattle.cacheless.proofs.Allowed.NextKeeps as keeping
 use Rattle.cacheless.proofs.SameRows.{oid_decides}
 use Rattle.backend_core.specs.Types.{Oid, Mode, Row, Scenario, Entry, Event, Progress, Backend}
 use Rattle.backend_core.specs.Agrees.{IsPlayed, command_at, AwaitsEntry}
-use Rattle.backend_core.specs.Fits.{looks_due, LooksFit, IsLookedFor, lacks_name}
+use Rattle.backend_core.specs.Fits.{looks_due, LooksFit, IsLookedFor, lacks_scan}
 use Rattle.backend_core.specs.Steps.{IsLockNext, Enters}
 use Rattle.backend_core.proofs.Choosing.ActsRun.{act_runs}
 use Rattle.backend_core.proofs.Entries.Alike.{alike_enters}
-use Rattle.backend_core.proofs.Choosing.Chosen.{Acts, may_request, now_plays}
+use Rattle.backend_core.proofs.Choosing.Chosen.{Acts, may_request, now_plays, standing}
 use Rattle.backend_core.proofs.Fitting.Entered.{fits_at}
 use Rattle.backend_core.proofs.Entries.Failing.{IsActing, held_shows, failed_enters}
 use Rattle.backend_core.proofs.Entries.Inside.{runs_on, inside_fits}
@@ -43,6 +43,8 @@ use Rattle.backend_core.proofs.Fitting.Sought.{takes_cleared, no_look, act_serve
 use Rattle.cacheless.proofs.Allowed.NextKeeps.{nothing_owed}
 use Rattle.cacheless.specs.Types.{Row}
 use Rattle.std.proofs.Math.Bool.{and-true}
+use Rattle.backend_core.proofs.Fitting.Rebuilding.{same_fits, owed_bare}
+use Rattle.backend_core.proofs.Stacking.Looked.{told_none}
 
 unlocked_still : (t : Bool) (given : List Row) → is_some (if_locked t given) ≡ false → t ≡ false
 unlocked_still true given gives = absurd (cc gives)
@@ -112,9 +114,10 @@ module _ (scenario : Scenario) (old : List Entry) (was : Backend) (waits : Await
     unsettled = ap (λ p. is_settled (outcome_of p)) is_act.is;
     runs = act_runs scenario old was waits courses next.command next.free.at is_act.act is_act.rest is_act.is next.free.first;
     owed = waits.rests.holds.facts.owed ∙ next.free.due;
+    bare = owed_bare facts (command_at was) s was.frames next.command waits.fits.rebuilds asks.0;
   }
 
-  before : LooksFit facts s was.looked was.looked_to_build was.told
+  before : LooksFit facts s was.looked was.frames was.told
   before = waits.fits.looks (going scenario old was waits courses next.command next.free.at)
 
   same : Some (begun (was.progress.finished + 1) facts.running) ≡ facts.running
@@ -126,7 +129,7 @@ module _ (scenario : Scenario) (old : List Entry) (was : Backend) (waits : Await
 
   -- no look was made that isn't used
   unlooked : {X : Type 0} → IsLookedFor facts s.taken s.left → X
-  unlooked = no_look facts s.taken s.left (subst (λ p. lacks_name facts p ≡ false) (sym is_act.is) (act_serves facts is_act.act is_act.rest (nothing_owed facts next.command s is_act.act is_act.rest is_act.is asks.0)))
+  unlooked = no_look facts s.taken s.left (subst (λ p. lacks_scan facts p ≡ false) (sym is_act.is) (act_serves facts is_act.act is_act.rest (nothing_owed facts next.command s is_act.act is_act.rest is_act.is asks.0)))
       (lock_found facts s.taken s.left rel mode asks.2) (ap is_absent is_act.is)
 
   pub lock_free : has_lock was.progress.locks.items rel mode ≡ false
@@ -145,9 +148,10 @@ module _ (scenario : Scenario) (old : List Entry) (was : Backend) (waits : Await
     granted_enters goes appends = alike_enters scenario old new had has first was (record was { progress = p; told = false }) id (
         own_enters scenario old new had has was (record was { progress = p; told = false }) event waits played courses (record { plays = plays event next.may; truly = tt; queue = tt }) goes
         kept
-        (fits_at scenario old was event waits p goes was.looked was.looked_to_build false
-        (inside_fits scenario old was waits courses next.command next.free.at later now was.looked was.looked_to_build false same refl (λ from is. cc is) (record { blocks = refl; finished = refl; blocked = refl; ended = refl; left = λ is there. refl }) acting.runs (Acts acting.unsettled)
-        (record { enough = omega (arith, before.enough, ap looks_due acting.owed, started); within = omega (arith, before.within, ap looks_due acting.owed, started) })
+        (fits_at scenario old was event waits p goes was.looked was.frames false
+        (inside_fits scenario old was waits courses next.command next.free.at later now was.looked was.frames false same refl (λ from is. cc is) (record { blocks = refl; finished = refl; blocked = refl; ended = refl; left = λ is there. refl }) acting.runs (Acts acting.unsettled)
+        (record { enough = omega (arith, before.enough, ap looks_due acting.owed, started); within = omega (arith, told_none was.told was.frames, before.within, ap looks_due acting.owed, started) })
+        (same_fits facts later (command_at was) s now was.frames refl refl refl refl (sym (standing scenario old was waits next.command next.free.at (Acts acting.unsettled))) waits.fits.rebuilds)
         (λ made. unlooked (waits.fits.sought made)) (takes_cleared _ (number_of s) (s.locks ++ record { rel = rel; mode = mode; command = was.progress.finished + 1; clear = false } ∷ []) (Some rel) s.left
         (takes_granted facts (number_of s) (was.progress.finished + 1) s.locks s.left rel mode (ap (λ n. n + 1) (sym waits.rests.holds.count)) asks.2))))
         refl refl refl (λ stop. cc stop) none appends)

@@ -1,7 +1,7 @@
 -- The looks of a backend.
-use Rattle.std.proofs.Common.{◌≡◌, ◌≢◌, ◌≤◌, ◌+◌, ◌*◌, ◌∙◌, ◌⊎◌, inl, inr, ◌&&◌, ◌||◌, ℕ, Bool, true, false, not, Option, Some, None, List, [], ◌∷◌, refl, sym, ap, subst, length, drop, is_none, is_some, arith}
+use Rattle.std.proofs.Common.{◌≡◌, ◌≢◌, ◌≤◌, ◌+◌, ◌*◌, ◌∙◌, ◌⊎◌, inl, inr, ◌&&◌, ◌||◌, ℕ, Bool, true, false, not, Option, Some, None, List, [], ◌∷◌, refl, sym, ap, subst, length, drop, is_none, is_some, arith, ◌++◌}
 use Rattle.std.specs.Option.{option_map_or}
-use Rattle.std.proofs.Math.Bool.{and-false, or-false}
+use Rattle.std.proofs.Math.Bool.{and-false, or-false, or-true}
 use Rattle.event_kinds.specs.declared.entry.Event.TheVariants as events
 use Rattle.txn_blocks.specs.Blocks.{Block, Outside, Inside, Failed, no_block, ends_block, refused_by}
 use Rattle.history_model.specs.Drawn.{next_oid}
@@ -17,26 +17,37 @@ use Rattle.txn_blocks.specs.declared.transaction.RunningTransaction.{RunningTran
 use Rattle.cacheless.specs.Facts.{Facts, facts_of, facts_by}
 use Rattle.cacheless.specs.Holds.{HasEntered, with_own}
 use Rattle.cacheless.specs.May.{lacks_any}
-use Rattle.cacheless.specs.OnCourse.{AllOnCourse}
-use Rattle.cacheless.specs.Owed.{Owes as Owing, OwesLook, owed_after, begins, started_in}
+use Rattle.cacheless.specs.OnCourse.{AllOnCourse, OnItsWay}
+use Rattle.cacheless.specs.Owed.{Owes as Owing, OwesLook, owed_after, begins, started_in, owed_of}
 use Rattle.cacheless.specs.Plays.{MayPlayIn}
 use Rattle.cacheless.specs.Schedule.{LooksTruly}
-use Rattle.cacheless.specs.Session.{Session, number_of, is_settled, outcome_of}
+use Rattle.cacheless.specs.Session.{Session, number_of, is_settled, outcome_of, Badly, none_open}
 use Rattle.cacheless.specs.Sessions.{entered}
-use Rattle.cacheless.specs.State.{kept_at, owed_at, owed_first, begins_in, one_if, running_of}
-use Rattle.backend_core.specs.Types.{Command, Scenario, Entry, Event, Progress, Backend}
+use Rattle.cacheless.specs.State.{kept_at, owed_at, owed_first, begins_in, one_if, running_of, is_kept, is_absent}
+use Rattle.backend_core.specs.Types.{Command, Scenario, Entry, Event, Progress, Backend, Frame, Purpose, Opening}
 use Rattle.backend_core.specs.Agrees.{IsPlayed, command_at, AwaitsEntry}
-use Rattle.backend_core.specs.Fits.{looks_due, LooksFit, Fits, IsLookedFor, Lacks, Unfound, Said}
-use Rattle.backend_core.specs.Steps.{OwesLookNow, IsLookNext, Enters, IsScanNext, FindsNone, Looks, Says, IsAcceptNext}
-use Rattle.backend_core.specs.Words.{is_looked_for, is_unfound}
+use Rattle.backend_core.specs.Fits.{looks_due, LooksFit, Fits, IsLookedFor, Lacks, Unfound, Said, FramesFit, IsUnheld, looked_in, looked_on_top, told_owed}
+use Rattle.backend_core.specs.Steps.{OwesLookNow, IsLookNext, Enters, IsScanNext, FindsNone, Looks, Says, IsAcceptNext, IsInTurn}
+use Rattle.backend_core.specs.Words.{is_looked_for, is_unfound, scan_on_top, frames_looked}
 use Rattle.backend_core.proofs.Choosing.ActsRun.{scan_runs, find_runs}
-use Rattle.backend_core.proofs.Choosing.Chosen.{Busy, Owes, due_busy, may_call, hidden, one_at_most, started_most, started_by, started_now, started_still, look_may, Acts, Sought}
+use Rattle.backend_core.proofs.Choosing.Chosen.{Busy, Owes, due_busy, may_call, hidden, one_at_most, started_most, started_by, started_now, started_still, look_may, Acts, Sought, standing}
 use Rattle.backend_core.proofs.Fitting.Entered.{fits_at}
 use Rattle.backend_core.proofs.Fitting.FitsEntries.{RunsHere, Goes, Starts, fits_inside}
-use Rattle.backend_core.proofs.Own.{waiting, going, own_enters}
-use Rattle.backend_core.proofs.Fitting.Sought.{takes_cleared, unfound_facts, sought_looked, next_name}
+use Rattle.backend_core.proofs.Own.{waiting, going, own_enters, follows}
+use Rattle.backend_core.proofs.Fitting.Sought.{takes_cleared, unfound_facts, sought_looked, next_act}
 use Rattle.ddl_effect.specs.Stages.{plan_at}
-use Rattle.ddl_effect.specs.Plans.{Plan, Do}
+use Rattle.ddl_effect.specs.Plans.{Plan, Do, Absent, Open, Lookup, Search, Read, Lock, Write}
+use Rattle.backend_core.proofs.Fitting.Rebuilding.{same_fits, owed_bare, look_fit}
+use Rattle.backend_core.proofs.Stacking.Looked.{in_push, top_looked, top_most, told_push}
+use Rattle.backend_core.proofs.Stacking.Stacks.{IsSplit, split, top_push, on_top_push}
+use Rattle.backend_core.specs.Frames.{top, on_top, with_look}
+use Rattle.std.specs.List.{find, list_any}
+use Rattle.base_types.specs.Scans.{same_oid, build_scans}
+use Rattle.cacheless.specs.ActsDone.{made_in, relation_by, opening_by}
+use Rattle.cacheless.proofs.Plans.SilentActs.{on_its_way, its_place, empty_list}
+use Rattle.cacheless.proofs.Plans.ActOrder.{at_opening}
+use Rattle.ddl_effect.specs.Commands.{plan_of}
+use Rattle.cacheless.proofs.Same.{owes_nothing_is}
 
 not_empty : {X : Type 0} (xs : List X) → xs ≢ [] → is_empty xs ≡ false
 not_empty [] some = absurd (some refl)
@@ -98,36 +109,39 @@ abbrev looked_facts : Facts → Session → Bool → Facts
 looked_facts facts s some_wait = record facts { last = Some (events.Look some_wait); running = Some (begun (number_of s) facts.running) }
 
 -- a look that the choice makes: its transaction runs, or begins with it, and it is counted once at most; where it isn't, messages had come since a lookup began
-pub record LookCounts (facts : Facts) (s : Session) (command : Command) (looked to_build told looked_now to_build_now told_now : Bool) : Type 0 where
+pub record LookCounts (facts : Facts) (s : Session) (command : Command) (looked : Bool) (frames : List Frame) (told looked_now : Bool) (frames_now : List Frame) (told_now : Bool) : Type 0 where
   pub goes : RunsHere facts (Some command) s
   pub owes : (owed_after facts.last ≡ []) ⊎ (owed_after facts.last ≡ OwesLook ∷ [])
-  pub most : looks_due (owed_after facts.last) + (started_by (number_of s) (Some (begun (number_of s) facts.running)) + one_if looked_now + one_if to_build_now) ≤ started_in (number_of s) facts + one_if looked + one_if to_build + 1
-  pub least : started_in (number_of s) facts + one_if looked + one_if to_build + 1 + one_if told_now ≤ looks_due (owed_after facts.last) + (started_by (number_of s) (Some (begun (number_of s) facts.running)) + one_if looked_now + one_if to_build_now) + one_if told
+  pub most : looks_due (owed_after facts.last) + (started_by (number_of s) (Some (begun (number_of s) facts.running)) + one_if looked_now + looked_in frames_now) ≤ started_in (number_of s) facts + one_if looked + looked_in frames + 1
+  pub least : started_in (number_of s) facts + looked_on_top looked frames + 1 + told_owed told_now frames_now ≤ looks_due (owed_after facts.last) + (started_by (number_of s) (Some (begun (number_of s) facts.running)) + looked_on_top looked_now frames_now) + told_owed told frames
 
 -- in an accept
-counts_due : (facts : Facts) (s : Session) (command : Command) (looked to_build told : Bool) → owed_after facts.last ≡ OwesLook ∷ [] → is_some facts.running ≡ true → LookCounts facts s command looked to_build told looked to_build told
-counts_due facts s command looked to_build told owed runs = record { goes = Goes runs; owes = inr owed; most = omega (arith, ap looks_due owed, started_still (number_of s) (number_of s) facts.running runs); least = omega (arith, ap looks_due owed, started_still (number_of s) (number_of s) facts.running runs) }
+counts_due : (facts : Facts) (s : Session) (command : Command) (looked : Bool) (frames : List Frame) (told : Bool) → owed_after facts.last ≡ OwesLook ∷ [] → is_some facts.running ≡ true → LookCounts facts s command looked frames told looked frames told
+counts_due facts s command looked frames told owed runs = record { goes = Goes runs; owes = inr owed; most = omega (arith, ap looks_due owed, started_still (number_of s) (number_of s) facts.running runs); least = omega (arith, ap looks_due owed, started_still (number_of s) (number_of s) facts.running runs) }
 
 -- at the transaction's start
-counts_start : (facts : Facts) (s : Session) (command : Command) (looked to_build told : Bool) → owed_after facts.last ≡ [] → begins command s ≡ true → facts.running ≡ None → LookCounts facts s command looked to_build told looked to_build told
-counts_start facts s command looked to_build told owed starts none = record { goes = Starts command refl starts (begins_outside command s starts) none; owes = inl owed; most = omega (arith, ap looks_due owed, started_now (number_of s) facts.running none, none_before); least = omega (arith, ap looks_due owed, started_now (number_of s) facts.running none, none_before) }
+counts_start : (facts : Facts) (s : Session) (command : Command) (looked : Bool) (frames : List Frame) (told : Bool) → owed_after facts.last ≡ [] → begins command s ≡ true → facts.running ≡ None → LookCounts facts s command looked frames told looked frames told
+counts_start facts s command looked frames told owed starts none = record { goes = Starts command refl starts (begins_outside command s starts) none; owes = inl owed; most = omega (arith, ap looks_due owed, started_now (number_of s) facts.running none, none_before); least = omega (arith, ap looks_due owed, started_now (number_of s) facts.running none, none_before) }
   where
     none_before : started_in (number_of s) facts ≡ 0
     none_before = ap (λ o. started_by (number_of s) o) none
 
-one_more : (builds looked to_build : Bool) → elim builds [ true ↦ to_build | false ↦ looked ] ≡ false → one_if (looked || not builds) + one_if (to_build || builds) ≡ one_if looked + one_if to_build + 1
-one_more true true to_build none = ap (λ t. 1 + one_if (t || true)) none ∙ sym (ap (λ t. 1 + one_if t + 1) none)
-one_more true false to_build none = ap (λ t. 0 + one_if (t || true)) none ∙ sym (ap (λ t. 0 + one_if t + 1) none)
-one_more false looked true none = ap (λ t. one_if (t || true) + 1) none ∙ sym (ap (λ t. one_if t + 1 + 1) none)
-one_more false looked false none = ap (λ t. one_if (t || true) + 0) none ∙ sym (ap (λ t. one_if t + 0 + 1) none)
-
--- before a scan
-counts_scan : (facts : Facts) (s : Session) (command : Command) (builds looked to_build told looked_now to_build_now : Bool) → looked_now ≡ (looked || not builds) → to_build_now ≡ (to_build || builds) → owed_after facts.last ≡ [] → is_some facts.running ≡ true → elim builds [ true ↦ to_build | false ↦ looked ] ≡ false → LookCounts facts s command looked to_build told looked_now to_build_now told
-counts_scan facts s command builds looked to_build told looked_now to_build_now looked_is to_build_is owed runs none = record {
+-- before a scan of the next act, where nothing is rebuilt
+counts_act : (facts : Facts) (s : Session) (command : Command) (looked told : Bool) → owed_after facts.last ≡ [] → is_some facts.running ≡ true → looked ≡ false → LookCounts facts s command looked [] told true [] told
+counts_act facts s command looked told owed runs unlooked = record {
   goes = Goes runs;
   owes = inl owed;
-  most = omega (arith, ap looks_due owed, started_still (number_of s) (number_of s) facts.running runs, ap one_if looked_is, ap one_if to_build_is, one_more builds looked to_build none);
-  least = omega (arith, ap looks_due owed, started_still (number_of s) (number_of s) facts.running runs, ap one_if looked_is, ap one_if to_build_is, one_more builds looked to_build none);
+  most = omega (arith, ap looks_due owed, started_still (number_of s) (number_of s) facts.running runs, ap one_if unlooked);
+  least = omega (arith, ap looks_due owed, started_still (number_of s) (number_of s) facts.running runs, ap one_if unlooked);
+}
+
+-- before one of the rebuild on top
+counts_rebuild : (facts : Facts) (s : Session) (command : Command) (looked told : Bool) (under : List Frame) (f : Frame) → owed_after facts.last ≡ [] → is_some facts.running ≡ true → f.looked ≡ false → LookCounts facts s command looked (under ++ f ∷ []) told looked (under ++ with_look f ∷ []) told
+counts_rebuild facts s command looked told under f owed runs unlooked = record {
+  goes = Goes runs;
+  owes = inl owed;
+  most = omega (arith, ap looks_due owed, started_still (number_of s) (number_of s) facts.running runs, in_push under f, in_push under (with_look f), ap one_if unlooked);
+  least = omega (arith, ap looks_due owed, started_still (number_of s) (number_of s) facts.running runs, top_looked looked under f, top_looked looked under (with_look f), told_push told under f, told_push told under (with_look f), ap one_if unlooked);
 }
 
 -- a lookup that looks again has done with the messages that came
@@ -138,8 +152,8 @@ told_less false true side = omega arith
 told_less false false side = omega arith
 
 -- before a lookup says that there is no relation
-counts_accept : (facts : Facts) (s : Session) (command : Command) (looked to_build told : Bool) → owed_after facts.last ≡ [] → is_some facts.running ≡ true → (looked ≡ false) ⊎ (told ≡ true) → LookCounts facts s command looked to_build told true to_build (told && not looked)
-counts_accept facts s command looked to_build told owed runs side = record {
+counts_accept : (facts : Facts) (s : Session) (command : Command) (looked told : Bool) → owed_after facts.last ≡ [] → is_some facts.running ≡ true → (looked ≡ false) ⊎ (told ≡ true) → LookCounts facts s command looked [] told true [] (told && not looked)
+counts_accept facts s command looked told owed runs side = record {
   goes = Goes runs;
   owes = inl owed;
   most = omega (arith, ap looks_due owed, started_still (number_of s) (number_of s) facts.running runs);
@@ -163,32 +177,40 @@ module _ (scenario : Scenario) (old : List Entry) (was : Backend) (waits : Await
   later_is : facts_by old was.progress.id (was.progress.finished + 1) event facts ≡ looked_facts facts s some_wait
   later_is = λ i. record facts { last = Some event; running = Some (begun (sym waits.rests.holds.count i + 1) facts.running) }
 
-  module _ (looked to_build told : Bool) (counts : LookCounts facts s command was.looked was.looked_to_build was.told looked to_build told) where
-    before : LooksFit facts s was.looked was.looked_to_build was.told
+  module _ (looked : Bool) (frames : List Frame) (told : Bool) (counts : LookCounts facts s command was.looked was.frames was.told looked frames told) where
+    before : LooksFit facts s was.looked was.frames was.told
     before = waits.fits.looks (going scenario old was waits courses command at)
 
     -- the look stays within its bound
     within : s.tally.looks + 1 ≤ s.tally.scans + s.tally.grants + 2 * s.tally.fetches + 3
-    within = omega (arith, before.within, counts.least, started_most (number_of s) (looked_facts facts s some_wait), one_at_most looked, one_at_most to_build)
+    within = omega (arith, before.within, counts.least, started_most (number_of s) (looked_facts facts s some_wait), top_most looked frames)
 
     -- and is counted
-    looks_more : LooksFit (looked_facts facts s some_wait) now looked to_build told
+    looks_more : LooksFit (looked_facts facts s some_wait) now looked frames told
     looks_more = record { enough = omega (arith, before.enough, counts.most, looked_due some_wait); within = omega (arith, before.within, counts.least, looked_due some_wait) }
 
-    look_fits : is_visible facts.running ≡ false → (looked ≡ true → IsLookedFor (looked_facts facts s some_wait) s.taken s.left) → Fits (facts_by old was.progress.id (was.progress.finished + 1) event facts) (command_at was) now looked to_build told
-    look_fits hides sought = subst (λ f. Fits f (command_at was) now looked to_build told) (sym later_is) (subst (λ o. Fits (looked_facts facts s some_wait) o now looked to_build told) (sym at)
-        (fits_inside facts (looked_facts facts s some_wait) (Some command) s now was.looked was.looked_to_build was.told looked to_build told command refl (subst (λ o. Fits facts o s was.looked was.looked_to_build was.told) at waits.fits)
+    abbrev MadeFor : Type 0
+    MadeFor = looked ≡ true → IsLookedFor (looked_facts facts s some_wait) s.taken s.left × IsUnheld s.opened s.left
+
+    -- the rebuilds see to what they saw to
+    look_rebuilds : Busy was.progress command → FramesFit facts (command_at was) s frames → FramesFit (looked_facts facts s some_wait) (Some command) now frames
+    look_rebuilds busy rebuilds = subst (λ o. FramesFit (looked_facts facts s some_wait) o now frames) at
+        (same_fits facts (looked_facts facts s some_wait) (command_at was) s now frames refl refl refl refl (sym (standing scenario old was waits command at busy)) rebuilds)
+
+    look_fits : is_visible facts.running ≡ false → FramesFit (looked_facts facts s some_wait) (Some command) now frames → MadeFor → Fits (facts_by old was.progress.id (was.progress.finished + 1) event facts) (command_at was) now looked frames told
+    look_fits hides rebuilds sought = subst (λ f. Fits f (command_at was) now looked frames told) (sym later_is) (subst (λ o. Fits (looked_facts facts s some_wait) o now looked frames told) (sym at)
+        (fits_inside facts (looked_facts facts s some_wait) (Some command) s now was.looked was.frames was.told looked frames told command refl (subst (λ o. Fits facts o s was.looked was.frames was.told) at waits.fits)
         (record { runs = refl; written = λ is. begun_written (number_of s) facts.running (waits.fits.written is); last = λ from is. cc is })
-        (record { blocks = refl; finished = refl; blocked = refl; ended = refl; left = λ is there. refl }) counts.goes hides (going scenario old was waits courses command at) looks_more sought (takes_cleared _ (number_of s) s.locks s.taken s.left waits.fits.takes)))
+        (record { blocks = refl; finished = refl; blocked = refl; ended = refl; left = λ is there. refl }) counts.goes hides (going scenario old was waits courses command at) looks_more rebuilds sought (takes_cleared _ (number_of s) s.locks s.taken s.left waits.fits.takes)))
 
     -- so after it the backend agrees
-    pub look_agrees : (new : List Entry) (had has : ℕ → ℕ) (p : Progress) → IsPlayed scenario old → some_wait ≡ is_waiting old was.progress.id → Busy was.progress command → (looked ≡ true → IsLookedFor (looked_facts facts s some_wait) s.taken s.left) → HasEntered scenario old was.progress event waits.rests p → kept_at p ≡ kept_at was.progress → p.answer ≡ None
-        → Appends old new had has (entry_of was.progress.id (was.progress.finished + 1) event) → Enters scenario old new had has was (record was { progress = p; looked = looked; looked_to_build = to_build; told = told })
-    look_agrees new had has p played is busy sought goes kept none appends =
-        own_enters scenario old new had has was (record was { progress = p; looked = looked; looked_to_build = to_build; told = told }) event waits played courses
+    pub look_agrees : (new : List Entry) (had has : ℕ → ℕ) (p : Progress) → IsPlayed scenario old → some_wait ≡ is_waiting old was.progress.id → Busy was.progress command → FramesFit facts (command_at was) s frames → MadeFor → HasEntered scenario old was.progress event waits.rests p → kept_at p ≡ kept_at was.progress → p.answer ≡ None
+        → Appends old new had has (entry_of was.progress.id (was.progress.finished + 1) event) → Enters scenario old new had has was (record was { progress = p; looked = looked; frames = frames; told = told })
+    look_agrees new had has p played is busy rebuilds sought goes kept none appends =
+        own_enters scenario old new had has was (record was { progress = p; looked = looked; frames = frames; told = told }) event waits played courses
         (record { plays = subst (λ o. MayPlayIn (next_oid old) facts o s event) (sym at) (look_may facts s counts.owes within); truly = look_true old was.progress.id some_wait (sym is); queue = tt })
         goes kept
-        (fits_at scenario old was event waits p goes looked to_build told (look_fits (hidden scenario old was waits command at busy) sought))
+        (fits_at scenario old was event waits p goes looked frames told (look_fits (hidden scenario old was waits command at busy) (look_rebuilds busy rebuilds) sought))
         refl refl refl (λ stop. cc stop) none appends
 
 -- the look that is owed
@@ -196,17 +218,17 @@ pub look_enters : (scenario : Scenario) (old new : List Entry) (had has : ℕ �
     → HasEntered scenario old was.progress (events.Look some_wait) waits.rests p → kept_at p ≡ kept_at was.progress → p.answer ≡ None
     → Appends old new had has (entry_of was.progress.id (was.progress.finished + 1) (events.Look some_wait)) → Enters scenario old new had has was (record was { progress = p })
 look_enters scenario old new had has was p some_wait waits played courses next is goes kept none appends =
-    look_agrees scenario old was waits courses next.command next.at some_wait was.looked was.looked_to_build was.told (by_side next.owes) new had has p played is (look_busy was.progress next)
-    (λ made. sought_looked facts (looked_facts facts (waiting waits) some_wait) (waiting waits).taken (waiting waits).left refl refl refl (waits.fits.sought made)) goes kept none appends
+    look_agrees scenario old was waits courses next.command next.at some_wait was.looked was.frames was.told (by_side next.owes) new had has p played is (look_busy was.progress next) waits.fits.rebuilds
+    (λ made. (sought_looked facts (looked_facts facts (waiting waits) some_wait) (waiting waits).taken (waiting waits).left refl refl refl (waits.fits.sought made), waits.fits.unheld made)) goes kept none appends
   where
     facts : Facts
     facts = facts_of old was.progress.id
 
-    by_side : (was.progress.due ≡ dues.Look) ⊎ ((owed_at was.progress.due ≡ []) × (owed_first was.progress next.command ≢ [])) → LookCounts facts (waiting waits) next.command was.looked was.looked_to_build was.told was.looked was.looked_to_build was.told
+    by_side : (was.progress.due ≡ dues.Look) ⊎ ((owed_at was.progress.due ≡ []) × (owed_first was.progress next.command ≢ [])) → LookCounts facts (waiting waits) next.command was.looked was.frames was.told was.looked was.frames was.told
     by_side (inl due) = let owed : owed_after facts.last ≡ OwesLook ∷ [] = waits.rests.holds.facts.owed ∙ ap owed_at due in
-        counts_due facts (waiting waits) next.command was.looked was.looked_to_build was.told owed (waits.fits.accepts (ap is_empty owed))
+        counts_due facts (waiting waits) next.command was.looked was.frames was.told owed (waits.fits.accepts (ap is_empty owed))
     by_side (inr (due, owes)) = let starts : StartsNow was.progress next.command = starts_now was.progress next.command owes in
-        counts_start facts (waiting waits) next.command was.looked was.looked_to_build was.told (waits.rests.holds.facts.owed ∙ due) starts.begins (waits.rests.holds.facts.running ∙ ap running_of starts.none)
+        counts_start facts (waiting waits) next.command was.looked was.frames was.told (waits.rests.holds.facts.owed ∙ due) starts.begins (waits.rests.holds.facts.running ∙ ap running_of starts.none)
 
 -- where a scan is missing something is owed
 pub scan_busy : (p : Progress) (command : Command) → lacks_any p ≡ true → Busy p command
@@ -217,15 +239,43 @@ pub look_before_call : (scenario : Scenario) (seen : List Entry) (s : Backend) (
 look_before_call scenario seen s some_wait builds waits played next is = may_call scenario seen s waits next.next.command next.next.free.at (events.Look some_wait) (scan_busy s.progress next.next.command next.next.lacks) refl
     (look_allowed scenario seen s.progress.id (s.progress.finished + 1) some_wait played (sym is))
 
-pub look_before_enters : (scenario : Scenario) (old new : List Entry) (had has : ℕ → ℕ) (was : Backend) (p : Progress) (some_wait builds looked to_build : Bool) (waits : AwaitsEntry scenario old was) → IsPlayed scenario old → AllOnCourse scenario old → IsLookNext builds was → some_wait ≡ is_waiting old was.progress.id
-    → looked ≡ (was.looked || not builds) → to_build ≡ (was.looked_to_build || builds)
+-- the scan is that of the rebuild on top
+pub record IsOnTop (s : Backend) (scan : Purpose) : Type 0 where
+  pub parts : IsSplit s.frames
+  pub first : find (λ d. not (is_kept (kept_at s.progress) d)) (build_scans parts.one.opening.kind parts.one.opening.rel) ≡ Some scan
+  pub looked : is_looked_for true s ≡ parts.one.looked
+
+pub on_top_of : (s : Backend) (scan : Purpose) → IsInTurn true s scan → IsOnTop s scan
+on_top_of s scan turn = by_split (split s.frames)
+  where
+    by_split : (s.frames ≡ []) ⊎ IsSplit s.frames → IsOnTop s scan
+    by_split (inl none) = absurd (let no_scan : None ≡ Some scan = sym (ap (λ l. scan_on_top (record s { frames = l })) none) ∙ turn in cc no_scan)
+    by_split (inr parts) = let on = ap top parts.is ∙ top_push parts.under parts.one in record {
+      parts = parts;
+      first = sym (ap (λ o. elim o as (λ x. Option Purpose) [ Some f ↦ find (λ d. not (is_kept (kept_at s.progress) d)) (build_scans f.opening.kind f.opening.rel) | None ↦ None ]) on) ∙ turn;
+      looked = ap (λ o. option_map_or (λ (f : Frame). f.looked) o false) on;
+    }
+
+-- before a descriptor is opened no other one is held
+pub opens_unheld : (scenario : Scenario) (seen : List Entry) (s : Backend) (waits : AwaitsEntry scenario seen s) → AllOnCourse scenario seen → (command : Command) → command_at s ≡ Some command → IsUnheld (waiting waits).opened (waiting waits).left
+opens_unheld scenario seen s waits courses command at = by_plan (waiting waits).left refl
+  where
+    by_plan : (p : Plan) → (waiting waits).left ≡ p → IsUnheld (waiting waits).opened p
+    by_plan (Do (Open rel kind) rest) is = ap (list_any (λ o. same_oid rel o.rel)) (way.opened ∙ (at_opening (made_in relation_by way.gave (plan_of none_open command)) (made_in opening_by way.gave (plan_of none_open command)) rel kind rest (its_place seen s.progress.id (waiting waits) command (Open rel kind) rest way is)).1)
+      where
+        way : OnItsWay seen s.progress.id (waiting waits) command
+        way = on_its_way seen s.progress.id (waiting waits) command (Open rel kind) rest (follows scenario seen s waits courses command at) is
+    by_plan (Do (Lookup name mode) rest) is = tt
+    by_plan (Do (Search scan) rest) is = tt
+    by_plan (Do (Read scan) rest) is = tt
+    by_plan (Do (Lock rel mode) rest) is = tt
+    by_plan (Do (Write draft) rest) is = tt
+    by_plan p is = tt
+
+pub look_before_enters : (scenario : Scenario) (old new : List Entry) (had has : ℕ → ℕ) (was : Backend) (p : Progress) (some_wait rebuilds : Bool) (waits : AwaitsEntry scenario old was) → IsPlayed scenario old → AllOnCourse scenario old → IsLookNext rebuilds was → some_wait ≡ is_waiting old was.progress.id
     → HasEntered scenario old was.progress (events.Look some_wait) waits.rests p → kept_at p ≡ kept_at was.progress → p.answer ≡ None
-    → Appends old new had has (entry_of was.progress.id (was.progress.finished + 1) (events.Look some_wait)) → Enters scenario old new had has was (record was { progress = p; looked = looked; looked_to_build = to_build })
-look_before_enters scenario old new had has was p some_wait builds looked to_build waits played courses next is looked_is to_build_is goes kept none appends =
-    look_agrees scenario old was waits courses next.next.command next.next.free.at some_wait looked to_build was.told
-    (counts_scan (facts_of old was.progress.id) (waiting waits) next.next.command builds was.looked was.looked_to_build was.told looked to_build looked_is to_build_is (waits.rests.holds.facts.owed ∙ next.next.free.due)
-    (scan_runs scenario old was waits courses next.next.command next.next.free.at next.scan next.next.next next.next.free.first) (unlooked builds next.unlooked))
-    new had has p played is (scan_busy was.progress next.next.command next.next.lacks) (λ made. sought builds next.next (sym (looked_is) ∙ made)) goes kept none appends
+    → Appends old new had has (entry_of was.progress.id (was.progress.finished + 1) (events.Look some_wait)) → Enters scenario old new had has was (record was { progress = p; looked = was.looked || not rebuilds; frames = frames_looked rebuilds was.frames })
+look_before_enters scenario old new had has was p some_wait rebuilds waits played courses next is goes kept none appends = by_kind rebuilds next.next next.unlooked
   where
     facts : Facts
     facts = facts_of old was.progress.id
@@ -233,14 +283,38 @@ look_before_enters scenario old new had has was p some_wait builds looked to_bui
     later : Facts
     later = looked_facts facts (waiting waits) some_wait
 
-    -- for a descriptor, what a look was made for before stays; of a catalog cache, it is made for the scan
-    sought : (t : Bool) → IsScanNext was.progress next.scan t → (was.looked || not t) ≡ true → IsLookedFor later (waiting waits).taken (waiting waits).left
-    sought true scan made = sought_looked facts later (waiting waits).taken (waiting waits).left refl refl refl (waits.fits.sought (sym (or-false was.looked) ∙ made))
-    sought false scan made = Lacks (next_name facts was.progress next.scan waits.rests.holds.facts scan.next scan.kind)
+    owed : owed_after facts.last ≡ []
+    owed = waits.rests.holds.facts.owed ∙ next.next.free.due
 
-    unlooked : (t : Bool) → is_looked_for t was ≡ false → elim t as (λ x. Bool) [ true ↦ was.looked_to_build | false ↦ was.looked ] ≡ false
-    unlooked true none = none
-    unlooked false none = none
+    runs : is_some facts.running ≡ true
+    runs = scan_runs scenario old was waits courses next.next.command next.next.free.at next.scan next.next.next next.next.free.first
+
+    -- what a look of the act was made for before stays
+    stays : (was.looked || false) ≡ true → IsLookedFor later (waiting waits).taken (waiting waits).left × IsUnheld (waiting waits).opened (waiting waits).left
+    stays made = let before = sym (or-false was.looked) ∙ made in (sought_looked facts later (waiting waits).taken (waiting waits).left refl refl refl (waits.fits.sought before), waits.fits.unheld before)
+
+    of_rebuild : IsScanNext was next.scan true → is_looked_for true was ≡ false → Enters scenario old new had has was (record was { progress = p; looked = was.looked || false; frames = on_top with_look was.frames })
+    of_rebuild scan unlooked = look_agrees scenario old was waits courses next.next.command next.next.free.at some_wait (was.looked || false) (on_top with_look was.frames) was.told
+        (subst (λ l. LookCounts facts (waiting waits) next.next.command was.looked was.frames was.told l (on_top with_look was.frames) was.told) (sym (or-false was.looked))
+        (subst (λ l. LookCounts facts (waiting waits) next.next.command was.looked l was.told was.looked (on_top with_look l) was.told) (sym on.parts.is)
+        (subst (λ l. LookCounts facts (waiting waits) next.next.command was.looked (on.parts.under ++ on.parts.one ∷ []) was.told was.looked l was.told) (sym (on_top_push with_look on.parts.under on.parts.one))
+        (counts_rebuild facts (waiting waits) next.next.command was.looked was.told on.parts.under on.parts.one owed runs (sym on.looked ∙ unlooked)))))
+        new had has p played is (scan_busy was.progress next.next.command next.next.lacks) (look_fit facts (command_at was) (waiting waits) was.frames waits.fits.rebuilds) stays goes kept none appends
+      where
+        on : IsOnTop was next.scan
+        on = on_top_of was next.scan scan.turn
+
+    of_act : IsScanNext was next.scan false → was.looked ≡ false → Enters scenario old new had has was (record was { progress = p; looked = was.looked || true; frames = was.frames })
+    of_act scan unlooked = look_agrees scenario old was waits courses next.next.command next.next.free.at some_wait (was.looked || true) was.frames was.told
+        (subst (λ l. LookCounts facts (waiting waits) next.next.command was.looked was.frames was.told l was.frames was.told) (sym (or-true was.looked))
+        (subst (λ l. LookCounts facts (waiting waits) next.next.command was.looked l was.told true l was.told) (sym scan.turn.0)
+        (counts_act facts (waiting waits) next.next.command was.looked was.told owed runs unlooked)))
+        new had has p played is (scan_busy was.progress next.next.command next.next.lacks) waits.fits.rebuilds
+        (λ made. (Lacks (next_act facts was.progress next.scan waits.rests.holds.facts (plan_at was.progress.exec) scan.turn.1), opens_unheld scenario old was waits courses next.next.command next.next.free.at)) goes kept none appends
+
+    by_kind : (t : Bool) → IsScanNext was next.scan t → is_looked_for t was ≡ false → Enters scenario old new had has was (record was { progress = p; looked = was.looked || not t; frames = frames_looked t was.frames })
+    by_kind true scan unlooked = of_rebuild scan unlooked
+    by_kind false scan unlooked = of_act scan unlooked
 
 -- where a lookup has found no relation, something is to be done still
 find_busy : (p : Progress) (command : Command) → FindsNone p command → Busy p command
@@ -260,9 +334,11 @@ pub accept_enters : (scenario : Scenario) (old new : List Entry) (had has : ℕ 
     → HasEntered scenario old was.progress (events.Look some_wait) waits.rests p → kept_at p ≡ kept_at was.progress → p.answer ≡ None
     → Appends old new had has (entry_of was.progress.id (was.progress.finished + 1) (events.Look some_wait)) → Enters scenario old new had has was (record was { progress = p; looked = true; told = told })
 accept_enters scenario old new had has was p some_wait told waits played courses next is told_is goes kept none appends =
-    look_agrees scenario old was waits courses next.command next.free.at some_wait true was.looked_to_build told
-    (subst (LookCounts facts (waiting waits) next.command was.looked was.looked_to_build was.told true was.looked_to_build) (sym told_is) (counts_accept facts (waiting waits) next.command was.looked was.looked_to_build was.told (waits.rests.holds.facts.owed ∙ next.free.due) runs next.unlooked))
-    new had has p played is (find_busy was.progress next.command next.finds) (λ made. by_side next.finds) goes kept none appends
+    look_agrees scenario old was waits courses next.command next.free.at some_wait true was.frames told
+    (subst (LookCounts facts (waiting waits) next.command was.looked was.frames was.told true was.frames) (sym told_is)
+    (subst (λ l. LookCounts facts (waiting waits) next.command was.looked l was.told true l (was.told && not was.looked)) (sym (bare next.finds))
+    (counts_accept facts (waiting waits) next.command was.looked was.told (waits.rests.holds.facts.owed ∙ next.free.due) runs next.unlooked)))
+    new had has p played is (find_busy was.progress next.command next.finds) waits.fits.rebuilds (λ made. by_side next.finds) goes kept none appends
   where
     facts : Facts
     facts = facts_of old was.progress.id
@@ -270,9 +346,33 @@ accept_enters scenario old new had has was p some_wait told waits played courses
     later : Facts
     later = looked_facts facts (waiting waits) some_wait
 
-    by_side : FindsNone was.progress next.command → IsLookedFor later (waiting waits).taken (waiting waits).left
-    by_side (Looks unfound owes) = Unfound (unfound_facts facts was.progress (plan_at was.progress.exec) waits.rests.holds.facts unfound) refl
-    by_side (Says absent quiet) = Said absent
+    absent_badly : (q : Plan) → is_absent q ≡ true → outcome_of q ≡ Badly
+    absent_badly (Absent name) absent = refl
+    absent_badly q absent = absurd (cc absent)
+
+    -- nothing is rebuilt
+    bare : FindsNone was.progress next.command → was.frames ≡ []
+    bare (Looks unfound owes) = owed_bare facts (command_at was) (waiting waits) was.frames next.command waits.fits.rebuilds
+        (empty_list (owed_of facts next.command (waiting waits)) (owes_nothing_is facts next.command was.progress waits.rests.holds.rest waits.rests.holds.facts ∙ owes))
+    bare (Says absent quiet) = waits.fits.rebuilds.badly (absent_badly (plan_at was.progress.exec) absent)
+
+    -- and nothing is opened next
+    lookup_unheld : (held : List Opening) (q : Plan) → is_unfound was.progress q ≡ true → IsUnheld held q
+    lookup_unheld held (Do (Open rel kind) rest) is = absurd (cc is)
+    lookup_unheld held (Do (Lookup name mode) rest) is = tt
+    lookup_unheld held (Do (Search scan) rest) is = tt
+    lookup_unheld held (Do (Read scan) rest) is = tt
+    lookup_unheld held (Do (Lock rel mode) rest) is = tt
+    lookup_unheld held (Do (Write draft) rest) is = tt
+    lookup_unheld held q is = tt
+
+    absent_unheld : (held : List Opening) (q : Plan) → is_absent q ≡ true → IsUnheld held q
+    absent_unheld held (Absent name) absent = tt
+    absent_unheld held q absent = absurd (cc absent)
+
+    by_side : FindsNone was.progress next.command → IsLookedFor later (waiting waits).taken (waiting waits).left × IsUnheld (waiting waits).opened (waiting waits).left
+    by_side (Looks unfound owes) = (Unfound (unfound_facts facts was.progress (plan_at was.progress.exec) waits.rests.holds.facts unfound) refl, lookup_unheld was.progress.opened (plan_at was.progress.exec) unfound)
+    by_side (Says absent quiet) = (Said absent, absent_unheld was.progress.opened (plan_at was.progress.exec) absent)
 
     runs : is_some facts.running ≡ true
     runs = find_runs scenario old was waits courses next.command next.free.at next.free.first next.finds

@@ -16,11 +16,11 @@ use Rattle.cacheless.specs.Holds.{HasEntered}
 use Rattle.cacheless.specs.OnCourse.{AllOnCourse}
 use Rattle.cacheless.specs.Session.{Session, number_of}
 use Rattle.cacheless.specs.State.{kept_at}
-use Rattle.backend_core.specs.Types.{Command, Scenario, Entry, Event, OwnLock, Message, Progress, Backend}
+use Rattle.backend_core.specs.Types.{Command, Scenario, Entry, Event, OwnLock, Message, Progress, Backend, Frame}
 use Rattle.backend_core.specs.Agrees.{IsPlayed, command_at, AwaitsEntry}
 use Rattle.backend_core.specs.Fits.{first_at, RunsAfter, Fits}
 use Rattle.backend_core.specs.Steps.{EndsNext, Enters}
-use Rattle.backend_core.proofs.Entries.EndEntries.{end_now, end_call, built_at, end_enters}
+use Rattle.backend_core.proofs.Entries.EndEntries.{end_now, end_call, built_at, end_enters, end_bare}
 use Rattle.backend_core.proofs.Choosing.EndsNow.{end_by, EndsBy, LetsGo, AllSent, NoWrite, Releases, Whole, Inner, comes_now, from_of, first_begun, commit_first, end_releases, commit_end, back_end}
 use Rattle.backend_core.proofs.Fitting.FitsEnds.{fits_released, ended_running, ended_lists, kept_running, kept_lists}
 use Rattle.backend_core.proofs.Own.{waiting}
@@ -54,17 +54,17 @@ first_visible None n from visible is = absurd (cc visible)
 first_visible (Some t) n from visible is = ap Some is
 
 -- without a write the transaction isn't visible
-bare_hidden : (facts : Facts) (o : Option Command) (s : Session) (looked to_build told : Bool) (from : ℕ) → Fits facts o s looked to_build told → (end_by facts o s ≡ Commits from) ⊎ (end_by facts o s ≡ TakesBack from) → has_write_from from facts.lists ≡ false → is_visible facts.running ≡ false
-bare_hidden facts o s looked to_build told from fits end bare = false_from_ne_true (is_visible facts.running) (λ is. by_end is end)
+bare_hidden : (facts : Facts) (o : Option Command) (s : Session) (looked : Bool) (frames : List Frame) (told : Bool) (from : ℕ) → Fits facts o s looked frames told → (end_by facts o s ≡ Commits from) ⊎ (end_by facts o s ≡ TakesBack from) → has_write_from from facts.lists ≡ false → is_visible facts.running ≡ false
+bare_hidden facts o s looked frames told from fits end bare = false_from_ne_true (is_visible facts.running) (λ is. by_end is end)
   where
     by_end : is_visible facts.running ≡ true → (end_by facts o s ≡ Commits from) ⊎ (end_by facts o s ≡ TakesBack from) → ⊥
-    by_end is (inl commits) = let same : first_at facts ≡ from = (let both : Commits (first_at facts) ≡ Commits from = sym (commit_end facts o s looked to_build told fits is) ∙ commits in cc both) in
+    by_end is (inl commits) = let same : first_at facts ≡ from = (let both : Commits (first_at facts) ≡ Commits from = sym (commit_end facts o s looked frames told fits is) ∙ commits in cc both) in
         both_ways _ bare (subst (λ n. has_write_from n facts.lists ≡ true) same (fits.visible is).written)
-    by_end is (inr back) = let no : Commits (first_at facts) ≡ TakesBack from = sym (commit_end facts o s looked to_build told fits is) ∙ back in cc no
+    by_end is (inr back) = let no : Commits (first_at facts) ≡ TakesBack from = sym (commit_end facts o s looked frames told fits is) ∙ back in cc no
 
 -- what was taken back is what is released
-release_gone : (facts : Facts) (o : Option Command) (s : Session) (looked to_build told : Bool) (from : ℕ) → Fits facts o s looked to_build told → LetsGo facts (end_by facts o s) from → FollowsGone facts.last (events.Release from)
-release_gone facts o s looked to_build told from fits lets = by_last facts.last refl
+release_gone : (facts : Facts) (o : Option Command) (s : Session) (looked : Bool) (frames : List Frame) (told : Bool) (from : ℕ) → Fits facts o s looked frames told → LetsGo facts (end_by facts o s) from → FollowsGone facts.last (events.Release from)
+release_gone facts o s looked frames told from fits lets = by_last facts.last refl
   where
     by_case : (n : ℕ) → end_by facts o s ≡ TakesBack n → LetsGo facts (end_by facts o s) from → from ≡ n
     by_case n back (AllSent commits visible sent) = absurd (let no : Commits from ≡ TakesBack n = sym commits ∙ back in cc no)
@@ -72,7 +72,7 @@ release_gone facts o s looked to_build told from fits lets = by_last facts.last 
     by_case n back (NoWrite (inr takes) bare) = let both : TakesBack from ≡ TakesBack n = sym takes ∙ back in cc both
 
     by_last : (last : Option Event) → facts.last ≡ last → FollowsGone last (events.Release from)
-    by_last (Some (events.Gone n)) is = by_case n (back_end facts o s looked to_build told n fits is) lets
+    by_last (Some (events.Gone n)) is = by_case n (back_end facts o s looked frames told n fits is) lets
     by_last last is = tt
 
 released : (v : Bool) (from : ℕ) → FollowsVisible v (events.Release from)
@@ -94,7 +94,7 @@ module _ (scenario : Scenario) (old : List Entry) (was : Backend) (from : ℕ) (
 
   -- what it releases
   part : Releases facts (command_at was) s from
-  part = end_releases facts (command_at was) s was.looked was.looked_to_build was.told from (built_at scenario old was waits) waits.fits now.going (from_of facts (end_by facts (command_at was) s) from lets)
+  part = end_releases facts (command_at was) s was.looked was.frames was.told from (built_at scenario old was waits) waits.fits now.going (from_of facts (end_by facts (command_at was) s) from lets)
 
   -- where that is all of its transaction, it is released from its first command on
   first_here : first_begun facts s ≡ from → option_map_or (λ (t : Running). t.first) facts.running (was.progress.finished + 1) ≡ from
@@ -102,7 +102,7 @@ module _ (scenario : Scenario) (old : List Entry) (was : Backend) (from : ℕ) (
 
   -- so is a commit
   first_committed : end_by facts (command_at was) s ≡ Commits from → option_map_or (λ (t : Running). t.first) facts.running (was.progress.finished + 1) ≡ from
-  first_committed commits = first_here (commit_first facts (command_at was) s was.looked was.looked_to_build was.told from waits.fits now.going commits)
+  first_committed commits = first_here (commit_first facts (command_at was) s was.looked was.frames was.told from waits.fits now.going commits)
 
   -- no later command is released
   from_low : Releases facts (command_at was) s from → from ≤ was.progress.finished + 1
@@ -111,29 +111,29 @@ module _ (scenario : Scenario) (old : List Entry) (was : Backend) (from : ℕ) (
 
   may_release : LetsGo facts (end_by facts (command_at was) s) from → MayRelease (is_visible facts.running) old was.progress.id from
   may_release (AllSent commits visible sent) = subst (λ v. MayRelease v old was.progress.id from) (sym visible) (first_visible facts.running (was.progress.finished + 1) from visible (first_committed commits), all_left facts.lists facts.running sent)
-  may_release (NoWrite end bare) = subst (λ v. MayRelease v old was.progress.id from) (sym (bare_hidden facts (command_at was) s was.looked was.looked_to_build was.told from waits.fits end bare)) bare
+  may_release (NoWrite end bare) = subst (λ v. MayRelease v old was.progress.id from) (sym (bare_hidden facts (command_at was) s was.looked was.frames was.told from waits.fits end bare)) bare
 
   -- it may be entered
   pub release_call : MayCall scenario old (entry_of was.progress.id (was.progress.finished + 1) (events.Release from))
-  release_call = end_call scenario old was waits (events.Release from) refl next (released (is_visible facts.running) from) (release_gone facts (command_at was) s was.looked was.looked_to_build was.told from waits.fits lets)
+  release_call = end_call scenario old was waits (events.Release from) refl next (released (is_visible facts.running) from) (release_gone facts (command_at was) s was.looked was.frames was.told from waits.fits lets)
       (from_low part, may_release lets)
 
-  release_fits : (locks : List OwnLock) (at : ℕ) → Fits (facts_by old was.progress.id (was.progress.finished + 1) (events.Release from) facts) (command_at was) (record s { ended = true; locks = locks; last = at }) was.looked was.looked_to_build was.told
+  release_fits : (locks : List OwnLock) (at : ℕ) → Fits (facts_by old was.progress.id (was.progress.finished + 1) (events.Release from) facts) (command_at was) (record s { ended = true; locks = locks; last = at }) was.looked was.frames was.told
   release_fits locks at = by_part part
     where
       later : Facts
       later = facts_by old was.progress.id (was.progress.finished + 1) (events.Release from) facts
 
       fits_here : first_at later ≤ number_of s → (has_write_from 0 later.lists ≡ true → option_map_or (λ (t : Running). is_some t.xid) later.running false ≡ true) → is_visible later.running ≡ false → RunsAfter later (command_at was) s
-          → Fits later (command_at was) (record s { ended = true; locks = locks; last = at }) was.looked was.looked_to_build was.told
-      fits_here low written hidden runs = fits_released facts later (command_at was) s was.looked was.looked_to_build was.told (events.Release from) locks at waits.fits now from refl (λ scan none. none) low written hidden runs
+          → Fits later (command_at was) (record s { ended = true; locks = locks; last = at }) was.looked was.frames was.told
+      fits_here low written hidden runs = fits_released facts later (command_at was) s was.looked was.frames was.told (events.Release from) locks at waits.fits now from refl (end_bare scenario old was waits (events.Release from) refl next) (λ scan none. none) low written hidden runs
 
       -- a level that is released alone isn't that of a commit
       inner_hidden : first_at facts + 1 ≤ from → is_some facts.running ≡ true → LetsGo facts (end_by facts (command_at was) s) from → is_visible facts.running ≡ false
       inner_hidden above runs (AllSent commits visible sent) = absurd (omega (arith, above, first_running facts.running (was.progress.finished + 1) from runs (first_committed commits)))
-      inner_hidden above runs (NoWrite end bare) = bare_hidden facts (command_at was) s was.looked was.looked_to_build was.told from waits.fits end bare
+      inner_hidden above runs (NoWrite end bare) = bare_hidden facts (command_at was) s was.looked was.frames was.told from waits.fits end bare
 
-      by_part : Releases facts (command_at was) s from → Fits later (command_at was) (record s { ended = true; locks = locks; last = at }) was.looked was.looked_to_build was.told
+      by_part : Releases facts (command_at was) s from → Fits later (command_at was) (record s { ended = true; locks = locks; last = at }) was.looked was.frames was.told
       by_part (Whole is none) = fits_here (subst (λ n. n ≤ number_of s) (sym (ap (λ r. option_map_or (λ (t : Running). t.first) r 0) ended)) (omega arith))
           (λ some. absurd (both_ways _ (ended_lists facts.running facts.lists (was.progress.finished + 1) from (first_here is) waits.fits.written) some)) (ap (λ r. is_visible r) ended) (none later ended)
         where

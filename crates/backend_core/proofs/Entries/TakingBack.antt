@@ -19,31 +19,28 @@ use Rattle.cacheless.specs.Owed.{Owes, unusable, owed_after, owed_of, builds_owe
 use Rattle.cacheless.specs.Session.{Session, Well, outcome_of, is_settled, plan_first}
 use Rattle.cacheless.specs.State.{lists_at, kept_at, kept_spared}
 use Rattle.cacheless.proofs.Allowed.Releases.{OwesNoScan, ends_free}
-use Rattle.backend_core.specs.Types.{Command, Scenario, Entry, Event, OwnLock, Progress, Backend}
+use Rattle.backend_core.specs.Types.{Command, Scenario, Entry, Event, OwnLock, Progress, Backend, Frame}
 use Rattle.backend_core.specs.Agrees.{IsPlayed, command_at, AwaitsEntry}
-use Rattle.backend_core.specs.Fits.{first_at, Fits}
+use Rattle.backend_core.specs.Fits.{first_at, Fits, FramesFit}
 use Rattle.backend_core.specs.Steps.{EndsNext, Enters}
-use Rattle.backend_core.proofs.Entries.EndEntries.{end_now, end_call, end_enters}
+use Rattle.backend_core.proofs.Entries.EndEntries.{end_now, end_call, end_enters, end_bare}
 use Rattle.backend_core.proofs.Choosing.EndsNow.{end_by, EndsBy, comes_now, commit_end, back_end}
 use Rattle.backend_core.proofs.Fitting.FitsEnds.{later_at, GoesOn, end_same, fits_ending, takes_back_on, write_from_first, none_from, goes_first, begun_xid, begun_visible, written_runs}
 use Rattle.backend_core.proofs.Own.{waiting, follows}
 use Rattle.std.proofs.Math.Bool.{and-false}
 use Rattle.inval_messages.specs.Messages.{is_spared}
-
--- after the last command no scan is owed
-past_free : (facts : Facts) (s : Session) → s.opened ≡ [] → s.left ≡ Done tells.Ok → OwesNoScan facts s
-past_free facts s opened left = (ap (builds_owed facts) opened, λ told is. ap (λ t. unusable facts (cons_option (told_rests_on t) [])) (ap told_of (sym is ∙ left)))
+use Rattle.backend_core.proofs.Fitting.Rebuilding.{bare_fits}
 
 -- a transaction that is taken back isn't visible
-back_hidden : (facts : Facts) (o : Option Command) (s : Session) (looked to_build told : Bool) (from : ℕ) → Fits facts o s looked to_build told → end_by facts o s ≡ TakesBack from → is_visible facts.running ≡ false
-back_hidden facts o s looked to_build told from fits back = false_from_ne_true (is_visible facts.running) (λ is. let no : Commits (first_at facts) ≡ TakesBack from = sym (commit_end facts o s looked to_build told fits is) ∙ back in cc no)
+back_hidden : (facts : Facts) (o : Option Command) (s : Session) (looked : Bool) (frames : List Frame) (told : Bool) (from : ℕ) → Fits facts o s looked frames told → end_by facts o s ≡ TakesBack from → is_visible facts.running ≡ false
+back_hidden facts o s looked frames told from fits back = false_from_ne_true (is_visible facts.running) (λ is. let no : Commits (first_at facts) ≡ TakesBack from = sym (commit_end facts o s looked frames told fits is) ∙ back in cc no)
 
 -- and what was taken back isn't there any more
-not_gone : (facts : Facts) (o : Option Command) (s : Session) (looked to_build told : Bool) (from : ℕ) → Fits facts o s looked to_build told → end_by facts o s ≡ TakesBack from → has_write_from from facts.lists ≡ true → FollowsGone facts.last (events.Gone from)
-not_gone facts o s looked to_build told from fits back written = by_last facts.last refl
+not_gone : (facts : Facts) (o : Option Command) (s : Session) (looked : Bool) (frames : List Frame) (told : Bool) (from : ℕ) → Fits facts o s looked frames told → end_by facts o s ≡ TakesBack from → has_write_from from facts.lists ≡ true → FollowsGone facts.last (events.Gone from)
+not_gone facts o s looked frames told from fits back written = by_last facts.last refl
   where
     by_last : (last : Option Event) → facts.last ≡ last → FollowsGone last (events.Gone from)
-    by_last (Some (events.Gone n)) is = absurd (let same : n ≡ from = (let both : TakesBack n ≡ TakesBack from = sym (back_end facts o s looked to_build told n fits is) ∙ back in cc both) in
+    by_last (Some (events.Gone n)) is = absurd (let same : n ≡ from = (let both : TakesBack n ≡ TakesBack from = sym (back_end facts o s looked frames told n fits is) ∙ back in cc both) in
         both_ways _ (subst (λ k. has_write_from k facts.lists ≡ false) same (fits.taken n is).none) written)
     by_last last is = tt
 
@@ -61,11 +58,11 @@ module _ (scenario : Scenario) (old : List Entry) (was : Backend) (from : ℕ) (
   takes = comes_now facts (end_by facts (command_at was) s) (events.Gone from) now.comes
 
   hidden : is_visible facts.running ≡ false
-  hidden = back_hidden facts (command_at was) s was.looked was.looked_to_build was.told from waits.fits takes.0
+  hidden = back_hidden facts (command_at was) s was.looked was.frames was.told from waits.fits takes.0
 
   -- it may be entered
   pub take_back_call : MayCall scenario old (entry_of was.progress.id (was.progress.finished + 1) (events.Gone from))
-  take_back_call = end_call scenario old was waits (events.Gone from) refl next (subst (λ v. FollowsVisible v (events.Gone from)) (sym hidden) tt) (not_gone facts (command_at was) s was.looked was.looked_to_build was.told from waits.fits takes.0 takes.1) takes.1
+  take_back_call = end_call scenario old was waits (events.Gone from) refl next (subst (λ v. FollowsVisible v (events.Gone from)) (sym hidden) tt) (not_gone facts (command_at was) s was.looked was.frames was.told from waits.fits takes.0 takes.1) takes.1
 
   abbrev later : Facts
   later = facts_by old was.progress.id (was.progress.finished + 1) (events.Gone from) facts
@@ -77,20 +74,18 @@ module _ (scenario : Scenario) (old : List Entry) (was : Backend) (from : ℕ) (
   goes_on = record { runs = written_runs facts.running written; some = refl; same = goes_first (was.progress.finished + 1) facts.running (written_runs facts.running written); free = refl }
 
   -- a command that comes out well and is taken back owes no scan
-  takes_free : AllOnCourse scenario old → (locks : List OwnLock) (at : ℕ) → outcome_of s.left ≡ Well → OwesNoScan later s
-  takes_free courses locks at well = by_command (command_at was) refl
-    where
-      by_command : (o : Option Command) → command_at was ≡ o → OwesNoScan later s
-      by_command None past = past_free later s (waits.fits.past past).opened (waits.fits.settled (ap (λ o. is_settled (outcome_of (plan_first s.blocks o))) past) ∙ ap (plan_first s.blocks) past)
-      by_command (Some command) is = ends_free later command (later_at s locks at) (λ told none. let alone = (follows scenario old was waits courses command is).plain told none in record { opened = alone.opened; left = alone.left }) well
-          (ap (λ e. elim e as (λ x. List Owes) [ TakesBack n ↦ owed_after later.last | end ↦ owed_of later command (later_at s locks at) ]) (end_same facts later command s locks at goes_on ∙ ap (λ o. end_by facts o s) (sym is) ∙ takes.0))
+  takes_free : AllOnCourse scenario old → (locks : List OwnLock) (at : ℕ) (command : Command) → command_at was ≡ Some command → outcome_of s.left ≡ Well → OwesNoScan later s
+  takes_free courses locks at command is well = ends_free later command (later_at s locks at) (λ told none. let alone = (follows scenario old was waits courses command is).plain told none in record { opened = alone.opened; left = alone.left }) well
+      (ap (λ e. elim e as (λ x. List Owes) [ TakesBack n ↦ owed_after later.last | end ↦ owed_of later command (later_at s locks at) ]) (end_same facts later command s locks at goes_on ∙ ap (λ o. end_by facts o s) (sym is) ∙ takes.0))
 
-  take_back_fits : AllOnCourse scenario old → (locks : List OwnLock) (at : ℕ) → Fits later (command_at was) (later_at s locks at) was.looked was.looked_to_build was.told
-  take_back_fits courses locks at = fits_ending facts later (command_at was) s was.looked was.looked_to_build was.told (events.Gone from) locks at waits.fits now goes_on (λ scan none. ap (λ t. is_spared scan (sent_in (lists_from from facts.lists)) && t) none ∙ and-false (is_spared scan (sent_in (lists_from from facts.lists))))
+  take_back_fits : AllOnCourse scenario old → (locks : List OwnLock) (at : ℕ) → Fits later (command_at was) (later_at s locks at) was.looked was.frames was.told
+  take_back_fits courses locks at = fits_ending facts later (command_at was) s was.looked was.frames was.told (events.Gone from) locks at waits.fits now goes_on
+      (subst (FramesFit later (command_at was) (later_at s locks at)) (sym (end_bare scenario old was waits (events.Gone from) refl next)) (bare_fits later (command_at was) (later_at s locks at) (λ keeps. absurd (cc keeps))))
+      (λ scan none. ap (λ t. is_spared scan (sent_in (lists_from from facts.lists)) && t) none ∙ and-false (is_spared scan (sent_in (lists_from from facts.lists))))
       (λ is. begun_xid (was.progress.finished + 1) facts.running written)
       (λ is. absurd (both_ways _ hidden (sym (begun_visible (was.progress.finished + 1) facts.running) ∙ is)))
       (λ n is. let same : from ≡ n = (let both : Some (events.Gone from) ≡ Some (events.Gone n) = is in cc both) in
-      takes_back_on facts later (command_at was) s was.looked was.looked_to_build was.told (events.Gone from) locks at waits.fits now n goes_on (takes.0 ∙ ap TakesBack same) (subst (λ k. has_write_from k later.lists ≡ false) same (none_from from facts.lists)) (takes_free courses locks at))
+      takes_back_on facts later (command_at was) s was.looked was.frames was.told (events.Gone from) locks at waits.fits now n goes_on (takes.0 ∙ ap TakesBack same) (subst (λ k. has_write_from k later.lists ≡ false) same (none_from from facts.lists)) (takes_free courses locks at))
 
 -- the state after it
 pub take_back_enters : (scenario : Scenario) (old new : List Entry) (had has : ℕ → ℕ) (was : Backend) (from : ℕ) (p : Progress) (waits : AwaitsEntry scenario old was) → IsPlayed scenario old → AllOnCourse scenario old → EndsNext was (events.Gone from)

@@ -11,7 +11,7 @@ use Rattle.history_model.specs.Held.{held_of}
 use Rattle.history_model.specs.Legal.{AllowsUnlock}
 use Rattle.history_model.specs.Writes.{has_written}
 use Rattle.history_model.proofs.Every.{any-weaker}
-use Rattle.seg_calls.specs.Calls.{entry_of, MayCall, Appends}
+use Rattle.seg_calls.specs.Calls.{entry_of, MayCall, Appends, took_back}
 use Rattle.cacheless.specs.Facts.{Facts, facts_of, facts_by}
 use Rattle.cacheless.specs.Holds.{HasEntered, with_own}
 use Rattle.cacheless.specs.Owed.{owed_of, started_in}
@@ -26,10 +26,10 @@ use Rattle.cacheless.proofs.Written.Listed.{lists_before_it}
 use Rattle.backend_core.specs.Types.{Oid, Mode, Row, Scenario, Entry, Event, Progress, Backend}
 use Rattle.backend_core.specs.Agrees.{IsPlayed, command_at, AwaitsEntry}
 use Rattle.cacheless.specs.OnCourse.{OnItsWay, AllOnCourse}
-use Rattle.backend_core.specs.Fits.{looks_due, LooksFit, TakesFit, IsLookedFor, lacks_name}
+use Rattle.backend_core.specs.Fits.{looks_due, LooksFit, TakesFit, IsLookedFor, lacks_scan}
 use Rattle.backend_core.specs.Steps.{IsUnlockNext, Enters}
 use Rattle.backend_core.proofs.Choosing.ActsRun.{act_runs}
-use Rattle.backend_core.proofs.Choosing.Chosen.{Acts, may_call, now_plays}
+use Rattle.backend_core.proofs.Choosing.Chosen.{Acts, may_call, now_plays, standing as not_gone}
 use Rattle.backend_core.proofs.Entries.Failing.{IsActing}
 use Rattle.backend_core.proofs.Entries.Inside.{runs_on, inside_fits}
 use Rattle.backend_core.proofs.Fitting.Entered.{fits_at}
@@ -41,6 +41,7 @@ use Rattle.cacheless.specs.May.{may_play_at, may_last_at}
 use Rattle.history_model.proofs.Prefixes.{EachEntry-weaker}
 use Rattle.history_model.specs.Orderly.{MayComeNext}
 use Rattle.std.specs.Prelude.{nat_le}
+use Rattle.backend_core.proofs.Fitting.Rebuilding.{same_fits, owed_bare}
 
 -- a lookup gives it back
 record IsLookup (facts : Facts) (taken : Option Oid) (p : Plan) (rel : Oid) (mode : Mode) : Type 0 where
@@ -93,6 +94,7 @@ module _ (scenario : Scenario) (old : List Entry) (was : Backend) (waits : Await
     unsettled = ap (λ p. is_settled (outcome_of p)) lookup.is;
     runs = act_runs scenario old was waits courses next.command next.free.at act lookup.rest lookup.is next.free.first;
     owed = waits.rests.holds.facts.owed ∙ next.free.due;
+    bare = owed_bare facts (command_at was) s was.frames next.command waits.fits.rebuilds asks.0;
   }
 
   -- it is held by a grant of the command
@@ -123,7 +125,10 @@ module _ (scenario : Scenario) (old : List Entry) (was : Backend) (waits : Await
   pub unlock_call : MayCall scenario old (entry_of was.progress.id (was.progress.finished + 1) event)
   unlock_call = may_call scenario old was waits next.command next.free.at event (Acts acting.unsettled) refl allows
 
-  before : LooksFit facts s was.looked was.looked_to_build was.told
+  not_taken_back : took_back facts.last ≡ false
+  not_taken_back = not_gone scenario old was waits next.command next.free.at (Acts acting.unsettled)
+
+  before : LooksFit facts s was.looked was.frames was.told
   before = waits.fits.looks (going scenario old was waits courses next.command next.free.at)
 
   same : Some (begun (was.progress.finished + 1) facts.running) ≡ facts.running
@@ -131,7 +136,7 @@ module _ (scenario : Scenario) (old : List Entry) (was : Backend) (waits : Await
 
   -- no look was made that isn't used
   unlooked : {X : Type 0} → IsLookedFor facts s.taken s.left → X
-  unlooked = no_look facts s.taken s.left (subst (λ p. lacks_name facts p ≡ false) (sym lookup.is) (act_serves facts act lookup.rest (nothing_owed facts next.command s act lookup.rest lookup.is asks.0)))
+  unlooked = no_look facts s.taken s.left (subst (λ p. lacks_scan facts p ≡ false) (sym lookup.is) (act_serves facts act lookup.rest (nothing_owed facts next.command s act lookup.rest lookup.is asks.0)))
       (unlock_found facts s.taken s.left rel lookup.took) (ap is_absent lookup.is)
 
   -- after it the backend agrees
@@ -140,9 +145,10 @@ module _ (scenario : Scenario) (old : List Entry) (was : Backend) (waits : Await
   unlock_enters new had has p goes kept none appends =
       own_enters scenario old new had has was (record was { progress = p }) event waits played courses (record { plays = plays; truly = tt; queue = tt }) goes
       kept
-      (fits_at scenario old was event waits p goes was.looked was.looked_to_build was.told
-      (inside_fits scenario old was waits courses next.command next.free.at later now was.looked was.looked_to_build was.told same refl (λ from is. cc is) (record { blocks = refl; finished = refl; blocked = refl; ended = refl; left = λ is there. refl }) acting.runs (Acts acting.unsettled)
+      (fits_at scenario old was event waits p goes was.looked was.frames was.told
+      (inside_fits scenario old was waits courses next.command next.free.at later now was.looked was.frames was.told same refl (λ from is. cc is) (record { blocks = refl; finished = refl; blocked = refl; ended = refl; left = λ is there. refl }) acting.runs (Acts acting.unsettled)
       (record { enough = omega (arith, before.enough, ap looks_due acting.owed, started); within = omega (arith, before.within, ap looks_due acting.owed, started) })
+      (same_fits facts later (command_at was) s now was.frames refl refl refl refl (sym not_taken_back) waits.fits.rebuilds)
       (λ made. unlooked (waits.fits.sought made)) tt))
       refl refl refl (λ stop. cc stop) none appends
     where

@@ -1,6 +1,6 @@
 -- The write of a backend, where its draft is at hand.
 use Rattle.std.proofs.Common.{◌≡◌, ◌≤◌, ◌<◌, ◌+◌, ◌∙◌, ◌==◌, ◌&&◌, ◌||◌, ℕ, false, Some, None, Result, Ok, Err, OnOk, OnErr, List, [], ◌∷◌, refl, sym, ap, subst, length, drop, arith, true}
-use Rattle.std.specs.List.{AllByRecursion, flat_map}
+use Rattle.std.specs.List.{AllByRecursion, flat_map, list_any}
 use Rattle.std.proofs.Math.Bool.{and-false}
 use Rattle.std.proofs.lemmas.Bool.{both_ways, ne_eqb}
 use Rattle.base_types.specs.Modes.{same_mode}
@@ -43,8 +43,8 @@ use Rattle.cacheless.proofs.Plans.SilentActs.{empty_list, on_its_way}
 use Rattle.cacheless.proofs.Written.NamesGiven.{AreReadAsNow}
 use Rattle.cacheless.proofs.Written.WriteFits.{WriteFits, write_fits}
 use Rattle.backend_core.specs.Types.{Oid, Xid, Command, Draft, Item, Message, Scenario, Entry, Event, Progress, Backend}
-use Rattle.backend_core.specs.Agrees.{IsPlayed, AwaitsEntry}
-use Rattle.backend_core.specs.Fits.{looks_due, LooksFit, IsLookedFor, TakesFit}
+use Rattle.backend_core.specs.Agrees.{IsPlayed, command_at, AwaitsEntry}
+use Rattle.backend_core.specs.Fits.{looks_due, LooksFit, IsLookedFor, TakesFit, FramesFit}
 use Rattle.backend_core.specs.Steps.{IsWriteNext, MakesEntry, Enters, IsRefused}
 use Rattle.backend_core.proofs.Choosing.ActsRun.{act_runs}
 use Rattle.backend_core.proofs.Entries.Alike.{alike_enters}
@@ -54,6 +54,8 @@ use Rattle.backend_core.proofs.Entries.Failing.{IsActing, clash_shows, failed_en
 use Rattle.backend_core.proofs.Entries.Inside.{made_refused, entry_fits}
 use Rattle.backend_core.proofs.Own.{waiting, waiting_is, waiting_course, at_session, follows, going, OwnEntry, own_makes, own_enters}
 use Rattle.backend_core.proofs.Fitting.Sought.{no_look}
+use Rattle.backend_core.proofs.Fitting.Rebuilding.{owed_bare, bare_fits}
+use Rattle.backend_core.specs.Frames.{lacks}
 
 -- on a relation that is still to be drawn there is no lock
 none_held : (b : ℕ) (rel : Oid) (next : ℕ) (held : List Grant) → rel.0 ≡ next → AllByRecursion (λ g. g.rel.0 < next) held → holds held b rel AccessExclusive ≡ false
@@ -89,6 +91,7 @@ module _ (scenario : Scenario) (old : List Entry) (was : Backend) (draft : Draft
     unsettled = ap (λ p. is_settled (outcome_of p)) at;
     runs = act_runs scenario old was waits courses next.command next.free.at (Write draft) (λ given. Done tells.Ok) at next.free.first;
     owed = waits.rests.holds.facts.owed ∙ next.free.due;
+    bare = owed_bare facts (command_at was) s was.frames next.command waits.fits.rebuilds owed_none;
   }
 
   -- no look was made that isn't used
@@ -142,12 +145,13 @@ module _ (scenario : Scenario) (old : List Entry) (was : Backend) (draft : Draft
   wrote_enters new had has p xid goes kept none appends =
       own_enters scenario old new had has was (record was { progress = p }) event waits played courses (write_own xid) goes
       kept
-      (fits_at scenario old was event waits p goes was.looked was.looked_to_build was.told
-      (entry_fits scenario old was waits courses next.command next.free.at later now was.looked was.looked_to_build was.told
+      (fits_at scenario old was event waits p goes was.looked was.frames was.told
+      (entry_fits scenario old was waits courses next.command next.free.at later now was.looked was.frames was.told
       (record { runs = λ i. Some (record (begun (sym waits.rests.holds.count i + 1) facts.running) { xid = Some xid.0 }); written = λ is. refl; last = λ from is. cc is })
       (record { blocks = ap (λ q. (written q s).blocks) at; finished = ap (λ q. length (written q s).finished) at; blocked = ap (λ q. (written q s).blocked) at; ended = ap (λ q. (written q s).ended) at; left = λ is there. absurd (both_ways _ acting.unsettled is) })
       acting.runs (Acts acting.unsettled)
       (record { enough = omega (arith, before.enough, ap looks_due acting.owed, started); within = omega (arith, before.within, ap looks_due acting.owed, started) })
+      (subst (FramesFit later (command_at was) now) (sym acting.bare) (bare_fits later (command_at was) now (λ keeps. ap (λ q. list_any (lacks later.usable) (written q s).opened) at)))
       (λ made. absurd (unlooked made)) (subst (λ q. TakesFit (number_of now) now.locks (written q s).taken (written q s).left) (sym at) tt)))
       refl refl refl (λ stop. cc stop) none appends
     where
@@ -160,7 +164,7 @@ module _ (scenario : Scenario) (old : List Entry) (was : Backend) (draft : Draft
       now : Session
       now = entered (facts_of (with_own old was.progress event) was.progress.id) (drop was.progress.finished was.progress.commands) (length old + 1) (was.progress.finished + 1) event s
 
-      before : LooksFit facts s was.looked was.looked_to_build was.told
+      before : LooksFit facts s was.looked was.frames was.told
       before = waits.fits.looks (going scenario old was waits courses next.command next.free.at)
 
       started : started_in (number_of now) later ≡ started_in (number_of s) facts

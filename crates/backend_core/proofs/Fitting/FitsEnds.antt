@@ -17,12 +17,15 @@ use Rattle.cacheless.specs.Facts.{Facts}
 use Rattle.cacheless.proofs.Allowed.Releases.{OwesNoScan}
 use Rattle.cacheless.specs.Owed.{Owes, OwesLook, OwesScan, unusable, owed_at_start, owed_after, begins, builds_owed, act_owed, scans_owed, owed_of, started_in}
 use Rattle.cacheless.specs.Session.{Session, Outcome, Well, Badly, Unsettled, number_of, outcome_of, is_settled}
-use Rattle.backend_core.specs.Types.{Purpose, Command, Event, OwnLock}
-use Rattle.backend_core.specs.Fits.{looks_due, first_at, RunsBlock, RunsBy, RunsAfter, TransactionFits, OnCommit, OnTakingBack, Fits, IsLookedFor, Lacks, Unfound, Said, TakesFit}
+use Rattle.backend_core.specs.Types.{Purpose, Command, Event, OwnLock, Frame}
+use Rattle.backend_core.specs.Fits.{looks_due, first_at, RunsBlock, RunsBy, RunsAfter, TransactionFits, OnCommit, OnTakingBack, Fits, IsLookedFor, Lacks, Unfound, Said, TakesFit, FramesFit}
 use Rattle.backend_core.proofs.Choosing.EndsNow.{end_by, EndsBy, IsCommit, commit_first}
 use Rattle.backend_core.proofs.Fitting.NextTransaction.{failed_on}
 use Rattle.cacheless.specs.Types.{Oid, Purpose, OwnLock}
 use Rattle.cacheless.proofs.Tests.{not_true}
+use Rattle.backend_core.proofs.Fitting.Rebuilding.{bare_fits}
+use Rattle.seg_calls.specs.Calls.{took_back}
+use Rattle.backend_core.specs.Words.{has_error}
 
 -- the session after an entry of an end, with its locks
 abbrev pub later_at : Session → List OwnLock → ℕ → Session
@@ -117,7 +120,7 @@ takes_out number locks number' locks' (Some rel) (Done told) out takes = tt
 takes_out number locks number' locks' (Some rel) (Fails error) out takes = tt
 takes_out number locks number' locks' (Some rel) NotBuilt out takes = tt
 
-module _ (facts later : Facts) (o : Option Command) (s : Session) (looked to_build told : Bool) (event : Event) (locks : List OwnLock) (at : ℕ) (fits : Fits facts o s looked to_build told) (ends : EndsBy facts o s event) where
+module _ (facts later : Facts) (o : Option Command) (s : Session) (looked : Bool) (frames : List Frame) (told : Bool) (event : Event) (locks : List OwnLock) (at : ℕ) (fits : Fits facts o s looked frames told) (ends : EndsBy facts o s event) where
   runs_later : GoesOn facts later → (t : Bool) → TransactionFits facts o s t → s.ended ≡ t → TransactionFits later o (later_at s locks at) t
   runs_later goes true none is = absurd (both_ways _ ends.going is)
   runs_later goes false by is = by_block s.blocks.block by
@@ -135,9 +138,10 @@ module _ (facts later : Facts) (o : Option Command) (s : Session) (looked to_bui
       by_block Failed failed = failed_on facts later s.blocks.levels block_later (λ none. none_runs none) failed
 
   -- where the transaction goes on
-  pub fits_ending : GoesOn facts later → ((scan : Purpose) → facts.usable scan ≡ false → later.usable scan ≡ false) → (has_write_from 0 later.lists ≡ true → option_map_or (λ t. is_some t.xid) later.running false ≡ true)
-      → (is_visible later.running ≡ true → OnCommit later o (later_at s locks at)) → ((from : ℕ) → later.last ≡ Some (events.Gone from) → OnTakingBack later o (later_at s locks at) from) → Fits later o (later_at s locks at) looked to_build told
-  fits_ending goes spares written visible taken = record {
+  pub fits_ending : GoesOn facts later → FramesFit later o (later_at s locks at) frames → ((scan : Purpose) → facts.usable scan ≡ false → later.usable scan ≡ false) → (has_write_from 0 later.lists ≡ true → option_map_or (λ t. is_some t.xid) later.running false ≡ true)
+      → (is_visible later.running ≡ true → OnCommit later o (later_at s locks at)) → ((from : ℕ) → later.last ≡ Some (events.Gone from) → OnTakingBack later o (later_at s locks at) from) → Fits later o (later_at s locks at) looked frames told
+  fits_ending goes rebuilds spares written visible taken = record {
+    rebuilds = rebuilds;
     looks = λ going. let l = fits.looks going in record { enough = omega (arith, l.enough, started, due, due_now); within = omega (arith, l.within, started, due, due_now) };
     transaction = runs_later goes s.ended fits.transaction refl;
     first = subst (λ n. n ≤ number_of s) (sym (first_same facts later goes)) fits.first;
@@ -149,9 +153,10 @@ module _ (facts later : Facts) (o : Option Command) (s : Session) (looked to_bui
     visible = visible;
     taken = taken;
     accepts = λ owes. absurd (both_ways _ owes (ap (λ l. is_empty l) goes.free));
-    past = λ none. let p = fits.past none in record { out = p.out; opened = p.opened; free = goes.free };
+    past = λ none. let p = fits.past none in record { out = p.out; free = goes.free };
     sought = λ is. sought_out facts later s.taken s.left ends.out spares (fits.sought is);
     takes = takes_out (number_of s) s.locks (number_of s) locks s.taken s.left ends.out fits.takes;
+    unheld = fits.unheld;
   }
     where
       started : started_in (number_of s) later ≡ started_in (number_of s) facts
@@ -172,7 +177,7 @@ module _ (facts later : Facts) (o : Option Command) (s : Session) (looked to_bui
       begun_is (Some t) n some = refl
 
       first_is : first_at later ≡ commit.first
-      first_is = first_same facts later goes ∙ begun_is facts.running (number_of s) goes.runs ∙ commit_first facts o s looked to_build told commit.first fits ends.going commit.is
+      first_is = first_same facts later goes ∙ begun_is facts.running (number_of s) goes.runs ∙ commit_first facts o s looked frames told commit.first fits ends.going commit.is
 
       all_back : (own : Option Running) → option_map_or (λ t. TakesBack t.first) own Ends ≡ Commits commit.first → ⊥
       all_back None is = cc is
@@ -191,18 +196,19 @@ module _ (facts later : Facts) (o : Option Command) (s : Session) (looked to_bui
       }
 
   -- taking back goes on
-  pub takes_back_on : (from : ℕ) → GoesOn facts later → end_by facts o s ≡ TakesBack from → has_write_from from later.lists ≡ false → (outcome_of s.left ≡ Well → OwesNoScan later s) → OnTakingBack later o (later_at s locks at) from
-  takes_back_on from goes back bare none = record { runs = goes.some; going = ends.going; out = ends.out; end = by_command o back; none = bare }
+  pub takes_back_on : (from : ℕ) → GoesOn facts later → end_by facts o s ≡ TakesBack from → has_write_from from later.lists ≡ false → ((command : Command) → o ≡ Some command → outcome_of s.left ≡ Well → OwesNoScan later s) → OnTakingBack later o (later_at s locks at) from
+  takes_back_on from goes back bare none = record { runs = goes.some; going = ends.going; out = ends.out; end = by_command o refl back; none = bare }
     where
-      by_command : (x : Option Command) → end_by facts x s ≡ TakesBack from → elim x as (λ y. Type 0) [ Some c ↦ (end_of later c (later_at s locks at) ≡ TakesBack from) × (owed_of later c (later_at s locks at) ≡ []) | None ↦ end_of_all later ≡ TakesBack from ]
-      by_command (Some c) is = (end_same facts later c s locks at goes ∙ is, owed_later facts later c s locks at goes ends.out none)
-      by_command None is = of_first TakesBack Ends later.running facts.running goes.same ∙ is
+      by_command : (x : Option Command) → o ≡ x → end_by facts x s ≡ TakesBack from → elim x as (λ y. Type 0) [ Some c ↦ (end_of later c (later_at s locks at) ≡ TakesBack from) × (owed_of later c (later_at s locks at) ≡ []) | None ↦ end_of_all later ≡ TakesBack from ]
+      by_command (Some c) here is = (end_same facts later c s locks at goes ∙ is, owed_later facts later c s locks at goes ends.out (none c here))
+      by_command None here is = of_first TakesBack Ends later.running facts.running goes.same ∙ is
 
   -- the release is made: what runs then fits the blocks after the command, and isn't visible
-  pub fits_released : (from : ℕ) → later.last ≡ Some (events.Release from) → ((scan : Purpose) → facts.usable scan ≡ false → later.usable scan ≡ false) → first_at later ≤ number_of s → (has_write_from 0 later.lists ≡ true → option_map_or (λ t. is_some t.xid) later.running false ≡ true) → is_visible later.running ≡ false → RunsAfter later o s
-      → Fits later o (record s { ended = true; locks = locks; last = at }) looked to_build told
-  fits_released from last spares low written hidden runs_on = record {
+  pub fits_released : (from : ℕ) → later.last ≡ Some (events.Release from) → frames ≡ [] → ((scan : Purpose) → facts.usable scan ≡ false → later.usable scan ≡ false) → first_at later ≤ number_of s → (has_write_from 0 later.lists ≡ true → option_map_or (λ t. is_some t.xid) later.running false ≡ true) → is_visible later.running ≡ false → RunsAfter later o s
+      → Fits later o (record s { ended = true; locks = locks; last = at }) looked frames told
+  fits_released from last bare spares low written hidden runs_on = record {
     looks = λ going. absurd (cc going);
+    rebuilds = subst (FramesFit later o (record s { ended = true; locks = locks; last = at })) (sym bare) (bare_fits later o (record s { ended = true; locks = locks; last = at }) (λ keeps. absurd (both_ways _ (ap (λ t. t && not (has_error s.left)) (and-false (not (took_back later.last)))) keeps)));
     transaction = by_command o runs_on;
     first = low;
     opens = fits.opens;
@@ -213,9 +219,10 @@ module _ (facts later : Facts) (o : Option Command) (s : Session) (looked to_bui
     visible = λ is. absurd (both_ways _ hidden is);
     taken = λ n is. absurd (let no : Some (events.Release from) ≡ Some (events.Gone n) = sym last ∙ is in cc no);
     accepts = λ owes. absurd (both_ways _ owes (ap (λ l. is_empty (owed_after l)) last));
-    past = λ past. let p = fits.past past in record { out = p.out; opened = p.opened; free = ap owed_after last };
+    past = λ past. let p = fits.past past in record { out = p.out; free = ap owed_after last };
     sought = λ is. sought_out facts later s.taken s.left ends.out spares (fits.sought is);
     takes = takes_out (number_of s) s.locks (number_of s) locks s.taken s.left ends.out fits.takes;
+    unheld = fits.unheld;
   }
     where
       by_command : (x : Option Command) → RunsAfter later x s → RunsAfter later x (record s { ended = true; locks = locks; last = at })

@@ -1,5 +1,5 @@
 -- What the choice keeps with an entry of a command that runs: a look, a fetch, a scan, a lock, a write, or one that is refused.
-use Rattle.std.proofs.Common.{◌≡◌, ◌≤◌, ◌+◌, ◌∙◌, ◌&&◌, inl, inr, ℕ, Bool, true, false, not, Option, Some, None, refl, sym, ap, subst, length, is_none, is_some, arith}
+use Rattle.std.proofs.Common.{◌≡◌, ◌≤◌, ◌+◌, ◌∙◌, ◌&&◌, inl, inr, ℕ, Bool, true, false, not, Option, Some, None, refl, sym, ap, subst, length, is_none, is_some, arith, List}
 use Rattle.std.specs.Option.{option_map_or}
 use Rattle.std.proofs.lemmas.Bool.{both_ways}
 use Rattle.event_kinds.specs.declared.entry.Event.TheVariants as events
@@ -12,8 +12,8 @@ use Rattle.cacheless.specs.Session.{Session, number_of, outcome_of, is_settled, 
 use Rattle.cacheless.specs.Owed.{begins}
 use Rattle.cacheless.specs.State.{is_absent}
 use Rattle.cacheless.proofs.Entries.EnteredLooks.{not_absent}
-use Rattle.backend_core.specs.Types.{Command}
-use Rattle.backend_core.specs.Fits.{LooksFit, first_at, LevelsRise, RunsBlock, RunsFailed, RunsBy, TransactionFits, Fits, IsLookedFor, TakesFit}
+use Rattle.backend_core.specs.Types.{Command, Frame}
+use Rattle.backend_core.specs.Fits.{LooksFit, FramesFit, IsUnheld, first_at, LevelsRise, RunsBlock, RunsFailed, RunsBy, TransactionFits, Fits, IsLookedFor, TakesFit}
 use Rattle.backend_core.proofs.Fitting.NextTransaction.{some_first, failed_on}
 
 -- what such an entry leaves of the facts: its transaction runs, with its first command, and isn't visible
@@ -86,10 +86,11 @@ module _ (facts later : Facts) (o : Option Command) (s now : Session) (command :
       none_runs none (Starts c here starts outside none') = absurd (let both : Failed ≡ Outside = sym is ∙ outside in cc both)
 
 -- what the choice keeps
-pub fits_inside : (facts later : Facts) (o : Option Command) (s now : Session) (looked to_build told looked_now to_build_now told_now : Bool) (command : Command) → o ≡ Some command → Fits facts o s looked to_build told → StaysInside facts later (number_of s) → StaysAt s now → RunsHere facts o s → is_visible facts.running ≡ false → s.ended ≡ false
-    → LooksFit later now looked_now to_build_now told_now → (looked_now ≡ true → IsLookedFor later now.taken now.left) → TakesFit (number_of now) now.locks now.taken now.left → Fits later o now looked_now to_build_now told_now
-fits_inside facts later o s now looked to_build told looked_now to_build_now told_now command at fits stays same goes hidden going looks sought takes = record {
+pub fits_inside : (facts later : Facts) (o : Option Command) (s now : Session) (looked : Bool) (frames : List Frame) (told looked_now : Bool) (frames_now : List Frame) (told_now : Bool) (command : Command) → o ≡ Some command → Fits facts o s looked frames told → StaysInside facts later (number_of s) → StaysAt s now → RunsHere facts o s → is_visible facts.running ≡ false → s.ended ≡ false
+    → LooksFit later now looked_now frames_now told_now → FramesFit later o now frames_now → (looked_now ≡ true → IsLookedFor later now.taken now.left × IsUnheld now.opened now.left) → TakesFit (number_of now) now.locks now.taken now.left → Fits later o now looked_now frames_now told_now
+fits_inside facts later o s now looked frames told looked_now frames_now told_now command at fits stays same goes hidden going looks rebuilds sought takes = record {
   looks = λ _. looks;
+  rebuilds = rebuilds;
   transaction = subst (TransactionFits later o now) (sym (same.ended ∙ going)) (subst (λ b. RunsBy later o now b.block) (sym same.blocks) (runs_now facts later o s now command at fits.first stays same goes s.blocks.block refl (subst (TransactionFits facts o s) going fits.transaction)));
   first = first_low facts later o s now command at fits.first stays same goes;
   opens = subst (λ b. is_open b ≡ not (is_empty b.levels)) (sym same.blocks) fits.opens;
@@ -102,6 +103,7 @@ fits_inside facts later o s now looked to_build told looked_now to_build_now tol
   taken = λ from is. absurd (stays.last from is);
   accepts = λ _. ap (λ r. is_some r) stays.runs;
   past = λ none. absurd (let both : Some command ≡ None = sym at ∙ none in cc both);
-  sought = sought;
+  sought = λ made. (sought made).0;
   takes = takes;
+  unheld = λ made. (sought made).1;
 }

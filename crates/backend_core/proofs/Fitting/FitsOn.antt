@@ -1,41 +1,55 @@
 -- What the choice keeps where a backend goes on without an entry.
-use Rattle.std.proofs.Common.{◌≡◌, ◌≤◌, ◌+◌, ◌∙◌, ◌==◌, ◌&&◌, ◌++◌, inl, inr, ℕ, Bool, true, false, Option, Some, None, List, [], refl, sym, ap, subst, map, is_none, arith, not}
+use Rattle.std.proofs.Common.{◌≡◌, ◌≤◌, ◌+◌, ◌∙◌, ◌==◌, ◌&&◌, ◌++◌, inl, inr, ℕ, Bool, true, false, Option, Some, None, List, [], refl, sym, ap, subst, map, is_none, arith, not, ◌||◌}
 use Rattle.std.specs.Option.{option_map_or}
-use Rattle.std.proofs.lemmas.Bool.{both_ways, ne_eqb, and_parts}
+use Rattle.std.proofs.lemmas.Bool.{both_ways, ne_eqb, and_parts, or_from}
 use Rattle.std.proofs.lemmas.List.{length_push}
 use Rattle.txn_blocks.specs.Blocks.{Block, Outside, Inside, Failed}
 use Rattle.base_types.specs.declared.scan.Purpose.TheVariants as scans
-use Rattle.ddl_effect.specs.Plans.{Act, Plan, Do, Lookup, Search}
+use Rattle.ddl_effect.specs.Plans.{Act, Plan, Do, Lookup, Search, Absent, Open}
 use Rattle.event_kinds.specs.declared.entry.Event.TheVariants as events
 use Rattle.history_model.specs.Transactions.{Running}
 use Rattle.history_model.specs.Writes.{is_empty}
 use Rattle.cacheless.specs.Facts.{Facts}
 use Rattle.cacheless.specs.Session.{Session, number_of, outcome_of, is_settled}
-use Rattle.cacheless.specs.Owed.{OwesScan, owed_at_start, owed_after, scans_owed, owed_of, started_in}
+use Rattle.cacheless.specs.Owed.{OwesScan, owed_at_start, owed_after, scans_owed, owed_of, started_in, act_owed}
 use Rattle.cacheless.specs.Ends.{End, Ends, Commits, TakesBack, end_of, end_of_all, end_left, next_of_end}
-use Rattle.cacheless.specs.Settled.{act_done, is_finished, blocks_after, finished_as, next_session, class_oid}
+use Rattle.cacheless.specs.Settled.{act_done, is_finished, blocks_after, finished_as, next_session, class_oid, opened_by}
 use Rattle.cacheless.proofs.Plans.SilentActs.{both_empty, empty_list, IsDoneHere, kept_already, gives_class}
-use Rattle.backend_core.specs.Types.{Row, Command, Event}
-use Rattle.backend_core.specs.Fits.{looks_due, first_at, LevelsRise, RunsAt, RunsIn, RunsBy, RunsAfter, TransactionFits, IsPast, Fits, IsLookedFor, Lacks, Unfound, Said}
+use Rattle.backend_core.specs.Types.{Row, Command, Event, Frame, Opening}
+use Rattle.backend_core.specs.Fits.{looks_due, first_at, LevelsRise, RunsAt, RunsIn, RunsBy, RunsAfter, TransactionFits, IsPast, Fits, IsLookedFor, Lacks, Unfound, Said, FramesFit, IsUnheld}
 use Rattle.backend_core.proofs.Fitting.NextTransaction.{LevelsFit, levels_next, next_silent}
 use Rattle.cacheless.specs.Types.{Mode}
 use Rattle.cacheless.specs.State.{is_absent}
-use Rattle.backend_core.proofs.Fitting.Sought.{no_class}
+use Rattle.backend_core.proofs.Fitting.Sought.{no_class, act_serves}
+use Rattle.backend_core.proofs.Fitting.Rebuilding.{bare_fits, builds_bare, owed_whole}
+use Rattle.std.specs.List.{list_any}
+use Rattle.backend_core.specs.Frames.{lacks}
+use Rattle.std.proofs.lemmas.List.Folds.{list_any-append}
 
--- a look that was made for an act is used, where that is done: then its lookup has found no relation
-sought_act : (facts : Facts) (s : Session) (act : Act) (further : List Row → Plan) (given : List Row) → IsDoneHere facts s act further given → ((name : List ℕ) (mode : Mode) → act ≡ Lookup name mode → class_oid given ≡ None → is_absent (further given) ≡ true)
-    → IsLookedFor facts s.taken (Do act further) → IsLookedFor facts None (further given)
-sought_act facts s act further given done says (Said is) = absurd (cc is)
-sought_act facts s (Lookup name mode) further given done says (Lacks is) = absurd (both_ways _ (ap not (kept_already (facts.usable (scans.RelName name)) (scans.RelName name) done.owed)) is)
-sought_act facts s (Search scan) further given done says (Lacks is) = absurd (both_ways _ (ap not (kept_already (facts.usable scan) scan done.owed)) is)
-sought_act facts s act further given done says (Lacks is) = absurd (cc is)
-sought_act facts s (Lookup name mode) further given done says (Unfound is look) =
-    Said (says name mode refl (sym (gives_class facts s mode (facts.rows (scans.RelName name)) given done.gave) ∙ no_class (facts.rows (scans.RelName name)) (and_parts (is_none s.taken && facts.usable (scans.RelName name)) _ is).1))
-sought_act facts s act further given done says (Unfound is look) = absurd (cc is)
+-- a look that was made for an act is used, where that is done: then its lookup has found no relation, and the command says so
+absent_after : (facts : Facts) (s : Session) (act : Act) (further : List Row → Plan) (given : List Row) → IsDoneHere facts s act further given → ((name : List ℕ) (mode : Mode) → act ≡ Lookup name mode → class_oid given ≡ None → is_absent (further given) ≡ true)
+    → IsLookedFor facts s.taken (Do act further) → is_absent (further given) ≡ true
+absent_after facts s act further given done says (Said is) = absurd (cc is)
+absent_after facts s act further given done says (Lacks is) = absurd (both_ways _ (act_serves facts act further done.owed) is)
+absent_after facts s (Lookup name mode) further given done says (Unfound is look) =
+    says name mode refl (sym (gives_class facts s mode (facts.rows (scans.RelName name)) given done.gave) ∙ no_class (facts.rows (scans.RelName name)) (and_parts (is_none s.taken && facts.usable (scans.RelName name)) _ is).1)
+absent_after facts s act further given done says (Unfound is look) = absurd (cc is)
+
+-- such a command opens nothing
+absent_unheld : (held : List Opening) (p : Plan) → is_absent p ≡ true → IsUnheld held p
+absent_unheld held (Absent name) is = tt
+absent_unheld held p is = absurd (cc is)
+
+-- what an act opens that is done lacks no scan
+opened_whole : (facts : Facts) (act : Act) (further : List Row → Plan) → act_owed facts (Do act further) ≡ [] → list_any (lacks facts.usable) (opened_by act) ≡ false
+opened_whole facts (Open rel kind) further owed = ap (λ t. t || false) (act_serves facts (Open rel kind) further owed)
+opened_whole facts act further owed = refl
 
 -- an act that is done without an entry
-pub fits_act : (facts : Facts) (o : Option Command) (s : Session) (looked to_build told : Bool) (command : Command) (act : Act) (further : List Row → Plan) (given : List Row) → o ≡ Some command → s.left ≡ Do act further → s.ended ≡ false → IsDoneHere facts s act further given → ((name : List ℕ) (mode : Mode) → act ≡ Lookup name mode → class_oid given ≡ None → is_absent (further given) ≡ true) → Fits facts o s looked to_build told → Fits facts o (act_done act given (further given) s) looked to_build told
-fits_act facts o s looked to_build told command act further given at left going done says fits = record {
+pub fits_act : (facts : Facts) (o : Option Command) (s : Session) (looked : Bool) (frames : List Frame) (told : Bool) (command : Command) (act : Act) (further : List Row → Plan) (given : List Row) → o ≡ Some command → s.left ≡ Do act further → s.ended ≡ false → IsDoneHere facts s act further given → ((name : List ℕ) (mode : Mode) → act ≡ Lookup name mode → class_oid given ≡ None → is_absent (further given) ≡ true) → Fits facts o s looked frames told → Fits facts o (act_done act given (further given) s) looked frames told
+fits_act facts o s looked frames told command act further given at left going done says fits = record {
+  rebuilds = subst (FramesFit facts o (act_done act given (further given) s)) (sym (builds_bare facts o s frames fits.rebuilds done.builds)) (bare_fits facts o (act_done act given (further given) s)
+      (λ keeps. list_any-append (lacks facts.usable) s.opened (opened_by act) ∙ or_from (list_any (lacks facts.usable) s.opened) (list_any (lacks facts.usable) (opened_by act)) (owed_whole facts s.opened done.builds) (opened_whole facts act further done.owed)));
   looks = λ _. let l = fits.looks going in record { enough = l.enough; within = l.within };
   transaction = subst (TransactionFits facts o (act_done act given (further given) s)) (sym going) (by_block s.blocks.block (subst (TransactionFits facts o s) going fits.transaction));
   first = fits.first;
@@ -48,10 +62,14 @@ fits_act facts o s looked to_build told command act further given at left going 
   taken = λ from is. absurd (unsettled (fits.taken from is).out);
   accepts = fits.accepts;
   past = λ none. absurd (let both : Some command ≡ None = sym at ∙ none in cc both);
-  sought = λ is. sought_act facts s act further given done says (subst (IsLookedFor facts s.taken) left (fits.sought is));
+  sought = λ is. Said (absent is);
   takes = tt;
+  unheld = λ is. absent_unheld (s.opened ++ opened_by act) (further given) (absent is);
 }
   where
+    absent : looked ≡ true → is_absent (further given) ≡ true
+    absent made = absent_after facts s act further given done says (subst (IsLookedFor facts s.taken) left (fits.sought made))
+
     unsettled : is_settled (outcome_of s.left) ≡ true → ⊥
     unsettled out = both_ways _ (ap (λ p. is_settled (outcome_of p)) left) out
 
@@ -87,8 +105,8 @@ none_ends facts (Commits first) is = absurd (cc)
 none_ends facts (TakesBack from) is = absurd (cc)
 
 -- the transaction before the next command
-passes_to : (facts : Facts) (o : Option Command) (s : Session) (looked to_build told : Bool) (command : Command) → o ≡ Some command → IsFinished facts command s → Fits facts o s looked to_build told → RunsIn facts (blocks_after command s)
-passes_to facts o s looked to_build told command at done fits = by_ended s.ended refl fits.transaction done.none
+passes_to : (facts : Facts) (o : Option Command) (s : Session) (looked : Bool) (frames : List Frame) (told : Bool) (command : Command) → o ≡ Some command → IsFinished facts command s → Fits facts o s looked frames told → RunsIn facts (blocks_after command s)
+passes_to facts o s looked frames told command at done fits = by_ended s.ended refl fits.transaction done.none
   where
     by_ended : (t : Bool) → s.ended ≡ t → TransactionFits facts o s t → is_none (elim t as (λ x. Option Event) [ true ↦ None | false ↦ next_of_end facts (end_of facts command s) ]) ≡ true → RunsIn facts (blocks_after command s)
     by_ended true is runs over = subst (λ x. RunsAfter facts x s) at runs
@@ -105,8 +123,8 @@ on_its_way : (facts : Facts) (command : Command) (s : Session) (event : Event) �
 on_its_way facts command s event done going comes = both_ways _ (ap (λ e. is_none e) comes) (subst (λ t. is_none (elim t as (λ x. Option Event) [ true ↦ None | false ↦ next_of_end facts (end_of facts command s) ]) ≡ true) going done.none)
 
 -- where the last entry took writes back the command isn't finished
-gone_unfinished : (facts : Facts) (o : Option Command) (s : Session) (looked to_build told : Bool) (command : Command) (from : ℕ) → o ≡ Some command → is_finished facts command s ≡ true → Fits facts o s looked to_build told → facts.last ≡ Some (events.Gone from) → ⊥
-gone_unfinished facts o s looked to_build told command from at finished fits is = on_its_way facts command s _ (parts_of facts command s finished) (fits.taken from is).going
+gone_unfinished : (facts : Facts) (o : Option Command) (s : Session) (looked : Bool) (frames : List Frame) (told : Bool) (command : Command) (from : ℕ) → o ≡ Some command → is_finished facts command s ≡ true → Fits facts o s looked frames told → facts.last ≡ Some (events.Gone from) → ⊥
+gone_unfinished facts o s looked frames told command from at finished fits is = on_its_way facts command s _ (parts_of facts command s finished) (fits.taken from is).going
     (ap (next_of_end facts) (subst (λ x. elim x as (λ y. Type 0) [ Some c ↦ (end_of facts c s ≡ TakesBack from) × (owed_of facts c s ≡ []) | None ↦ end_of_all facts ≡ TakesBack from ]) at (fits.taken from is).end).0)
 
 not_started : (number : ℕ) (own : Option Running) → option_map_or (λ t. t.first) own 0 ≤ number → option_map_or (λ t. elim (t.first == number + 1) as (λ x. ℕ) [ true ↦ 1 | false ↦ 0 ]) own 0 ≡ 0
@@ -114,13 +132,14 @@ not_started number None low = refl
 not_started number (Some t) low = ap (λ x. elim x as (λ y. ℕ) [ true ↦ 1 | false ↦ 0 ]) (ne_eqb t.first (number + 1) (λ same. absurd (omega (arith, same, low))))
 
 -- a command that is finished is passed over
-pub fits_pass : (facts : Facts) (o : Option Command) (s : Session) (looked to_build told : Bool) (command : Command) (next : Option Command) → o ≡ Some command → is_finished facts command s ≡ true → Fits facts o s looked to_build told → Fits facts next (next_session command next s) false false false
-fits_pass facts o s looked to_build told command next at finished fits = record {
+pub fits_pass : (facts : Facts) (o : Option Command) (s : Session) (looked : Bool) (frames : List Frame) (told : Bool) (command : Command) (next : Option Command) → o ≡ Some command → is_finished facts command s ≡ true → Fits facts o s looked frames told → Fits facts next (next_session command next s) false [] false
+fits_pass facts o s looked frames told command next at finished fits = record {
+  rebuilds = bare_fits facts next now (λ keeps. refl);
   looks = λ going. record {
     enough = omega (arith, started);
     within = omega (arith, ap looks_due done.after);
   };
-  transaction = runs_next facts next now now.blocks.block (passes_to facts o s looked to_build told command at done fits);
+  transaction = runs_next facts next now now.blocks.block (passes_to facts o s looked frames told command at done fits);
   first = subst (λ n. first_at facts ≤ n) (sym counts) (omega (arith, fits.first));
   opens = levels.opens;
   levels = subst (λ n. LevelsRise 0 n now.blocks.levels) (sym counts) levels.rise;
@@ -129,11 +148,12 @@ fits_pass facts o s looked to_build told command next at finished fits = record 
   written = fits.written;
   visible = λ is. absurd (on_its_way facts command s _ done (fits.visible is).going (let c = fits.visible is in
       ap (next_of_end facts) (subst (λ x. end_of facts x s ≡ Commits (first_at facts)) (one c.command c.at) c.end)));
-  taken = λ from is. absurd (gone_unfinished facts o s looked to_build told command from at finished fits is);
+  taken = λ from is. absurd (gone_unfinished facts o s looked frames told command from at finished fits is);
   accepts = fits.accepts;
-  past = λ none. subst (λ x. IsPast facts (next_session command x s)) (sym none) (record { out = refl; opened = refl; free = done.after });
+  past = λ none. subst (λ x. IsPast facts (next_session command x s)) (sym none) (record { out = refl; free = done.after });
   sought = λ is. absurd (cc is);
   takes = tt;
+  unheld = λ is. absurd (cc is);
 }
   where
     now : Session

@@ -1,8 +1,9 @@
 -- What a look was made for, and the lock that a lookup took.
-use Rattle.std.proofs.Common.{◌≡◌, ◌∙◌, ◌==◌, ◌&&◌, ◌||◌, ◌⊎◌, inl, inr, ℕ, Bool, true, false, not, Option, Some, None, List, [], ◌∷◌, ◌++◌, refl, sym, ap, map, is_none, slice_get}
-use Rattle.std.specs.List.{list_any}
-use Rattle.std.proofs.lemmas.Bool.{and_parts, both_ways, or_cases, eq-eqb, and_from}
-use Rattle.base_types.specs.Scans.{same_scan, is_build_scan}
+use Rattle.std.proofs.Common.{◌≡◌, ◌∙◌, ◌==◌, ◌&&◌, ◌||◌, ◌⊎◌, inl, inr, ℕ, Bool, true, false, not, Option, Some, None, List, [], ◌∷◌, ◌++◌, refl, sym, ap, map, is_none, is_some, slice_get}
+use Rattle.std.specs.List.{find, list_any}
+use Rattle.std.specs.Option.{option_map_or}
+use Rattle.std.proofs.lemmas.Bool.{and_parts, both_ways, eq-eqb, and_from, false_from_ne_true}
+use Rattle.base_types.specs.Scans.{same_oid, same_scan, is_build_scan, build_scans}
 use Rattle.base_types.proofs.SameScan.{same_scan-true}
 use Rattle.base_types.specs.declared.row.Row.TheVariants as rows
 use Rattle.base_types.specs.declared.scan.Purpose.TheVariants as scans
@@ -18,14 +19,18 @@ use Rattle.cacheless.specs.Owed.{act_owed}
 use Rattle.cacheless.specs.Plays.{IsLock}
 use Rattle.cacheless.specs.Settled.{class_oid}
 use Rattle.cacheless.specs.Holds.{FactsFit}
-use Rattle.cacheless.specs.May.{is_first_missing, is_missing, is_next_of_act, is_next_at, has_failed}
+use Rattle.cacheless.specs.May.{is_missing, is_next_of_act}
 use Rattle.cacheless.specs.State.{is_absent, kept_at, is_kept, row_sought}
 use Rattle.cacheless.proofs.Resting.{kept_rows}
-use Rattle.cacheless.proofs.Entries.EnteredScans.{opened_lacks, first_lacks}
+use Rattle.cacheless.proofs.Same.{builds_of}
 use Rattle.cacheless.proofs.Plans.SilentActs.{kept_already}
 use Rattle.cacheless.proofs.ReadsBuilds.{ReadsBuilds}
 use Rattle.backend_core.specs.Types.{Oid, Mode, Row, Purpose, OwnLock, Opening, Progress}
-use Rattle.backend_core.specs.Fits.{TakesFit, IsLookedFor, Lacks, Unfound, Said, lacks_name, finds_no_name, is_look}
+use Rattle.backend_core.specs.Fits.{TakesFit, IsLookedFor, Lacks, Unfound, Said, IsUnheld, lacks_scan, finds_no_name, is_look}
+use Rattle.backend_core.specs.Frames.{lacks, IsAmong}
+use Rattle.backend_core.proofs.Fitting.Rebuilding.{found_none, usable_is}
+use Rattle.backend_core.proofs.Stacking.Among.{find_all, oid_apart}
+use Rattle.backend_core.proofs.Stacking.Lacking.{with_scan, scan_apart}
 use Rattle.backend_core.specs.Words.{relation_named, is_unfound}
 
 -- the first row is no relation's
@@ -55,7 +60,7 @@ takes_cleared false number locks (Some rel) NotBuilt takes = tt
 
 -- a look more leaves what one was made for
 pub sought_looked : (facts later : Facts) (taken : Option Oid) (p : Plan) → later.usable ≡ facts.usable → later.rows ≡ facts.rows → is_look later.last ≡ true → IsLookedFor facts taken p → IsLookedFor later taken p
-sought_looked facts later taken p usable rows look (Lacks is) = Lacks (ap (λ u. lacks_name (record facts { usable = u }) p) usable ∙ is)
+sought_looked facts later taken p usable rows look (Lacks is) = Lacks (ap (λ u. lacks_scan (record facts { usable = u }) p) usable ∙ is)
 sought_looked facts later taken p usable rows look (Unfound is last) = Unfound ((λ i. finds_no_name (record facts { usable = usable i; rows = rows i }) taken p) ∙ is) look
 sought_looked facts later taken p usable rows look (Said is) = Said is
 
@@ -86,49 +91,57 @@ unfound_held facts s (Do (Lock of mode) rest) fits is = absurd (cc is)
 unfound_held facts s (Do (Write draft) rest) fits is = absurd (cc is)
 unfound_held facts s p fits is = absurd (cc is)
 
--- a look before the scan of a catalog cache is made for what comes next
-pub next_name : (facts : Facts) (s : Progress) (scan : Purpose) → FactsFit facts s → is_next_at scan s ≡ true → is_build_scan scan ≡ false → lacks_name facts (plan_at s.exec) ≡ true
-next_name facts s scan fits is named = by_side (or_cases _ _ (and_parts (not (has_failed s)) _ is).1)
+-- a look before the scan of the next act is made for what comes next
+pub next_act : (facts : Facts) (s : Progress) (scan : Purpose) → FactsFit facts s → (p : Plan) → is_next_of_act scan s p ≡ true → lacks_scan facts p ≡ true
+next_act facts s scan fits p lacking = by_act p lacking
   where
     missing_is : (wanted : Purpose) → is_missing scan (kept_at s) wanted ≡ true → not (facts.usable wanted) ≡ true
-    missing_is wanted lacks = ap not (fits.usable wanted) ∙ (and_parts (not (is_kept (kept_at s) wanted)) (same_scan scan wanted) lacks).0
+    missing_is wanted lacks_it = ap not (fits.usable wanted) ∙ (and_parts (not (is_kept (kept_at s) wanted)) (same_scan scan wanted) lacks_it).0
 
-    by_act : (p : Plan) → is_next_of_act scan s p ≡ true → lacks_name facts p ≡ true
-    by_act (Do (Lookup name mode) rest) lacks = missing_is (scans.RelName name) lacks
-    by_act (Do (Search wanted) rest) lacks = missing_is wanted lacks
-    by_act (Do (Open rel kind) rest) lacks = absurd (both_ways _ named (first_lacks (kept_at s) scan kind rel lacks).1)
-    by_act (Done (tells.Regclass oid)) lacks = missing_is (scans.RelOid oid) lacks
-    by_act p lacks = absurd (cc lacks)
+    some_first : (o : Option Purpose) → option_map_or (same_scan scan) o false ≡ true → is_some o ≡ true
+    some_first None is = absurd (cc is)
+    some_first (Some first) is = refl
 
-    by_side : (list_any (λ (o : Opening). is_first_missing scan (kept_at s) o.kind o.rel) s.opened ≡ true) ⊎ (is_next_of_act scan s (plan_at s.exec) ≡ true) → lacks_name facts (plan_at s.exec) ≡ true
-    by_side (inl opened) = absurd (both_ways _ named (opened_lacks (kept_at s) scan s.opened opened).1)
-    by_side (inr act) = by_act (plan_at s.exec) act
+    by_act : (q : Plan) → is_next_of_act scan s q ≡ true → lacks_scan facts q ≡ true
+    by_act (Do (Lookup name mode) rest) is = missing_is (scans.RelName name) is
+    by_act (Do (Search wanted) rest) is = missing_is wanted is
+    by_act (Do (Open rel kind) rest) is = ap (λ u. lacks u (record { rel = rel; kind = kind })) (usable_is facts s fits) ∙ some_first (find (λ d. not (is_kept (kept_at s) d)) (build_scans kind rel)) is
+    by_act (Done (tells.Regclass oid)) is = missing_is (scans.RelOid oid) is
+    by_act q is = absurd (cc is)
 
--- a scan for a descriptor leaves it lacking
-pub built_leaves : (facts later : Facts) (scan : Purpose) (p : Plan) → ReadsBuilds p → is_build_scan scan ≡ true → ((other : Purpose) → later.usable other ≡ (same_scan scan other || facts.usable other)) → lacks_name facts p ≡ true → lacks_name later p ≡ true
-built_leaves facts later scan p reads builds usable = by_plan p reads
+-- a scan for a held descriptor leaves it lacking
+pub built_leaves : (facts later : Facts) (scan : Purpose) (held : List Opening) (built : Opening) (p : Plan) → ReadsBuilds p → find (λ d. not (facts.usable d)) (build_scans built.kind built.rel) ≡ Some scan → IsAmong held built → IsUnheld held p → later.usable ≡ with_scan scan facts.usable → lacks_scan facts p ≡ true → lacks_scan later p ≡ true
+built_leaves facts later scan held built p reads first among unheld usable = by_plan p reads unheld
   where
+    builds : is_build_scan scan ≡ true
+    builds = find_all (λ d. is_build_scan d ≡ true) (λ d. not (facts.usable d)) (build_scans built.kind built.rel) scan (builds_of built.kind built.rel) first
+
     other_stays : (other : Purpose) → is_build_scan other ≡ false → not (facts.usable other) ≡ true → not (later.usable other) ≡ true
-    other_stays other named lacks = ap not (usable other) ∙ by_same (same_scan scan other) refl
+    other_stays other named lacks_it = ap not (ap (λ u. u other) usable) ∙ by_same (same_scan scan other) refl
       where
         by_same : (t : Bool) → same_scan scan other ≡ t → not (t || facts.usable other) ≡ true
         by_same true same = absurd (both_ways _ named (sym (ap is_build_scan (same_scan-true scan other same)) ∙ builds))
-        by_same false differs = lacks
+        by_same false differs = lacks_it
 
-    by_plan : (q : Plan) → ReadsBuilds q → lacks_name facts q ≡ true → lacks_name later q ≡ true
-    by_plan (Do (Lookup name mode) rest) of lacks = other_stays (scans.RelName name) refl lacks
-    by_plan (Do (Search wanted) rest) of lacks = other_stays wanted of lacks
-    by_plan (Done (tells.Regclass oid)) of lacks = other_stays (scans.RelOid oid) refl lacks
-    by_plan q of lacks = absurd (cc lacks)
+    apart : (rel : Oid) → list_any (λ o. same_oid rel o.rel) held ≡ false → same_oid built.rel rel ≡ false
+    apart rel none = oid_apart rel built.rel (false_from_ne_true (same_oid rel built.rel) (λ same. both_ways _ none (among (λ o. same_oid rel o.rel) same)))
+
+    by_plan : (q : Plan) → ReadsBuilds q → IsUnheld held q → lacks_scan facts q ≡ true → lacks_scan later q ≡ true
+    by_plan (Do (Lookup name mode) rest) of none lacks_it = other_stays (scans.RelName name) refl lacks_it
+    by_plan (Do (Search wanted) rest) of none lacks_it = other_stays wanted of lacks_it
+    by_plan (Do (Open rel kind) rest) of none lacks_it = ap (λ u. lacks u (record { rel = rel; kind = kind })) usable ∙ scan_apart facts.usable scan built (record { rel = rel; kind = kind }) first (apart rel none) ∙ lacks_it
+    by_plan (Done (tells.Regclass oid)) of none lacks_it = other_stays (scans.RelOid oid) refl lacks_it
+    by_plan q of none lacks_it = absurd (cc lacks_it)
 
 -- a scan that isn't owed isn't lacked
-pub act_serves : (facts : Facts) (act : Act) (rest : List Row → Plan) → act_owed facts (Do act rest) ≡ [] → lacks_name facts (Do act rest) ≡ false
+pub act_serves : (facts : Facts) (act : Act) (rest : List Row → Plan) → act_owed facts (Do act rest) ≡ [] → lacks_scan facts (Do act rest) ≡ false
 act_serves facts (Lookup name mode) rest none = ap not (kept_already (facts.usable (scans.RelName name)) (scans.RelName name) none)
 act_serves facts (Search scan) rest none = ap not (kept_already (facts.usable scan) scan none)
+act_serves facts (Open rel kind) rest none = found_none (λ scan. not (facts.usable scan)) (build_scans kind rel) none
 act_serves facts act rest none = refl
 
 -- no look was made where nothing is lacked, no lookup has failed, and none says so
-pub no_look : (facts : Facts) (taken : Option Oid) (p : Plan) → lacks_name facts p ≡ false → finds_no_name facts taken p ≡ false → is_absent p ≡ false → {X : Type 0} → IsLookedFor facts taken p → X
+pub no_look : (facts : Facts) (taken : Option Oid) (p : Plan) → lacks_scan facts p ≡ false → finds_no_name facts taken p ≡ false → is_absent p ≡ false → {X : Type 0} → IsLookedFor facts taken p → X
 no_look facts taken p serves found there (Lacks is) = absurd (both_ways _ serves is)
 no_look facts taken p serves found there (Unfound is look) = absurd (both_ways _ found is)
 no_look facts taken p serves found there (Said is) = absurd (both_ways _ there is)
@@ -175,7 +188,7 @@ unlock_found facts taken (Do (Write draft) rest) rel took = refl
 unlock_found facts taken p rel took = refl
 
 -- where a lookup has found no relation its scan isn't lacked
-pub finds_serves : (facts : Facts) (taken : Option Oid) (p : Plan) → finds_no_name facts taken p ≡ true → (lacks_name facts p ≡ false) × (is_absent p ≡ false) × (is_settled (outcome_of p) ≡ false) × (taken ≡ None)
+pub finds_serves : (facts : Facts) (taken : Option Oid) (p : Plan) → finds_no_name facts taken p ≡ true → (lacks_scan facts p ≡ false) × (is_absent p ≡ false) × (is_settled (outcome_of p) ≡ false) × (taken ≡ None)
 finds_serves facts taken (Do (Lookup name mode) rest) is = let parts = and_parts (is_none taken) (facts.usable (scans.RelName name)) (and_parts (is_none taken && facts.usable (scans.RelName name)) _ is).0 in (ap not parts.1, refl, refl, none_of taken parts.0)
   where
     none_of : (o : Option Oid) → is_none o ≡ true → o ≡ None
