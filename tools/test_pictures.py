@@ -262,16 +262,18 @@ class Pictures(unittest.TestCase):
                 self.assertEqual([label.text for label in drawn.all("halo")], texts)
 
     def test_pictures_of_the_readme(self):
-        """The pictures that README shows are those of its first example and of two backends."""
-        for script, given, shown in (
-                ("crates/catsync/stdin", "crates/catsync/stdout", "docs/first_run.svg"),
-                ("examples/two_backends.script", "examples/two_backends.output", "docs/two_backends.svg")):
+        """The pictures that README and the pages show are those of their examples."""
+        for more, script, given, shown in (
+                ("", "crates/catsync/stdin", "crates/catsync/stdout", "docs/first_run.svg"),
+                ("", "examples/two_backends.script", "examples/two_backends.output", "docs/two_backends.svg"),
+                ("--brief --from 46 ", "examples/stale_in_the_server.script", "examples/stale_in_the_server.output",
+                 "docs/stale_in_the_server.svg")):
             with self.subTest(shown):
-                words = ("--script", os.path.join(TOP, script))
+                words = more.split() + ["--script", os.path.join(TOP, script)]
                 status, drawn, _ = call("picture", *words, given=content_of(os.path.join(TOP, given)))
                 self.assertEqual(status, 0)
                 self.assertEqual(drawn, content_of(os.path.join(TOP, shown)),
-                                 "make it anew: tools/picture --script %s < %s > %s" % (script, given, shown))
+                                 "make it anew: tools/picture %s--script %s < %s > %s" % (more, script, given, shown))
 
 
 class Brief(unittest.TestCase):
@@ -491,6 +493,13 @@ class Sentences(unittest.TestCase):
         ("two_creators", 19): "Backend 1 is refused its write: t (16385) has the name t, since 11.",
         ("absent_name", 14): "Backend 3 looks the name orders up in pg_class: no relation has it, as what backend 1 wrote at 10 "
                              "isn't visible yet.",
+        ("open_relation", 59): "Backend 2 scans pg_class for orders, scan 1 of 6 for its descriptor: 1 row. The last one, built at "
+                               "22 to 32, is stale since 57, but in use: this one is built in its place.",
+        ("rebuilds_nested", 105): "Backend 2 scans pg_class for u, scan 1 of 6 for its descriptor: 1 row. The last one, built at 38 "
+                                  "to 48, is stale since 103, but in use: this one is built in its place. The build of t, which "
+                                  "began at 76, waits for it.",
+        ("stale_in_the_server", 82): "Backend 2 fetches the 2 messages of 78 and 79: the build of t, which began at 55, starts "
+                                     "over.",
         ("reset_inside_build", 27): "Backend 2 has lost messages: of the 70 that waited the queue keeps only the last ones. So it "
                                     "resets: it drops all that it keeps, and is past all messages. The name t, read at 11, is "
                                     "stale. The build of t, which began at 15, starts over.",

@@ -23,7 +23,7 @@ from catsync_tools.folder import Folder
 from catsync_tools.postgres import Server, folder_of_programs
 from catsync_tools.program import Program
 from catsync_tools.sources import read_source
-from catsync_tools.sql import Answer, Listed, Regclass, Shown, statement_of
+from catsync_tools.sql import Answer, Closed, Listed, Opened, Peeked, Regclass, Shown, statement_of
 
 HAS_SERVER = folder_of_programs() is not None
 SCRIPTS = int(os.environ.get("CATSYNC_SERVER_SCRIPTS", "20"))
@@ -40,6 +40,7 @@ OIDS = ("16384", "16385", "16386", "16387", "16999")
 COMMANDS = (
     (10, "begin"), (8, "commit"), (4, "rollback"), (10, "show T"), (10, "show T FIELD"), (10, "lock table T in MODE mode"),
     (5, "columns T"), (5, "column T C"), (5, "regclass OID"),
+    (10, "open T"), (6, "peek T"), (5, "peek T FIELD"), (4, "close T"),
     (9, "create table T (COLUMNS)"), (7, "alter table T add column C TYPE"), (6, "alter table T drop column C"),
     (6, "alter table T rename column C to C"), (7, "alter table T alter column C set statistics STAT"),
     (6, "alter table T set (fillfactor = FILL)"))
@@ -85,6 +86,7 @@ class Statements(unittest.TestCase):
         for command, statement in (
                 ("BEGIN;", "begin"), ("commit", "commit"), ("rollback ;", "rollback"),
                 ("show t", Shown("t", None)), ("show t statistics", Shown("t", "statistics")),
+                ("open t;", Opened("t")), ("peek t", Peeked("t", None)), ("peek T valid", Peeked("t", "valid")), ("close t", Closed("t")),
                 ("columns t;", Listed("t", None)), ("column T a", Listed("t", "a")), ("regclass 016384", Regclass(16384)),
                 ("lock table order in SHARE row exclusive mode", 'lock table "order" in share row exclusive mode'),
                 ("create table t(a int4,b text);", 'create table "t" ("a" int4, "b" text)'),

@@ -4,6 +4,11 @@ A backend keeps a scan from when it is made until a message that covers it reach
 in place of those that it has lost, one of its own write, or one of a write that it takes back. A descriptor is kept with its
 scans; every other scan is an entry or a list of a catalog cache, also one that gave no row. In between it gets out of date
 where another's transaction becomes visible that changes what the scan would give.
+
+A descriptor in use, by `open` or by the running command, is built anew in its place by the command that was told that it is
+stale. The entries don't say what is in use. It is told by this: the command has made nothing but looks, fetches and builds
+since it was told; and it had built the descriptor itself, or builds none for itself, or has neither locked the relation nor
+found it by its name.
 """
 from typing import Dict, List, NamedTuple, Optional, Set, Tuple
 
@@ -14,6 +19,7 @@ RUNNING, FINISHED, STARTED_OVER, CUT_OFF = "still running", "finished", "started
 FETCHED, RESET, OWN_WRITE, TAKEN_BACK, FAILED, READ_AGAIN, LEFT = (
     "a message", "a reset", "an own write", "an own write taken back", "want of memory", "a further scan", "the stop")
 LAST_SCANS = ("trigger", "indexrow")
+ACCEPTING = ("look", "fetch", "fetch reset")
 
 
 class Served(NamedTuple):
@@ -36,6 +42,7 @@ class Kept:
         self.outdated_by: object = None
         self.last: Optional[int] = None
         self.cause = ""
+        self.replaced: Optional["Kept"] = None      # by a descriptor in use: the whole one before it
         self.serves: List[Served] = []
 
     @property
@@ -81,6 +88,28 @@ class Cache:
         self.scans: Dict[Datum, Scanned] = {}
         self.by_target: Dict[Target, Set[Datum]] = {}
         self.descriptors: Dict[int, Kept] = {}
+        self.command, self.may_build = 0, False
+        self.found: Set[int] = set()                # relations that the command may build a descriptor of for itself
+        self.in_use: Dict[int, Kept] = {}           # descriptors in use that are to be built anew
+
+    def begin(self, entry, may_build):
+        """One more entry of the backend, before it counts, and whether its command may build a descriptor for itself. One
+        that doesn't seem to may be an `open`, which locks its relation in AccessShare where it hasn't done so before."""
+        (kind, parts), is_other = entry.event, entry.command != self.command
+        if is_other:
+            self.command, self.found = entry.command, set()
+        if is_other or kind not in ACCEPTING and parts.get("purpose") not in BUILD_SCANS:
+            self.in_use = {}
+        self.may_build = may_build
+        if kind == "lock ok" and (may_build or parts["mode"] == "as"):
+            self.found.add(parts["rel"])
+
+    def note_in_use(self, kept):
+        """A descriptor is stale by a fetch or a reset; whether it is in use."""
+        if kept.is_descriptor and (kept.built is None or kept.command == self.command or kept.rel not in self.found):
+            whole = kept if kept.built else kept.replaced
+            if whole is not None:
+                self.in_use[kept.rel] = whole
 
     def keep(self, datum, scanned):
         """A scan is kept from now on."""
@@ -123,6 +152,8 @@ class Caches:
         cache.keep(datum, Scanned(rows, kept))
         if not kept.is_descriptor or datum[0] in LAST_SCANS:
             kept.finish(entry.number)
+        if datum[0] == "relname" and cache.may_build:
+            cache.found.update(int(row.columns[0]) for row in rows)
         return kept
 
     def part_of(self, cache: Cache, entry, datum, rows, name):
@@ -137,7 +168,21 @@ class Caches:
         self.all.append(kept)
         if kept.is_descriptor:
             cache.descriptors[rel] = kept
+            kept.replaced = cache.in_use.pop(rel, None)
         return kept
+
+    def rebuilds(self, entry):
+        """Whether a scan, before it counts, is one of a descriptor in use, which is built anew in its place."""
+        cache, rel = self.cache(entry.backend), entry.event.parts.get("rel")
+        if entry.event.parts.get("purpose") not in BUILD_SCANS:
+            return False
+        kept = cache.descriptors.get(rel)
+        return rel in cache.in_use or bool(kept and kept.replaced and not kept.built)
+
+    def suspended(self, entry):
+        """The backend's builds that are on their way, and wait while another relation's descriptor is built."""
+        rel = entry.event.parts.get("rel")
+        return [kept for kept in self.cache(entry.backend).descriptors.values() if not kept.built and kept.rel != rel]
 
     def end(self, entry, kept: Kept, cause):
         """The backend keeps this no more."""
@@ -155,6 +200,8 @@ class Caches:
                 ended.append(kept)
         for kept in ended:
             self.end(entry, kept, cause)
+            if cause in (FETCHED, RESET):
+                cache.note_in_use(kept)
         return sorted(ended, key=lambda kept: kept.first)
 
     def process(self, entry, messages, cause):

@@ -9,7 +9,8 @@ from .program import TOP
 from .sql import tokens_of
 
 PROFILE = os.path.join(TOP, "docs", "PROFILE.md")
-_TABLE = re.compile("(?:show|columns?|(?:create|alter|lock) table) ([a-z_][a-z0-9_]*)")
+_TABLE = re.compile("(?:show|open|peek|close|columns?|(?:create|alter|lock|drop) table) ([a-z_][a-z0-9_]*)")
+_NEW_NAME = re.compile("alter table [a-z_][a-z0-9_]* rename to ([a-z_][a-z0-9_]*)")
 _FOUND = re.compile("regclass ([a-z_][a-z0-9_]*)")
 _REGCLASS = re.compile("regclass 0*([0-9]+)")
 SYSTEM_COLUMNS = "ctid|xmin|xmax|cmin|cmax|tableoid"
@@ -30,6 +31,10 @@ KNOWN = (
     Known("warning", ".* set statistics .*", ".*", "22023 lowering .*", "lowered to 10,000"),
     Known("answer", r".*\b(%s)\b.*" % SYSTEM_COLUMNS, "ok", "error (42701|0A000) .*", "names of system columns"),
     Known("error", r".*\b(%s)\b.*" % SYSTEM_COLUMNS, "error 42.*", "error (0A000|42701) .*", "names of system columns"),
+    Known("answer", "alter table .* rename .*", "error 55006 .*", "ok", "renames what is open"),
+    Known("error", "alter table .* rename .*", "error 55006 .*", "error 42.*", "renames what is open"),
+    Known("statistics", "peek .*", ".*", ".*", "a query accepts first"),
+    Known("fillfactor", "peek .*", ".*", ".*", "a query accepts first"),
 )
 
 
@@ -68,6 +73,12 @@ def table_of(command):
     return found.group(1) if found else None
 
 
+def tables_of(command):
+    """The table that a command names, and the new name that it gives it."""
+    text = tokens_of(command)
+    return {found.group(1) for found in (_TABLE.match(text), _NEW_NAME.fullmatch(text)) if found}
+
+
 def is_done_in_one(compared: Compared):
     """Whether a command was done in one of the two and refused in the other, or its block committed in one alone."""
     refused = [text.startswith("error ") for text in (compared.here, compared.server.text)]
@@ -96,17 +107,17 @@ class Effects:
 
     def take(self, compared: Compared):
         """One more command."""
-        backend, text, table = compared.command[0], tokens_of(compared.text), table_of(compared.text)
+        backend, text, named = compared.command[0], tokens_of(compared.text), tables_of(compared.text)
         if text == "begin":
             self.open.setdefault(backend, set())
         tables = self.open.get(backend, set())
-        tables |= {table} - {None}
+        tables |= named
         asked = _REGCLASS.fullmatch(text)
         if asked and backend in self.open and compared.here.endswith(" none"):
             self.oids.setdefault(backend, {}).setdefault(asked.group(1), "%d.%d" % compared.command)
         if is_done_in_one(compared):
             first = self.cause(compared, "answer") or "%d.%d" % compared.command
-            for name in tables | {table} - {None}:
+            for name in tables | named:
                 self.tables.setdefault(name, first)
             if backend in self.open:
                 self.blocks.setdefault(backend, first)

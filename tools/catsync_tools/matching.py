@@ -9,6 +9,7 @@ MODES = {"access share": "as", "row share": "rs", "row exclusive": "rx", "share 
 NAMED = {"class": (1,), "att": (2, 3)}      # of a row that is new, the columns that its command has
 OF_NO_COMMAND = ("gone", "release", "stop")
 ANSWERED_BY_WORD = ("columns", "column", "regclass")
+SHOWS_FIELDS = ("show", "peek")
 
 
 def check_script(path, source, output):
@@ -58,13 +59,13 @@ def named_by(event):
 
 
 def answer_can_be_of(words, text):
-    """Whether a command with these words can be answered so: only `show` has fields, and those that were asked for; and three
-    commands begin their answers with their own word."""
+    """Whether a command with these words can be answered so: only `show` and `peek` have fields, and those that were asked for;
+    and three commands begin their answers with their own word."""
     if text.startswith("error "):
         return True
     if words[0] in ANSWERED_BY_WORD:
         return text.startswith(words[0] + " ")
-    if words[0] != "show":
+    if words[0] not in SHOWS_FIELDS:
         return text in ("ok", "rolled back")
     fields = [field.split(" ")[0] for field in text.split("; ")]
     return "ok" not in fields and (len(words) == 2 or fields == words[2:])

@@ -1,6 +1,6 @@
 """A script's commands as a PostgreSQL server takes them, and its replies as `catsync walk` writes answers."""
 import re
-from typing import Dict, List, NamedTuple, Optional
+from typing import Dict, List, NamedTuple, Optional, Tuple
 
 from .faults import Fault
 from .session import Reply, Session
@@ -28,6 +28,8 @@ FORMS = [(re.compile(pattern), sql) for pattern, sql in (
 _TABLE = re.compile(r"create table %s \( (?:(.*) )?\)" % _NAME)
 _COLUMN = re.compile("%s ([a-z0-9]+)" % _NAME)
 _SHOW = re.compile("show %s(?: (%s))?" % (_NAME, "|".join(FIELDS + OTHER_FIELDS)))
+_OPENED = re.compile("(open|close) %s" % _NAME)
+_PEEKED = re.compile("peek %s(?: (%s))?" % (_NAME, "|".join(FIELDS + OTHER_FIELDS)))
 _LISTED = re.compile("(?:columns %s|column %s %s)" % (_NAME, _NAME, _NAME))
 _REGCLASS = re.compile("regclass ([0-9]+)")
 NO_OID = 2 ** 32 - 1    # which no relation of a new database has
@@ -64,6 +66,22 @@ class Shown(NamedTuple):
     field: Optional[str]
 
 
+class Opened(NamedTuple):
+    """An `open` of a table."""
+    table: str
+
+
+class Peeked(NamedTuple):
+    """A `peek` at a table that is open, or at a field of it."""
+    table: str
+    field: Optional[str]
+
+
+class Closed(NamedTuple):
+    """A `close` of a table that is open."""
+    table: str
+
+
 class Listed(NamedTuple):
     """A `columns` of a table, or a `column` of it."""
     table: str
@@ -92,8 +110,13 @@ def statement_of(command):
     text = tokens_of(command)
     shown, table = _SHOW.fullmatch(text), _TABLE.fullmatch(text)
     listed, regclass = _LISTED.fullmatch(text), _REGCLASS.fullmatch(text)
+    opened, peeked = _OPENED.fullmatch(text), _PEEKED.fullmatch(text)
     if shown:
         return Shown(shown.group(1), shown.group(2))
+    if opened:
+        return (Opened if opened.group(1) == "open" else Closed)(opened.group(2))
+    if peeked:
+        return Peeked(peeked.group(1), peeked.group(2))
     if listed:
         return Listed(listed.group(1) or listed.group(2), listed.group(3))
     if regclass:
@@ -111,11 +134,14 @@ def statement_of(command):
 
 
 class Asked:
-    """A session that is asked for commands of a script. `oids` has which oids here are which in the server."""
+    """A session that is asked for commands of a script. `oids` has which oids here are which in the server. For a table that
+    is open it has a cursor, which holds the table's descriptor as `open` does here; the latest is the last one."""
 
     def __init__(self, session: Session, oids: Dict[int, int]):
         self.session, self.oids = session, oids
         self.in_block = False
+        self.cursors: List[Tuple[str, str]] = []        # tables, each with the name of its cursor
+        self.opened = 0
 
     def ask(self, statement):
         """The answer to a command."""
@@ -123,9 +149,14 @@ class Asked:
             return self.show(statement)
         if isinstance(statement, Regclass):
             return self.name_of(statement.oid)
+        if isinstance(statement, Opened):
+            return self.open(statement.table)
+        if isinstance(statement, (Peeked, Closed)):
+            return self.go_to(statement)
         reply = self.session.ask(statement)
         if statement in ("begin", "commit", "rollback"):
             self.in_block = statement == "begin"
+            self.cursors = self.cursors if statement == "begin" else []
         if reply.error is None and statement == "commit" and reply.tag == "ROLLBACK":
             return Answer("rolled back", warnings_of(reply))
         return answer_of(reply, "ok")
@@ -138,14 +169,41 @@ class Asked:
         reply = self.session.ask('lock table "%s" in access share mode' % shown.table)
         text = None if reply.error else self.listed(shown) if isinstance(shown, Listed) else self.fields(shown)
         if text is None and not reply.error:
-            lacks = ("42703", "column %s" % shown.column) if isinstance(shown, Listed) else ("42809", "field %s" % shown.field)
-            reply = self.session.ask("do $$ begin raise exception using errcode = '%s', message = 'a table has no %s'; "
-                                     "end $$" % lacks)
+            reply = self.refuse("42703", "no column " + shown.column) if isinstance(shown, Listed) else self.lacks(shown.field)
         if not self.in_block:
             self.session.ask("rollback")
         return answer_of(reply, text)
 
-    def fields(self, shown: Shown):
+    def refuse(self, code, text):
+        """The reply to what raises an error of this code."""
+        return self.session.ask("do $$ begin raise exception using errcode = '%s', message = '%s'; end $$" % (code, text))
+
+    def lacks(self, field):
+        """The reply to who asks for a field that tables lack."""
+        return self.refuse("42809", "a table has no field " + field)
+
+    def open(self, table):
+        """The answer to an `open`: the table is locked, and has one cursor more."""
+        reply = self.session.ask('lock table "%s" in access share mode' % table)
+        if not reply.error:
+            self.opened += 1
+            self.cursors.append((table, "%s %d" % (table, self.opened)))
+            reply = self.session.ask('declare "%s" cursor for select from "%s"' % (self.cursors[-1][1], table))
+        return answer_of(reply, "ok")
+
+    def go_to(self, statement):
+        """The answer to what asks for the latest cursor of a table: a `close`, or a `peek`, which is answered by queries."""
+        cursor = next((pair for pair in reversed(self.cursors) if pair[0] == statement.table), None)
+        if cursor is None:
+            return answer_of(self.refuse(*("55000", "not open") if self.in_block else ("25P01", "no block")), "ok")
+        if isinstance(statement, Closed):
+            self.cursors.remove(cursor)
+            return answer_of(self.session.ask('close "%s"' % cursor[1]), "ok")
+        reply = self.session.ask('move 0 in "%s"' % cursor[1])
+        text = None if reply.error else self.fields(statement)
+        return answer_of(self.lacks(statement.field) if text is None and not reply.error else reply, text)
+
+    def fields(self, shown):
         """The values of the fields that are asked for, or None where a table has no such field."""
         if shown.field in OTHER_FIELDS:
             return None

@@ -49,6 +49,7 @@ class Facts:
     rows: Sequence[Row] = ()                            # that its scan gives
     unseen: Sequence[Version] = ()                      # versions of a name that its scan doesn't see
     kept: Optional[Kept] = None                         # what its scan is part of
+    suspended: Sequence[Kept] = ()                      # builds that wait until the one that its scan begins is at its end
     stale: Sequence[Kept] = ()                          # what the backend keeps no more
     outdated: Sequence[Kept] = ()                       # what others keep that is out of date from here on
     cleared: Sequence[Lock] = ()
@@ -147,6 +148,7 @@ class Model:
         if before:
             before.following = entry
         facts.refusal = self.refusal_of(entry)
+        self.caches.cache(entry.backend).begin(entry, self.uses.may_build(entry))
         self.uses.take(self, facts, before)
         facts.transaction = self.transactions.take(entry)
         self.caches.cut(entry)
@@ -210,6 +212,8 @@ class Model:
             facts.own = self.locks.of(entry.backend, self.rows.named(entry.backend, parts["name"]))
         name = self.names.name_of(parts["rel"]) if "rel" in parts else parts["name"]
         facts.kept = self.caches.scan(entry, facts.rows, name)
+        if facts.kept.is_descriptor and facts.kept.first == entry.number:
+            facts.suspended = self.caches.suspended(entry)
 
     def take_write(self, facts, entry):
         """The rows of a command are changed, and its messages processed by its own backend."""

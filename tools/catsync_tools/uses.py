@@ -3,7 +3,7 @@ descriptor, or a name, serves a command that makes no scan for it.
 
 An answer tells that its command opened a descriptor: one that shows fields, and an error of a column or of another part of
 the relation; but not where the command scans for a list of columns, as `columns` does, or where a column is missing under the
-lock that `column` asks for. A command that writes has opened the descriptor of the relation that it changes, and looked up
+lock that `column` asks for. What is built anew in its place, since it is in use, isn't found by a command. One that writes has opened the descriptor of the relation that it changes, and looked up
 the columns. A command without an answer and without a write (`lock table`, or one that the history doesn't finish) isn't said
 to open any.
 """
@@ -91,6 +91,10 @@ class Uses:
             self.answered.setdefault(backend, []).append(command)
         self.courses: Dict[int, Course] = {}
 
+    def may_build(self, entry):
+        """Whether the command of an entry may build a descriptor for itself: where it opened one, or has no answer."""
+        return (entry.backend, entry.command) in self.opening or entry.command not in self.answered.get(entry.backend, ())
+
     def take(self, model, facts, last):
         """One more entry, before it counts, with the facts of its backend's last one."""
         entry = facts.entry
@@ -108,7 +112,7 @@ class Uses:
                 self.opening.discard(place)
             if not course.by_scan:
                 self.serve(model, course, facts, names=True)
-        elif kind not in PASSED and not course.is_over:
+        elif kind not in PASSED and not course.is_over and not model.caches.rebuilds(entry):
             course.is_over = True
             self.go_on(model, course, entry, last)
         if kind == "write":

@@ -133,11 +133,11 @@ class Why:
                                                    verb(cleared, "is", "are"))] if cleared else []
 
     def served(self, facts: Facts):
-        """What serves a command without a scan."""
+        """What serves commands without a scan."""
         texts = []
-        for kept in facts.serves:
-            command = next(served.command for served in kept.serves if served.entry == facts.entry.number)
-            text = "%s, serves command %d without a scan" % (self.kept(kept), command)
+        for kept in dict.fromkeys(facts.serves):
+            commands = [str(served.command) for served in kept.serves if served.entry == facts.entry.number]
+            text = "%s, serves %s %s without a scan" % (self.kept(kept), verb(commands, "command", "commands"), listed(commands))
             if kept.outdated is not None and kept.outdated <= facts.entry.number:
                 text += ", out of date as it is since " + at(kept.outdated)
             texts.append(text)
@@ -251,7 +251,7 @@ class Why:
             texts.append("the descriptor is built, and kept from here on" + (
                 ", though some of it is out of date since " + at(kept.outdated)
                 if kept.outdated and kept.outdated < facts.entry.number else ""))
-        return texts + (self.reason_to_build(kept) if kept.first == facts.entry.number else [])
+        return texts + (self.reason_to_build(kept) + self.suspended(facts) if kept.first == facts.entry.number else [])
 
     def reason_to_build(self, kept: Kept):
         """Why a descriptor is built: there was none, or what became of the last one."""
@@ -260,7 +260,14 @@ class Why:
             return ["it keeps none of this relation yet"]
         if not last.built:
             return ["the build that began at %s was given up at %s" % (at(last.first), at(last.last))]
-        return ["the last one, built at %s to %s, is stale since %s" % (at(last.first), at(last.built), at(last.last))]
+        return ["the last one, built at %s to %s, is stale since %s%s" % (
+            at(last.first), at(last.built), at(last.last), ", but in use: this one is built in its place" if kept.replaced else "")]
+
+    def suspended(self, facts: Facts):
+        """Which builds wait for this one."""
+        return ["%s %s for it" % (listed("the build of %s, which began at %s," % (
+            self.story.called(kept.rel, kept.name), at(kept.first)) for kept in facts.suspended), verb(
+                facts.suspended, "waits", "wait"))] if facts.suspended else []
 
     def reason_to_scan(self, kept: Kept):
         """What became of the last entry or list of this key, if there was one."""
