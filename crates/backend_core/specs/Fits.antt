@@ -185,7 +185,7 @@ pub record Fits (facts : Facts) (o : Option Command) (s : Session) (looked : Boo
   pub opens : is_open s.blocks ≡ not (is_empty s.blocks.levels)
   pub levels : LevelsRise 0 (number_of s) s.blocks.levels
   pub blocked : s.blocked ≡ is_some (refused_first s.blocks o)
-  pub settled : is_settled (outcome_of (plan_first s.blocks o)) ≡ true → s.left ≡ plan_first s.blocks o
+  pub settled : is_settled (outcome_of (plan_first s.blocks s.opens o)) ≡ true → s.left ≡ plan_first s.blocks s.opens o
   pub written : has_write_from 0 facts.lists ≡ true → option_map_or (λ t. is_some t.xid) facts.running false ≡ true
   pub visible : is_visible facts.running ≡ true → OnCommit facts o s
   pub taken : (from : ℕ) → facts.last ≡ Some (events.Gone from) → OnTakingBack facts o s from

@@ -61,7 +61,7 @@ pub record OwesLookNow (s : Progress) : Type 0 where
 -- a scan is the first of the rebuild on top, or the first that the next act lacks, where nothing is rebuilt
 abbrev pub IsInTurn : Bool → Backend → Purpose → Type 0
 IsInTurn true s scan = scan_on_top s ≡ Some scan
-IsInTurn false s scan = (s.frames ≡ []) × (is_next_of_act scan s.progress (plan_at s.progress.exec) ≡ true)
+IsInTurn false s scan = (s.frames ≡ []) × (is_next_of_act scan s.progress (plan_at s.progress.opens s.progress.exec) ≡ true)
 
 -- this scan comes next, of the rebuild on top or of the next act
 pub record IsScanNext (s : Backend) (scan : Purpose) (rebuilds : Bool) : Type 0 where
@@ -85,8 +85,8 @@ pub record IsUnlockNext (s : Progress) (rel : Oid) (mode : Mode) : Type 0 where
 
 -- a lookup has found no relation, and looks before it says so; where it says so already, its last entry was a look
 pub data FindsNone (s : Progress) (command : Command) : Type 0 where
-  Looks : is_unfound s (plan_at s.exec) ≡ true → owes_nothing command s ≡ true → FindsNone s command
-  Says : is_absent (plan_at s.exec) ≡ true → is_quiet s.due ≡ true → FindsNone s command
+  Looks : is_unfound s (plan_at s.opens s.exec) ≡ true → owes_nothing command s ≡ true → FindsNone s command
+  Says : is_absent (plan_at s.opens s.exec) ≡ true → is_quiet s.due ≡ true → FindsNone s command
 
 -- such a look comes next: it wasn't made, or messages came since the lookup began
 pub record IsAcceptNext (s : Backend) : Type 0 where
@@ -100,7 +100,7 @@ pub record IsWriteNext (s : Progress) : Type 0 where
   pub command : Command
   pub free : IsFree s command
   pub owes : owes_nothing command s ≡ true
-  pub wants : want_of (plan_at s.exec) ≡ wants.Write
+  pub wants : want_of (plan_at s.opens s.exec) ≡ wants.Write
 
 -- this entry of the end of a command that has come out comes next, where no lookup looks once more, or after the last command of taking back what still runs
 pub data EndsNext (s : Backend) (event : Event) : Type 0 where
@@ -115,8 +115,8 @@ pub record IsLookNext (rebuilds : Bool) (s : Backend) : Type 0 where
 
 -- what the choice rests on: a lock that the running lookup took is held by a grant of its command, where a look was made for a lookup that has found no relation, the lookup ends, the rebuild on top is of a held descriptor that lacks a scan, and where nothing is rebuilt none does
 pub record IsChoiceSound (s : Backend) : Type 0 where
-  pub takes : TakesFit (s.progress.finished + 1) s.progress.locks.items s.progress.taken (plan_at s.progress.exec)
-  pub accepts : s.looked ≡ true → is_unfound s.progress (plan_at s.progress.exec) ≡ true → owed_at s.progress.due ≡ [] → has_accepted_at s.progress ≡ true
+  pub takes : TakesFit (s.progress.finished + 1) s.progress.locks.items s.progress.taken (plan_at s.progress.opens s.progress.exec)
+  pub accepts : s.looked ≡ true → is_unfound s.progress (plan_at s.progress.opens s.progress.exec) ≡ true → owed_at s.progress.due ≡ [] → has_accepted_at s.progress ≡ true
   pub builds : (f : Frame) → top s.frames ≡ Some f → IsRebuilt (is_kept (kept_at s.progress)) s.progress.opened f
   pub whole : (command : Command) → slice_get s.progress.commands s.progress.finished ≡ Some command → s.frames ≡ [] → has_failed s.progress ≡ false → lacks_opened (kept_at s.progress) s.progress.opened ≡ false
 

@@ -35,7 +35,7 @@ is_unfound s plan = false
 
 -- so it has, or the command says so already
 abbrev pub finds_none : Progress → Bool
-finds_none s = is_absent (plan_at s.exec) || is_unfound s (plan_at s.exec)
+finds_none s = is_absent (plan_at s.opens s.exec) || is_unfound s (plan_at s.opens s.exec)
 
 -- the relation of the descriptor that is to be opened
 abbrev pub relation_to_open : Plan → Option Oid
@@ -44,11 +44,11 @@ relation_to_open plan = None
 
 -- the descriptor that is to be opened has made its first scan
 abbrev pub has_begun : Progress → Bool
-has_begun s = option_map_or (λ rel. is_kept (kept_at s) (scans.Class rel)) (relation_to_open (plan_at s.exec)) false
+has_begun s = option_map_or (λ rel. is_kept (kept_at s) (scans.Class rel)) (relation_to_open (plan_at s.opens s.exec)) false
 
 -- messages mark it: its first scan is made, and one of them is for its relation, so that the build starts over, with another look
 abbrev pub marks_build : Progress → List Message → Bool
-marks_build s messages = option_map_or (λ rel. is_kept (kept_at s) (scans.Class rel) && list_any (covers (scans.Class rel)) messages) (relation_to_open (plan_at s.exec)) false
+marks_build s messages = option_map_or (λ rel. is_kept (kept_at s) (scans.Class rel) && list_any (covers (scans.Class rel)) messages) (relation_to_open (plan_at s.opens s.exec)) false
 
 -- the look for the next scan of the act counts still, after a fetch
 abbrev pub looked_after : Backend → Bool → Bool → Bool
@@ -65,11 +65,11 @@ has_error plan = false
 
 -- the rebuilds after a fetch of messages: a command that has failed rebuilds nothing
 abbrev pub frames_given : Backend → List Message → List Frame
-frames_given s messages = unless (has_error (plan_at s.progress.exec)) s.frames (frames_fetched (is_kept (kept_at s.progress)) s.progress.opened messages s.frames)
+frames_given s messages = unless (has_error (plan_at s.progress.opens s.progress.exec)) s.frames (frames_fetched (is_kept (kept_at s.progress)) s.progress.opened messages s.frames)
 
 -- and after one of a reset
 abbrev pub frames_reset_of : Backend → List Opening → List Frame
-frames_reset_of s held = unless (has_error (plan_at s.progress.exec)) s.frames (frames_reset (is_kept (kept_at s.progress)) held s.frames)
+frames_reset_of s held = unless (has_error (plan_at s.progress.opens s.progress.exec)) s.frames (frames_reset (is_kept (kept_at s.progress)) held s.frames)
 
 -- the rebuilds after a look, of the one on top or of the next act
 abbrev pub frames_looked : Bool → List Frame → List Frame
@@ -89,4 +89,4 @@ scan_on_top s = elim (top s.frames) [ Some f ↦ find (λ scan. not (is_kept (ke
 
 -- it has found no relation, but messages came since the lookup began, or since it looked whether some wait: it looks once more before it says so
 abbrev pub accepts_again : Backend → Bool
-accepts_again s = is_absent (plan_at s.progress.exec) && is_quiet s.progress.due && (not s.looked || s.told)
+accepts_again s = is_absent (plan_at s.progress.opens s.progress.exec) && is_quiet s.progress.due && (not s.looked || s.told)

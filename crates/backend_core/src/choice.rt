@@ -25,7 +25,7 @@ impl Backend {
         requires few { self.now.progress.finished ≤ 20000 }
         requires still { IsAtRest self.now.progress }
         requires chosen { IsChoiceSound self.now }
-        requires reads { ReadsOpened self.now.progress.opened (plan_at self.now.progress.exec) }
+        requires reads { ReadsOpened self.now.progress.opened (plan_at self.now.progress.opens self.now.progress.exec) }
         ensures { IsNextOf self.now result }
     {
         match self
@@ -55,7 +55,7 @@ impl Backend {
         requires few { self.now.progress.finished ≤ 20000 }
         requires still { IsAtRest self.now.progress }
         requires chosen { IsChoiceSound self.now }
-        requires reads { ReadsOpened self.now.progress.opened (plan_at self.now.progress.exec) }
+        requires reads { ReadsOpened self.now.progress.opened (plan_at self.now.progress.opens self.now.progress.exec) }
         requires at { slice_get self.now.progress.commands self.now.progress.finished ≡ Some command.now }
         ensures { IsNextOf self.now result }
     {
@@ -71,7 +71,7 @@ impl Backend {
         requires few { self.now.progress.finished ≤ 20000 }
         requires still { IsAtRest self.now.progress }
         requires chosen { IsChoiceSound self.now }
-        requires reads { ReadsOpened self.now.progress.opened (plan_at self.now.progress.exec) }
+        requires reads { ReadsOpened self.now.progress.opened (plan_at self.now.progress.opens self.now.progress.exec) }
         requires at { slice_get self.now.progress.commands self.now.progress.finished ≡ Some command.now }
         requires due { owed_at self.now.progress.due ≡ [] }
         ensures { IsNextOf self.now result }
@@ -103,9 +103,9 @@ impl Backend {
         requires few { self.now.progress.finished ≤ 20000 }
         requires still { IsAtRest self.now.progress }
         requires chosen { IsChoiceSound self.now }
-        requires reads { ReadsOpened self.now.progress.opened (plan_at self.now.progress.exec) }
+        requires reads { ReadsOpened self.now.progress.opened (plan_at self.now.progress.opens self.now.progress.exec) }
         requires free { IsFree self.now.progress command.now }
-        requires want { want_of (plan_at self.now.progress.exec) ≡ want.now }
+        requires want { want_of (plan_at self.now.progress.opens self.now.progress.exec) ≡ want.now }
         requires goes { has_failed self.now.progress ≡ false }
         ensures { IsNextOf self.now result }
     {
@@ -141,9 +141,9 @@ impl Backend {
         requires few { self.now.progress.finished ≤ 20000 }
         requires still { IsAtRest self.now.progress }
         requires chosen { IsChoiceSound self.now }
-        requires reads { ReadsOpened self.now.progress.opened (plan_at self.now.progress.exec) }
+        requires reads { ReadsOpened self.now.progress.opened (plan_at self.now.progress.opens self.now.progress.exec) }
         requires free { IsFree self.now.progress command.now }
-        requires want { want_of (plan_at self.now.progress.exec) ≡ want.now }
+        requires want { want_of (plan_at self.now.progress.opens self.now.progress.exec) ≡ want.now }
         requires goes { has_failed self.now.progress ≡ false }
         requires bare { self.now.frames ≡ [] }
         requires whole { lacks_opened (kept_at self.now.progress) self.now.progress.opened ≡ false }
@@ -189,7 +189,7 @@ impl Backend {
         requires still { IsAtRest self.now.progress }
         requires chosen { IsChoiceSound self.now }
         requires free { IsFree self.now.progress command.now }
-        requires want { want_of (plan_at self.now.progress.exec) ≡ Want.Lookup name mode }
+        requires want { want_of (plan_at self.now.progress.opens self.now.progress.exec) ≡ Want.Lookup name mode }
         requires bare { self.now.frames ≡ [] }
         requires whole { lacks_opened (kept_at self.now.progress) self.now.progress.opened ≡ false }
         ensures { IsNextOf self.now result }
@@ -208,7 +208,7 @@ impl Backend {
         requires still { IsAtRest self.now.progress }
         requires chosen { IsChoiceSound self.now }
         requires free { IsFree self.now.progress command.now }
-        requires want { want_of (plan_at self.now.progress.exec) ≡ Want.Lookup name mode }
+        requires want { want_of (plan_at self.now.progress.opens self.now.progress.exec) ≡ Want.Lookup name mode }
         requires owes { owes_nothing command.now self.now.progress ≡ true }
         requires found { relation_named (row_sought self.now.progress name) ≡ Some rel }
         ensures { IsNextOf self.now result }
@@ -229,7 +229,7 @@ impl Backend {
         requires still { IsAtRest self.now.progress }
         requires chosen { IsChoiceSound self.now }
         requires free { IsFree self.now.progress command.now }
-        requires want { want_of (plan_at self.now.progress.exec) ≡ Want.Lookup name mode }
+        requires want { want_of (plan_at self.now.progress.opens self.now.progress.exec) ≡ Want.Lookup name mode }
         requires owes { owes_nothing command.now self.now.progress ≡ true }
         requires unfound { relation_named (row_sought self.now.progress name) ≡ None }
         ensures { IsNextOf self.now result }

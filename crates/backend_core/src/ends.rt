@@ -3,6 +3,7 @@
 use crate::{Backend, Life};
 use base_types::Xid;
 use seg_calls::Seg;
+use std::alloc::Global;
 
 impl Backend {
     ghost use Rattle.std.specs.Prelude.{◌≡◌, ◌<◌};
@@ -49,7 +50,7 @@ impl Backend {
     }
 
     // It releases the locks of its transaction, which ends.
-    pub(crate) fn release<L: Seg>(&mut self, seg: &mut L, from: u32)
+    pub(crate) fn release<L: Seg>(&mut self, alloc: Global, seg: &mut L, from: u32)
         requires ready { IsReady (L.script seg.old) (L.history seg.old) self.old }
         requires place { 0 < L.promised seg.old self.old.progress.id }
         requires next { IsNextOf self.old (nexts.Release from) }
@@ -57,7 +58,7 @@ impl Backend {
         ensures enters { Enters (L.script seg.old) (L.history seg.old) (L.history seg.new) (L.promised seg.old) (L.promised seg.new) self.old self.new }
     {
         seg.release(self.progress.id, self.progress.finished + 1, from);
-        self.progress.enter_release(from);
+        self.progress.enter_release(alloc, from);
     }
 
     // It leaves.

@@ -158,7 +158,7 @@ impl Backend {
 
     // Whether its command has failed, but for a lookup that found no relation.
     fn has_error(&self) -> bool
-        ensures { result ≡ has_error (plan_at self.now.progress.exec) }
+        ensures { result ≡ has_error (plan_at self.now.progress.opens self.now.progress.exec) }
     {
         matches!(self.progress.exec.next(), Want::Fails(_))
     }
@@ -217,7 +217,7 @@ impl Backend {
 
     // The relation of the descriptor that the next act opens.
     fn opens_next(&self) -> Option<Oid>
-        ensures { result ≡ relation_to_open (plan_at self.now.progress.exec) }
+        ensures { result ≡ relation_to_open (plan_at self.now.progress.opens self.now.progress.exec) }
     {
         match self.progress.exec.next() {
             Want::Open { rel, .. } => Some(rel),

@@ -86,28 +86,28 @@ module _ (scenario : Scenario) (seen : List Entry) (s : Backend) (waits : Awaits
   built = subst (λ c. runs c ≡ true) (get_or_from_slice_get s.progress.commands s.progress.finished command command at) (waits.keeps.built s.progress.finished command (slice_get_within s.progress.commands s.progress.finished command at))
 
   -- the blocks haven't refused it, where it hasn't failed
-  unblocked_here : outcome_of (plan_at s.progress.exec) ≢ Badly → s.progress.blocked ≡ false
+  unblocked_here : outcome_of (plan_at s.progress.opens s.progress.exec) ≢ Badly → s.progress.blocked ≡ false
   unblocked_here goes = by_test s.progress.blocked refl
     where
       by_test : (t : Bool) → s.progress.blocked ≡ t → s.progress.blocked ≡ false
       by_test false is = is
       by_test true is = absurd (let badly : outcome_of (plan_first (waiting waits).blocks (command_at s)) ≡ Badly = refused_badly (command_at s) (waiting waits) (sym waits.fits.blocked ∙ is) in goes (ap outcome_of (waits.fits.settled (ap is_settled badly)) ∙ badly))
 
-  runs_here : owed_first s.progress command ≡ [] → outcome_of (plan_at s.progress.exec) ≢ Badly → DoesSome (plan_of none_open command) → is_some (facts_of seen s.progress.id).running ≡ true
+  runs_here : owed_first s.progress command ≡ [] → outcome_of (plan_at s.progress.opens s.progress.exec) ≢ Badly → DoesSome (plan_of none_open command) → is_some (facts_of seen s.progress.id).running ≡ true
   runs_here free goes acts = acts_run (facts_of seen s.progress.id) (command_at s) (waiting waits) s.looked s.frames s.told command at waits.fits (going scenario seen s waits courses command at) (unblocked_here goes) built acts
       (start_owed (facts_of seen s.progress.id) command s.progress waits.rests.holds.rest waits.rests.holds.facts ∙ free)
 
   -- its plan isn't an answer alone
-  acts_none : (act : Act) (rest : List Row → Plan) → plan_at s.progress.exec ≡ Do act rest → DoesSome (plan_of none_open command)
+  acts_none : (act : Act) (rest : List Row → Plan) → plan_at s.progress.opens s.progress.exec ≡ Do act rest → DoesSome (plan_of none_open command)
   acts_none act rest acts told none = let way : OnItsWay seen s.progress.id (waiting waits) command = on_its_way seen s.progress.id (waiting waits) command act rest (follows scenario seen s waits courses command at) acts in
       none_reached way.gave (plan_of none_open command) act rest (ap acting none) (sym way.plan ∙ acts)
 
   -- before an act
-  pub act_runs : (act : Act) (rest : List Row → Plan) → plan_at s.progress.exec ≡ Do act rest → owed_first s.progress command ≡ [] → is_some (facts_of seen s.progress.id).running ≡ true
+  pub act_runs : (act : Act) (rest : List Row → Plan) → plan_at s.progress.opens s.progress.exec ≡ Do act rest → owed_first s.progress command ≡ [] → is_some (facts_of seen s.progress.id).running ≡ true
   act_runs act rest acts free = runs_here free (λ badly. let no : Unsettled ≡ Badly = ap outcome_of (sym acts) ∙ badly in cc no) (acts_none act rest acts)
 
   -- where the command says that there is no relation of a name
-  absent_runs : (name : List ℕ) → plan_at s.progress.exec ≡ Absent name → owed_first s.progress command ≡ [] → is_some (facts_of seen s.progress.id).running ≡ true
+  absent_runs : (name : List ℕ) → plan_at s.progress.opens s.progress.exec ≡ Absent name → owed_first s.progress command ≡ [] → is_some (facts_of seen s.progress.id).running ≡ true
   absent_runs name says free = acts_run (facts_of seen s.progress.id) (command_at s) (waiting waits) s.looked s.frames s.told command at waits.fits (going scenario seen s waits courses command at) unblocked built acts
       (start_owed (facts_of seen s.progress.id) command s.progress waits.rests.holds.rest waits.rests.holds.facts ∙ free)
     where
@@ -124,28 +124,28 @@ module _ (scenario : Scenario) (seen : List Entry) (s : Backend) (waits : Awaits
 
   -- before the look of a lookup that has found no relation
   pub find_runs : owed_first s.progress command ≡ [] → FindsNone s.progress command → is_some (facts_of seen s.progress.id).running ≡ true
-  find_runs free (Looks unfound owes) = by_plan (plan_at s.progress.exec) refl unfound
+  find_runs free (Looks unfound owes) = by_plan (plan_at s.progress.opens s.progress.exec) refl unfound
     where
-      by_plan : (p : Plan) → plan_at s.progress.exec ≡ p → is_unfound s.progress p ≡ true → is_some (facts_of seen s.progress.id).running ≡ true
+      by_plan : (p : Plan) → plan_at s.progress.opens s.progress.exec ≡ p → is_unfound s.progress p ≡ true → is_some (facts_of seen s.progress.id).running ≡ true
       by_plan (Do act rest) is of = act_runs act rest is free
       by_plan p is of = absurd (cc of)
-  find_runs free (Says absent quiet) = by_plan (plan_at s.progress.exec) refl absent
+  find_runs free (Says absent quiet) = by_plan (plan_at s.progress.opens s.progress.exec) refl absent
     where
-      by_plan : (p : Plan) → plan_at s.progress.exec ≡ p → is_absent p ≡ true → is_some (facts_of seen s.progress.id).running ≡ true
+      by_plan : (p : Plan) → plan_at s.progress.opens s.progress.exec ≡ p → is_absent p ≡ true → is_some (facts_of seen s.progress.id).running ≡ true
       by_plan (Absent name) is of = absent_runs name is free
       by_plan p is of = absurd (cc of)
 
   -- before a scan
   pub scan_runs : (scan : Purpose) → is_next_at scan s.progress ≡ true → owed_first s.progress command ≡ [] → is_some (facts_of seen s.progress.id).running ≡ true
   scan_runs scan next free = runs_here free (λ badly. both_ways _ (not_true (has_failed s.progress) both.0) (ap (λ o. elim o as (λ x. Bool) [ Badly ↦ true | other ↦ false ]) badly))
-      (λ told none. or_either (list_any (λ o. is_first_missing scan (kept_at s.progress) o.kind o.rel) s.progress.opened) (is_next_of_act scan s.progress (plan_at s.progress.exec)) both.1
+      (λ told none. or_either (list_any (λ o. is_first_missing scan (kept_at s.progress) o.kind o.rel) s.progress.opened) (is_next_of_act scan s.progress (plan_at s.progress.opens s.progress.exec)) both.1
       (λ opened. both_ways _ (ap (list_any (λ o. is_first_missing scan (kept_at s.progress) o.kind o.rel)) ((follows scenario seen s waits courses command at).plain told none).opened) opened)
-      (λ act. by_plan (plan_at s.progress.exec) refl act told none))
+      (λ act. by_plan (plan_at s.progress.opens s.progress.exec) refl act told none))
     where
-      both : (not (has_failed s.progress) ≡ true) × ((list_any (λ o. is_first_missing scan (kept_at s.progress) o.kind o.rel) s.progress.opened || is_next_of_act scan s.progress (plan_at s.progress.exec)) ≡ true)
+      both : (not (has_failed s.progress) ≡ true) × ((list_any (λ o. is_first_missing scan (kept_at s.progress) o.kind o.rel) s.progress.opened || is_next_of_act scan s.progress (plan_at s.progress.opens s.progress.exec)) ≡ true)
       both = and_true (not (has_failed s.progress)) _ next
 
-      by_plan : (p : Plan) → plan_at s.progress.exec ≡ p → is_next_of_act scan s.progress p ≡ true → DoesSome (plan_of none_open command)
+      by_plan : (p : Plan) → plan_at s.progress.opens s.progress.exec ≡ p → is_next_of_act scan s.progress p ≡ true → DoesSome (plan_of none_open command)
       by_plan (Do act rest) is of = acts_none act rest is
       by_plan (Done (tells.Regclass oid)) is of = λ told none. subst FollowsOrder (none ∙ sym (((follows scenario seen s waits courses command at).plain told none).left (ap outcome_of is)) ∙ is) (follows_order none_open command built)
       by_plan (Done told) is of = absurd (cc of)

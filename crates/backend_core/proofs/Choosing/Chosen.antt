@@ -70,7 +70,7 @@ look_may facts s owes low = by_owed (owed_after facts.last) owes
 pub data Busy (p : Progress) (command : Command) : Type 0 where
   Owes : owes_nothing command p ≡ false → Busy p command
   Acts : is_out p ≡ false → Busy p command
-  Sought : is_absent (plan_at p.exec) ≡ true → is_quiet p.due ≡ true → Busy p command
+  Sought : is_absent (plan_at p.opens p.exec) ≡ true → is_quiet p.due ≡ true → Busy p command
 
 -- so where a look or a fetch is due
 pub due_busy : (p : Progress) (command : Command) → is_empty (owed_at p.due) ≡ false → Busy p command
@@ -83,20 +83,20 @@ module _ (scenario : Scenario) (seen : List Entry) (s : Backend) (waits : Awaits
   owes_same : is_empty (owed_of facts command (waiting waits)) ≡ owes_nothing command s.progress
   owes_same = owes_nothing_is facts command s.progress waits.rests.holds.rest waits.rests.holds.facts
 
-  not_busy : owed_of facts command (waiting waits) ≡ [] → is_out s.progress ≡ true → Busy s.progress command → (is_absent (plan_at s.progress.exec) ≡ true → is_quiet s.progress.due ≡ true → ⊥) → ⊥
+  not_busy : owed_of facts command (waiting waits) ≡ [] → is_out s.progress ≡ true → Busy s.progress command → (is_absent (plan_at s.progress.opens s.progress.exec) ≡ true → is_quiet s.progress.due ≡ true → ⊥) → ⊥
   not_busy free out (Owes busy) never = both_ways _ busy (sym owes_same ∙ ap is_empty free)
   not_busy free out (Acts busy) never = both_ways _ busy out
   not_busy free out (Sought absent quiet) never = never absent quiet
 
   -- a command that says that there is no relation of a name doesn't commit
-  never_commits : (first : ℕ) → end_of facts command (waiting waits) ≡ Commits first → is_absent (plan_at s.progress.exec) ≡ true → ⊥
-  never_commits first commits absent = by_plan (plan_at s.progress.exec) refl absent
+  never_commits : (first : ℕ) → end_of facts command (waiting waits) ≡ Commits first → is_absent (plan_at s.progress.opens s.progress.exec) ≡ true → ⊥
+  never_commits first commits absent = by_plan (plan_at s.progress.opens s.progress.exec) refl absent
     where
       by_blocked : (t : Bool) → elim t as (λ x. End) [ true ↦ Ends | false ↦ TakesBack (innermost (number_of (waiting waits)) s.progress.blocks.levels) ] ≡ Commits first → ⊥
       by_blocked true is = cc is
       by_blocked false is = cc is
 
-      by_plan : (p : Plan) → plan_at s.progress.exec ≡ p → is_absent p ≡ true → ⊥
+      by_plan : (p : Plan) → plan_at s.progress.opens s.progress.exec ≡ p → is_absent p ≡ true → ⊥
       by_plan (Absent name) is of = by_blocked s.progress.blocked (sym (ap (λ p. elim (outcome_of p) as (λ x. End) [ Well ↦ end_well facts command (waiting waits) | Badly ↦ end_badly (waiting waits) | Unsettled ↦ Ends ]) is) ∙ commits)
       by_plan p is of = cc of
 

@@ -58,17 +58,17 @@ plan_wanted (Do done rest) act is = record { rest = rest; is = ap (λ a. Do a re
     again a same = cc same
 
 -- an act that owes nothing and gives rows would be done without an entry
-not_at_rest : (p : Progress) (command : Command) (act : Act) → IsAtRest p → IsFree p command → Wants (plan_at p.exec) act → owes_nothing command p ≡ true → is_some (gives_at p act) ≡ true → ⊥
-not_at_rest p command act still free wants owes gives = both_ways _ (still command free.at).0 (both_true (owes_nothing command p) (gives_next p (plan_at p.exec)) owes (ap (gives_next p) wants.is ∙ gives))
+not_at_rest : (p : Progress) (command : Command) (act : Act) → IsAtRest p → IsFree p command → Wants (plan_at p.opens p.exec) act → owes_nothing command p ≡ true → is_some (gives_at p act) ≡ true → ⊥
+not_at_rest p command act still free wants owes gives = both_ways _ (still command free.at).0 (both_true (owes_nothing command p) (gives_next p (plan_at p.opens p.exec)) owes (ap (gives_next p) wants.is ∙ gives))
 
-goes_on : (p : Progress) (act : Act) → Wants (plan_at p.exec) act → has_failed p ≡ false
+goes_on : (p : Progress) (act : Act) → Wants (plan_at p.opens p.exec) act → has_failed p ≡ false
 goes_on p act wants = ap (λ q. elim (outcome_of q) as (λ x. Bool) [ Badly ↦ true | other ↦ false ]) wants.is
 
 -- what the act lacks is lacking
-lacks_is : (p : Progress) (act : Act) (wants : Wants (plan_at p.exec) act) → lacks_opened (kept_at p) p.opened ≡ false → lacks_any p ≡ not (is_empty (act_missing p (Do act wants.rest)))
+lacks_is : (p : Progress) (act : Act) (wants : Wants (plan_at p.opens p.exec) act) → lacks_opened (kept_at p) p.opened ≡ false → lacks_any p ≡ not (is_empty (act_missing p (Do act wants.rest)))
 lacks_is p act wants whole = λ i. not (goes_on p act wants i) && (whole i || not (is_empty (act_missing p (wants.is i))))
 
-next_is : (p : Progress) (act : Act) (wants : Wants (plan_at p.exec) act) (scan : Purpose) → is_next_of_act scan p (Do act wants.rest) ≡ true → is_next_at scan p ≡ true
+next_is : (p : Progress) (act : Act) (wants : Wants (plan_at p.opens p.exec) act) (scan : Purpose) → is_next_of_act scan p (Do act wants.rest) ≡ true → is_next_at scan p ≡ true
 next_is p act wants scan is = (λ i. not (goes_on p act wants i) && (list_any (λ o. is_first_missing scan (kept_at p) o.kind o.rel) p.opened || is_next_of_act scan p (wants.is i)))
     ∙ ap (λ t. list_any (λ o. is_first_missing scan (kept_at p) o.kind o.rel) p.opened || t) is ∙ or-true (list_any (λ o. is_first_missing scan (kept_at p) o.kind o.rel) p.opened)
 
@@ -106,11 +106,11 @@ module _ (s : Backend) (command : Command) (still : IsAtRest s.progress) (free :
   p = s.progress
 
   -- the scan of a name
-  pub lookup_next : (name : List ℕ) (mode : Mode) → want_of (plan_at p.exec) ≡ wants.Lookup name mode → owes_nothing command p ≡ false → IsScanNext s (scans.RelName name) false
+  pub lookup_next : (name : List ℕ) (mode : Mode) → want_of (plan_at p.opens p.exec) ≡ wants.Lookup name mode → owes_nothing command p ≡ false → IsScanNext s (scans.RelName name) false
   lookup_next name mode want owes = by_test (is_kept (kept_at p) (scans.RelName name)) refl
     where
-      act : Wants (plan_at p.exec) (Lookup name mode)
-      act = plan_wanted (plan_at p.exec) (Lookup name mode) (ap wanted_act want)
+      act : Wants (plan_at p.opens p.exec) (Lookup name mode)
+      act = plan_wanted (plan_at p.opens p.exec) (Lookup name mode) (ap wanted_act want)
 
       lacks : (t : Bool) → is_kept (kept_at p) (scans.RelName name) ≡ t → lacks_any p ≡ not t
       lacks t is = lacks_is p (Lookup name mode) act whole ∙ one_lacks (is_kept (kept_at p) (scans.RelName name)) (scans.RelName name) ∙ ap not is
@@ -129,11 +129,11 @@ module _ (s : Backend) (command : Command) (still : IsAtRest s.progress) (free :
       }
 
   -- the scan of a catalog cache
-  pub search_next : (scan : Purpose) → want_of (plan_at p.exec) ≡ wants.Search scan → IsScanNext s scan false
+  pub search_next : (scan : Purpose) → want_of (plan_at p.opens p.exec) ≡ wants.Search scan → IsScanNext s scan false
   search_next scan want = by_kept (is_kept (kept_at p) scan) refl
     where
-      act : Wants (plan_at p.exec) (Search scan)
-      act = plan_wanted (plan_at p.exec) (Search scan) (ap wanted_act want)
+      act : Wants (plan_at p.opens p.exec) (Search scan)
+      act = plan_wanted (plan_at p.opens p.exec) (Search scan) (ap wanted_act want)
 
       lacks : (t : Bool) → is_kept (kept_at p) scan ≡ t → lacks_any p ≡ not t
       lacks t is = lacks_is p (Search scan) act whole ∙ one_lacks (is_kept (kept_at p) scan) scan ∙ ap not is
@@ -149,7 +149,7 @@ module _ (s : Backend) (command : Command) (still : IsAtRest s.progress) (free :
       }
 
   -- the first scan of a descriptor that is to be opened
-  pub open_next : (rel : Oid) (kind : Kind) (scan : Purpose) → want_of (plan_at p.exec) ≡ wants.Open rel kind → find (λ d. not (is_kept (kept_at p) d)) (build_scans kind rel) ≡ Some scan → IsScanNext s scan false
+  pub open_next : (rel : Oid) (kind : Kind) (scan : Purpose) → want_of (plan_at p.opens p.exec) ≡ wants.Open rel kind → find (λ d. not (is_kept (kept_at p) d)) (build_scans kind rel) ≡ Some scan → IsScanNext s scan false
   open_next rel kind scan want is = record {
     command = command;
     free = free;
@@ -158,15 +158,15 @@ module _ (s : Backend) (command : Command) (still : IsAtRest s.progress) (free :
     turn = (bare, ap (is_next_of_act scan p) act.is ∙ ap (λ f. option_map_or (same_scan scan) f false) is ∙ same_scan-itself scan);
   }
     where
-      act : Wants (plan_at p.exec) (Open rel kind)
-      act = plan_wanted (plan_at p.exec) (Open rel kind) (ap wanted_act want)
+      act : Wants (plan_at p.opens p.exec) (Open rel kind)
+      act = plan_wanted (plan_at p.opens p.exec) (Open rel kind) (ap wanted_act want)
 
   -- what is read of an opened descriptor is there
-  pub read_none : (scan : Purpose) → want_of (plan_at p.exec) ≡ wants.Read scan → ReadsOpened p.opened (plan_at p.exec) → ⊥
+  pub read_none : (scan : Purpose) → want_of (plan_at p.opens p.exec) ≡ wants.Read scan → ReadsOpened p.opened (plan_at p.opens p.exec) → ⊥
   read_none scan want reads = not_at_rest p command (Read scan) still free act (out_owes p command free (lacks_is p (Read scan) act whole ∙ ap (λ t. not (is_empty (cond (not t) (scan ∷ []) []))) kept)) refl
     where
-      act : Wants (plan_at p.exec) (Read scan)
-      act = plan_wanted (plan_at p.exec) (Read scan) (ap wanted_act want)
+      act : Wants (plan_at p.opens p.exec) (Read scan)
+      act = plan_wanted (plan_at p.opens p.exec) (Read scan) (ap wanted_act want)
 
       not_false : (t : Bool) → not t ≡ false → t ≡ true
       not_false true is = refl
@@ -181,14 +181,14 @@ fails (wants.Fails error) = true
 fails (wants.Absent name) = true
 fails want = false
 
-pub fails_none : (p : Progress) (want : Want) → has_failed p ≡ false → want_of (plan_at p.exec) ≡ want → fails want ≡ true → ⊥
-fails_none p want goes is failing = by_plan (plan_at p.exec) refl (ap fails is ∙ failing)
+pub fails_none : (p : Progress) (want : Want) → has_failed p ≡ false → want_of (plan_at p.opens p.exec) ≡ want → fails want ≡ true → ⊥
+fails_none p want goes is failing = by_plan (plan_at p.opens p.exec) refl (ap fails is ∙ failing)
   where
     by_act : (act : Act) → fails (want_of_act act) ≡ true → ⊥
     by_act (Lookup name mode) bad = cc bad
     by_act act bad = cc bad
 
-    by_plan : (q : Plan) → plan_at p.exec ≡ q → fails (want_of q) ≡ true → ⊥
+    by_plan : (q : Plan) → plan_at p.opens p.exec ≡ q → fails (want_of q) ≡ true → ⊥
     by_plan (Done told) at bad = cc bad
     by_plan NotBuilt at bad = cc bad
     by_plan (Do act rest) at bad = by_act act bad
@@ -196,16 +196,16 @@ fails_none p want goes is failing = by_plan (plan_at p.exec) refl (ap fails is �
     by_plan (Absent name) at bad = both_ways _ goes (ap (λ x. elim (outcome_of x) as (λ y. Bool) [ Badly ↦ true | other ↦ false ]) at)
 
 -- what comes next of a lookup whose scan serves
-module _ (s : Backend) (command : Command) (still : IsAtRest s.progress) (chosen : IsChoiceSound s) (free : IsFree s.progress command) (name : List ℕ) (mode : Mode) (want : want_of (plan_at s.progress.exec) ≡ wants.Lookup name mode) (owes : owes_nothing command s.progress ≡ true) where
-  act : Wants (plan_at s.progress.exec) (Lookup name mode)
-  act = plan_wanted (plan_at s.progress.exec) (Lookup name mode) (ap wanted_act want)
+module _ (s : Backend) (command : Command) (still : IsAtRest s.progress) (chosen : IsChoiceSound s) (free : IsFree s.progress command) (name : List ℕ) (mode : Mode) (want : want_of (plan_at s.progress.opens s.progress.exec) ≡ wants.Lookup name mode) (owes : owes_nothing command s.progress ≡ true) where
+  act : Wants (plan_at s.progress.opens s.progress.exec) (Lookup name mode)
+  act = plan_wanted (plan_at s.progress.opens s.progress.exec) (Lookup name mode) (ap wanted_act want)
 
   -- the lock of the relation that it names
   pub lock_next : (rel : Oid) → relation_named (row_sought s.progress name) ≡ Some rel → s.progress.taken ≡ None → IsLockNext s.progress rel mode
   lock_next rel found none = record {
     command = command;
     free = free;
-    may = both_true (owes_nothing command s.progress && is_none s.progress.taken) (is_lock_at s.progress (plan_at s.progress.exec) rel mode) (both_true (owes_nothing command s.progress) (is_none s.progress.taken) owes (ap (λ o. is_none o) none)) (ap (λ q. is_lock_at s.progress q rel mode) act.is
+    may = both_true (owes_nothing command s.progress && is_none s.progress.taken) (is_lock_at s.progress (plan_at s.progress.opens s.progress.exec) rel mode) (both_true (owes_nothing command s.progress) (is_none s.progress.taken) owes (ap (λ o. is_none o) none)) (ap (λ q. is_lock_at s.progress q rel mode) act.is
         ∙ both_true (names_relation rel (row_sought s.progress name)) (same_mode mode mode) (named_is (row_sought s.progress name) rel found) (eq-eqb (mode_number mode) (mode_number mode) refl));
   }
 
@@ -214,7 +214,7 @@ module _ (s : Backend) (command : Command) (still : IsAtRest s.progress) (chosen
   unlock_next taken took other = record {
     command = command;
     free = free;
-    may = both_true (owes_nothing command s.progress) (is_unlock_at s.progress (plan_at s.progress.exec) taken mode) owes (ap (λ q. is_unlock_at s.progress q taken mode) act.is
+    may = both_true (owes_nothing command s.progress) (is_unlock_at s.progress (plan_at s.progress.opens s.progress.exec) taken mode) owes (ap (λ q. is_unlock_at s.progress q taken mode) act.is
         ∙ both_true (option_map_or (same_oid taken) s.progress.taken false && same_mode mode mode) (not (names_relation taken (row_sought s.progress name)))
         (both_true (option_map_or (same_oid taken) s.progress.taken false) (same_mode mode mode) (ap (λ o. option_map_or (same_oid taken) o false) took ∙ eq-eqb taken.0 taken.0 refl) (eq-eqb (mode_number mode) (mode_number mode) refl)) (ap not other));
   }
@@ -230,7 +230,7 @@ module _ (s : Backend) (command : Command) (still : IsAtRest s.progress) (chosen
   locked_ends rel taken found took same = not_at_rest s.progress command (Lookup name mode) still free act owes (by_row (row_sought s.progress name) found)
     where
       has : list_any (λ lock. is_own taken mode lock && (lock.command == s.progress.finished + 1)) s.progress.locks.items ≡ true
-      has = subst (TakesFit (s.progress.finished + 1) s.progress.locks.items (Some taken)) act.is (subst (λ o. TakesFit (s.progress.finished + 1) s.progress.locks.items o (plan_at s.progress.exec)) took chosen.takes)
+      has = subst (TakesFit (s.progress.finished + 1) s.progress.locks.items (Some taken)) act.is (subst (λ o. TakesFit (s.progress.finished + 1) s.progress.locks.items o (plan_at s.progress.opens s.progress.exec)) took chosen.takes)
 
       one : taken ≡ rel
       one = ap (λ n. record { 0 = n }) (eqb-true taken.0 rel.0 same)
@@ -256,7 +256,7 @@ module _ (s : Backend) (command : Command) (still : IsAtRest s.progress) (chosen
       by_test false is = absurd (both_ways _ (not_true (lacks_any s.progress) (and_parts (is_empty (owed_first s.progress command) && is_empty (owed_at s.progress.due)) (not (lacks_any s.progress)) owes).1)
           (lacks_same ∙ ap (λ t. lacks_opened (kept_at s.progress) s.progress.opened || not t) is ∙ or-true (lacks_opened (kept_at s.progress) s.progress.opened)))
 
-  unfound_next : relation_named (row_sought s.progress name) ≡ None → s.progress.taken ≡ None → is_unfound s.progress (plan_at s.progress.exec) ≡ true
+  unfound_next : relation_named (row_sought s.progress name) ≡ None → s.progress.taken ≡ None → is_unfound s.progress (plan_at s.progress.opens s.progress.exec) ≡ true
   unfound_next none free_of = ap (is_unfound s.progress) act.is ∙ (λ i. is_none (free_of i) && kept_name i && is_none (relation_named (row_sought s.progress name))) ∙ ap (λ o. is_none o) none
 
   -- one that found no relation, and looked, ends

@@ -67,8 +67,8 @@ end_is p command end still free out lacks is = by_tests p.ended (is_ends end) re
     by_tests false true a b none = absurd (not_both _ (both_true (is_out p && (p.ended || is_ends end)) (owes_nothing command p) (both_true (is_out p) (p.ended || is_ends end) out (λ i. a i || b i)) (out_owes p command free lacks)) none)
 
 -- a command whose plan is carried out doesn't say that there is no relation
-pub done_accepted : (s : Backend) (scan : Option Purpose) → want_of (plan_at s.progress.exec) ≡ wants.Done scan → accepts_again s ≡ false
-done_accepted s scan is = by_plan (plan_at s.progress.exec) is
+pub done_accepted : (s : Backend) (scan : Option Purpose) → want_of (plan_at s.progress.opens s.progress.exec) ≡ wants.Done scan → accepts_again s ≡ false
+done_accepted s scan is = by_plan (plan_at s.progress.opens s.progress.exec) is
   where
     by_plan : (p : Plan) → want_of p ≡ wants.Done scan → (is_absent p && is_quiet s.progress.due && (not s.looked || s.told)) ≡ false
     by_plan (Absent name) done = absurd (cc done)
@@ -110,7 +110,7 @@ reads_reached (given ∷ gave) opened plan reads = by_plan (reads_reached gave) 
     by_plan further (Absent name) has = further opened (Absent name) tt
     by_plan further NotBuilt has = further opened NotBuilt tt
 
-pub reads_now : (scenario : Scenario) (seen : List Entry) (s : Backend) → AwaitsEntry scenario seen s → AllOnCourse scenario seen → ReadsOpened s.progress.opened (plan_at s.progress.exec)
+pub reads_now : (scenario : Scenario) (seen : List Entry) (s : Backend) → AwaitsEntry scenario seen s → AllOnCourse scenario seen → ReadsOpened s.progress.opened (plan_at s.progress.opens s.progress.exec)
 reads_now scenario seen s waits courses = by_command (command_at s) refl
   where
     on : IsOnCourse scenario seen s.progress.id (waiting waits)
@@ -119,18 +119,18 @@ reads_now scenario seen s waits courses = by_command (command_at s) refl
     first : (command : Command) → runs command ≡ true → ReadsOpened [] (plan_of none_open command)
     first command runs_it = reads_first (record { block = Inside; levels = [] }) (Some command) (λ c is. let one : command ≡ c = cc is in subst (λ x. runs x ≡ true) one runs_it)
 
-    by_way : (command : Command) → Way seen s.progress.id (waiting waits) command → ReadsOpened s.progress.opened (plan_at s.progress.exec)
+    by_way : (command : Command) → Way seen s.progress.id (waiting waits) command → ReadsOpened s.progress.opened (plan_at s.progress.opens s.progress.exec)
     by_way command (Begun way) = subst (ReadsOpened s.progress.opened) (sym way.plan) (subst (λ o. ReadsOpened o (reached way.gave (plan_of none_open command))) (sym way.opened) (reads_reached way.gave [] (plan_of none_open command) (first command way.runs)))
     by_way command (Wrote w) = subst (ReadsOpened s.progress.opened) (sym w.plan) tt
     by_way command (Unbuilt w) = subst (ReadsOpened s.progress.opened) (sym w.plan) tt
-    by_way command (Over w) = reads_out s.progress.opened (plan_at s.progress.exec) w.out
+    by_way command (Over w) = reads_out s.progress.opened (plan_at s.progress.opens s.progress.exec) w.out
 
-    by_refused : (command : Command) → FollowsPlan seen s.progress.id (waiting waits) command → (o : Option CommandError) → (waiting waits).refused ≡ o → ReadsOpened s.progress.opened (plan_at s.progress.exec)
+    by_refused : (command : Command) → FollowsPlan seen s.progress.id (waiting waits) command → (o : Option CommandError) → (waiting waits).refused ≡ o → ReadsOpened s.progress.opened (plan_at s.progress.opens s.progress.exec)
     by_refused command follows None is = by_way command (follows.way is)
     by_refused command follows (Some error) is = subst (ReadsOpened s.progress.opened) (sym (follows.refused error is)) tt
 
-    by_command : (o : Option Command) → command_at s ≡ o → ReadsOpened s.progress.opened (plan_at s.progress.exec)
-    by_command None at = reads_out s.progress.opened (plan_at s.progress.exec) (waits.fits.past at).out
+    by_command : (o : Option Command) → command_at s ≡ o → ReadsOpened s.progress.opened (plan_at s.progress.opens s.progress.exec)
+    by_command None at = reads_out s.progress.opened (plan_at s.progress.opens s.progress.exec) (waits.fits.past at).out
     by_command (Some command) at = by_refused command (on.follows command (ap (slice_get (commands_of scenario s.progress.id)) waits.rests.holds.count ∙ ap (λ l. slice_get l s.progress.finished) (sym waits.rests.holds.commands) ∙ at)) (waiting waits).refused refl
 
 -- a scan is lacking where one is found
@@ -145,8 +145,8 @@ module _ (s : Backend) (command : Command) (f : Frame) (sound : IsChoiceSound s)
   rebuild_next scan is = record {
     command = command;
     free = free;
-    lacks = λ i. not (goes i) && (lacking i || not (is_empty (act_missing s.progress (plan_at s.progress.exec))));
-    next = λ i. not (goes i) && (first i || is_next_of_act scan s.progress (plan_at s.progress.exec));
+    lacks = λ i. not (goes i) && (lacking i || not (is_empty (act_missing s.progress (plan_at s.progress.opens s.progress.exec))));
+    next = λ i. not (goes i) && (first i || is_next_of_act scan s.progress (plan_at s.progress.opens s.progress.exec));
     turn = ap (λ o. elim o as (λ x. Option Purpose) [ Some g ↦ find (λ d. not (is_kept (kept_at s.progress) d)) (build_scans g.opening.kind g.opening.rel) | None ↦ None ]) on ∙ is;
   }
     where

@@ -34,18 +34,18 @@ quiet_look last look none = absurd (cc look)
 
 pub choice_sound : (scenario : Scenario) (seen : List Entry) (s : Backend) → AwaitsEntry scenario seen s → AllOnCourse scenario seen → IsChoiceSound s
 choice_sound scenario seen s waits courses = record {
-  takes = subst (λ n. TakesFit (n + 1) s.progress.locks.items s.progress.taken (plan_at s.progress.exec)) waits.rests.holds.count waits.fits.takes;
+  takes = subst (λ n. TakesFit (n + 1) s.progress.locks.items s.progress.taken (plan_at s.progress.opens s.progress.exec)) waits.rests.holds.count waits.fits.takes;
   builds = λ f on. subst (λ h. IsRebuilt h s.progress.opened f) (usable_is facts s.progress waits.rests.holds.facts) (top_rebuilt facts (command_at s) (waiting waits) s.frames f waits.fits.rebuilds on);
   whole = λ command at bare goes. whole_now command at bare goes (took_back facts.last) refl;
-  accepts = λ looked unfound none. by_command looked (unfound_facts facts s.progress (plan_at s.progress.exec) waits.rests.holds.facts unfound) none (command_at s) refl;
+  accepts = λ looked unfound none. by_command looked (unfound_facts facts s.progress (plan_at s.progress.opens s.progress.exec) waits.rests.holds.facts unfound) none (command_at s) refl;
 }
   where
     facts : Facts
     facts = facts_of seen s.progress.id
 
     -- it isn't an error by which the command has come out
-    no_error : has_failed s.progress ≡ false → has_error (plan_at s.progress.exec) ≡ false
-    no_error goes = by_plan (plan_at s.progress.exec) goes
+    no_error : has_failed s.progress ≡ false → has_error (plan_at s.progress.opens s.progress.exec) ≡ false
+    no_error goes = by_plan (plan_at s.progress.opens s.progress.exec) goes
       where
         by_plan : (p : Plan) → elim (outcome_of p) as (λ x. Bool) [ Badly ↦ true | other ↦ false ] ≡ false → has_error p ≡ false
         by_plan (Fails error) is = absurd (cc is)
@@ -59,7 +59,7 @@ choice_sound scenario seen s waits courses = record {
     taken_back command at goes (Some (events.Gone from)) is back = lacks_none (owed_whole facts s.progress.opened (owed_builds facts (waiting waits) command (has_failed_not goes)
         (subst (λ o. elim o as (λ x. Type 0) [ Some c ↦ (end_of facts c (waiting waits) ≡ TakesBack from) × (owed_of facts c (waiting waits) ≡ []) | None ↦ end_of_all facts ≡ TakesBack from ]) at (waits.fits.taken from is).end).1))
       where
-        has_failed_not : has_failed s.progress ≡ false → outcome_of (plan_at s.progress.exec) ≡ Badly → ⊥
+        has_failed_not : has_failed s.progress ≡ false → outcome_of (plan_at s.progress.opens s.progress.exec) ≡ Badly → ⊥
         has_failed_not none badly = both_ways _ none (ap (λ o. elim o as (λ x. Bool) [ Badly ↦ true | other ↦ false ]) badly)
     taken_back command at goes last is back = absurd (cc back)
 
@@ -68,8 +68,8 @@ choice_sound scenario seen s waits courses = record {
     whole_now command at bare goes false stays = lacks_none (none_lacks facts.usable s.progress.opened (subst (IsStack facts.usable s.progress.opened) bare
         (waits.fits.rebuilds.stack (λ i. not (stays i) && not (going scenario seen s waits courses command at i) && not (no_error goes i)))))
 
-    by_look : (command : Command) → command_at s ≡ Some command → s.looked ≡ true → finds_no_name facts s.progress.taken (plan_at s.progress.exec) ≡ true → owed_at s.progress.due ≡ [] → is_look facts.last ≡ true → has_accepted_at s.progress ≡ true
-    by_look command at looked finds none look = λ i. (ap (λ o. is_none o) (finds_serves facts s.progress.taken (plan_at s.progress.exec) finds).3) i && quiet i && has i
+    by_look : (command : Command) → command_at s ≡ Some command → s.looked ≡ true → finds_no_name facts s.progress.taken (plan_at s.progress.opens s.progress.exec) ≡ true → owed_at s.progress.due ≡ [] → is_look facts.last ≡ true → has_accepted_at s.progress ≡ true
+    by_look command at looked finds none look = λ i. (ap (λ o. is_none o) (finds_serves facts s.progress.taken (plan_at s.progress.opens s.progress.exec) finds).3) i && quiet i && has i
       where
         owed : owed_after facts.last ≡ []
         owed = waits.rests.holds.facts.owed ∙ none
@@ -84,11 +84,11 @@ choice_sound scenario seen s waits courses = record {
         has = sym (looked_same facts s.progress waits.rests.holds.rest waits.rests.holds.facts waits.rests.holds.count)
             ∙ lt-ltb (s.progress.tally.scans + s.progress.tally.grants + started_in (number_of (waiting waits)) facts + s.progress.tally.full) s.progress.tally.looks (omega (arith, before.enough, ap looks_due owed, ap one_if looked))
 
-    by_command : s.looked ≡ true → finds_no_name facts s.progress.taken (plan_at s.progress.exec) ≡ true → owed_at s.progress.due ≡ [] → (o : Option Command) → command_at s ≡ o → has_accepted_at s.progress ≡ true
-    by_command looked finds none None at = absurd (both_ways _ (finds_serves facts s.progress.taken (plan_at s.progress.exec) finds).2 (waits.fits.past at).out)
+    by_command : s.looked ≡ true → finds_no_name facts s.progress.taken (plan_at s.progress.opens s.progress.exec) ≡ true → owed_at s.progress.due ≡ [] → (o : Option Command) → command_at s ≡ o → has_accepted_at s.progress ≡ true
+    by_command looked finds none None at = absurd (both_ways _ (finds_serves facts s.progress.taken (plan_at s.progress.opens s.progress.exec) finds).2 (waits.fits.past at).out)
     by_command looked finds none (Some command) at = by_case (waits.fits.sought looked)
       where
-        by_case : IsLookedFor facts s.progress.taken (plan_at s.progress.exec) → has_accepted_at s.progress ≡ true
-        by_case (Lacks lacks) = absurd (both_ways _ (finds_serves facts s.progress.taken (plan_at s.progress.exec) finds).0 lacks)
+        by_case : IsLookedFor facts s.progress.taken (plan_at s.progress.opens s.progress.exec) → has_accepted_at s.progress ≡ true
+        by_case (Lacks lacks) = absurd (both_ways _ (finds_serves facts s.progress.taken (plan_at s.progress.opens s.progress.exec) finds).0 lacks)
         by_case (Unfound found look) = by_look command at looked finds none look
-        by_case (Said absent) = absurd (both_ways _ (finds_serves facts s.progress.taken (plan_at s.progress.exec) finds).1 absent)
+        by_case (Said absent) = absurd (both_ways _ (finds_serves facts s.progress.taken (plan_at s.progress.opens s.progress.exec) finds).1 absent)

@@ -19,7 +19,7 @@ use Rattle.backend_core.specs.Agrees.{command_at, AwaitsEntry}
 use Rattle.backend_core.specs.Fits.{Fits}
 use Rattle.backend_core.specs.Steps.{MakesEntry, Enters, IsLockNext, IsWriteNext}
 
-module _ (scenario : Scenario) (seen : List Entry) (s : Backend) (exec : Exec) (locks : Roomy OwnLock) (plan : plan_at exec ≡ plan_at s.progress.exec) (items : locks.items ≡ s.progress.locks.items) (again : is_absent (plan_at exec) ≡ true → plan_again s.progress.exec ≡ plan_again exec) where
+module _ (scenario : Scenario) (seen : List Entry) (s : Backend) (exec : Exec) (locks : Roomy OwnLock) (plan : plan_at exec ≡ plan_at s.progress.opens s.progress.exec) (items : locks.items ≡ s.progress.locks.items) (again : is_absent (plan_at exec) ≡ true → plan_again s.progress.opens s.progress.exec ≡ plan_again exec) where
   abbrev other : Backend
   other = record s { progress = record s.progress { exec = exec; locks = locks } }
 
@@ -93,12 +93,12 @@ none_answered : (o : Option Command) → elim o as (λ x. Bool) [ Some command �
 none_answered None is = absurd (cc is)
 none_answered (Some command) is = absurd (cc is)
 
-pub drafted_awaits : (scenario : Scenario) (seen : List Entry) (s : Backend) (draft : Draft) → plan_at s.progress.exec ≡ writing draft → AwaitsEntry scenario seen s → AwaitsEntry scenario seen (record s { progress = record s.progress { exec = stages.Writing draft } })
+pub drafted_awaits : (scenario : Scenario) (seen : List Entry) (s : Backend) (draft : Draft) → plan_at s.progress.opens s.progress.exec ≡ writing draft → AwaitsEntry scenario seen s → AwaitsEntry scenario seen (record s { progress = record s.progress { exec = stages.Writing draft } })
 drafted_awaits scenario seen s draft plan waits = alike_awaits scenario seen s (stages.Writing draft) s.progress.locks (sym plan) refl (λ is. absurd (cc is))
     (λ command at. (and-false (owes_nothing command (record s.progress { exec = stages.Writing draft })), refl))
     (λ is. absurd (none_answered (command_at s) is)) waits
 
-pub drafted_write : (s : Progress) (draft : Draft) → plan_at s.exec ≡ writing draft → IsWriteNext s → IsWriteNext (record s { exec = stages.Writing draft })
+pub drafted_write : (s : Progress) (draft : Draft) → plan_at s.opens s.exec ≡ writing draft → IsWriteNext s → IsWriteNext (record s { exec = stages.Writing draft })
 drafted_write s draft plan next = record {
   command = next.command;
   free = record { at = next.free.at; due = next.free.due; first = next.free.first };

@@ -71,7 +71,7 @@ clash_shows scenario old was s name (clashes.Running xid) = record { truly = tt;
 -- a backend before such an entry: an act of its command comes next
 pub record IsActing (scenario : Scenario) (old : List Entry) (was : Backend) (command : Command) : Type 0 where
   pub at : command_at was ≡ Some command
-  pub unsettled : is_settled (outcome_of (plan_at was.progress.exec)) ≡ false
+  pub unsettled : is_settled (outcome_of (plan_at was.progress.opens was.progress.exec)) ≡ false
   pub runs : is_some (facts_of old was.progress.id).running ≡ true
   pub owed : owed_after (facts_of old was.progress.id).last ≡ []
   pub bare : was.frames ≡ []

@@ -212,7 +212,7 @@ fetch_agrees scenario old new had has was p event unfound marked frames waits un
     own_enters scenario old new had has was (record was { progress = p; looked = looked_after was unfound marked; frames = frames; told = told_after was unfound marked }) event waits played courses brings.own goes
     kept
     (fits_at scenario old was event waits p goes (looked_after was unfound marked) frames (told_after was unfound marked) (subst (λ f. Fits f (command_at was) (entered (facts_of (with_own old was.progress event) b) (drop was.progress.finished was.progress.commands) (length old + 1) (was.progress.finished + 1) event s) (looked_after was unfound marked) frames (told_after was unfound marked)) (sym brings.facts)
-    (fetch_fits (facts_of old b) (command_at was) s _ event brings.usable due.command was.looked was.frames was.told unfound marked frames (told_after was unfound marked) brings.spares (λ absent. unfound_is ∙ ap (λ t. t || is_unfound was.progress (plan_at was.progress.exec)) absent) (λ finds. unfound_is ∙ ap (λ t. is_absent (plan_at was.progress.exec) || t) (unfound_held (facts_of old b) was.progress (plan_at was.progress.exec) waits.rests.holds.facts finds) ∙ or-true (is_absent (plan_at was.progress.exec))) due.at waits.fits brings.fetched due.runs (hidden scenario old was waits due.command due.at due.busy) (going scenario old was waits courses due.command due.at) due.owed tells)))
+    (fetch_fits (facts_of old b) (command_at was) s _ event brings.usable due.command was.looked was.frames was.told unfound marked frames (told_after was unfound marked) brings.spares (λ absent. unfound_is ∙ ap (λ t. t || is_unfound was.progress (plan_at was.progress.opens was.progress.exec)) absent) (λ finds. unfound_is ∙ ap (λ t. is_absent (plan_at was.progress.opens was.progress.exec) || t) (unfound_held (facts_of old b) was.progress (plan_at was.progress.opens was.progress.exec) waits.rests.holds.facts finds) ∙ or-true (is_absent (plan_at was.progress.opens was.progress.exec))) due.at waits.fits brings.fetched due.runs (hidden scenario old was waits due.command due.at due.busy) (going scenario old was waits courses due.command due.at) due.owed tells)))
     refl brings.lives refl brings.on (none ∙ sym (brings.unanswered was.progress.answer)) appends
   where
     b : ℕ
@@ -565,7 +565,7 @@ reset_tells scenario old was unfound marked waits courses due lapped = record {
         less_and false b c = omega arith
 
     frames_less : looked_in (frames_reset_of was was.progress.opened) ≤ looked_in was.frames
-    frames_less = by_error (has_error (plan_at was.progress.exec))
+    frames_less = by_error (has_error (plan_at was.progress.opens was.progress.exec))
       where
         by_error : (t : Bool) → looked_in (elim t as (λ x. List Frame) [ true ↦ was.frames | false ↦ frames_reset kept was.progress.opened was.frames ]) ≤ looked_in was.frames
         by_error true = omega arith

@@ -93,20 +93,20 @@ module _ (scenario : Scenario) (old : List Entry) (was : Backend) (waits : Await
   abbrev s : Session
   s = waiting waits
 
-  parts : (owes_nothing next.command was.progress && is_none was.progress.taken ≡ true) × (is_lock_at was.progress (plan_at was.progress.exec) rel mode ≡ true)
+  parts : (owes_nothing next.command was.progress && is_none was.progress.taken ≡ true) × (is_lock_at was.progress (plan_at was.progress.opens was.progress.exec) rel mode ≡ true)
   parts = and_parts (owes_nothing next.command was.progress && is_none was.progress.taken) _ next.may
 
-  may : (owes_nothing next.command was.progress ≡ true) × (is_lock_at was.progress (plan_at was.progress.exec) rel mode ≡ true)
+  may : (owes_nothing next.command was.progress ≡ true) × (is_lock_at was.progress (plan_at was.progress.opens was.progress.exec) rel mode ≡ true)
   may = ((and_parts (owes_nothing next.command was.progress) _ parts.0).0, parts.1)
 
   plays : (event : Event) → may_play_at (next_oid old) next.command was.progress event ≡ true → MayPlayIn (next_oid old) facts (command_at was) s event
   plays event is = now_plays scenario old was waits next.command next.free.at event (ap (λ o. elim o as (λ x. Bool) [ Some command ↦ may_play_at (next_oid old) command was.progress event | None ↦ may_last_at was.progress event ]) next.free.at ∙ is)
 
-  asks : (owed_of facts next.command s ≡ []) × (was.progress.taken ≡ None) × IsLock facts (plan_at was.progress.exec) rel mode
+  asks : (owed_of facts next.command s ≡ []) × (was.progress.taken ≡ None) × IsLock facts (plan_at was.progress.opens was.progress.exec) rel mode
   asks = subst (λ o. MayPlayIn (next_oid old) facts o s (events.LockOk rel mode)) next.free.at (plays (events.LockOk rel mode) next.may)
 
-  is_act : IsAct (plan_at was.progress.exec)
-  is_act = locks_act facts (plan_at was.progress.exec) rel mode asks.2
+  is_act : IsAct (plan_at was.progress.opens was.progress.exec)
+  is_act = locks_act facts (plan_at was.progress.opens was.progress.exec) rel mode asks.2
 
   acting : IsActing scenario old was next.command
   acting = record {
@@ -133,7 +133,7 @@ module _ (scenario : Scenario) (old : List Entry) (was : Backend) (waits : Await
       (lock_found facts s.taken s.left rel mode asks.2) (ap is_absent is_act.is)
 
   pub lock_free : has_lock was.progress.locks.items rel mode ≡ false
-  lock_free = not_held facts was.progress (plan_at was.progress.exec) rel mode asks.1 may.1 asks.2 (ap (λ t. t && gives_next was.progress (plan_at was.progress.exec)) (sym may.0) ∙ (waits.rests.still next.command next.free.at).0)
+  lock_free = not_held facts was.progress (plan_at was.progress.opens was.progress.exec) rel mode asks.1 may.1 asks.2 (ap (λ t. t && gives_next was.progress (plan_at was.progress.opens was.progress.exec)) (sym may.0) ∙ (waits.rests.still next.command next.free.at).0)
 
   pub lock_new : holds (held_of old) was.progress.id rel mode ≡ false
   lock_new = session_holds scenario old was.progress.id s played.sound (waiting_is scenario old was waits) rel mode ∙ lock_free

@@ -310,7 +310,7 @@ look_before_enters scenario old new had has was p some_wait rebuilds waits playe
         (subst (λ l. LookCounts facts (waiting waits) next.next.command was.looked l was.told true l was.told) (sym scan.turn.0)
         (counts_act facts (waiting waits) next.next.command was.looked was.told owed runs unlooked)))
         new had has p played is (scan_busy was.progress next.next.command next.next.lacks) waits.fits.rebuilds
-        (λ made. (Lacks (next_act facts was.progress next.scan waits.rests.holds.facts (plan_at was.progress.exec) scan.turn.1), opens_unheld scenario old was waits courses next.next.command next.next.free.at)) goes kept none appends
+        (λ made. (Lacks (next_act facts was.progress next.scan waits.rests.holds.facts (plan_at was.progress.opens was.progress.exec) scan.turn.1), opens_unheld scenario old was waits courses next.next.command next.next.free.at)) goes kept none appends
 
     by_kind : (t : Bool) → IsScanNext was next.scan t → is_looked_for t was ≡ false → Enters scenario old new had has was (record was { progress = p; looked = was.looked || not t; frames = frames_looked t was.frames })
     by_kind true scan unlooked = of_rebuild scan unlooked
@@ -318,7 +318,7 @@ look_before_enters scenario old new had has was p some_wait rebuilds waits playe
 
 -- where a lookup has found no relation, something is to be done still
 find_busy : (p : Progress) (command : Command) → FindsNone p command → Busy p command
-find_busy p command (Looks unfound owes) = Acts (by_plan (plan_at p.exec) unfound)
+find_busy p command (Looks unfound owes) = Acts (by_plan (plan_at p.opens p.exec) unfound)
   where
     by_plan : (q : Plan) → is_unfound p q ≡ true → is_settled (outcome_of q) ≡ false
     by_plan (Do act rest) is = refl
@@ -354,7 +354,7 @@ accept_enters scenario old new had has was p some_wait told waits played courses
     bare : FindsNone was.progress next.command → was.frames ≡ []
     bare (Looks unfound owes) = owed_bare facts (command_at was) (waiting waits) was.frames next.command waits.fits.rebuilds
         (empty_list (owed_of facts next.command (waiting waits)) (owes_nothing_is facts next.command was.progress waits.rests.holds.rest waits.rests.holds.facts ∙ owes))
-    bare (Says absent quiet) = waits.fits.rebuilds.badly (absent_badly (plan_at was.progress.exec) absent)
+    bare (Says absent quiet) = waits.fits.rebuilds.badly (absent_badly (plan_at was.progress.opens was.progress.exec) absent)
 
     -- and nothing is opened next
     lookup_unheld : (held : List Opening) (q : Plan) → is_unfound was.progress q ≡ true → IsUnheld held q
@@ -371,8 +371,8 @@ accept_enters scenario old new had has was p some_wait told waits played courses
     absent_unheld held q absent = absurd (cc absent)
 
     by_side : FindsNone was.progress next.command → IsLookedFor later (waiting waits).taken (waiting waits).left × IsUnheld (waiting waits).opened (waiting waits).left
-    by_side (Looks unfound owes) = (Unfound (unfound_facts facts was.progress (plan_at was.progress.exec) waits.rests.holds.facts unfound) refl, lookup_unheld was.progress.opened (plan_at was.progress.exec) unfound)
-    by_side (Says absent quiet) = (Said absent, absent_unheld was.progress.opened (plan_at was.progress.exec) absent)
+    by_side (Looks unfound owes) = (Unfound (unfound_facts facts was.progress (plan_at was.progress.opens was.progress.exec) waits.rests.holds.facts unfound) refl, lookup_unheld was.progress.opened (plan_at was.progress.opens was.progress.exec) unfound)
+    by_side (Says absent quiet) = (Said absent, absent_unheld was.progress.opened (plan_at was.progress.opens was.progress.exec) absent)
 
     runs : is_some facts.running ≡ true
     runs = find_runs scenario old was waits courses next.command next.free.at next.free.first next.finds

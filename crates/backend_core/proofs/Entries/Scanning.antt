@@ -148,20 +148,20 @@ module _ (scenario : Scenario) (old : List Entry) (was : Backend) (waits : Await
   goes : has_failed was.progress ≡ false
   goes = not_true (has_failed was.progress) (and_true (not (has_failed was.progress)) _ next.next).0
 
-  failed_by : (p : Plan) → plan_at was.progress.exec ≡ p → outcome_of p ≡ Badly → ⊥
+  failed_by : (p : Plan) → plan_at was.progress.opens was.progress.exec ≡ p → outcome_of p ≡ Badly → ⊥
   failed_by p at badly = both_ways _ goes (ap (λ q. elim (outcome_of q) as (λ x. Bool) [ Badly ↦ true | other ↦ false ]) at ∙ ap (λ o. elim o as (λ x. Bool) [ Badly ↦ true | other ↦ false ]) badly)
 
-  present : is_absent (plan_at was.progress.exec) ≡ false
-  present = by_plan (plan_at was.progress.exec) refl
+  present : is_absent (plan_at was.progress.opens was.progress.exec) ≡ false
+  present = by_plan (plan_at was.progress.opens was.progress.exec) refl
     where
-      by_plan : (p : Plan) → plan_at was.progress.exec ≡ p → is_absent p ≡ false
+      by_plan : (p : Plan) → plan_at was.progress.opens was.progress.exec ≡ p → is_absent p ≡ false
       by_plan (Absent name) at = absurd (failed_by (Absent name) at refl)
       by_plan p at = refl
 
-  no_error : has_error (plan_at was.progress.exec) ≡ false
-  no_error = by_plan (plan_at was.progress.exec) refl
+  no_error : has_error (plan_at was.progress.opens was.progress.exec) ≡ false
+  no_error = by_plan (plan_at was.progress.opens was.progress.exec) refl
     where
-      by_plan : (p : Plan) → plan_at was.progress.exec ≡ p → has_error p ≡ false
+      by_plan : (p : Plan) → plan_at was.progress.opens was.progress.exec ≡ p → has_error p ≡ false
       by_plan (Fails error) at = absurd (failed_by (Fails error) at refl)
       by_plan p at = refl
 
@@ -187,7 +187,7 @@ module _ (scenario : Scenario) (old : List Entry) (was : Backend) (waits : Await
   rebuilds_now = record {
     stack = λ keeps. stack_now;
     over = λ over. absurd (both_ways _ over (λ i. not false && not (going scenario old was waits courses next.command next.free.at i) && not (no_error i)));
-    badly = λ is. absurd (failed_by (plan_at was.progress.exec) refl is);
+    badly = λ is. absurd (failed_by (plan_at was.progress.opens was.progress.exec) refl is);
     past = λ none. absurd (let both : Some next.command ≡ None = sym next.free.at ∙ none in cc both);
   }
 
@@ -208,10 +208,10 @@ module _ (scenario : Scenario) (old : List Entry) (was : Backend) (waits : Await
           built = top_rebuilt facts (command_at was) s was.frames on.parts.one waits.fits.rebuilds (ap top on.parts.is ∙ top_push on.parts.under on.parts.one)
 
           -- a lookup that has found no relation lacks nothing, and nothing is rebuilt
-          never : (name : List ℕ) (mode : Mode) (rest : List Row → Plan) → plan_at was.progress.exec ≡ Do (Lookup name mode) rest → ⊥
+          never : (name : List ℕ) (mode : Mode) (rest : List Row → Plan) → plan_at was.progress.opens was.progress.exec ≡ Do (Lookup name mode) rest → ⊥
           never name mode rest at = none_held on.parts.one.opening (subst (λ l. IsAmong l on.parts.one.opening) (lookup_opens_none old was.progress.id s next.command name mode rest (follows scenario old was waits courses next.command next.free.at) at) built.among)
 
-          no_name : (p : Plan) → plan_at was.progress.exec ≡ p → finds_no_name facts s.taken p ≡ true → ⊥
+          no_name : (p : Plan) → plan_at was.progress.opens was.progress.exec ≡ p → finds_no_name facts s.taken p ≡ true → ⊥
           no_name (Do (Lookup name mode) rest) at finds = never name mode rest at
           no_name (Do (Open of kind) rest) at finds = cc finds
           no_name (Do (Search other) rest) at finds = cc finds

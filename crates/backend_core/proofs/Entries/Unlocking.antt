@@ -79,11 +79,11 @@ module _ (scenario : Scenario) (old : List Entry) (was : Backend) (waits : Await
   plays : MayPlayIn (next_oid old) facts (command_at was) s event
   plays = now_plays scenario old was waits next.command next.free.at event (ap (λ o. elim o as (λ x. Bool) [ Some command ↦ may_play_at (next_oid old) command was.progress event | None ↦ may_last_at was.progress event ]) next.free.at ∙ next.may)
 
-  asks : (owed_of facts next.command s ≡ []) × IsUnlock facts was.progress.taken (plan_at was.progress.exec) rel mode
+  asks : (owed_of facts next.command s ≡ []) × IsUnlock facts was.progress.taken (plan_at was.progress.opens was.progress.exec) rel mode
   asks = subst (λ o. MayPlayIn (next_oid old) facts o s event) next.free.at plays
 
-  abbrev lookup : IsLookup facts was.progress.taken (plan_at was.progress.exec) rel mode
-  lookup = unlocks_lookup facts was.progress.taken (plan_at was.progress.exec) rel mode asks.1
+  abbrev lookup : IsLookup facts was.progress.taken (plan_at was.progress.opens was.progress.exec) rel mode
+  lookup = unlocks_lookup facts was.progress.taken (plan_at was.progress.opens was.progress.exec) rel mode asks.1
 
   abbrev act : Act
   act = Lookup lookup.name mode

@@ -75,7 +75,7 @@ clash_plays next facts command s name (clashes.Row rel) none clashes = (none, cl
 clash_plays next facts command s name (clashes.Running xid) none clashes = (none, clashes)
 
 -- all that a write rests on
-module _ (scenario : Scenario) (old : List Entry) (was : Backend) (draft : Draft) (at : plan_at was.progress.exec ≡ writing draft) (waits : AwaitsEntry scenario old was) (played : IsPlayed scenario old) (courses : AllOnCourse scenario old) (next : IsWriteNext was.progress) where
+module _ (scenario : Scenario) (old : List Entry) (was : Backend) (draft : Draft) (at : plan_at was.progress.opens was.progress.exec ≡ writing draft) (waits : AwaitsEntry scenario old was) (played : IsPlayed scenario old) (courses : AllOnCourse scenario old) (next : IsWriteNext was.progress) where
   abbrev facts : Facts
   facts = facts_of old was.progress.id
 
