@@ -17,7 +17,8 @@ use Rattle.cacheless.specs.Owed.{Owes, OwesLook, begins, owed_at_start}
 use Rattle.cacheless.specs.Runs.{runs}
 use Rattle.cacheless.specs.Session.{Session, Unsettled, Badly, none_open, outcome_of, is_settled, plan_admitted, plan_first, refused_first}
 use Rattle.cacheless.specs.State.{kept_at, owed_first, is_absent}
-use Rattle.cacheless.specs.Types.{CommandError, Told}
+use Rattle.cacheless.specs.Types.{CommandError, Told, OpenRelation}
+use Rattle.ddl_effect.proofs.HasPlan.{built_alike}
 use Rattle.cacheless.proofs.Plans.ActOrder.{FollowsOrder, follows_order}
 use Rattle.cacheless.proofs.Same.{start_owed}
 use Rattle.cacheless.proofs.Entries.EnteredLooks.{not_absent}
@@ -33,11 +34,11 @@ use Rattle.backend_core.proofs.Fitting.NextTransaction.{some_first}
 use Rattle.backend_core.proofs.Own.{waiting, follows, going}
 
 -- a command that the blocks refuse fails
-refused_badly : (o : Option Command) (s : Session) → is_some (refused_first s.blocks o) ≡ true → outcome_of (plan_first s.blocks o) ≡ Badly
+refused_badly : (o : Option Command) (s : Session) → is_some (refused_first s.blocks o) ≡ true → outcome_of (plan_first s.blocks s.opens o) ≡ Badly
 refused_badly None s is = absurd (cc is)
 refused_badly (Some command) s is = by_error (refused_by s.blocks command) is
   where
-    by_error : (error : Option CommandError) → is_some error ≡ true → outcome_of (plan_admitted error command) ≡ Badly
+    by_error : (error : Option CommandError) → is_some error ≡ true → outcome_of (plan_admitted s.opens error command) ≡ Badly
     by_error None some = absurd (cc some)
     by_error (Some error) some = refl
 
@@ -46,23 +47,23 @@ abbrev DoesSome : Plan → Type 0
 DoesSome plan = (told : Told) → plan ≡ Done told → ⊥
 
 -- a command that does something ends no block
-ends_none : (command : Command) → DoesSome (plan_of none_open command) → ends_block command ≡ false
-ends_none commands.Commit acts = absurd (acts tells.Commit refl)
-ends_none commands.Rollback acts = absurd (acts tells.Ok refl)
-ends_none command acts = refl
+ends_none : (opens : List OpenRelation) (command : Command) → DoesSome (plan_of opens command) → ends_block command ≡ false
+ends_none opens commands.Commit acts = absurd (acts tells.Commit refl)
+ends_none opens commands.Rollback acts = absurd (acts tells.Ok refl)
+ends_none opens command acts = refl
 
 -- and one that the program runs mends none
-mends_none : (command : Command) → runs command ≡ true → DoesSome (plan_of none_open command) → ends_failure command ≡ false
-mends_none commands.Commit built acts = absurd (acts tells.Commit refl)
-mends_none commands.Rollback built acts = absurd (acts tells.Ok refl)
-mends_none (commands.RollbackTo name) built acts = absurd (cc built)
-mends_none command built acts = refl
+mends_none : (opens : List OpenRelation) (command : Command) → runs command ≡ true → DoesSome (plan_of opens command) → ends_failure command ≡ false
+mends_none opens commands.Commit built acts = absurd (acts tells.Commit refl)
+mends_none opens commands.Rollback built acts = absurd (acts tells.Ok refl)
+mends_none opens (commands.RollbackTo name) built acts = absurd (cc built)
+mends_none opens command built acts = refl
 
 none_left : {X : Type 0} (o : Option X) → is_some o ≡ false → is_none o ≡ true
 none_left None is = refl
 none_left (Some x) is = absurd (cc is)
 
-pub acts_run : (facts : Facts) (o : Option Command) (s : Session) (looked : Bool) (frames : List Frame) (told : Bool) (command : Command) → o ≡ Some command → Fits facts o s looked frames told → s.ended ≡ false → s.blocked ≡ false → runs command ≡ true → DoesSome (plan_of none_open command) → owed_at_start facts command s ≡ []
+pub acts_run : (facts : Facts) (o : Option Command) (s : Session) (looked : Bool) (frames : List Frame) (told : Bool) (command : Command) → o ≡ Some command → Fits facts o s looked frames told → s.ended ≡ false → s.blocked ≡ false → runs command ≡ true → DoesSome (plan_of s.opens command) → owed_at_start facts command s ≡ []
     → is_some facts.running ≡ true
 acts_run facts o s looked frames told command at fits going unblocked built acts free = by_block s.blocks.block refl (subst (TransactionFits facts o s) going fits.transaction)
   where
@@ -72,13 +73,13 @@ acts_run facts o s looked frames told command at fits going unblocked built acts
     -- outside blocks it would owe its first look
     starts : s.blocks.block ≡ Outside → begins command s ≡ true
     starts is = ap (λ b. elim b as (λ x. Bool) [ Outside ↦ not (ends_block command) && not s.ended && is_none (refused_by no_block command) | other ↦ false ]) is
-        ∙ (λ i. not (ends_none command acts i) && not (going i) && none_left (refused_by no_block command) (ap (λ b. is_some (refused_in b command)) (sym is) ∙ admitted) i)
+        ∙ (λ i. not (ends_none s.opens command acts i) && not (going i) && none_left (refused_by no_block command) (ap (λ b. is_some (refused_in b command)) (sym is) ∙ admitted) i)
 
     by_block : (block : Block) → s.blocks.block ≡ block → RunsBy facts o s block → is_some facts.running ≡ true
     by_block Outside is (inl none) = absurd (let owes : owed_at_start facts command s ≡ OwesLook ∷ [] = (λ i. elim (starts is i && is_none (none i)) as (λ x. List Owes) [ true ↦ OwesLook ∷ [] | false ↦ [] ]) in cc (owes, free))
     by_block Outside is (inr alone) = some_first facts.running _ alone.first
     by_block Inside is block = block.runs
-    by_block Failed is none = absurd (both_ways _ admitted (ap (λ b. is_some (refused_in b command)) is ∙ ap (λ t. is_some (elim t as (λ x. Option CommandError) [ true ↦ None | false ↦ Some errors.BlockFailed ])) (mends_none command built acts)))
+    by_block Failed is none = absurd (both_ways _ admitted (ap (λ b. is_some (refused_in b command)) is ∙ ap (λ t. is_some (elim t as (λ x. Option CommandError) [ true ↦ None | false ↦ Some errors.BlockFailed ])) (mends_none s.opens command built acts)))
 
 -- a backend that waits in a command whose transaction's first look is made
 module _ (scenario : Scenario) (seen : List Entry) (s : Backend) (waits : AwaitsEntry scenario seen s) (courses : AllOnCourse scenario seen) (command : Command) (at : command_at s ≡ Some command) where
@@ -91,16 +92,16 @@ module _ (scenario : Scenario) (seen : List Entry) (s : Backend) (waits : Awaits
     where
       by_test : (t : Bool) → s.progress.blocked ≡ t → s.progress.blocked ≡ false
       by_test false is = is
-      by_test true is = absurd (let badly : outcome_of (plan_first (waiting waits).blocks (command_at s)) ≡ Badly = refused_badly (command_at s) (waiting waits) (sym waits.fits.blocked ∙ is) in goes (ap outcome_of (waits.fits.settled (ap is_settled badly)) ∙ badly))
+      by_test true is = absurd (let badly : outcome_of (plan_first (waiting waits).blocks (waiting waits).opens (command_at s)) ≡ Badly = refused_badly (command_at s) (waiting waits) (sym waits.fits.blocked ∙ is) in goes (ap outcome_of (waits.fits.settled (ap is_settled badly)) ∙ badly))
 
-  runs_here : owed_first s.progress command ≡ [] → outcome_of (plan_at s.progress.opens s.progress.exec) ≢ Badly → DoesSome (plan_of none_open command) → is_some (facts_of seen s.progress.id).running ≡ true
+  runs_here : owed_first s.progress command ≡ [] → outcome_of (plan_at s.progress.opens s.progress.exec) ≢ Badly → DoesSome (plan_of s.progress.opens command) → is_some (facts_of seen s.progress.id).running ≡ true
   runs_here free goes acts = acts_run (facts_of seen s.progress.id) (command_at s) (waiting waits) s.looked s.frames s.told command at waits.fits (going scenario seen s waits courses command at) (unblocked_here goes) built acts
       (start_owed (facts_of seen s.progress.id) command s.progress waits.rests.holds.rest waits.rests.holds.facts ∙ free)
 
   -- its plan isn't an answer alone
-  acts_none : (act : Act) (rest : List Row → Plan) → plan_at s.progress.opens s.progress.exec ≡ Do act rest → DoesSome (plan_of none_open command)
+  acts_none : (act : Act) (rest : List Row → Plan) → plan_at s.progress.opens s.progress.exec ≡ Do act rest → DoesSome (plan_of s.progress.opens command)
   acts_none act rest acts told none = let way : OnItsWay seen s.progress.id (waiting waits) command = on_its_way seen s.progress.id (waiting waits) command act rest (follows scenario seen s waits courses command at) acts in
-      none_reached way.gave (plan_of none_open command) act rest (ap acting none) (sym way.plan ∙ acts)
+      none_reached way.gave (plan_of s.progress.opens command) act rest (ap acting none) (sym way.plan ∙ acts)
 
   -- before an act
   pub act_runs : (act : Act) (rest : List Row → Plan) → plan_at s.progress.opens s.progress.exec ≡ Do act rest → owed_first s.progress command ≡ [] → is_some (facts_of seen s.progress.id).running ≡ true
@@ -116,10 +117,10 @@ module _ (scenario : Scenario) (seen : List Entry) (s : Backend) (waits : Awaits
         where
           by_test : (t : Bool) → s.progress.blocked ≡ t → s.progress.blocked ≡ false
           by_test false is = is
-          by_test true is = absurd (let badly : outcome_of (plan_first (waiting waits).blocks (command_at s)) ≡ Badly = refused_badly (command_at s) (waiting waits) (sym waits.fits.blocked ∙ is) in
-              both_ways _ (ap is_absent (waits.fits.settled (ap is_settled badly)) ∙ not_absent (waiting waits).blocks (command_at s)) (ap is_absent says))
+          by_test true is = absurd (let badly : outcome_of (plan_first (waiting waits).blocks (waiting waits).opens (command_at s)) ≡ Badly = refused_badly (command_at s) (waiting waits) (sym waits.fits.blocked ∙ is) in
+              both_ways _ (ap is_absent (waits.fits.settled (ap is_settled badly)) ∙ not_absent (waiting waits).blocks (waiting waits).opens (command_at s)) (ap is_absent says))
 
-      acts : DoesSome (plan_of none_open command)
+      acts : DoesSome (plan_of s.progress.opens command)
       acts told none = let was = (follows scenario seen s waits courses command at).sought name says in let both : Do (Lookup name was.mode) was.rest ≡ Done told = sym was.looks ∙ was.first ∙ none in cc both
 
   -- before the look of a lookup that has found no relation
@@ -145,9 +146,9 @@ module _ (scenario : Scenario) (seen : List Entry) (s : Backend) (waits : Awaits
       both : (not (has_failed s.progress) ≡ true) × ((list_any (λ o. is_first_missing scan (kept_at s.progress) o.kind o.rel) s.progress.opened || is_next_of_act scan s.progress (plan_at s.progress.opens s.progress.exec)) ≡ true)
       both = and_true (not (has_failed s.progress)) _ next
 
-      by_plan : (p : Plan) → plan_at s.progress.opens s.progress.exec ≡ p → is_next_of_act scan s.progress p ≡ true → DoesSome (plan_of none_open command)
+      by_plan : (p : Plan) → plan_at s.progress.opens s.progress.exec ≡ p → is_next_of_act scan s.progress p ≡ true → DoesSome (plan_of s.progress.opens command)
       by_plan (Do act rest) is of = acts_none act rest is
-      by_plan (Done (tells.Regclass oid)) is of = λ told none. subst FollowsOrder (none ∙ sym (((follows scenario seen s waits courses command at).plain told none).left (ap outcome_of is)) ∙ is) (follows_order none_open command built)
+      by_plan (Done (tells.Regclass oid)) is of = λ told none. subst FollowsOrder (none ∙ sym (((follows scenario seen s waits courses command at).plain told none).left (ap outcome_of is)) ∙ is) (follows_order s.progress.opens command (built_alike s.progress.opens none_open command ∙ built))
       by_plan (Done told) is of = absurd (cc of)
       by_plan (Fails error) is of = absurd (cc of)
       by_plan (Absent name) is of = absurd (cc of)

@@ -16,9 +16,9 @@ use Rattle.cacheless.specs.Facts.{Facts}
 use Rattle.cacheless.specs.Owed.{Owes, OwesScan, owed_at_start, owed_after, scans_owed, owed_of}
 use Rattle.cacheless.specs.Plays.{IsEnd, IsLastEnd, MayPlay, MayPlayLast, MayPlayIn}
 use Rattle.cacheless.specs.Runs.{runs}
-use Rattle.cacheless.specs.Session.{Session, Outcome, Well, Badly, Unsettled, none_open, number_of, outcome_of, is_settled, plan_admitted, plan_first, refused_first}
+use Rattle.cacheless.specs.Session.{Session, Outcome, Well, Badly, Unsettled, number_of, outcome_of, is_settled, plan_admitted, plan_first, refused_first}
 use Rattle.cacheless.specs.Sessions.{ends_command}
-use Rattle.cacheless.specs.Types.{CommandError}
+use Rattle.cacheless.specs.Types.{CommandError, OpenRelation}
 use Rattle.cacheless.proofs.Allowed.OwnEntries.{ends_out}
 use Rattle.cacheless.proofs.Plans.SilentActs.{both_empty}
 use Rattle.backend_core.specs.Types.{Xid, Command, Event, Frame}
@@ -192,15 +192,15 @@ level_outside [] n is = refl
 level_outside (level ∷ levels) n is = absurd (cc is)
 
 -- a failed block admits what ends it, which does no act
-ends_failed : (command : Command) → is_some (refused_in Failed command) ≡ false → runs command ≡ true → outcome_of (plan_of none_open command) ≡ Well
-ends_failed commands.Commit admitted built = refl
-ends_failed commands.Rollback admitted built = refl
-ends_failed (commands.RollbackTo name) admitted built = absurd (cc built)
-ends_failed command admitted built = absurd (cc admitted)
+ends_failed : (opens : List OpenRelation) (command : Command) → is_some (refused_in Failed command) ≡ false → runs command ≡ true → outcome_of (plan_of opens command) ≡ Well
+ends_failed opens commands.Commit admitted built = refl
+ends_failed opens commands.Rollback admitted built = refl
+ends_failed opens (commands.RollbackTo name) admitted built = absurd (cc built)
+ends_failed opens command admitted built = absurd (cc admitted)
 
-admitted_plan : (error : Option CommandError) (command : Command) → is_some error ≡ false → plan_admitted error command ≡ plan_of none_open command
-admitted_plan None command none = refl
-admitted_plan (Some error) command none = absurd (cc none)
+admitted_plan : (opens : List OpenRelation) (error : Option CommandError) (command : Command) → is_some error ≡ false → plan_admitted opens error command ≡ plan_of opens command
+admitted_plan opens None command none = refl
+admitted_plan opens (Some error) command none = absurd (cc none)
 
 -- an end releases its transaction as a whole, or an inner level alone, and the transaction goes on; what runs then fits the blocks after the command
 pub data Releases (facts : Facts) (o : Option Command) (s : Session) (from : ℕ) : Type 0 where
@@ -250,8 +250,8 @@ module _ (facts : Facts) (o : Option Command) (s : Session) (looked : Bool) (fra
       free : is_some (refused_by s.blocks command) ≡ false
       free = ap (λ c. is_some (refused_first s.blocks c)) (sym at) ∙ sym fits.blocked ∙ admitted
 
-      first : outcome_of (plan_first s.blocks o) ≡ Well
-      first = ap (λ c. outcome_of (plan_first s.blocks c)) at ∙ ap outcome_of (admitted_plan (refused_by s.blocks command) command free) ∙ ends_failed command (ap (λ b. is_some (refused_in b command)) (sym failed) ∙ free) built
+      first : outcome_of (plan_first s.blocks s.opens o) ≡ Well
+      first = ap (λ c. outcome_of (plan_first s.blocks s.opens c)) at ∙ ap outcome_of (admitted_plan s.opens (refused_by s.blocks command) command free) ∙ ends_failed s.opens command (ap (λ b. is_some (refused_in b command)) (sym failed) ∙ free) built
 
   -- what fits the blocks after the command, by how it came out
   after_well : (later : Facts) → outcome_of s.left ≡ Well → RunsIn later (blocks_well (number_of s) command s.blocks) → RunsAfter later o s

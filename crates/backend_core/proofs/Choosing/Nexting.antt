@@ -1,5 +1,5 @@
 -- What a backend does next.
-use Rattle.std.proofs.Common.{◌≡◌, ◌∙◌, ℕ, Bool, true, false, not, ◌&&◌, ◌||◌, Option, Some, None, List, [], ◌∷◌, ◌++◌, cond, refl, sym, ap, subst, append_assoc, is_some, slice_get}
+use Rattle.std.proofs.Common.{◌≡◌, ◌∙◌, ℕ, Bool, true, false, not, ◌&&◌, ◌||◌, Option, Some, None, List, [], ◌∷◌, ◌++◌, cond, refl, sym, ap, subst, map, append_assoc, is_some, slice_get}
 use Rattle.std.specs.List.{find, list_any}
 use Rattle.std.specs.Option.{IsSomeAnd, option_map_or}
 use Rattle.std.proofs.lemmas.List.{append-nil}
@@ -19,7 +19,7 @@ use Rattle.cacheless.specs.OnCourse.{Way, Begun, Wrote, Unbuilt, Over, FollowsPl
 use Rattle.cacheless.specs.OpenedReads.{ReadsOpened}
 use Rattle.cacheless.specs.Runs.{runs}
 use Rattle.cacheless.specs.Settled.{opened_by}
-use Rattle.cacheless.specs.Session.{none_open}
+use Rattle.cacheless.specs.Session.{opening_of}
 use Rattle.cacheless.specs.Silently.{is_ends, IsAtRest}
 use Rattle.cacheless.specs.State.{kept_at, is_kept, is_absent, is_quiet, act_missing, is_out, end_at}
 use Rattle.cacheless.proofs.Answers.OpenedReads.{reads_out, reads_first, reads_after}
@@ -116,11 +116,14 @@ reads_now scenario seen s waits courses = by_command (command_at s) refl
     on : IsOnCourse scenario seen s.progress.id (waiting waits)
     on = waiting_course scenario seen s waits courses
 
-    first : (command : Command) → runs command ≡ true → ReadsOpened [] (plan_of none_open command)
-    first command runs_it = reads_first (record { block = Inside; levels = [] }) (Some command) (λ c is. let one : command ≡ c = cc is in subst (λ x. runs x ≡ true) one runs_it)
+    held : List Opening
+    held = map opening_of s.progress.opens
+
+    first : (command : Command) → runs command ≡ true → ReadsOpened held (plan_of s.progress.opens command)
+    first command runs_it = reads_first (record { block = Inside; levels = [] }) s.progress.opens (Some command) (λ c is. let one : command ≡ c = cc is in subst (λ x. runs x ≡ true) one runs_it)
 
     by_way : (command : Command) → Way seen s.progress.id (waiting waits) command → ReadsOpened s.progress.opened (plan_at s.progress.opens s.progress.exec)
-    by_way command (Begun way) = subst (ReadsOpened s.progress.opened) (sym way.plan) (subst (λ o. ReadsOpened o (reached way.gave (plan_of none_open command))) (sym way.opened) (reads_reached way.gave [] (plan_of none_open command) (first command way.runs)))
+    by_way command (Begun way) = subst (ReadsOpened s.progress.opened) (sym way.plan) (subst (λ o. ReadsOpened o (reached way.gave (plan_of s.progress.opens command))) (sym way.opened) (reads_reached way.gave held (plan_of s.progress.opens command) (first command way.runs)))
     by_way command (Wrote w) = subst (ReadsOpened s.progress.opened) (sym w.plan) tt
     by_way command (Unbuilt w) = subst (ReadsOpened s.progress.opened) (sym w.plan) tt
     by_way command (Over w) = reads_out s.progress.opened (plan_at s.progress.opens s.progress.exec) w.out

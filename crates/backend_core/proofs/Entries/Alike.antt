@@ -19,7 +19,7 @@ use Rattle.backend_core.specs.Agrees.{command_at, AwaitsEntry}
 use Rattle.backend_core.specs.Fits.{Fits}
 use Rattle.backend_core.specs.Steps.{MakesEntry, Enters, IsLockNext, IsWriteNext}
 
-module _ (scenario : Scenario) (seen : List Entry) (s : Backend) (exec : Exec) (locks : Roomy OwnLock) (plan : plan_at exec ≡ plan_at s.progress.opens s.progress.exec) (items : locks.items ≡ s.progress.locks.items) (again : is_absent (plan_at exec) ≡ true → plan_again s.progress.opens s.progress.exec ≡ plan_again exec) where
+module _ (scenario : Scenario) (seen : List Entry) (s : Backend) (exec : Exec) (locks : Roomy OwnLock) (plan : plan_at s.progress.opens exec ≡ plan_at s.progress.opens s.progress.exec) (items : locks.items ≡ s.progress.locks.items) (again : is_absent (plan_at s.progress.opens exec) ≡ true → plan_again s.progress.opens s.progress.exec ≡ plan_again s.progress.opens exec) where
   abbrev other : Backend
   other = record s { progress = record s.progress { exec = exec; locks = locks } }
 

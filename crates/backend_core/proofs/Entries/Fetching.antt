@@ -90,6 +90,7 @@ fetch_call scenario seen s waits due = let d : IsDue seen s = is_due scenario se
 -- a lookup that found no relation is taken up again, and nothing else changes
 record IsResumed (p : Plan) (s : Session) : Type 0 where
   blocks : (resumed p s).blocks ≡ s.blocks
+  opens : (resumed p s).opens ≡ s.opens
   finished : (resumed p s).finished ≡ s.finished
   blocked : (resumed p s).blocked ≡ s.blocked
   ended : (resumed p s).ended ≡ s.ended
@@ -98,8 +99,8 @@ record IsResumed (p : Plan) (s : Session) : Type 0 where
   opened : (resumed p s).opened ≡ s.opened
 
 is_resumed : (p : Plan) (s : Session) → IsResumed p s
-is_resumed (Absent name) s = record { blocks = refl; finished = refl; blocked = refl; ended = refl; left = λ present. absurd (cc present); taken = refl; opened = refl }
-is_resumed p s = record { blocks = refl; finished = refl; blocked = refl; ended = refl; left = λ present. refl; taken = refl; opened = refl }
+is_resumed (Absent name) s = record { blocks = refl; opens = refl; finished = refl; blocked = refl; ended = refl; left = λ present. absurd (cc present); taken = refl; opened = refl }
+is_resumed p s = record { blocks = refl; opens = refl; finished = refl; blocked = refl; ended = refl; left = λ present. refl; taken = refl; opened = refl }
 
 -- it took no lock
 takes_resumed : (locks : List OwnLock) (p : Plan) (s : Session) → s.left ≡ p → TakesFit (number_of s) locks s.taken s.left → TakesFit (number_of (resumed p s)) locks (resumed p s).taken (resumed p s).left
@@ -251,7 +252,7 @@ messages_bring scenario old was count waits due served = record {
   spares = λ scan none. ap (λ t. is_spared scan (fetched_by old was.progress.id count) && t) none ∙ and-false (is_spared scan (fetched_by old was.progress.id count));
   facts = λ i. record (facts_by old was.progress.id (was.progress.finished + 1) (events.Fetch count) (facts_of old was.progress.id)) { running = Some (begun (sym waits.rests.holds.count i + 1) (facts_of old was.progress.id).running) };
   fetched = record {
-    stays = let r = is_resumed s.left s in record { blocks = r.blocks; finished = ap length r.finished; blocked = r.blocked; ended = r.ended; left = λ out present. r.left present };
+    stays = let r = is_resumed s.left s in record { blocks = r.blocks; opens = r.opens; finished = ap length r.finished; blocked = r.blocked; ended = r.ended; left = λ out present. r.left present };
     looks = full_same full more (λ t. t.looks) (λ n. refl);
     scans = full_same full more (λ t. t.scans) (λ n. refl);
     grants = full_same full more (λ t. t.grants) (λ n. refl);
@@ -287,7 +288,7 @@ reset_brings scenario old was waits due lapped = record {
   spares = λ scan none. refl;
   facts = λ i. record (facts_by old was.progress.id (was.progress.finished + 1) events.FetchReset (facts_of old was.progress.id)) { running = Some (begun (sym waits.rests.holds.count i + 1) (facts_of old was.progress.id).running) };
   fetched = record {
-    stays = let r = is_resumed s.left s in record { blocks = r.blocks; finished = ap length r.finished; blocked = r.blocked; ended = r.ended; left = λ out present. r.left present };
+    stays = let r = is_resumed s.left s in record { blocks = r.blocks; opens = r.opens; finished = ap length r.finished; blocked = r.blocked; ended = r.ended; left = λ out present. r.left present };
     looks = refl;
     scans = refl;
     grants = refl;

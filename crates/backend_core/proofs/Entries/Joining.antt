@@ -17,7 +17,7 @@ use Rattle.cacheless.specs.Holds.{HasStarted}
 use Rattle.cacheless.specs.Owed.{owed_after, started_in}
 use Rattle.cacheless.specs.Plays.{MayPlayAt}
 use Rattle.cacheless.specs.Runs.{runs}
-use Rattle.cacheless.specs.Session.{at_command}
+use Rattle.cacheless.specs.Session.{none_open, at_command}
 use Rattle.cacheless.specs.State.{kept_at, session_at}
 use Rattle.cacheless.proofs.Reading.{facts_of-own}
 use Rattle.session_laws.specs.Awaiting.{AnswersNow}
@@ -44,9 +44,9 @@ join_call scenario seen s before = record {
 }
 
 -- what its choice keeps from then on
-fits_first : (facts : Facts) (o : Option Command) (at : ℕ) → facts.running ≡ None → facts.lists ≡ [] → facts.last ≡ Some events.Start → Fits facts o (at_command no_block [] [] at o) false [] false
+fits_first : (facts : Facts) (o : Option Command) (at : ℕ) → facts.running ≡ None → facts.lists ≡ [] → facts.last ≡ Some events.Start → Fits facts o (at_command no_block none_open [] [] at o) false [] false
 fits_first facts o at runs lists last = record {
-  rebuilds = bare_fits facts o (at_command no_block [] [] at o) (λ keeps. refl);
+  rebuilds = bare_fits facts o (at_command no_block none_open [] [] at o) (λ keeps. refl);
   looks = λ _. record { enough = omega (arith, none, ap (λ l. looks_due (owed_after l)) last); within = omega (arith, none, ap (λ l. looks_due (owed_after l)) last) };
   transaction = inl runs;
   first = omega (arith, ap (λ r. option_map_or (λ (t : Running). t.first) r 0) runs);
@@ -58,7 +58,7 @@ fits_first facts o at runs lists last = record {
   visible = λ is. absurd (both_ways _ (ap (λ r. is_visible r) runs) is);
   taken = λ from is. absurd (let both : Some events.Start ≡ Some (events.Gone from) = sym last ∙ is in cc both);
   accepts = λ owes. absurd (both_ways _ owes (ap (λ l. is_empty (owed_after l)) last));
-  past = λ none. subst (λ x. IsPast facts (at_command no_block [] [] at x)) (sym none) (record { out = refl; free = ap owed_after last });
+  past = λ none. subst (λ x. IsPast facts (at_command no_block none_open [] [] at x)) (sym none) (record { out = refl; free = ap owed_after last });
   sought = λ is. absurd (cc is);
   takes = tt;
   unheld = λ is. absurd (cc is);
@@ -84,10 +84,10 @@ join_enters scenario old new had has was p before played started kept same appen
     holds = started.holds;
     fits = subst (λ f. Fits f (slice_get p.commands p.finished) (session_at p started.holds.rest) was.looked was.frames was.told) (sym facts_are)
         (subst (λ x. Fits facts (slice_get p.commands p.finished) x was.looked was.frames was.told) (sym started.session)
-        (subst (λ o. Fits facts o (at_command no_block [] [] (length old + 1) (slice_get was.progress.commands 0)) was.looked was.frames was.told) (sym first_command)
-        (subst (λ t. Fits facts (slice_get was.progress.commands 0) (at_command no_block [] [] (length old + 1) (slice_get was.progress.commands 0)) was.looked was.frames t) (sym before.new.told)
-        (subst (λ t. Fits facts (slice_get was.progress.commands 0) (at_command no_block [] [] (length old + 1) (slice_get was.progress.commands 0)) was.looked t false) (sym before.new.frames)
-        (subst (λ t. Fits facts (slice_get was.progress.commands 0) (at_command no_block [] [] (length old + 1) (slice_get was.progress.commands 0)) t [] false) (sym before.new.looked)
+        (subst (λ o. Fits facts o (at_command no_block none_open [] [] (length old + 1) (slice_get was.progress.commands 0)) was.looked was.frames was.told) (sym first_command)
+        (subst (λ t. Fits facts (slice_get was.progress.commands 0) (at_command no_block none_open [] [] (length old + 1) (slice_get was.progress.commands 0)) was.looked was.frames t) (sym before.new.told)
+        (subst (λ t. Fits facts (slice_get was.progress.commands 0) (at_command no_block none_open [] [] (length old + 1) (slice_get was.progress.commands 0)) was.looked t false) (sym before.new.frames)
+        (subst (λ t. Fits facts (slice_get was.progress.commands 0) (at_command no_block none_open [] [] (length old + 1) (slice_get was.progress.commands 0)) t [] false) (sym before.new.looked)
         (fits_first facts (slice_get was.progress.commands 0) (length old + 1) refl (ap (λ f. f.lists) before.facts) refl))))));
     tells = answers.tells;
     lines = before.new.lines ∙ answers.lines_are;

@@ -201,7 +201,7 @@ module _ (scenario : Scenario) (old : List Entry) (was : Backend) (waits : Await
     look_fits hides rebuilds sought = subst (λ f. Fits f (command_at was) now looked frames told) (sym later_is) (subst (λ o. Fits (looked_facts facts s some_wait) o now looked frames told) (sym at)
         (fits_inside facts (looked_facts facts s some_wait) (Some command) s now was.looked was.frames was.told looked frames told command refl (subst (λ o. Fits facts o s was.looked was.frames was.told) at waits.fits)
         (record { runs = refl; written = λ is. begun_written (number_of s) facts.running (waits.fits.written is); last = λ from is. cc is })
-        (record { blocks = refl; finished = refl; blocked = refl; ended = refl; left = λ is there. refl }) counts.goes hides (going scenario old was waits courses command at) looks_more rebuilds sought (takes_cleared _ (number_of s) s.locks s.taken s.left waits.fits.takes)))
+        (record { blocks = refl; opens = refl; finished = refl; blocked = refl; ended = refl; left = λ is there. refl }) counts.goes hides (going scenario old was waits courses command at) looks_more rebuilds sought (takes_cleared _ (number_of s) s.locks s.taken s.left waits.fits.takes)))
 
     -- so after it the backend agrees
     pub look_agrees : (new : List Entry) (had has : ℕ → ℕ) (p : Progress) → IsPlayed scenario old → some_wait ≡ is_waiting old was.progress.id → Busy was.progress command → FramesFit facts (command_at was) s frames → MadeFor → HasEntered scenario old was.progress event waits.rests p → kept_at p ≡ kept_at was.progress → p.answer ≡ None

@@ -15,11 +15,11 @@ use Rattle.cacheless.specs.Facts.{Facts, facts_of, facts_by}
 use Rattle.cacheless.specs.Holds.{HasEntered}
 use Rattle.cacheless.specs.OnCourse.{AllOnCourse}
 use Rattle.cacheless.specs.Session.{Session, number_of}
-use Rattle.cacheless.specs.State.{kept_at}
+use Rattle.cacheless.specs.State.{kept_at, is_out}
 use Rattle.backend_core.specs.Types.{Command, Scenario, Entry, Event, OwnLock, Message, Progress, Backend, Frame}
 use Rattle.backend_core.specs.Agrees.{IsPlayed, command_at, AwaitsEntry}
 use Rattle.backend_core.specs.Fits.{first_at, RunsAfter, Fits}
-use Rattle.backend_core.specs.Steps.{EndsNext, Enters}
+use Rattle.backend_core.specs.Steps.{EndsNext, InCommand, AfterAll, Enters}
 use Rattle.backend_core.proofs.Entries.EndEntries.{end_now, end_call, built_at, end_enters, end_bare}
 use Rattle.backend_core.proofs.Choosing.EndsNow.{end_by, EndsBy, LetsGo, AllSent, NoWrite, Releases, Whole, Inner, comes_now, from_of, first_begun, commit_first, end_releases, commit_end, back_end}
 use Rattle.backend_core.proofs.Fitting.FitsEnds.{fits_released, ended_running, ended_lists, kept_running, kept_lists}
@@ -118,14 +118,14 @@ module _ (scenario : Scenario) (old : List Entry) (was : Backend) (from : ℕ) (
   release_call = end_call scenario old was waits (events.Release from) refl next (released (is_visible facts.running) from) (release_gone facts (command_at was) s was.looked was.frames was.told from waits.fits lets)
       (from_low part, may_release lets)
 
-  release_fits : (locks : List OwnLock) (at : ℕ) → Fits (facts_by old was.progress.id (was.progress.finished + 1) (events.Release from) facts) (command_at was) (record s { ended = true; locks = locks; last = at }) was.looked was.frames was.told
+  release_fits : (locks : List OwnLock) (at : ℕ) → Fits (facts_by old was.progress.id (was.progress.finished + 1) (events.Release from) facts) (command_at was) (record s { ended = true; opened = []; locks = locks; last = at }) was.looked was.frames was.told
   release_fits locks at = by_part part
     where
       later : Facts
       later = facts_by old was.progress.id (was.progress.finished + 1) (events.Release from) facts
 
       fits_here : first_at later ≤ number_of s → (has_write_from 0 later.lists ≡ true → option_map_or (λ (t : Running). is_some t.xid) later.running false ≡ true) → is_visible later.running ≡ false → RunsAfter later (command_at was) s
-          → Fits later (command_at was) (record s { ended = true; locks = locks; last = at }) was.looked was.frames was.told
+          → Fits later (command_at was) (record s { ended = true; opened = []; locks = locks; last = at }) was.looked was.frames was.told
       fits_here low written hidden runs = fits_released facts later (command_at was) s was.looked was.frames was.told (events.Release from) locks at waits.fits now from refl (end_bare scenario old was waits (events.Release from) refl next) (λ scan none. none) low written hidden runs
 
       -- a level that is released alone isn't that of a commit
@@ -133,7 +133,7 @@ module _ (scenario : Scenario) (old : List Entry) (was : Backend) (from : ℕ) (
       inner_hidden above runs (AllSent commits visible sent) = absurd (omega (arith, above, first_running facts.running (was.progress.finished + 1) from runs (first_committed commits)))
       inner_hidden above runs (NoWrite end bare) = bare_hidden facts (command_at was) s was.looked was.frames was.told from waits.fits end bare
 
-      by_part : Releases facts (command_at was) s from → Fits later (command_at was) (record s { ended = true; locks = locks; last = at }) was.looked was.frames was.told
+      by_part : Releases facts (command_at was) s from → Fits later (command_at was) (record s { ended = true; opened = []; locks = locks; last = at }) was.looked was.frames was.told
       by_part (Whole is none) = fits_here (subst (λ n. n ≤ number_of s) (sym (ap (λ r. option_map_or (λ (t : Running). t.first) r 0) ended)) (omega arith))
           (λ some. absurd (both_ways _ (ended_lists facts.running facts.lists (was.progress.finished + 1) from (first_here is) waits.fits.written) some)) (ap (λ r. is_visible r) ended) (none later ended)
         where
@@ -151,3 +151,8 @@ pub release_enters : (scenario : Scenario) (old new : List Entry) (had has : ℕ
     → HasEntered scenario old was.progress (events.Release from) waits.rests p → kept_at p ≡ kept_at was.progress → p.answer ≡ was.progress.answer → Appends old new had has (entry_of was.progress.id (was.progress.finished + 1) (events.Release from)) → Enters scenario old new had has was (record was { progress = p })
 release_enters scenario old new had has was from p waits played courses next goes kept same appends =
     end_enters scenario old new had has was (events.Release from) p waits refl played courses next goes kept same (release_fits scenario old was from waits next _ (length old + 1)) appends
+
+-- before it its command has come out
+pub release_out : (scenario : Scenario) (old : List Entry) (was : Backend) (from : ℕ) → AwaitsEntry scenario old was → EndsNext was (events.Release from) → is_out was.progress ≡ true
+release_out scenario old was from waits (InCommand command free out owes again may) = out
+release_out scenario old was from waits (AfterAll past next) = (waits.fits.past past).out

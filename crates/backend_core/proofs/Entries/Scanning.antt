@@ -192,7 +192,7 @@ module _ (scenario : Scenario) (old : List Entry) (was : Backend) (waits : Await
   }
 
   scan_fits : Fits later (command_at was) now (was.looked && rebuilds) (frames_now rebuilds) was.told
-  scan_fits = inside_fits scenario old was waits courses next.command next.free.at later now (was.looked && rebuilds) (frames_now rebuilds) was.told same refl (λ from is. cc is) (record { blocks = refl; finished = refl; blocked = refl; ended = refl; left = λ is there. refl })
+  scan_fits = inside_fits scenario old was waits courses next.command next.free.at later now (was.looked && rebuilds) (frames_now rebuilds) was.told same refl (λ from is. cc is) (record { blocks = refl; opens = refl; finished = refl; blocked = refl; ended = refl; left = λ is there. refl })
       (scan_runs scenario old was waits courses next.command next.free.at scan next.next next.free.first) (scan_busy was.progress next.command next.lacks) looks_less rebuilds_now
       (λ made. sought rebuilds next.turn (and_parts was.looked rebuilds made)) (takes_cleared _ (number_of s) s.locks s.taken s.left waits.fits.takes)
     where

@@ -120,6 +120,11 @@ takes_out number locks number' locks' (Some rel) (Done told) out takes = tt
 takes_out number locks number' locks' (Some rel) (Fails error) out takes = tt
 takes_out number locks number' locks' (Some rel) NotBuilt out takes = tt
 
+-- nothing is held where nothing is
+unheld_none : (plan : Plan) → IsUnheld [] plan
+unheld_none (Do (Open rel kind) rest) = refl
+unheld_none plan = tt
+
 module _ (facts later : Facts) (o : Option Command) (s : Session) (looked : Bool) (frames : List Frame) (told : Bool) (event : Event) (locks : List OwnLock) (at : ℕ) (fits : Fits facts o s looked frames told) (ends : EndsBy facts o s event) where
   runs_later : GoesOn facts later → (t : Bool) → TransactionFits facts o s t → s.ended ≡ t → TransactionFits later o (later_at s locks at) t
   runs_later goes true none is = absurd (both_ways _ ends.going is)
@@ -205,10 +210,10 @@ module _ (facts later : Facts) (o : Option Command) (s : Session) (looked : Bool
 
   -- the release is made: what runs then fits the blocks after the command, and isn't visible
   pub fits_released : (from : ℕ) → later.last ≡ Some (events.Release from) → frames ≡ [] → ((scan : Purpose) → facts.usable scan ≡ false → later.usable scan ≡ false) → first_at later ≤ number_of s → (has_write_from 0 later.lists ≡ true → option_map_or (λ t. is_some t.xid) later.running false ≡ true) → is_visible later.running ≡ false → RunsAfter later o s
-      → Fits later o (record s { ended = true; locks = locks; last = at }) looked frames told
+      → Fits later o (record s { ended = true; opened = []; locks = locks; last = at }) looked frames told
   fits_released from last bare spares low written hidden runs_on = record {
     looks = λ going. absurd (cc going);
-    rebuilds = subst (FramesFit later o (record s { ended = true; locks = locks; last = at })) (sym bare) (bare_fits later o (record s { ended = true; locks = locks; last = at }) (λ keeps. absurd (both_ways _ (ap (λ t. t && not (has_error s.left)) (and-false (not (took_back later.last)))) keeps)));
+    rebuilds = subst (FramesFit later o (record s { ended = true; opened = []; locks = locks; last = at })) (sym bare) (bare_fits later o (record s { ended = true; opened = []; locks = locks; last = at }) (λ keeps. absurd (both_ways _ (ap (λ t. t && not (has_error s.left)) (and-false (not (took_back later.last)))) keeps)));
     transaction = by_command o runs_on;
     first = low;
     opens = fits.opens;
@@ -222,10 +227,10 @@ module _ (facts later : Facts) (o : Option Command) (s : Session) (looked : Bool
     past = λ past. let p = fits.past past in record { out = p.out; free = ap owed_after last };
     sought = λ is. sought_out facts later s.taken s.left ends.out spares (fits.sought is);
     takes = takes_out (number_of s) s.locks (number_of s) locks s.taken s.left ends.out fits.takes;
-    unheld = fits.unheld;
+    unheld = λ is. unheld_none s.left;
   }
     where
-      by_command : (x : Option Command) → RunsAfter later x s → RunsAfter later x (record s { ended = true; locks = locks; last = at })
+      by_command : (x : Option Command) → RunsAfter later x s → RunsAfter later x (record s { ended = true; opened = []; locks = locks; last = at })
       by_command None none = none
       by_command (Some command) runs_it = runs_it
 

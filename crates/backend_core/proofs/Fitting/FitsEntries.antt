@@ -25,10 +25,15 @@ pub record StaysInside (facts later : Facts) (number : ℕ) : Type 0 where
 -- and of the session
 pub record StaysAt (s later : Session) : Type 0 where
   pub blocks : later.blocks ≡ s.blocks
+  pub opens : later.opens ≡ s.opens
   pub finished : length later.finished ≡ length s.finished
   pub blocked : later.blocked ≡ s.blocked
   pub ended : later.ended ≡ s.ended
   pub left : is_settled (outcome_of s.left) ≡ true → is_absent s.left ≡ false → later.left ≡ s.left
+
+-- the plan with which the command began
+plan_then : (o : Option Command) (s later : Session) → StaysAt s later → plan_first s.blocks s.opens o ≡ plan_first later.blocks later.opens o
+plan_then o s later same = λ i. plan_first (sym same.blocks i) (sym same.opens i) o
 
 begun_first : (number : ℕ) (own : Option Running) → (begun number own).first ≡ option_map_or (λ t. t.first) own number
 begun_first number None = refl
@@ -96,8 +101,8 @@ fits_inside facts later o s now looked frames told looked_now frames_now told_no
   opens = subst (λ b. is_open b ≡ not (is_empty b.levels)) (sym same.blocks) fits.opens;
   levels = subst (λ b. LevelsRise 0 (number_of now) b.levels) (sym same.blocks) (subst (λ n. LevelsRise 0 n s.blocks.levels) (sym (ap (λ n. n + 1) same.finished)) fits.levels);
   blocked = same.blocked ∙ fits.blocked ∙ ap (λ b. is_some (refused_first b o)) (sym same.blocks);
-  settled = λ is. let first = fits.settled (ap (λ b. is_settled (outcome_of (plan_first b o))) (sym same.blocks) ∙ is) in
-      same.left (ap (λ p. is_settled (outcome_of p)) first ∙ ap (λ b. is_settled (outcome_of (plan_first b o))) (sym same.blocks) ∙ is) (ap is_absent first ∙ not_absent s.blocks o) ∙ first ∙ ap (λ b. plan_first b o) (sym same.blocks);
+  settled = λ is. let before = plan_then o s now same in let first = fits.settled (ap (λ p. is_settled (outcome_of p)) before ∙ is) in
+      same.left (ap (λ p. is_settled (outcome_of p)) first ∙ ap (λ p. is_settled (outcome_of p)) before ∙ is) (ap is_absent first ∙ not_absent s.blocks s.opens o) ∙ first ∙ before;
   written = stays.written;
   visible = λ is. absurd (both_ways _ (ap (λ r. is_visible r) stays.runs ∙ begun_hidden (number_of s) facts.running hidden) is);
   taken = λ from is. absurd (stays.last from is);
