@@ -30,7 +30,7 @@ use Rattle.backend_core.specs.Fits.{looks_due, LooksFit, Fits, IsLookedFor, Lack
 use Rattle.backend_core.specs.Steps.{OwesLookNow, IsLookNext, Enters, IsScanNext, FindsNone, Looks, Says, IsAcceptNext, IsInTurn}
 use Rattle.backend_core.specs.Words.{is_looked_for, is_unfound, scan_on_top, frames_looked}
 use Rattle.backend_core.proofs.Choosing.ActsRun.{scan_runs, find_runs}
-use Rattle.backend_core.proofs.Choosing.Chosen.{Busy, Owes, due_busy, may_call, hidden, one_at_most, started_most, started_by, started_now, started_still, look_may, Acts, Sought, standing}
+use Rattle.backend_core.proofs.Choosing.Chosen.{Busy, Owes, due_busy, may_call, hidden, started_most, started_by, started_now, started_still, look_may, Acts, Sought, standing}
 use Rattle.backend_core.proofs.Fitting.Entered.{fits_at}
 use Rattle.backend_core.proofs.Fitting.FitsEntries.{RunsHere, Goes, Starts, fits_inside}
 use Rattle.backend_core.proofs.Own.{waiting, going, own_enters, follows}

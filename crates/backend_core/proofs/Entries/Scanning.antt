@@ -1,9 +1,8 @@
 -- The scans of a backend.
-use Rattle.std.proofs.Common.{◌≡◌, ◌≤◌, ◌+◌, ◌∙◌, ◌&&◌, ℕ, Bool, true, false, not, None, List, [], refl, sym, ap, subst, length, drop, arith, Option, Some, ◌∷◌, ◌++◌, ◌||◌, cond, is_some}
+use Rattle.std.proofs.Common.{◌≡◌, ◌≤◌, ◌+◌, ◌∙◌, ◌&&◌, ℕ, Bool, true, false, not, None, List, [], refl, sym, ap, subst, length, drop, arith, Some, ◌∷◌, ◌++◌, ◌||◌, cond, is_some}
 use Rattle.std.proofs.lemmas.Bool.{both_ways, lt-ltb, and_parts}
-use Rattle.base_types.specs.Scans.{same_scan, is_build_scan, build_scans}
+use Rattle.base_types.specs.Scans.{same_scan, build_scans}
 use Rattle.event_kinds.specs.declared.entry.Event.TheVariants as events
-use Rattle.base_types.specs.declared.scan.Purpose.TheVariants as scans
 use Rattle.ddl_effect.specs.Plans.{Plan, Absent, Do, Lookup, Open, Search, Read as Reading, Lock, Write, Fails}
 use Rattle.ddl_effect.specs.Stages.{plan_at}
 use Rattle.local_caches.specs.Kept.{is_keyed, Kept}
@@ -12,7 +11,7 @@ use Rattle.history_model.specs.Versions.{answer_of}
 use Rattle.seg_calls.specs.Calls.{entry_of, MayRequest, Appends}
 use Rattle.cacheless.specs.Facts.{Facts, facts_of, facts_by}
 use Rattle.cacheless.specs.Holds.{HasEntered, with_own}
-use Rattle.cacheless.specs.May.{has_failed, is_first_missing, is_next_of_act}
+use Rattle.cacheless.specs.May.{has_failed}
 use Rattle.cacheless.specs.OnCourse.{AllOnCourse}
 use Rattle.cacheless.specs.Owed.{owed_after, started_in, has_looked}
 use Rattle.cacheless.specs.Plays.{MayPlayIn}
@@ -21,7 +20,7 @@ use Rattle.cacheless.specs.Sessions.{entered}
 use Rattle.cacheless.specs.State.{kept_at, kept_with, is_absent, one_if, is_kept}
 use Rattle.cacheless.proofs.OneOfKey.{one_of_key}
 use Rattle.cacheless.proofs.Same.{next_same}
-use Rattle.cacheless.proofs.Tests.{and_true, not_true, or_either}
+use Rattle.cacheless.proofs.Tests.{and_true, not_true}
 use Rattle.backend_core.specs.Types.{Mode, Row, Purpose, Scenario, Entry, Event, Progress, Backend, Opening, Frame}
 use Rattle.backend_core.specs.Agrees.{IsPlayed, command_at, AwaitsEntry}
 use Rattle.backend_core.specs.Fits.{looks_due, LooksFit, Fits, IsLookedFor, Lacks, Unfound, Said, finds_no_name, FramesFit, IsUnheld, looked_in, looked_on_top, told_owed}
@@ -35,8 +34,7 @@ use Rattle.backend_core.proofs.Entries.Looking.{scan_busy, IsOnTop, on_top_of}
 use Rattle.backend_core.proofs.Own.{waiting, going, OwnEntry, own_makes, own_enters, follows}
 use Rattle.backend_core.proofs.Fitting.Sought.{takes_cleared, built_leaves}
 use Rattle.cacheless.proofs.ReadsBuilds.{stage_reads}
-use Rattle.base_types.proofs.SameScan.{same_scan-true}
-use Rattle.std.specs.List.{list_any, find}
+use Rattle.std.specs.List.{find}
 use Rattle.cacheless.proofs.Plans.SilentActs.{lookup_opens_none}
 use Rattle.backend_core.proofs.Fitting.Rebuilding.{usable_is, top_rebuilt}
 use Rattle.backend_core.proofs.Stacking.Looked.{in_push, top_most, told_push, told_most, scanned_less}

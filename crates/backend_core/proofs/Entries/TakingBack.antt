@@ -1,13 +1,9 @@
 -- What was written is taken back.
-use Rattle.std.proofs.Common.{◌≡◌, ◌+◌, ◌∙◌, ℕ, Bool, true, false, Option, Some, None, List, [], refl, sym, ap, subst, length, is_some, ◌&&◌}
-use Rattle.std.specs.List.{cons_option}
+use Rattle.std.proofs.Common.{◌≡◌, ◌+◌, ◌∙◌, ℕ, Bool, true, false, Option, Some, List, refl, sym, ap, subst, length, is_some, ◌&&◌}
 use Rattle.std.specs.Option.{option_map_or}
 use Rattle.std.proofs.lemmas.Bool.{both_ways, false_from_ne_true}
 use Rattle.event_kinds.specs.declared.entry.Event.TheVariants as events
 use Rattle.inval_messages.specs.Lists.{has_write_from, lists_from, cats_in, rels_in, sent_in}
-use Rattle.ddl_effect.specs.declared.told.Told.TheVariants as tells
-use Rattle.ddl_effect.specs.Plans.{Done, told_rests_on}
-use Rattle.ddl_effect.specs.Stages.{told_of}
 use Rattle.history_model.specs.Legal.{FollowsVisible, FollowsGone}
 use Rattle.history_model.specs.Transactions.{Running, is_visible}
 use Rattle.seg_calls.specs.Calls.{entry_of, MayCall, Appends}
@@ -15,8 +11,8 @@ use Rattle.cacheless.specs.Ends.{Commits, TakesBack}
 use Rattle.cacheless.specs.Facts.{Facts, facts_of, facts_by}
 use Rattle.cacheless.specs.Holds.{HasEntered}
 use Rattle.cacheless.specs.OnCourse.{AllOnCourse}
-use Rattle.cacheless.specs.Owed.{Owes, unusable, owed_after, owed_of, builds_owed}
-use Rattle.cacheless.specs.Session.{Session, Well, outcome_of, is_settled, plan_first}
+use Rattle.cacheless.specs.Owed.{Owes, owed_after, owed_of}
+use Rattle.cacheless.specs.Session.{Session, Well, outcome_of}
 use Rattle.cacheless.specs.State.{lists_at, kept_at, kept_spared}
 use Rattle.cacheless.proofs.Allowed.Releases.{OwesNoScan, ends_free}
 use Rattle.backend_core.specs.Types.{Command, Scenario, Entry, Event, OwnLock, Progress, Backend, Frame}

@@ -1,11 +1,11 @@
 -- What the choice keeps where a backend goes on without an entry.
-use Rattle.std.proofs.Common.{◌≡◌, ◌≤◌, ◌+◌, ◌∙◌, ◌==◌, ◌&&◌, ◌++◌, inl, inr, ℕ, Bool, true, false, Option, Some, None, List, [], refl, sym, ap, subst, map, is_none, arith, not, ◌||◌}
+use Rattle.std.proofs.Common.{◌≡◌, ◌≤◌, ◌+◌, ◌∙◌, ◌==◌, ◌&&◌, ◌++◌, inl, inr, ℕ, Bool, true, false, Option, Some, None, List, [], refl, sym, ap, subst, map, is_none, arith, ◌||◌}
 use Rattle.std.specs.Option.{option_map_or}
 use Rattle.std.proofs.lemmas.Bool.{both_ways, ne_eqb, and_parts, or_from}
 use Rattle.std.proofs.lemmas.List.{length_push}
 use Rattle.txn_blocks.specs.Blocks.{Block, Outside, Inside, Failed}
 use Rattle.base_types.specs.declared.scan.Purpose.TheVariants as scans
-use Rattle.ddl_effect.specs.Plans.{Act, Plan, Do, Lookup, Search, Absent, Open}
+use Rattle.ddl_effect.specs.Plans.{Act, Plan, Do, Lookup, Absent, Open}
 use Rattle.event_kinds.specs.declared.entry.Event.TheVariants as events
 use Rattle.history_model.specs.Transactions.{Running}
 use Rattle.history_model.specs.Writes.{is_empty}
@@ -14,7 +14,7 @@ use Rattle.cacheless.specs.Session.{Session, number_of, outcome_of, is_settled}
 use Rattle.cacheless.specs.Owed.{OwesScan, owed_at_start, owed_after, scans_owed, owed_of, started_in, act_owed}
 use Rattle.cacheless.specs.Ends.{End, Ends, Commits, TakesBack, end_of, end_of_all, end_left, next_of_end}
 use Rattle.cacheless.specs.Settled.{act_done, is_finished, blocks_after, finished_as, next_session, class_oid, opened_by}
-use Rattle.cacheless.proofs.Plans.SilentActs.{both_empty, empty_list, IsDoneHere, kept_already, gives_class}
+use Rattle.cacheless.proofs.Plans.SilentActs.{both_empty, empty_list, IsDoneHere, gives_class}
 use Rattle.backend_core.specs.Types.{Row, Command, Event, Frame, Opening}
 use Rattle.backend_core.specs.Fits.{looks_due, first_at, LevelsRise, RunsAt, RunsIn, RunsBy, RunsAfter, TransactionFits, IsPast, Fits, IsLookedFor, Lacks, Unfound, Said, FramesFit, IsUnheld}
 use Rattle.backend_core.proofs.Fitting.NextTransaction.{LevelsFit, levels_next, next_silent}
