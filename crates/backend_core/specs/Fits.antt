@@ -7,7 +7,7 @@ use Rattle.base_types.specs.declared.scan.Purpose.TheVariants as scans
 use Rattle.event_kinds.specs.declared.entry.Event.TheVariants as events
 use Rattle.inval_messages.specs.Lists.{has_write_from}
 use Rattle.lock_modes.specs.Own.{is_own}
-use Rattle.ddl_effect.specs.Plans.{Plan, Done, Absent, Do, Lookup, Open, Search, told_rests_on}
+use Rattle.ddl_effect.specs.Plans.{Plan, Done, Absent, Do, Lookup, Open, Search, told_rests_on, left_rests_on}
 use Rattle.txn_blocks.specs.Blocks.{Block, Level, Blocks, Outside, Inside, Failed, is_open}
 use Rattle.history_model.specs.Transactions.{is_visible}
 use Rattle.history_model.specs.Writes.{is_empty}
@@ -117,12 +117,18 @@ pub record OnCommit (facts : Facts) (o : Option Command) (s : Session) : Type 0 
   pub end : end_of facts command s ≡ Commits (first_at facts)
   pub written : has_write_from (first_at facts) facts.lists ≡ true
 
+-- the end of a command takes back the commands from this one on: nothing asks for an entry, and its answer rests on no scan
+pub record IsTakenBack (facts : Facts) (command : Command) (s : Session) (from : ℕ) : Type 0 where
+  pub end : end_of facts command s ≡ TakesBack from
+  pub free : owed_after facts.last ≡ []
+  pub plain : left_rests_on s.left ≡ []
+
 -- taking back on its way: nothing is left of it but the release
 pub record OnTakingBack (facts : Facts) (o : Option Command) (s : Session) (from : ℕ) : Type 0 where
   pub runs : is_some facts.running ≡ true
   pub going : s.ended ≡ false
   pub out : is_settled (outcome_of s.left) ≡ true
-  pub end : elim o as (λ x. Type 0) [ Some command ↦ (end_of facts command s ≡ TakesBack from) × (owed_of facts command s ≡ []) | None ↦ end_of_all facts ≡ TakesBack from ]
+  pub end : elim o as (λ x. Type 0) [ Some command ↦ IsTakenBack facts command s from | None ↦ end_of_all facts ≡ TakesBack from ]
   pub none : has_write_from from facts.lists ≡ false
 
 -- after the last command

@@ -9,7 +9,8 @@ use Rattle.cacheless.specs.declared.progress.Due.TheVariants as dues
 use Rattle.cacheless.specs.May.{is_next_at, is_next_of_act, has_failed, lacks_opened, lacks_any, owes_nothing, may_lock_at, may_unlock_at, may_end_at, is_next_of_end, is_next_of_commit, is_next_of_back}
 use Rattle.cacheless.specs.MayEnter.{MayEnter}
 use Rattle.cacheless.specs.Silently.{has_accepted_at}
-use Rattle.cacheless.specs.State.{owed_at, is_quiet, is_absent, is_kept, kept_at, owed_first, unsent_at, is_out, end_of_running}
+use Rattle.cacheless.specs.State.{owed_at, is_quiet, is_absent, is_kept, kept_at, owed_first, unsent_at, is_out, end_at, end_of_running}
+use Rattle.cacheless.specs.Ends.{TakesBack}
 use Rattle.backend_core.specs.Types.{Oid, Mode, Purpose, Command, Scenario, Entry, Event, Next, Frame, Progress, Backend}
 use Rattle.backend_core.specs.declared.next.Next.TheVariants as nexts
 use Rattle.backend_core.specs.Agrees.{AgreesNow, Stands}
@@ -104,8 +105,24 @@ pub record IsWriteNext (s : Progress) : Type 0 where
 
 -- this entry of the end of a command that has come out comes next, where no lookup looks once more, or after the last command of taking back what still runs
 pub data EndsNext (s : Backend) (event : Event) : Type 0 where
-  InCommand : (command : Command) → IsFree s.progress command → is_out s.progress ≡ true → owes_nothing command s.progress ≡ true → accepts_again s ≡ false → may_end_at command s.progress event ≡ true → EndsNext s event
+  InCommand : (command : Command) → IsFree s.progress command → is_out s.progress ≡ true → (owes_nothing command s.progress ≡ true) ⊎ (s.frames ≡ []) → accepts_again s ≡ false → may_end_at command s.progress event ≡ true → EndsNext s event
   AfterAll : slice_get s.progress.commands s.progress.finished ≡ None → is_next_of_end s.progress event (end_of_running s.progress.running) ≡ true → EndsNext s event
+
+-- its writes were taken back: the release comes next, and no scan, though what is held may lack some
+pub record IsGone (s : Backend) (command : Command) : Type 0 where
+  pub bare : s.frames ≡ []
+  pub wants : want_of (plan_at s.progress.opens s.progress.exec) ≡ wants.Done None
+  pub from : ℕ
+  pub end : end_at s.progress command ≡ TakesBack from
+  pub going : s.progress.ended ≡ false
+
+-- nothing that is held lacks a scan, unless its writes were taken back
+abbrev pub IsWhole : Backend → Command → Type 0
+IsWhole s command = (lacks_opened (kept_at s.progress) s.progress.opened ≡ false) ⊎ IsGone s command
+
+-- its end waits for no scan
+abbrev pub WaitsForNone : Backend → Command → Type 0
+WaitsForNone s command = (lacks_any s.progress ≡ false) ⊎ IsGone s command
 
 -- such a scan comes next, for which no look was made
 pub record IsLookNext (rebuilds : Bool) (s : Backend) : Type 0 where
@@ -113,12 +130,12 @@ pub record IsLookNext (rebuilds : Bool) (s : Backend) : Type 0 where
   pub next : IsScanNext s scan rebuilds
   pub unlooked : is_looked_for rebuilds s ≡ false
 
--- what the choice rests on: a lock that the running lookup took is held by a grant of its command, where a look was made for a lookup that has found no relation, the lookup ends, the rebuild on top is of a held descriptor that lacks a scan, and where nothing is rebuilt none does
+-- what the choice rests on: a lock that the running lookup took is held by a grant of its command, where a look was made for a lookup that has found no relation, the lookup ends, the rebuild on top is of a held descriptor that lacks a scan, and where nothing is rebuilt none does, unless the command's writes were taken back
 pub record IsChoiceSound (s : Backend) : Type 0 where
   pub takes : TakesFit (s.progress.finished + 1) s.progress.locks.items s.progress.taken (plan_at s.progress.opens s.progress.exec)
   pub accepts : s.looked ≡ true → is_unfound s.progress (plan_at s.progress.opens s.progress.exec) ≡ true → owed_at s.progress.due ≡ [] → has_accepted_at s.progress ≡ true
   pub builds : (f : Frame) → top s.frames ≡ Some f → IsRebuilt (is_kept (kept_at s.progress)) s.progress.opened f
-  pub whole : (command : Command) → slice_get s.progress.commands s.progress.finished ≡ Some command → s.frames ≡ [] → has_failed s.progress ≡ false → lacks_opened (kept_at s.progress) s.progress.opened ≡ false
+  pub whole : (command : Command) → slice_get s.progress.commands s.progress.finished ≡ Some command → s.frames ≡ [] → has_failed s.progress ≡ false → IsWhole s command
 
 -- the event, where it is one of an end
 abbrev pub end_event : Progress → Next → Option Event

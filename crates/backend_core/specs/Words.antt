@@ -1,5 +1,5 @@
 -- What the program's choice says of a backend, beside how far it is.
-use Rattle.std.specs.Prelude.{Bool, true, false, Option, Some, None, List, ◌&&◌, ◌||◌, not, is_none, is_some}
+use Rattle.std.specs.Prelude.{Bool, true, false, Option, Some, None, List, ◌&&◌, ◌||◌, not, is_none}
 use Rattle.std.specs.Option.{option_map_or}
 use Rattle.std.specs.List.{find, list_any}
 use Rattle.base_types.specs.Scans.{same_scan, build_scans}

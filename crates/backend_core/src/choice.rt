@@ -9,7 +9,7 @@ ghost use Rattle.cacheless.specs.State.{owed_at, is_out, row_sought};
 ghost use Rattle.cacheless.specs.May.{has_failed, lacks_opened, lacks_any, owes_nothing};
 ghost use Rattle.backend_core.specs.Frames.{top};
 ghost use Rattle.backend_core.specs.Words.{relation_named, accepts_again as accepts_once_more};
-ghost use Rattle.backend_core.specs.Steps.{IsNextOf, IsChoiceSound, IsFree, IsScanNext, ComesOfBack, ComesOfCommit};
+ghost use Rattle.backend_core.specs.Steps.{IsNextOf, IsChoiceSound, IsFree, IsWhole, WaitsForNone, IsScanNext, ComesOfBack, ComesOfCommit};
 
 use crate::{Backend, Frame, Next};
 use base_types::{Command, Mode, Name, Oid, Purpose, Row, Xid};
@@ -146,7 +146,7 @@ impl Backend {
         requires want { want_of (plan_at self.now.progress.opens self.now.progress.exec) ≡ want.now }
         requires goes { has_failed self.now.progress ≡ false }
         requires bare { self.now.frames ≡ [] }
-        requires whole { lacks_opened (kept_at self.now.progress) self.now.progress.opened ≡ false }
+        requires whole { IsWhole self.now command.now }
         ensures { IsNextOf self.now result }
     {
         match want {
@@ -251,7 +251,7 @@ impl Backend {
         requires still { IsAtRest self.now.progress }
         requires free { IsFree self.now.progress command.now }
         requires out { is_out self.now.progress ≡ true }
-        requires whole { lacks_any self.now.progress ≡ false }
+        requires whole { WaitsForNone self.now command.now }
         requires accepted { accepts_once_more self.now ≡ false }
         ensures { IsNextOf self.now result }
     {

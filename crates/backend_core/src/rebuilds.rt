@@ -164,11 +164,7 @@ impl Frames {
 
     // After a reset, and after each rebuild that it put on: the next held relation that isn't whole and
     // isn't being rebuilt is.
-    fn put_rest(
-        &mut self,
-        caches: &LocalCaches,
-        held: &[Opening],
-    ) -> Result<(), NoMemory>
+    fn put_rest(&mut self, caches: &LocalCaches, held: &[Opening]) -> Result<(), NoMemory>
         ensures { OnOk result (self.new ≡ with_rest (is_kept (kept_of caches.now)) held.now self.old) }
     {
         match self.least_left(caches, held) {

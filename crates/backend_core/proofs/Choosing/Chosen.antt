@@ -1,5 +1,5 @@
 -- What comes next by the choice may come next by the history and the script.
-use Rattle.std.proofs.Common.{◌≡◌, ◌≤◌, ◌+◌, ◌*◌, ◌∙◌, ◌⊎◌, inl, inr, ◌==◌, ◌&&◌, ℕ, Bool, true, false, not, Option, Some, None, List, [], ◌∷◌, refl, sym, ap, subst, length, is_some, arith}
+use Rattle.std.proofs.Common.{◌≡◌, ◌≢◌, ◌≤◌, ◌+◌, ◌*◌, ◌∙◌, ◌⊎◌, inl, inr, ◌==◌, ◌&&◌, ℕ, Bool, true, false, not, Option, Some, None, List, [], ◌∷◌, refl, sym, ap, subst, length, is_none, is_some, arith}
 use Rattle.std.specs.Option.{option_map_or}
 use Rattle.std.specs.Prelude.{nat_le}
 use Rattle.std.proofs.Math.Bool.{and-false}
@@ -17,13 +17,14 @@ use Rattle.cacheless.specs.Owed.{Owes as Owing, OwesLook, OwesFetch, OwesScan, o
 use Rattle.cacheless.specs.Plays.{may_look, MayPlayIn}
 use Rattle.cacheless.specs.Ends.{TakesBack, end_of, end_of_all, Commits, Ends, End, end_well, end_badly}
 use Rattle.cacheless.specs.Session.{Session, Well, Badly, Unsettled, number_of, outcome_of}
-use Rattle.cacheless.specs.State.{owed_at, owed_first, one_if, is_out, is_absent, is_quiet}
+use Rattle.cacheless.specs.State.{owed_at, owed_first, begins_in, running_of, one_if, is_out, is_absent, is_quiet}
+use Rattle.txn_blocks.specs.declared.transaction.RunningTransaction.{RunningTransaction}
 use Rattle.cacheless.proofs.Deciding.{holds_decides}
 use Rattle.cacheless.proofs.Same.{owes_nothing_is}
 use Rattle.backend_core.specs.Types.{Command, Scenario, Entry, Event, Progress, Backend}
 use Rattle.backend_core.specs.Agrees.{command_at, AwaitsEntry}
 use Rattle.backend_core.proofs.Own.{waiting}
-use Rattle.backend_core.specs.Fits.{first_at}
+use Rattle.backend_core.specs.Fits.{first_at, IsTakenBack}
 use Rattle.txn_blocks.specs.Blocks.{innermost}
 use Rattle.cacheless.specs.Settled.{nothing_waits}
 use Rattle.ddl_effect.specs.Plans.{Absent, Plan}
@@ -66,15 +67,30 @@ look_may facts s owes low = by_owed (owed_after facts.last) owes
     by_owed (OwesFetch ∷ owed) (inr look) = absurd (cc look)
     by_owed (OwesScan scan ∷ owed) is = le-leb _ _ low
 
--- in a command that runs no end is on its way: nothing is published or released
-pub data Busy (p : Progress) (command : Command) : Type 0 where
-  Owes : owes_nothing command p ≡ false → Busy p command
-  Acts : is_out p ≡ false → Busy p command
-  Sought : is_absent (plan_at p.opens p.exec) ≡ true → is_quiet p.due ≡ true → Busy p command
+-- in a command that runs no end is on its way: nothing is published or released; scans for what is held may be missing where writes were taken back, and aren't made then
+pub data Busy (last : Option Event) (p : Progress) (command : Command) : Type 0 where
+  Due : is_empty (owed_at p.due) ≡ false → Busy last p command
+  Begins : owed_first p command ≢ [] → Busy last p command
+  Scans : lacks_any p ≡ true → took_back last ≡ false → Busy last p command
+  Acts : is_out p ≡ false → Busy last p command
+  Sought : is_absent (plan_at p.opens p.exec) ≡ true → is_quiet p.due ≡ true → Busy last p command
 
--- so where a look or a fetch is due
-pub due_busy : (p : Progress) (command : Command) → is_empty (owed_at p.due) ≡ false → Busy p command
-due_busy p command due = Owes (ap (λ t. is_empty (owed_first p command) && t && not (lacks_any p)) due ∙ ap (λ t. t && not (lacks_any p)) (and-false (is_empty (owed_first p command))))
+not_empty : {X : Type 0} (xs : List X) → xs ≢ [] → is_empty xs ≡ false
+not_empty [] some = absurd (some refl)
+not_empty (x ∷ xs) some = refl
+
+-- a look at a transaction's start
+pub record StartsNow (p : Progress) (command : Command) : Type 0 where
+  pub begins : begins_in p.blocks p.ended command ≡ true
+  pub none : p.running ≡ None
+
+pub starts_now : (p : Progress) (command : Command) → owed_first p command ≢ [] → StartsNow p command
+starts_now p command owes = by_tests (begins_in p.blocks p.ended command) p.running refl refl owes
+  where
+    by_tests : (t : Bool) (own : Option RunningTransaction) → begins_in p.blocks p.ended command ≡ t → p.running ≡ own → elim (t && is_none own) as (λ x. List Owing) [ true ↦ OwesLook ∷ [] | false ↦ [] ] ≢ [] → StartsNow p command
+    by_tests true None is none some = record { begins = is; none = none }
+    by_tests true (Some t) is none some = absurd (some refl)
+    by_tests false own is none some = absurd (some refl)
 
 module _ (scenario : Scenario) (seen : List Entry) (s : Backend) (waits : AwaitsEntry scenario seen s) (command : Command) (at : command_at s ≡ Some command) where
   abbrev facts : Facts
@@ -83,8 +99,10 @@ module _ (scenario : Scenario) (seen : List Entry) (s : Backend) (waits : Awaits
   owes_same : is_empty (owed_of facts command (waiting waits)) ≡ owes_nothing command s.progress
   owes_same = owes_nothing_is facts command s.progress waits.rests.holds.rest waits.rests.holds.facts
 
-  not_busy : owed_of facts command (waiting waits) ≡ [] → is_out s.progress ≡ true → Busy s.progress command → (is_absent (plan_at s.progress.opens s.progress.exec) ≡ true → is_quiet s.progress.due ≡ true → ⊥) → ⊥
-  not_busy free out (Owes busy) never = both_ways _ busy (sym owes_same ∙ ap is_empty free)
+  not_busy : owed_of facts command (waiting waits) ≡ [] → is_out s.progress ≡ true → Busy facts.last s.progress command → (is_absent (plan_at s.progress.opens s.progress.exec) ≡ true → is_quiet s.progress.due ≡ true → ⊥) → ⊥
+  not_busy free out (Due due) never = both_ways _ (ap (λ t. is_empty (owed_first s.progress command) && t && not (lacks_any s.progress)) due ∙ ap (λ t. t && not (lacks_any s.progress)) (and-false (is_empty (owed_first s.progress command)))) (sym owes_same ∙ ap is_empty free)
+  not_busy free out (Begins owes) never = both_ways _ (ap (λ t. t && is_empty (owed_at s.progress.due) && not (lacks_any s.progress)) (not_empty (owed_first s.progress command) owes)) (sym owes_same ∙ ap is_empty free)
+  not_busy free out (Scans lacks stays) never = both_ways _ (ap (λ t. is_empty (owed_first s.progress command) && is_empty (owed_at s.progress.due) && not t) lacks ∙ and-false (is_empty (owed_first s.progress command) && is_empty (owed_at s.progress.due))) (sym owes_same ∙ ap is_empty free)
   not_busy free out (Acts busy) never = both_ways _ busy out
   not_busy free out (Sought absent quiet) never = never absent quiet
 
@@ -105,7 +123,7 @@ module _ (scenario : Scenario) (seen : List Entry) (s : Backend) (waits : Awaits
   never_gone from gone quiet = both_ways _ (ap nothing_waits gone) (waits.rests.holds.facts.quiet ∙ quiet)
 
   -- the transaction isn't visible
-  pub hidden : Busy s.progress command → is_visible facts.running ≡ false
+  pub hidden : Busy facts.last s.progress command → is_visible facts.running ≡ false
   hidden busy = by_test (is_visible facts.running) refl
     where
       by_test : (t : Bool) → is_visible facts.running ≡ t → is_visible facts.running ≡ false
@@ -114,16 +132,22 @@ module _ (scenario : Scenario) (seen : List Entry) (s : Backend) (waits : Awaits
           not_busy (subst (λ x. owed_of facts x (waiting waits) ≡ []) one c.free) c.out busy (λ absent quiet. never_commits (first_at facts) (subst (λ x. end_of facts x (waiting waits) ≡ Commits (first_at facts)) one c.end) absent))
 
   -- and the last entry took nothing back
-  pub standing : Busy s.progress command → took_back facts.last ≡ false
+  pub standing : Busy facts.last s.progress command → took_back facts.last ≡ false
   standing busy = by_last facts.last refl
     where
+      none_gone : (from : ℕ) → facts.last ≡ Some (events.Gone from) → IsTakenBack facts command (waiting waits) from → Busy facts.last s.progress command → ⊥
+      none_gone from is back (Due due) = both_ways _ due (ap is_empty (sym waits.rests.holds.facts.owed ∙ back.free))
+      none_gone from is back (Begins owes) = both_ways _ (ap (λ r. is_some r) (waits.rests.holds.facts.running ∙ ap running_of (starts_now s.progress command owes).none)) (waits.fits.taken from is).runs
+      none_gone from is back (Scans lacks stays) = both_ways _ stays (ap took_back is)
+      none_gone from is back (Acts busy) = both_ways _ busy (waits.fits.taken from is).out
+      none_gone from is back (Sought absent quiet) = never_gone from is quiet
+
       by_last : (last : Option Event) → facts.last ≡ last → took_back last ≡ false
-      by_last (Some (events.Gone from)) is = absurd (let t = waits.fits.taken from is in
-          not_busy (subst (λ o. elim o as (λ x. Type 0) [ Some c ↦ (end_of facts c (waiting waits) ≡ TakesBack from) × (owed_of facts c (waiting waits) ≡ []) | None ↦ end_of_all facts ≡ TakesBack from ]) at t.end).1 t.out busy (λ absent quiet. never_gone from is quiet))
+      by_last (Some (events.Gone from)) is = absurd (none_gone from is (subst (λ o. elim o as (λ x. Type 0) [ Some c ↦ IsTakenBack facts c (waiting waits) from | None ↦ end_of_all facts ≡ TakesBack from ]) at (waits.fits.taken from is).end) busy)
       by_last last is = refl
 
   -- so it may ask for something
-  pub may_request : Busy s.progress command → MayRequest scenario seen s.progress.id (s.progress.finished + 1)
+  pub may_request : Busy facts.last s.progress command → MayRequest scenario seen s.progress.id (s.progress.finished + 1)
   may_request busy = record {
     backend = waits.rests.holds.number;
     number = omega (arith, waits.rests.holds.most, ap length waits.rests.holds.commands);
@@ -134,7 +158,7 @@ module _ (scenario : Scenario) (seen : List Entry) (s : Backend) (waits : Awaits
     gone = standing busy;
   }
 
-  pub may_call : (event : Event) → Busy s.progress command → is_start event ≡ false → AllowsEvent seen s.progress.id (s.progress.finished + 1) event → MayCall scenario seen (entry_of s.progress.id (s.progress.finished + 1) event)
+  pub may_call : (event : Event) → Busy facts.last s.progress command → is_start event ≡ false → AllowsEvent seen s.progress.id (s.progress.finished + 1) event → MayCall scenario seen (entry_of s.progress.id (s.progress.finished + 1) event)
   may_call event busy other allows = record {
     backend = waits.rests.holds.number;
     number = omega (arith, waits.rests.holds.most, ap length waits.rests.holds.commands);

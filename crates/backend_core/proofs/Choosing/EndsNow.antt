@@ -22,7 +22,7 @@ use Rattle.cacheless.specs.Types.{CommandError, OpenRelation}
 use Rattle.cacheless.proofs.Allowed.OwnEntries.{ends_out}
 use Rattle.cacheless.proofs.Plans.SilentActs.{both_empty}
 use Rattle.backend_core.specs.Types.{Xid, Command, Event, Frame}
-use Rattle.backend_core.specs.Fits.{LevelsRise, first_at, RunsBlock, RunsFailed, RunsAt, RunsIn, RunsBy, RunsAfter, TransactionFits, Fits}
+use Rattle.backend_core.specs.Fits.{LevelsRise, first_at, RunsBlock, RunsFailed, RunsAt, RunsIn, RunsBy, RunsAfter, TransactionFits, Fits, IsTakenBack}
 use Rattle.backend_core.proofs.Fitting.NextTransaction.{some_first, rise_within, rise_above, blocks_out}
 
 -- the end of the running command, or after the last one that of what still runs
@@ -317,6 +317,6 @@ commit_end facts o s looked frames told fits visible = let c = fits.visible visi
 pub back_end : (facts : Facts) (o : Option Command) (s : Session) (looked : Bool) (frames : List Frame) (told : Bool) (from : ℕ) → Fits facts o s looked frames told → facts.last ≡ Some (events.Gone from) → end_by facts o s ≡ TakesBack from
 back_end facts o s looked frames told from fits gone = by_command o (fits.taken from gone).end
   where
-    by_command : (x : Option Command) → elim x as (λ y. Type 0) [ Some c ↦ (end_of facts c s ≡ TakesBack from) × (owed_of facts c s ≡ []) | None ↦ end_of_all facts ≡ TakesBack from ] → end_by facts x s ≡ TakesBack from
-    by_command (Some c) both = both.0
+    by_command : (x : Option Command) → elim x as (λ y. Type 0) [ Some c ↦ IsTakenBack facts c s from | None ↦ end_of_all facts ≡ TakesBack from ] → end_by facts x s ≡ TakesBack from
+    by_command (Some c) back = back.end
     by_command None is = is

@@ -1,9 +1,9 @@
 -- What a backend does next.
-use Rattle.std.proofs.Common.{◌≡◌, ◌∙◌, ℕ, Bool, true, false, not, ◌&&◌, ◌||◌, Option, Some, None, List, [], ◌∷◌, ◌++◌, cond, refl, sym, ap, subst, map, append_assoc, is_some, slice_get}
+use Rattle.std.proofs.Common.{◌≡◌, ◌∙◌, ◌⊎◌, inl, inr, ℕ, Bool, true, false, not, ◌&&◌, ◌||◌, Option, Some, None, List, [], ◌∷◌, ◌++◌, cond, refl, sym, ap, subst, map, append_assoc, is_some, slice_get}
 use Rattle.std.specs.List.{find, list_any}
 use Rattle.std.specs.Option.{IsSomeAnd, option_map_or}
-use Rattle.std.proofs.lemmas.List.{append-nil}
 use Rattle.std.proofs.lemmas.Bool.{both_ways}
+use Rattle.std.proofs.lemmas.List.{append-nil}
 use Rattle.base_types.specs.Scans.{same_scan, build_scans}
 use Rattle.base_types.proofs.SameScan.{same_scan-itself}
 use Rattle.txn_blocks.specs.Blocks.{Inside}
@@ -13,8 +13,9 @@ use Rattle.ddl_effect.specs.Stages.{plan_at, want_of}
 use Rattle.ddl_effect.specs.declared.want.Want.TheVariants as wants
 use Rattle.history_model.specs.Writes.{is_empty}
 use Rattle.cacheless.specs.ActsDone.{reached, made_in, opening_by}
-use Rattle.cacheless.specs.Ends.{End, Commits, TakesBack}
-use Rattle.cacheless.specs.May.{owes_no_end, has_failed, is_first_missing, is_next_of_act, lacks_opened, lacks_any, owes_nothing, is_next_of_end}
+use Rattle.cacheless.specs.Ends.{End, Ends, Commits, TakesBack}
+use Rattle.ddl_effect.specs.declared.want.Want.{Want}
+use Rattle.cacheless.specs.May.{owes_no_end, has_failed, is_first_missing, is_next_of_act, lacks_opened, lacks_any, owes_nothing, is_next_of_end, may_end_at}
 use Rattle.cacheless.specs.OnCourse.{Way, Begun, Wrote, Unbuilt, Over, FollowsPlan, IsOnCourse, AllOnCourse}
 use Rattle.cacheless.specs.OpenedReads.{ReadsOpened}
 use Rattle.cacheless.specs.Runs.{runs}
@@ -24,10 +25,10 @@ use Rattle.cacheless.specs.Silently.{is_ends, IsAtRest}
 use Rattle.cacheless.specs.State.{kept_at, is_kept, is_absent, is_quiet, act_missing, is_out, end_at}
 use Rattle.cacheless.proofs.Answers.OpenedReads.{reads_out, reads_first, reads_after}
 use Rattle.cacheless.proofs.Tests.{both_true, not_both}
-use Rattle.backend_core.specs.Types.{Oid, Kind, Event, Row, Purpose, Command, CommandError, Opening, Scenario, Entry, Next, Frame, Progress, Backend}
+use Rattle.backend_core.specs.Types.{Event, Row, Purpose, Command, CommandError, Opening, Scenario, Entry, Next, Frame, Progress, Backend}
 use Rattle.backend_core.specs.declared.next.Next.TheVariants as nexts
 use Rattle.backend_core.specs.Agrees.{command_at, AwaitsEntry}
-use Rattle.backend_core.specs.Steps.{IsFree, IsScanNext, IsLookNext, IsChoiceSound, EndsNext, InCommand, end_event, IsNextOf, ComesOfCommit, ComesOfBack}
+use Rattle.backend_core.specs.Steps.{IsGone, IsWhole, WaitsForNone, IsFree, IsScanNext, IsLookNext, IsChoiceSound, EndsNext, InCommand, end_event, IsNextOf, ComesOfCommit, ComesOfBack}
 use Rattle.backend_core.specs.Frames.{lacks, top, IsRebuilt}
 use Rattle.backend_core.specs.Words.{is_looked_for, accepts_again}
 use Rattle.backend_core.proofs.Fitting.Rebuilding.{kept_lacks}
@@ -74,17 +75,42 @@ done_accepted s scan is = by_plan (plan_at s.progress.opens s.progress.exec) is
     by_plan (Absent name) done = absurd (cc done)
     by_plan p done = refl
 
-pub commits_next : (s : Backend) (command : Command) (next : Next) (first : ℕ) → IsAtRest s.progress → IsFree s.progress command → is_out s.progress ≡ true → lacks_any s.progress ≡ false → accepts_again s ≡ false → end_at s.progress command ≡ Commits first → ComesOfCommit first s.progress next → IsNextOf s next
-commits_next s command next first still free out lacks accepted end comes = ends_next s next (some_weaker (end_event s.progress next) _ (EndsNext s) (λ event is. InCommand command free out (out_owes s.progress command free lacks) accepted
-    (both_true (not s.progress.ended && owes_no_end command s.progress (end_at s.progress command)) (is_next_of_end s.progress event (end_at s.progress command))
-    (both_true (not s.progress.ended) (owes_no_end command s.progress (end_at s.progress command)) (ap not (end_is s.progress command (Commits first) still free out lacks end).0) (ap (owes_no_end command s.progress) end ∙ out_owes s.progress command free lacks))
-    (ap (is_next_of_end s.progress event) end ∙ is))) comes)
+-- so the entry of its end may come
+may_now : (p : Progress) (command : Command) (event : Event) (end : End) → p.ended ≡ false → end_at p command ≡ end → owes_no_end command p end ≡ true → is_next_of_end p event end ≡ true → may_end_at command p event ≡ true
+may_now p command event end going is free comes = both_true (not p.ended && owes_no_end command p (end_at p command)) (is_next_of_end p event (end_at p command))
+    (both_true (not p.ended) (owes_no_end command p (end_at p command)) (ap not going) (ap (owes_no_end command p) is ∙ free))
+    (ap (is_next_of_end p event) is ∙ comes)
 
-pub takes_back_next : (s : Backend) (command : Command) (next : Next) (from : ℕ) → IsAtRest s.progress → IsFree s.progress command → is_out s.progress ≡ true → lacks_any s.progress ≡ false → accepts_again s ≡ false → end_at s.progress command ≡ TakesBack from → ComesOfBack from s.progress next → IsNextOf s next
-takes_back_next s command next from still free out lacks accepted end comes = ends_next s next (some_weaker (end_event s.progress next) _ (EndsNext s) (λ event is. InCommand command free out (out_owes s.progress command free lacks) accepted
-    (both_true (not s.progress.ended && owes_no_end command s.progress (end_at s.progress command)) (is_next_of_end s.progress event (end_at s.progress command))
-    (both_true (not s.progress.ended) (owes_no_end command s.progress (end_at s.progress command)) (ap not (end_is s.progress command (TakesBack from) still free out lacks end).0) (ap (owes_no_end command s.progress) end ∙ ap is_empty free.due))
-    (ap (is_next_of_end s.progress event) end ∙ is))) comes)
+pub commits_next : (s : Backend) (command : Command) (next : Next) (first : ℕ) → IsAtRest s.progress → IsFree s.progress command → is_out s.progress ≡ true → WaitsForNone s command → accepts_again s ≡ false → end_at s.progress command ≡ Commits first → ComesOfCommit first s.progress next → IsNextOf s next
+commits_next s command next first still free out (inl lacks) accepted end comes = ends_next s next (some_weaker (end_event s.progress next) _ (EndsNext s) (λ event is. InCommand command free out (inl (out_owes s.progress command free lacks)) accepted
+    (may_now s.progress command event (Commits first) (end_is s.progress command (Commits first) still free out lacks end).0 end (out_owes s.progress command free lacks) is)) comes)
+commits_next s command next first still free out (inr gone) accepted end comes = absurd (let no : Commits first ≡ TakesBack gone.from = sym end ∙ gone.end in cc no)
+
+pub takes_back_next : (s : Backend) (command : Command) (next : Next) (from : ℕ) → IsAtRest s.progress → IsFree s.progress command → is_out s.progress ≡ true → WaitsForNone s command → accepts_again s ≡ false → end_at s.progress command ≡ TakesBack from → ComesOfBack from s.progress next → IsNextOf s next
+takes_back_next s command next from still free out ready accepted end comes = ends_next s next (some_weaker (end_event s.progress next) _ (EndsNext s) (λ event is. InCommand command free out (by_ready ready).1 accepted
+    (may_now s.progress command event (TakesBack from) (by_ready ready).0 end (ap is_empty free.due) is)) comes)
+  where
+    by_ready : WaitsForNone s command → (s.progress.ended ≡ false) × ((owes_nothing command s.progress ≡ true) ⊎ (s.frames ≡ []))
+    by_ready (inl lacks) = ((end_is s.progress command (TakesBack from) still free out lacks end).0, inl (out_owes s.progress command free lacks))
+    by_ready (inr gone) = (gone.going, inr gone.bare)
+
+-- a command whose end waits for no scan makes an entry
+pub never_ends : (s : Backend) (command : Command) → IsAtRest s.progress → IsFree s.progress command → is_out s.progress ≡ true → WaitsForNone s command → end_at s.progress command ≡ Ends → ⊥
+never_ends s command still free out (inl lacks) end = both_ways _ refl (end_is s.progress command Ends still free out lacks end).1
+never_ends s command still free out (inr gone) end = let no : Ends ≡ TakesBack gone.from = sym end ∙ gone.end in cc no
+
+-- a plan that wants something isn't that of a command whose writes were taken back
+abbrev pub wants_nothing : Want → Bool
+wants_nothing (wants.Done None) = true
+wants_nothing want = false
+
+pub whole_of : (s : Backend) (command : Command) (want : Want) → IsWhole s command → want_of (plan_at s.progress.opens s.progress.exec) ≡ want → wants_nothing want ≡ false → lacks_opened (kept_at s.progress) s.progress.opened ≡ false
+whole_of s command want (inl whole) at other = whole
+whole_of s command want (inr gone) at other = absurd (both_ways _ (ap wants_nothing (sym at ∙ gone.wants)) other)
+
+-- a command that has failed lacks nothing
+pub failed_lacks : (s : Backend) (command : Command) → has_failed s.progress ≡ true → WaitsForNone s command
+failed_lacks s command failed = inl (ap (λ t. not t && (lacks_opened (kept_at s.progress) s.progress.opened || not (is_empty (act_missing s.progress (plan_at s.progress.opens s.progress.exec))))) failed)
 
 -- the plans of commands read what they have opened, however far they are
 reads_reached : (gave : List (List Row)) (opened : List Opening) (plan : Plan) → ReadsOpened opened plan → ReadsOpened (opened ++ made_in opening_by gave plan) (reached gave plan)

@@ -1,30 +1,32 @@
 -- What the choice of the next entry rests on.
-use Rattle.std.proofs.Common.{◌≡◌, ◌+◌, ◌∙◌, ◌&&◌, true, false, Option, Some, None, List, [], refl, sym, ap, subst, is_none, arith, Bool, not}
+use Rattle.std.proofs.Common.{◌≡◌, ◌+◌, ◌∙◌, ◌&&◌, true, false, Option, Some, None, List, [], refl, sym, ap, subst, is_none, arith, ℕ, Bool, not, inl, inr}
 use Rattle.std.proofs.lemmas.Bool.{both_ways, lt-ltb}
 use Rattle.event_kinds.specs.declared.entry.Event.TheVariants as events
-use Rattle.ddl_effect.specs.Stages.{plan_at}
+use Rattle.ddl_effect.specs.Stages.{plan_at, want_of}
 use Rattle.cacheless.specs.Facts.{Facts, facts_of}
 use Rattle.cacheless.specs.OnCourse.{AllOnCourse}
-use Rattle.cacheless.specs.Owed.{owed_after, started_in, owed_of}
-use Rattle.cacheless.specs.Session.{number_of, Badly, outcome_of}
+use Rattle.cacheless.specs.Owed.{owed_after, started_in}
+use Rattle.cacheless.specs.Session.{number_of, Badly, outcome_of, is_settled}
 use Rattle.cacheless.specs.Settled.{nothing_waits}
 use Rattle.cacheless.specs.Silently.{has_accepted_at}
 use Rattle.cacheless.specs.May.{has_looked_at, has_failed, lacks_opened}
 use Rattle.cacheless.specs.State.{owed_at, is_quiet, one_if, kept_at}
 use Rattle.cacheless.proofs.Same.{looked_same}
-use Rattle.backend_core.specs.Types.{Command, Scenario, Entry, Event, Backend}
+use Rattle.backend_core.specs.Types.{Purpose, Command, Scenario, Entry, Event, Backend}
 use Rattle.backend_core.specs.Agrees.{command_at, AwaitsEntry}
-use Rattle.backend_core.specs.Fits.{looks_due, LooksFit, TakesFit, IsLookedFor, Lacks, Unfound, Said, finds_no_name, is_look}
-use Rattle.backend_core.specs.Steps.{IsChoiceSound}
+use Rattle.backend_core.specs.Fits.{looks_due, LooksFit, TakesFit, IsLookedFor, Lacks, Unfound, Said, finds_no_name, is_look, OnTakingBack, IsTakenBack}
+use Rattle.backend_core.specs.Steps.{IsChoiceSound, IsGone, IsWhole}
 use Rattle.backend_core.proofs.Fitting.Sought.{unfound_facts, finds_serves}
 use Rattle.backend_core.proofs.Own.{waiting, going}
-use Rattle.backend_core.proofs.Fitting.Rebuilding.{top_rebuilt, usable_is, kept_lacks, owed_whole, owed_builds, none_lacks}
+use Rattle.backend_core.proofs.Fitting.Rebuilding.{top_rebuilt, usable_is, kept_lacks, none_lacks}
 use Rattle.backend_core.specs.Frames.{lacks, IsStack, IsRebuilt}
-use Rattle.std.specs.List.{list_any}
+use Rattle.std.specs.List.{list_any, cons_option}
 use Rattle.seg_calls.specs.Calls.{took_back}
 use Rattle.backend_core.specs.Words.{has_error}
-use Rattle.ddl_effect.specs.Plans.{Plan, Fails}
-use Rattle.cacheless.specs.Ends.{TakesBack, end_of, end_of_all}
+use Rattle.ddl_effect.specs.Plans.{Plan, Fails, Done, Do, NotBuilt, left_rests_on, told_rests_on}
+use Rattle.ddl_effect.specs.declared.want.Want.TheVariants as wants
+use Rattle.cacheless.specs.Ends.{TakesBack, end_of_all}
+use Rattle.cacheless.proofs.CommandEnds.{end_same}
 
 -- a look after which nothing is owed told that nothing waits
 quiet_look : (last : Option Event) → is_look last ≡ true → owed_after last ≡ [] → nothing_waits last ≡ true
@@ -36,7 +38,7 @@ pub choice_sound : (scenario : Scenario) (seen : List Entry) (s : Backend) → A
 choice_sound scenario seen s waits courses = record {
   takes = subst (λ n. TakesFit (n + 1) s.progress.locks.items s.progress.taken (plan_at s.progress.opens s.progress.exec)) waits.rests.holds.count waits.fits.takes;
   builds = λ f on. subst (λ h. IsRebuilt h s.progress.opened f) (usable_is facts s.progress waits.rests.holds.facts) (top_rebuilt facts (command_at s) (waiting waits) s.frames f waits.fits.rebuilds on);
-  whole = λ command at bare goes. whole_now command at bare goes (took_back facts.last) refl;
+  whole = λ command at bare goes. whole_now command at bare goes facts.last refl;
   accepts = λ looked unfound none. by_command looked (unfound_facts facts s.progress (plan_at s.progress.opens s.progress.exec) waits.rests.holds.facts unfound) none (command_at s) refl;
 }
   where
@@ -55,18 +57,31 @@ choice_sound scenario seen s waits courses = record {
     lacks_none : list_any (lacks facts.usable) s.progress.opened ≡ false → lacks_opened (kept_at s.progress) s.progress.opened ≡ false
     lacks_none none = kept_lacks s.progress ∙ ap (λ h. list_any (lacks h) s.progress.opened) (sym (usable_is facts s.progress waits.rests.holds.facts)) ∙ none
 
-    taken_back : (command : Command) → command_at s ≡ Some command → has_failed s.progress ≡ false → (last : Option Event) → facts.last ≡ last → took_back last ≡ true → lacks_opened (kept_at s.progress) s.progress.opened ≡ false
-    taken_back command at goes (Some (events.Gone from)) is back = lacks_none (owed_whole facts s.progress.opened (owed_builds facts (waiting waits) command (has_failed_not goes)
-        (subst (λ o. elim o as (λ x. Type 0) [ Some c ↦ (end_of facts c (waiting waits) ≡ TakesBack from) × (owed_of facts c (waiting waits) ≡ []) | None ↦ end_of_all facts ≡ TakesBack from ]) at (waits.fits.taken from is).end).1))
+    -- where writes were taken back the answer rests on no scan
+    gone_now : (command : Command) → s.frames ≡ [] → has_failed s.progress ≡ false → (from : ℕ) → OnTakingBack facts (command_at s) (waiting waits) from → IsTakenBack facts command (waiting waits) from → IsGone s command
+    gone_now command bare goes from taking back = record {
+      bare = bare;
+      wants = by_plan (plan_at s.progress.opens s.progress.exec) goes taking.out back.plain;
+      from = from;
+      end = sym (end_same facts command s.progress waits.rests.holds.rest waits.rests.holds.facts.running waits.rests.holds.count) ∙ back.end;
+      going = taking.going;
+    }
       where
-        has_failed_not : has_failed s.progress ≡ false → outcome_of (plan_at s.progress.opens s.progress.exec) ≡ Badly → ⊥
-        has_failed_not none badly = both_ways _ none (ap (λ o. elim o as (λ x. Bool) [ Badly ↦ true | other ↦ false ]) badly)
-    taken_back command at goes last is back = absurd (cc back)
+        by_plan : (p : Plan) → elim (outcome_of p) as (λ x. Bool) [ Badly ↦ true | other ↦ false ] ≡ false → is_settled (outcome_of p) ≡ true → left_rests_on p ≡ [] → want_of p ≡ wants.Done None
+        by_plan (Done told) well out plain = by_rests (told_rests_on told) plain
+          where
+            by_rests : (o : Option Purpose) → cons_option o [] ≡ [] → wants.Done o ≡ wants.Done None
+            by_rests None none = refl
+            by_rests (Some scan) none = absurd (cc none)
+        by_plan (Do act rest) well out plain = absurd (cc out)
+        by_plan NotBuilt well out plain = absurd (cc out)
+        by_plan p well out plain = absurd (cc well)
 
-    whole_now : (command : Command) → command_at s ≡ Some command → s.frames ≡ [] → has_failed s.progress ≡ false → (t : Bool) → took_back facts.last ≡ t → lacks_opened (kept_at s.progress) s.progress.opened ≡ false
-    whole_now command at bare goes true back = taken_back command at goes facts.last refl back
-    whole_now command at bare goes false stays = lacks_none (none_lacks facts.usable s.progress.opened (subst (IsStack facts.usable s.progress.opened) bare
-        (waits.fits.rebuilds.stack (λ i. not (stays i) && not (going scenario seen s waits courses command at i) && not (no_error goes i)))))
+    whole_now : (command : Command) → command_at s ≡ Some command → s.frames ≡ [] → has_failed s.progress ≡ false → (last : Option Event) → facts.last ≡ last → IsWhole s command
+    whole_now command at bare goes (Some (events.Gone from)) is = inr (gone_now command bare goes from (waits.fits.taken from is)
+        (subst (λ o. elim o as (λ x. Type 0) [ Some c ↦ IsTakenBack facts c (waiting waits) from | None ↦ end_of_all facts ≡ TakesBack from ]) at (waits.fits.taken from is).end))
+    whole_now command at bare goes last is = inl (lacks_none (none_lacks facts.usable s.progress.opened (subst (IsStack facts.usable s.progress.opened) bare
+        (waits.fits.rebuilds.stack (λ i. not (took_back (is i)) && not (going scenario seen s waits courses command at i) && not (no_error goes i))))))
 
     by_look : (command : Command) → command_at s ≡ Some command → s.looked ≡ true → finds_no_name facts s.progress.taken (plan_at s.progress.opens s.progress.exec) ≡ true → owed_at s.progress.due ≡ [] → is_look facts.last ≡ true → has_accepted_at s.progress ≡ true
     by_look command at looked finds none look = λ i. (ap (λ o. is_none o) (finds_serves facts s.progress.taken (plan_at s.progress.opens s.progress.exec) finds).3) i && quiet i && has i

@@ -1,5 +1,5 @@
 -- The entries of an end of a backend that waits.
-use Rattle.std.proofs.Common.{◌≡◌, ◌≢◌, ◌≤◌, ◌+◌, ◌∙◌, ◌&&◌, ℕ, Bool, true, false, Option, Some, None, List, [], refl, sym, ap, subst, length, drop, arith}
+use Rattle.std.proofs.Common.{◌≡◌, ◌≢◌, ◌≤◌, ◌+◌, ◌∙◌, ◌&&◌, inl, inr, ℕ, Bool, true, false, Option, Some, None, List, [], refl, sym, ap, subst, length, drop, arith}
 use Rattle.std.specs.Option.{option_map_or}
 use Rattle.std.proofs.lemmas.Option.{slice_get_within, get_or_from_slice_get}
 use Rattle.event_kinds.specs.declared.entry.Event.TheVariants as events
@@ -94,7 +94,8 @@ module _ (scenario : Scenario) (seen : List Entry) (s : Backend) (waits : Awaits
   end_bare = by_case next
     where
       by_case : EndsNext s event → s.frames ≡ []
-      by_case (InCommand command free out owes accepted may) = owed_bare (facts_of seen s.progress.id) (command_at s) (waiting waits) s.frames command waits.fits.rebuilds
+      by_case (InCommand command free out (inr bare) accepted may) = bare
+      by_case (InCommand command free out (inl owes) accepted may) = owed_bare (facts_of seen s.progress.id) (command_at s) (waiting waits) s.frames command waits.fits.rebuilds
           (empty_list (owed_of (facts_of seen s.progress.id) command (waiting waits)) (owes_nothing_is (facts_of seen s.progress.id) command s.progress waits.rests.holds.rest waits.rests.holds.facts ∙ owes))
       by_case (AfterAll past comes) = waits.fits.rebuilds.past past
 

@@ -32,7 +32,7 @@ use Rattle.backend_core.specs.Agrees.{IsPlayed, command_at, AwaitsEntry}
 use Rattle.backend_core.specs.Fits.{looks_due, LooksFit, TakesFit, IsLookedFor, Lacks, Unfound, Said, lacks_scan, finds_no_name, Fits, FramesFit, IsUnheld, keeps_whole, looked_in, looked_on_top, told_owed}
 use Rattle.backend_core.specs.Steps.{Enters, MakesEntry}
 use Rattle.backend_core.specs.Words.{is_unfound, finds_none, has_begun, marks_build, told_after, has_error, looked_after, frames_given, frames_reset_of}
-use Rattle.backend_core.proofs.Choosing.Chosen.{Busy, due_busy, may_call, hidden, one_at_most, started_still}
+use Rattle.backend_core.proofs.Choosing.Chosen.{Busy, Due, may_call, hidden, one_at_most, started_still}
 use Rattle.backend_core.proofs.Fitting.Entered.{fits_at}
 use Rattle.backend_core.proofs.Fitting.FitsEntries.{StaysAt, Goes, fits_inside}
 use Rattle.backend_core.proofs.Fitting.Sought.{takes_cleared, unfound_held}
@@ -60,7 +60,7 @@ record IsDue (seen : List Entry) (s : Backend) : Type 0 where
   at : command_at s ≡ Some command
   owed : owed_after (facts_of seen s.progress.id).last ≡ OwesFetch ∷ []
   runs : is_some (facts_of seen s.progress.id).running ≡ true
-  busy : Busy s.progress command
+  busy : Busy (facts_of seen s.progress.id).last s.progress command
 
 is_due : (scenario : Scenario) (seen : List Entry) (s : Backend) → AwaitsEntry scenario seen s → s.progress.due ≡ dues.Fetch → IsDue seen s
 is_due scenario seen s waits due = by_command (command_at s) refl
@@ -69,7 +69,7 @@ is_due scenario seen s waits due = by_command (command_at s) refl
     owed = waits.rests.holds.facts.owed ∙ ap owed_at due
 
     by_command : (o : Option Command) → command_at s ≡ o → IsDue seen s
-    by_command (Some command) is = record { command = command; at = is; owed = owed; runs = waits.fits.accepts (ap is_empty owed); busy = due_busy s.progress command (ap (λ d. is_empty (owed_at d)) due) }
+    by_command (Some command) is = record { command = command; at = is; owed = owed; runs = waits.fits.accepts (ap is_empty owed); busy = Due (ap (λ d. is_empty (owed_at d)) due) }
     by_command None is = absurd (let none : OwesFetch ∷ [] ≡ [] = sym owed ∙ (waits.fits.past is).free in cc none)
 
 -- a fetch is owed after a look that said yes alone
@@ -188,8 +188,10 @@ fetch_fits facts o s now event usable command looked frames told unfound marked 
         there p is = refl
 
         by_case : looked ≡ true → unfound ≡ false → IsLookedFor facts s.taken s.left → IsLookedFor later now.taken now.left × IsUnheld now.opened now.left
-        by_case was none (Lacks is) = (Lacks (subst (λ p. lacks_scan later p ≡ true) (sym (fetched.left (there s.left is))) (by_plan s.left is)),
-            subst (λ held. IsUnheld held now.left) (sym fetched.opened) (subst (IsUnheld s.opened) (sym (fetched.left (there s.left is))) (fits.unheld was)))
+        by_case was none (Lacks is) = (
+          Lacks (subst (λ p. lacks_scan later p ≡ true) (sym (fetched.left (there s.left is))) (by_plan s.left is)),
+          subst (λ held. IsUnheld held now.left) (sym fetched.opened) (subst (IsUnheld s.opened) (sym (fetched.left (there s.left is))) (fits.unheld was)),
+        )
         by_case was none (Unfound is look) = absurd (both_ways _ none (finds is))
         by_case was none (Said is) = absurd (both_ways _ none (says is))
 

@@ -1,6 +1,7 @@
 -- The looks of a backend.
 use Rattle.std.proofs.Common.{◌≡◌, ◌≢◌, ◌≤◌, ◌+◌, ◌*◌, ◌∙◌, ◌⊎◌, inl, inr, ◌&&◌, ◌||◌, ℕ, Bool, true, false, not, Option, Some, None, List, [], ◌∷◌, refl, sym, ap, subst, length, drop, is_none, is_some, arith, ◌++◌}
 use Rattle.std.specs.Option.{option_map_or}
+use Rattle.std.proofs.lemmas.Bool.{both_ways}
 use Rattle.std.proofs.Math.Bool.{and-false, or-false, or-true}
 use Rattle.event_kinds.specs.declared.entry.Event.TheVariants as events
 use Rattle.txn_blocks.specs.Blocks.{Block, Outside, Inside, Failed, no_block, ends_block, refused_by}
@@ -11,12 +12,13 @@ use Rattle.history_model.specs.Transactions.{Running, begun, is_visible}
 use Rattle.history_model.specs.Writes.{is_empty}
 use Rattle.history_model.proofs.Sound.{sound_is_legal}
 use Rattle.history_model.proofs.Waiting.{not_waited}
-use Rattle.seg_calls.specs.Calls.{entry_of, MayCall, Appends}
+use Rattle.seg_calls.specs.Calls.{entry_of, took_back, MayCall, Appends}
 use Rattle.cacheless.specs.declared.progress.Due.TheVariants as dues
 use Rattle.txn_blocks.specs.declared.transaction.RunningTransaction.{RunningTransaction}
 use Rattle.cacheless.specs.Facts.{Facts, facts_of, facts_by}
 use Rattle.cacheless.specs.Holds.{HasEntered, with_own}
-use Rattle.cacheless.specs.May.{lacks_any}
+use Rattle.cacheless.specs.May.{lacks_any, is_missing, is_next_of_act}
+use Rattle.cacheless.specs.Ends.{TakesBack, end_of_all}
 use Rattle.cacheless.specs.OnCourse.{AllOnCourse, OnItsWay}
 use Rattle.cacheless.specs.Owed.{Owes as Owing, OwesLook, owed_after, begins, started_in, owed_of}
 use Rattle.cacheless.specs.Plays.{MayPlayIn}
@@ -26,22 +28,22 @@ use Rattle.cacheless.specs.Sessions.{entered}
 use Rattle.cacheless.specs.State.{kept_at, owed_at, owed_first, begins_in, one_if, running_of, is_kept, is_absent}
 use Rattle.backend_core.specs.Types.{Command, Scenario, Entry, Event, Progress, Backend, Frame, Purpose, Opening}
 use Rattle.backend_core.specs.Agrees.{IsPlayed, command_at, AwaitsEntry}
-use Rattle.backend_core.specs.Fits.{looks_due, LooksFit, Fits, IsLookedFor, Lacks, Unfound, Said, FramesFit, IsUnheld, looked_in, looked_on_top, told_owed}
+use Rattle.backend_core.specs.Fits.{looks_due, LooksFit, Fits, IsLookedFor, Lacks, Unfound, Said, FramesFit, IsTakenBack, IsUnheld, looked_in, looked_on_top, told_owed}
 use Rattle.backend_core.specs.Steps.{OwesLookNow, IsLookNext, Enters, IsScanNext, FindsNone, Looks, Says, IsAcceptNext, IsInTurn}
-use Rattle.backend_core.specs.Words.{is_looked_for, is_unfound, scan_on_top, frames_looked}
+use Rattle.backend_core.specs.Words.{has_error, is_looked_for, is_unfound, scan_on_top, frames_looked}
 use Rattle.backend_core.proofs.Choosing.ActsRun.{scan_runs, find_runs}
-use Rattle.backend_core.proofs.Choosing.Chosen.{Busy, Owes, due_busy, may_call, hidden, one_at_most, started_most, started_by, started_now, started_still, look_may, Acts, Sought, standing}
+use Rattle.backend_core.proofs.Choosing.Chosen.{Busy, Due, Begins, Scans, StartsNow, starts_now, may_call, hidden, started_most, started_by, started_now, started_still, look_may, Acts, Sought, standing}
 use Rattle.backend_core.proofs.Fitting.Entered.{fits_at}
 use Rattle.backend_core.proofs.Fitting.FitsEntries.{RunsHere, Goes, Starts, fits_inside}
 use Rattle.backend_core.proofs.Own.{waiting, going, own_enters, follows}
 use Rattle.backend_core.proofs.Fitting.Sought.{takes_cleared, unfound_facts, sought_looked, next_act}
 use Rattle.ddl_effect.specs.Stages.{plan_at}
-use Rattle.ddl_effect.specs.Plans.{Plan, Do, Absent, Open, Lookup, Search, Read, Lock, Write}
+use Rattle.ddl_effect.specs.Plans.{Plan, left_rests_on, told_rests_on, Done, Do, Absent, Open, Lookup, Search, Read, Lock, Write}
 use Rattle.backend_core.proofs.Fitting.Rebuilding.{same_fits, owed_bare, look_fit}
 use Rattle.backend_core.proofs.Stacking.Looked.{in_push, top_looked, top_most, told_push}
 use Rattle.backend_core.proofs.Stacking.Stacks.{IsSplit, split, top_push, on_top_push}
 use Rattle.backend_core.specs.Frames.{top, on_top, with_look}
-use Rattle.std.specs.List.{find, list_any}
+use Rattle.std.specs.List.{find, list_any, cons_option}
 use Rattle.base_types.specs.Scans.{same_oid, build_scans}
 use Rattle.cacheless.specs.ActsDone.{made_in, relation_by, opening_by}
 use Rattle.cacheless.proofs.Plans.SilentActs.{on_its_way, its_place, empty_list}
@@ -49,30 +51,13 @@ use Rattle.cacheless.proofs.Plans.ActOrder.{at_opening}
 use Rattle.ddl_effect.specs.Commands.{plan_of}
 use Rattle.cacheless.proofs.Same.{owes_nothing_is}
 
-not_empty : {X : Type 0} (xs : List X) → xs ≢ [] → is_empty xs ≡ false
-not_empty [] some = absurd (some refl)
-not_empty (x ∷ xs) some = refl
-
 -- where a look is owed something is
-look_busy : (p : Progress) (next : OwesLookNow p) → Busy p next.command
-look_busy p next = by_side next.owes
+look_busy : (last : Option Event) (p : Progress) (next : OwesLookNow p) → Busy last p next.command
+look_busy last p next = by_side next.owes
   where
-    by_side : (p.due ≡ dues.Look) ⊎ ((owed_at p.due ≡ []) × (owed_first p next.command ≢ [])) → Busy p next.command
-    by_side (inl due) = due_busy p next.command (ap (λ d. is_empty (owed_at d)) due)
-    by_side (inr (due, owes)) = Owes (ap (λ t. t && is_empty (owed_at p.due) && not (lacks_any p)) (not_empty (owed_first p next.command) owes))
-
--- a look at a transaction's start
-pub record StartsNow (p : Progress) (command : Command) : Type 0 where
-  pub begins : begins_in p.blocks p.ended command ≡ true
-  pub none : p.running ≡ None
-
-starts_now : (p : Progress) (command : Command) → owed_first p command ≢ [] → StartsNow p command
-starts_now p command owes = by_tests (begins_in p.blocks p.ended command) p.running refl refl owes
-  where
-    by_tests : (t : Bool) (own : Option RunningTransaction) → begins_in p.blocks p.ended command ≡ t → p.running ≡ own → elim (t && is_none own) as (λ x. List Owing) [ true ↦ OwesLook ∷ [] | false ↦ [] ] ≢ [] → StartsNow p command
-    by_tests true None is none some = record { begins = is; none = none }
-    by_tests true (Some t) is none some = absurd (some refl)
-    by_tests false own is none some = absurd (some refl)
+    by_side : (p.due ≡ dues.Look) ⊎ ((owed_at p.due ≡ []) × (owed_first p next.command ≢ [])) → Busy last p next.command
+    by_side (inl due) = Due (ap (λ d. is_empty (owed_at d)) due)
+    by_side (inr (due, owes)) = Begins owes
 
 look_allowed : (scenario : Scenario) (seen : List Entry) (b c : ℕ) (some_wait : Bool) → IsPlayed scenario seen → is_waiting seen b ≡ some_wait → AllowsEvent seen b c (events.Look some_wait)
 look_allowed scenario seen b c true played is = is
@@ -80,7 +65,7 @@ look_allowed scenario seen b c false played is = not_waited seen b (sound_is_leg
 
 -- the look that is owed may be called for
 pub look_call : (scenario : Scenario) (seen : List Entry) (s : Backend) (some_wait : Bool) → AwaitsEntry scenario seen s → IsPlayed scenario seen → OwesLookNow s.progress → some_wait ≡ is_waiting seen s.progress.id → MayCall scenario seen (entry_of s.progress.id (s.progress.finished + 1) (events.Look some_wait))
-look_call scenario seen s some_wait waits played next is = may_call scenario seen s waits next.command next.at (events.Look some_wait) (look_busy s.progress next) refl (look_allowed scenario seen s.progress.id (s.progress.finished + 1) some_wait played (sym is))
+look_call scenario seen s some_wait waits played next is = may_call scenario seen s waits next.command next.at (events.Look some_wait) (look_busy (facts_of seen s.progress.id).last s.progress next) refl (look_allowed scenario seen s.progress.id (s.progress.finished + 1) some_wait played (sym is))
 
 look_true : (seen : List Entry) (b : ℕ) (some_wait : Bool) → is_waiting seen b ≡ some_wait → LooksTruly seen b (events.Look some_wait)
 look_true seen b true is = tt
@@ -193,7 +178,7 @@ module _ (scenario : Scenario) (old : List Entry) (was : Backend) (waits : Await
     MadeFor = looked ≡ true → IsLookedFor (looked_facts facts s some_wait) s.taken s.left × IsUnheld s.opened s.left
 
     -- the rebuilds see to what they saw to
-    look_rebuilds : Busy was.progress command → FramesFit facts (command_at was) s frames → FramesFit (looked_facts facts s some_wait) (Some command) now frames
+    look_rebuilds : Busy (facts_of old was.progress.id).last was.progress command → FramesFit facts (command_at was) s frames → FramesFit (looked_facts facts s some_wait) (Some command) now frames
     look_rebuilds busy rebuilds = subst (λ o. FramesFit (looked_facts facts s some_wait) o now frames) at
         (same_fits facts (looked_facts facts s some_wait) (command_at was) s now frames refl refl refl refl (sym (standing scenario old was waits command at busy)) rebuilds)
 
@@ -204,7 +189,7 @@ module _ (scenario : Scenario) (old : List Entry) (was : Backend) (waits : Await
         (record { blocks = refl; opens = refl; finished = refl; blocked = refl; ended = refl; left = λ is there. refl }) counts.goes hides (going scenario old was waits courses command at) looks_more rebuilds sought (takes_cleared _ (number_of s) s.locks s.taken s.left waits.fits.takes)))
 
     -- so after it the backend agrees
-    pub look_agrees : (new : List Entry) (had has : ℕ → ℕ) (p : Progress) → IsPlayed scenario old → some_wait ≡ is_waiting old was.progress.id → Busy was.progress command → FramesFit facts (command_at was) s frames → MadeFor → HasEntered scenario old was.progress event waits.rests p → kept_at p ≡ kept_at was.progress → p.answer ≡ None
+    pub look_agrees : (new : List Entry) (had has : ℕ → ℕ) (p : Progress) → IsPlayed scenario old → some_wait ≡ is_waiting old was.progress.id → Busy (facts_of old was.progress.id).last was.progress command → FramesFit facts (command_at was) s frames → MadeFor → HasEntered scenario old was.progress event waits.rests p → kept_at p ≡ kept_at was.progress → p.answer ≡ None
         → Appends old new had has (entry_of was.progress.id (was.progress.finished + 1) event) → Enters scenario old new had has was (record was { progress = p; looked = looked; frames = frames; told = told })
     look_agrees new had has p played is busy rebuilds sought goes kept none appends =
         own_enters scenario old new had has was (record was { progress = p; looked = looked; frames = frames; told = told }) event waits played courses
@@ -218,7 +203,7 @@ pub look_enters : (scenario : Scenario) (old new : List Entry) (had has : ℕ �
     → HasEntered scenario old was.progress (events.Look some_wait) waits.rests p → kept_at p ≡ kept_at was.progress → p.answer ≡ None
     → Appends old new had has (entry_of was.progress.id (was.progress.finished + 1) (events.Look some_wait)) → Enters scenario old new had has was (record was { progress = p })
 look_enters scenario old new had has was p some_wait waits played courses next is goes kept none appends =
-    look_agrees scenario old was waits courses next.command next.at some_wait was.looked was.frames was.told (by_side next.owes) new had has p played is (look_busy was.progress next) waits.fits.rebuilds
+    look_agrees scenario old was waits courses next.command next.at some_wait was.looked was.frames was.told (by_side next.owes) new had has p played is (look_busy facts.last was.progress next) waits.fits.rebuilds
     (λ made. (sought_looked facts (looked_facts facts (waiting waits) some_wait) (waiting waits).taken (waiting waits).left refl refl refl (waits.fits.sought made), waits.fits.unheld made)) goes kept none appends
   where
     facts : Facts
@@ -230,13 +215,38 @@ look_enters scenario old new had has was p some_wait waits played courses next i
     by_side (inr (due, owes)) = let starts : StartsNow was.progress next.command = starts_now was.progress next.command owes in
         counts_start facts (waiting waits) next.command was.looked was.frames was.told (waits.rests.holds.facts.owed ∙ due) starts.begins (waits.rests.holds.facts.running ∙ ap running_of starts.none)
 
--- where a scan is missing something is owed
-pub scan_busy : (p : Progress) (command : Command) → lacks_any p ≡ true → Busy p command
-scan_busy p command lacks = Owes (ap (λ t. is_empty (owed_first p command) && is_empty (owed_at p.due) && not t) lacks ∙ and-false (is_empty (owed_first p command) && is_empty (owed_at p.due)))
+-- where a scan comes next nothing was taken back
+scan_stands : (scenario : Scenario) (seen : List Entry) (s : Backend) (scan : Purpose) (rebuilds : Bool) (waits : AwaitsEntry scenario seen s) → IsScanNext s scan rebuilds → took_back (facts_of seen s.progress.id).last ≡ false
+scan_stands scenario seen s scan rebuilds waits next = by_last (facts_of seen s.progress.id).last refl
+  where
+    facts : Facts
+    facts = facts_of seen s.progress.id
+
+    rests_on : (p : Plan) → plan_at s.progress.opens s.progress.exec ≡ p → is_settled (outcome_of p) ≡ true → left_rests_on p ≡ [] → is_next_of_act scan s.progress p ≡ false
+    rests_on (Done told) at out plain = by_rests (told_rests_on told) plain
+      where
+        by_rests : (o : Option Purpose) → cons_option o [] ≡ [] → option_map_or (is_missing scan (kept_at s.progress)) o false ≡ false
+        by_rests None none = refl
+        by_rests (Some one) none = absurd (cc none)
+    rests_on (Do act rest) at out plain = absurd (cc out)
+    rests_on p at out plain = refl
+
+    none_gone : (t : Bool) (from : ℕ) → facts.last ≡ Some (events.Gone from) → IsTakenBack facts next.command (waiting waits) from → IsInTurn t s scan → ⊥
+    none_gone true from is back turn = let none : s.frames ≡ [] = waits.fits.rebuilds.over (λ i. not (took_back (is i)) && not s.progress.ended && not (has_error (plan_at s.progress.opens s.progress.exec))) in
+        let no : None ≡ Some scan = sym (ap (λ l. elim (top l) as (λ x. Option Purpose) [ Some f ↦ find (λ d. not (is_kept (kept_at s.progress) d)) (build_scans f.opening.kind f.opening.rel) | None ↦ None ]) none) ∙ turn in cc no
+    none_gone false from is back turn = both_ways _ (rests_on (plan_at s.progress.opens s.progress.exec) refl (waits.fits.taken from is).out back.plain) turn.1
+
+    by_last : (last : Option Event) → facts.last ≡ last → took_back last ≡ false
+    by_last (Some (events.Gone from)) is = absurd (none_gone rebuilds from is
+        (subst (λ o. elim o as (λ x. Type 0) [ Some c ↦ IsTakenBack facts c (waiting waits) from | None ↦ end_of_all facts ≡ TakesBack from ]) next.free.at (waits.fits.taken from is).end) next.turn)
+    by_last last is = refl
+
+pub scan_busy : (scenario : Scenario) (seen : List Entry) (s : Backend) (scan : Purpose) (rebuilds : Bool) (waits : AwaitsEntry scenario seen s) (next : IsScanNext s scan rebuilds) → Busy (facts_of seen s.progress.id).last s.progress next.command
+scan_busy scenario seen s scan rebuilds waits next = Scans next.lacks (scan_stands scenario seen s scan rebuilds waits next)
 
 -- the look before a scan
 pub look_before_call : (scenario : Scenario) (seen : List Entry) (s : Backend) (some_wait builds : Bool) → AwaitsEntry scenario seen s → IsPlayed scenario seen → IsLookNext builds s → some_wait ≡ is_waiting seen s.progress.id → MayCall scenario seen (entry_of s.progress.id (s.progress.finished + 1) (events.Look some_wait))
-look_before_call scenario seen s some_wait builds waits played next is = may_call scenario seen s waits next.next.command next.next.free.at (events.Look some_wait) (scan_busy s.progress next.next.command next.next.lacks) refl
+look_before_call scenario seen s some_wait builds waits played next is = may_call scenario seen s waits next.next.command next.next.free.at (events.Look some_wait) (scan_busy scenario seen s next.scan builds waits next.next) refl
     (look_allowed scenario seen s.progress.id (s.progress.finished + 1) some_wait played (sym is))
 
 -- the scan is that of the rebuild on top
@@ -299,7 +309,7 @@ look_before_enters scenario old new had has was p some_wait rebuilds waits playe
         (subst (λ l. LookCounts facts (waiting waits) next.next.command was.looked l was.told was.looked (on_top with_look l) was.told) (sym on.parts.is)
         (subst (λ l. LookCounts facts (waiting waits) next.next.command was.looked (on.parts.under ++ on.parts.one ∷ []) was.told was.looked l was.told) (sym (on_top_push with_look on.parts.under on.parts.one))
         (counts_rebuild facts (waiting waits) next.next.command was.looked was.told on.parts.under on.parts.one owed runs (sym on.looked ∙ unlooked)))))
-        new had has p played is (scan_busy was.progress next.next.command next.next.lacks) (look_fit facts (command_at was) (waiting waits) was.frames waits.fits.rebuilds) stays goes kept none appends
+        new had has p played is (scan_busy scenario old was next.scan true waits scan) (look_fit facts (command_at was) (waiting waits) was.frames waits.fits.rebuilds) stays goes kept none appends
       where
         on : IsOnTop was next.scan
         on = on_top_of was next.scan scan.turn
@@ -309,7 +319,7 @@ look_before_enters scenario old new had has was p some_wait rebuilds waits playe
         (subst (λ l. LookCounts facts (waiting waits) next.next.command was.looked was.frames was.told l was.frames was.told) (sym (or-true was.looked))
         (subst (λ l. LookCounts facts (waiting waits) next.next.command was.looked l was.told true l was.told) (sym scan.turn.0)
         (counts_act facts (waiting waits) next.next.command was.looked was.told owed runs unlooked)))
-        new had has p played is (scan_busy was.progress next.next.command next.next.lacks) waits.fits.rebuilds
+        new had has p played is (scan_busy scenario old was next.scan false waits scan) waits.fits.rebuilds
         (λ made. (Lacks (next_act facts was.progress next.scan waits.rests.holds.facts (plan_at was.progress.opens was.progress.exec) scan.turn.1), opens_unheld scenario old was waits courses next.next.command next.next.free.at)) goes kept none appends
 
     by_kind : (t : Bool) → IsScanNext was next.scan t → is_looked_for t was ≡ false → Enters scenario old new had has was (record was { progress = p; looked = was.looked || not t; frames = frames_looked t was.frames })
@@ -317,17 +327,17 @@ look_before_enters scenario old new had has was p some_wait rebuilds waits playe
     by_kind false scan unlooked = of_act scan unlooked
 
 -- where a lookup has found no relation, something is to be done still
-find_busy : (p : Progress) (command : Command) → FindsNone p command → Busy p command
-find_busy p command (Looks unfound owes) = Acts (by_plan (plan_at p.opens p.exec) unfound)
+find_busy : (last : Option Event) (p : Progress) (command : Command) → FindsNone p command → Busy last p command
+find_busy last p command (Looks unfound owes) = Acts (by_plan (plan_at p.opens p.exec) unfound)
   where
     by_plan : (q : Plan) → is_unfound p q ≡ true → is_settled (outcome_of q) ≡ false
     by_plan (Do act rest) is = refl
     by_plan q is = absurd (cc is)
-find_busy p command (Says absent quiet) = Sought absent quiet
+find_busy last p command (Says absent quiet) = Sought absent quiet
 
 -- the look of a lookup that has found no relation
 pub accept_call : (scenario : Scenario) (seen : List Entry) (s : Backend) (some_wait : Bool) → AwaitsEntry scenario seen s → IsPlayed scenario seen → IsAcceptNext s → some_wait ≡ is_waiting seen s.progress.id → MayCall scenario seen (entry_of s.progress.id (s.progress.finished + 1) (events.Look some_wait))
-accept_call scenario seen s some_wait waits played next is = may_call scenario seen s waits next.command next.free.at (events.Look some_wait) (find_busy s.progress next.command next.finds) refl
+accept_call scenario seen s some_wait waits played next is = may_call scenario seen s waits next.command next.free.at (events.Look some_wait) (find_busy (facts_of seen s.progress.id).last s.progress next.command next.finds) refl
     (look_allowed scenario seen s.progress.id (s.progress.finished + 1) some_wait played (sym is))
 
 pub accept_enters : (scenario : Scenario) (old new : List Entry) (had has : ℕ → ℕ) (was : Backend) (p : Progress) (some_wait told : Bool) (waits : AwaitsEntry scenario old was) → IsPlayed scenario old → AllOnCourse scenario old → IsAcceptNext was → some_wait ≡ is_waiting old was.progress.id → told ≡ (was.told && not was.looked)
@@ -338,7 +348,7 @@ accept_enters scenario old new had has was p some_wait told waits played courses
     (subst (LookCounts facts (waiting waits) next.command was.looked was.frames was.told true was.frames) (sym told_is)
     (subst (λ l. LookCounts facts (waiting waits) next.command was.looked l was.told true l (was.told && not was.looked)) (sym (bare next.finds))
     (counts_accept facts (waiting waits) next.command was.looked was.told (waits.rests.holds.facts.owed ∙ next.free.due) runs next.unlooked)))
-    new had has p played is (find_busy was.progress next.command next.finds) waits.fits.rebuilds (λ made. by_side next.finds) goes kept none appends
+    new had has p played is (find_busy (facts_of old was.progress.id).last was.progress next.command next.finds) waits.fits.rebuilds (λ made. by_side next.finds) goes kept none appends
   where
     facts : Facts
     facts = facts_of old was.progress.id

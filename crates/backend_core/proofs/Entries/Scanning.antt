@@ -1,9 +1,8 @@
 -- The scans of a backend.
-use Rattle.std.proofs.Common.{◌≡◌, ◌≤◌, ◌+◌, ◌∙◌, ◌&&◌, ℕ, Bool, true, false, not, None, List, [], refl, sym, ap, subst, length, drop, arith, Option, Some, ◌∷◌, ◌++◌, ◌||◌, cond, is_some}
+use Rattle.std.proofs.Common.{◌≡◌, ◌≤◌, ◌+◌, ◌∙◌, ◌&&◌, ℕ, Bool, true, false, not, None, List, [], refl, sym, ap, subst, length, drop, arith, Some, ◌∷◌, ◌++◌, ◌||◌, cond, is_some}
 use Rattle.std.proofs.lemmas.Bool.{both_ways, lt-ltb, and_parts}
-use Rattle.base_types.specs.Scans.{same_scan, is_build_scan, build_scans}
+use Rattle.base_types.specs.Scans.{same_scan, build_scans}
 use Rattle.event_kinds.specs.declared.entry.Event.TheVariants as events
-use Rattle.base_types.specs.declared.scan.Purpose.TheVariants as scans
 use Rattle.ddl_effect.specs.Plans.{Plan, Absent, Do, Lookup, Open, Search, Read as Reading, Lock, Write, Fails}
 use Rattle.ddl_effect.specs.Stages.{plan_at}
 use Rattle.local_caches.specs.Kept.{is_keyed, Kept}
@@ -12,7 +11,7 @@ use Rattle.history_model.specs.Versions.{answer_of}
 use Rattle.seg_calls.specs.Calls.{entry_of, MayRequest, Appends}
 use Rattle.cacheless.specs.Facts.{Facts, facts_of, facts_by}
 use Rattle.cacheless.specs.Holds.{HasEntered, with_own}
-use Rattle.cacheless.specs.May.{has_failed, is_first_missing, is_next_of_act}
+use Rattle.cacheless.specs.May.{has_failed}
 use Rattle.cacheless.specs.OnCourse.{AllOnCourse}
 use Rattle.cacheless.specs.Owed.{owed_after, started_in, has_looked}
 use Rattle.cacheless.specs.Plays.{MayPlayIn}
@@ -21,7 +20,7 @@ use Rattle.cacheless.specs.Sessions.{entered}
 use Rattle.cacheless.specs.State.{kept_at, kept_with, is_absent, one_if, is_kept}
 use Rattle.cacheless.proofs.OneOfKey.{one_of_key}
 use Rattle.cacheless.proofs.Same.{next_same}
-use Rattle.cacheless.proofs.Tests.{and_true, not_true, or_either}
+use Rattle.cacheless.proofs.Tests.{and_true, not_true}
 use Rattle.backend_core.specs.Types.{Mode, Row, Purpose, Scenario, Entry, Event, Progress, Backend, Opening, Frame}
 use Rattle.backend_core.specs.Agrees.{IsPlayed, command_at, AwaitsEntry}
 use Rattle.backend_core.specs.Fits.{looks_due, LooksFit, Fits, IsLookedFor, Lacks, Unfound, Said, finds_no_name, FramesFit, IsUnheld, looked_in, looked_on_top, told_owed}
@@ -35,8 +34,7 @@ use Rattle.backend_core.proofs.Entries.Looking.{scan_busy, IsOnTop, on_top_of}
 use Rattle.backend_core.proofs.Own.{waiting, going, OwnEntry, own_makes, own_enters, follows}
 use Rattle.backend_core.proofs.Fitting.Sought.{takes_cleared, built_leaves}
 use Rattle.cacheless.proofs.ReadsBuilds.{stage_reads}
-use Rattle.base_types.proofs.SameScan.{same_scan-true}
-use Rattle.std.specs.List.{list_any, find}
+use Rattle.std.specs.List.{find}
 use Rattle.cacheless.proofs.Plans.SilentActs.{lookup_opens_none}
 use Rattle.backend_core.proofs.Fitting.Rebuilding.{usable_is, top_rebuilt}
 use Rattle.backend_core.proofs.Stacking.Looked.{in_push, top_most, told_push, told_most, scanned_less}
@@ -49,7 +47,7 @@ use Rattle.std.proofs.Math.Bool.{and-true, and-false}
 
 -- the scan that comes next may be asked for
 pub scan_request : (scenario : Scenario) (seen : List Entry) (s : Backend) (scan : Purpose) (rebuilds : Bool) → AwaitsEntry scenario seen s → IsScanNext s scan rebuilds → MayRequest scenario seen s.progress.id (s.progress.finished + 1)
-scan_request scenario seen s scan rebuilds waits next = may_request scenario seen s waits next.command next.free.at (scan_busy s.progress next.command next.lacks)
+scan_request scenario seen s scan rebuilds waits next = may_request scenario seen s waits next.command next.free.at (scan_busy scenario seen s scan rebuilds waits next)
 
 looked_enough : (facts : Facts) (s : Session) (looked : Bool) (frames : List Frame) (told : Bool) → LooksFit facts s looked frames told → owed_after facts.last ≡ [] → 1 ≤ one_if looked + looked_in frames → has_looked facts s ≡ true
 looked_enough facts s looked frames told fits none some = lt-ltb (s.tally.scans + s.tally.grants + started_in (number_of s) facts + s.tally.full) s.tally.looks (omega (arith, fits.enough, ap looks_due none, some))
@@ -167,7 +165,7 @@ module _ (scenario : Scenario) (old : List Entry) (was : Backend) (waits : Await
 
   -- what the rebuilds see to
   stack : IsStack facts.usable was.progress.opened was.frames
-  stack = waits.fits.rebuilds.stack (λ i. not (standing scenario old was waits next.command next.free.at (scan_busy was.progress next.command next.lacks) i) && not (going scenario old was waits courses next.command next.free.at i) && not (no_error i))
+  stack = waits.fits.rebuilds.stack (λ i. not (standing scenario old was waits next.command next.free.at (scan_busy scenario old was scan rebuilds waits next) i) && not (going scenario old was waits courses next.command next.free.at i) && not (no_error i))
 
   -- its first missing scan, by the facts
   first_of : (on : IsOnTop was scan) → find (λ d. not (facts.usable d)) (build_scans on.parts.one.opening.kind on.parts.one.opening.rel) ≡ Some scan
@@ -193,7 +191,7 @@ module _ (scenario : Scenario) (old : List Entry) (was : Backend) (waits : Await
 
   scan_fits : Fits later (command_at was) now (was.looked && rebuilds) (frames_now rebuilds) was.told
   scan_fits = inside_fits scenario old was waits courses next.command next.free.at later now (was.looked && rebuilds) (frames_now rebuilds) was.told same refl (λ from is. cc is) (record { blocks = refl; opens = refl; finished = refl; blocked = refl; ended = refl; left = λ is there. refl })
-      (scan_runs scenario old was waits courses next.command next.free.at scan next.next next.free.first) (scan_busy was.progress next.command next.lacks) looks_less rebuilds_now
+      (scan_runs scenario old was waits courses next.command next.free.at scan next.next next.free.first) (scan_busy scenario old was scan rebuilds waits next) looks_less rebuilds_now
       (λ made. sought rebuilds next.turn (and_parts was.looked rebuilds made)) (takes_cleared _ (number_of s) s.locks s.taken s.left waits.fits.takes)
     where
       -- what a look of the act was made for it lacks still, after a scan of a rebuild

@@ -5,21 +5,19 @@ use Rattle.std.specs.Option.{option_map_or}
 use Rattle.std.proofs.lemmas.Bool.{both_ways, false_from_ne_true}
 use Rattle.event_kinds.specs.declared.entry.Event.TheVariants as events
 use Rattle.inval_messages.specs.Lists.{has_write_from, lists_from, cats_in, rels_in, sent_in}
-use Rattle.ddl_effect.specs.declared.told.Told.TheVariants as tells
-use Rattle.ddl_effect.specs.Plans.{Done, told_rests_on}
-use Rattle.ddl_effect.specs.Stages.{told_of}
 use Rattle.history_model.specs.Legal.{FollowsVisible, FollowsGone}
 use Rattle.history_model.specs.Transactions.{Running, is_visible}
 use Rattle.seg_calls.specs.Calls.{entry_of, MayCall, Appends}
-use Rattle.cacheless.specs.Ends.{Commits, TakesBack}
+use Rattle.cacheless.specs.Ends.{End, Ends, Commits, TakesBack, end_of, end_well, end_badly}
 use Rattle.cacheless.specs.Facts.{Facts, facts_of, facts_by}
 use Rattle.cacheless.specs.Holds.{HasEntered}
 use Rattle.cacheless.specs.OnCourse.{AllOnCourse}
-use Rattle.cacheless.specs.Owed.{Owes, unusable, owed_after, owed_of, builds_owed}
-use Rattle.cacheless.specs.Session.{Session, Well, outcome_of, is_settled, plan_first}
+use Rattle.cacheless.specs.Owed.{Owes, owed_after, owed_of, unusable}
+use Rattle.cacheless.specs.Session.{Session, Well, Badly, Unsettled, outcome_of}
 use Rattle.cacheless.specs.State.{lists_at, kept_at, kept_spared}
-use Rattle.cacheless.proofs.Allowed.Releases.{OwesNoScan, ends_free}
-use Rattle.backend_core.specs.Types.{Command, Scenario, Entry, Event, OwnLock, Progress, Backend, Frame}
+use Rattle.cacheless.proofs.Allowed.Releases.{ends_free}
+use Rattle.ddl_effect.specs.Plans.{Plan, Done, Do, left_rests_on, told_rests_on}
+use Rattle.backend_core.specs.Types.{Purpose, Command, Scenario, Entry, Event, OwnLock, Progress, Backend, Frame}
 use Rattle.backend_core.specs.Agrees.{IsPlayed, command_at, AwaitsEntry}
 use Rattle.backend_core.specs.Fits.{first_at, Fits, FramesFit}
 use Rattle.backend_core.specs.Steps.{EndsNext, Enters}
@@ -73,10 +71,27 @@ module _ (scenario : Scenario) (old : List Entry) (was : Backend) (from : ℕ) (
   goes_on : GoesOn facts later
   goes_on = record { runs = written_runs facts.running written; some = refl; same = goes_first (was.progress.finished + 1) facts.running (written_runs facts.running written); free = refl }
 
-  -- a command that comes out well and is taken back owes no scan
-  takes_free : AllOnCourse scenario old → (locks : List OwnLock) (at : ℕ) (command : Command) → command_at was ≡ Some command → outcome_of s.left ≡ Well → OwesNoScan later s
-  takes_free courses locks at command is well = ends_free later command (later_at s locks at) (λ told none. let alone = (follows scenario old was waits courses command is).plain told none in record { opened = alone.opened; left = alone.left }) well
-      (ap (λ e. elim e as (λ x. List Owes) [ TakesBack n ↦ owed_after later.last | end ↦ owed_of later command (later_at s locks at) ]) (end_same facts later command s locks at goes_on ∙ ap (λ o. end_by facts o s) (sym is) ∙ takes.0))
+  -- the facts as if no scan were usable
+  abbrev unkept : Facts
+  unkept = record later { usable = λ scan. false }
+
+  -- the answer of a command that is taken back rests on no scan
+  takes_plain : AllOnCourse scenario old → (locks : List OwnLock) (at : ℕ) (command : Command) → command_at was ≡ Some command → left_rests_on s.left ≡ []
+  takes_plain courses locks at command is = by_plan s.left refl (ap (λ x. end_by facts x s) (sym is) ∙ takes.0)
+    where
+      goes : GoesOn facts unkept
+      goes = record { runs = goes_on.runs; some = goes_on.some; same = goes_on.same; free = goes_on.free }
+
+      by_rests : (o : Option Purpose) → unusable unkept (cons_option o []) ≡ [] → cons_option o [] ≡ []
+      by_rests None none = refl
+      by_rests (Some scan) none = absurd (cc none)
+
+      by_plan : (p : Plan) → s.left ≡ p → end_of facts command s ≡ TakesBack from → left_rests_on p ≡ []
+      by_plan (Done told) left back = by_rests (told_rests_on told)
+          (ends_free unkept command (later_at s locks at) (λ given none. let alone = (follows scenario old was waits courses command is).plain given none in record { opened = alone.opened; left = alone.left }) (ap outcome_of left)
+          (ap (λ e. elim e as (λ x. List Owes) [ TakesBack n ↦ owed_after unkept.last | end ↦ owed_of unkept command (later_at s locks at) ]) (end_same facts unkept command s locks at goes ∙ back)) told left)
+      by_plan (Do act rest) left back = absurd (let no : Ends ≡ TakesBack from = ap (λ q. elim (outcome_of q) as (λ x. End) [ Well ↦ end_well facts command s | Badly ↦ end_badly s | Unsettled ↦ Ends ]) (sym left) ∙ back in cc no)
+      by_plan p left back = refl
 
   take_back_fits : AllOnCourse scenario old → (locks : List OwnLock) (at : ℕ) → Fits later (command_at was) (later_at s locks at) was.looked was.frames was.told
   take_back_fits courses locks at = fits_ending facts later (command_at was) s was.looked was.frames was.told (events.Gone from) locks at waits.fits now goes_on
@@ -85,7 +100,7 @@ module _ (scenario : Scenario) (old : List Entry) (was : Backend) (from : ℕ) (
       (λ is. begun_xid (was.progress.finished + 1) facts.running written)
       (λ is. absurd (both_ways _ hidden (sym (begun_visible (was.progress.finished + 1) facts.running) ∙ is)))
       (λ n is. let same : from ≡ n = (let both : Some (events.Gone from) ≡ Some (events.Gone n) = is in cc both) in
-      takes_back_on facts later (command_at was) s was.looked was.frames was.told (events.Gone from) locks at waits.fits now n goes_on (takes.0 ∙ ap TakesBack same) (subst (λ k. has_write_from k later.lists ≡ false) same (none_from from facts.lists)) (takes_free courses locks at))
+      takes_back_on facts later (command_at was) s was.looked was.frames was.told (events.Gone from) locks at waits.fits now n goes_on (takes.0 ∙ ap TakesBack same) (subst (λ k. has_write_from k later.lists ≡ false) same (none_from from facts.lists)) (takes_plain courses locks at))
 
 -- the state after it
 pub take_back_enters : (scenario : Scenario) (old new : List Entry) (had has : ℕ → ℕ) (was : Backend) (from : ℕ) (p : Progress) (waits : AwaitsEntry scenario old was) → IsPlayed scenario old → AllOnCourse scenario old → EndsNext was (events.Gone from)

@@ -8,7 +8,7 @@ use Rattle.base_types.specs.declared.command.Command.TheVariants as commands
 use Rattle.event_kinds.specs.declared.entry.Event.TheVariants as events
 use Rattle.inval_messages.specs.Lists.{Written, has_write_from, lists_before}
 use Rattle.txn_blocks.specs.Blocks.{Block, Outside, Inside, Failed}
-use Rattle.ddl_effect.specs.Plans.{Plan, left_rests_on, Done, Fails, Absent, NotBuilt, Do, told_rests_on}
+use Rattle.ddl_effect.specs.Plans.{Plan, left_rests_on, Done, Fails, Absent, NotBuilt, Do, Open, told_rests_on}
 use Rattle.history_model.specs.Sent.{ends_transaction}
 use Rattle.history_model.specs.Transactions.{Running, begun, after_release, is_visible}
 use Rattle.history_model.specs.Writes.{is_empty}
@@ -18,7 +18,7 @@ use Rattle.cacheless.proofs.Allowed.Releases.{OwesNoScan}
 use Rattle.cacheless.specs.Owed.{Owes, OwesLook, OwesScan, unusable, owed_at_start, owed_after, begins, builds_owed, act_owed, scans_owed, owed_of, started_in}
 use Rattle.cacheless.specs.Session.{Session, Outcome, Well, Badly, Unsettled, number_of, outcome_of, is_settled}
 use Rattle.backend_core.specs.Types.{Purpose, Command, Event, OwnLock, Frame}
-use Rattle.backend_core.specs.Fits.{looks_due, first_at, RunsBlock, RunsBy, RunsAfter, TransactionFits, OnCommit, OnTakingBack, Fits, IsLookedFor, Lacks, Unfound, Said, TakesFit, FramesFit}
+use Rattle.backend_core.specs.Fits.{looks_due, first_at, RunsBlock, RunsBy, RunsAfter, TransactionFits, OnCommit, OnTakingBack, Fits, IsLookedFor, Lacks, Unfound, Said, TakesFit, FramesFit, IsUnheld, IsTakenBack}
 use Rattle.backend_core.proofs.Choosing.EndsNow.{end_by, EndsBy, IsCommit, commit_first}
 use Rattle.backend_core.proofs.Fitting.NextTransaction.{failed_on}
 use Rattle.cacheless.specs.Types.{Oid, Purpose, OwnLock}
@@ -201,11 +201,11 @@ module _ (facts later : Facts) (o : Option Command) (s : Session) (looked : Bool
       }
 
   -- taking back goes on
-  pub takes_back_on : (from : ℕ) → GoesOn facts later → end_by facts o s ≡ TakesBack from → has_write_from from later.lists ≡ false → ((command : Command) → o ≡ Some command → outcome_of s.left ≡ Well → OwesNoScan later s) → OnTakingBack later o (later_at s locks at) from
+  pub takes_back_on : (from : ℕ) → GoesOn facts later → end_by facts o s ≡ TakesBack from → has_write_from from later.lists ≡ false → ((command : Command) → o ≡ Some command → left_rests_on s.left ≡ []) → OnTakingBack later o (later_at s locks at) from
   takes_back_on from goes back bare none = record { runs = goes.some; going = ends.going; out = ends.out; end = by_command o refl back; none = bare }
     where
-      by_command : (x : Option Command) → o ≡ x → end_by facts x s ≡ TakesBack from → elim x as (λ y. Type 0) [ Some c ↦ (end_of later c (later_at s locks at) ≡ TakesBack from) × (owed_of later c (later_at s locks at) ≡ []) | None ↦ end_of_all later ≡ TakesBack from ]
-      by_command (Some c) here is = (end_same facts later c s locks at goes ∙ is, owed_later facts later c s locks at goes ends.out (none c here))
+      by_command : (x : Option Command) → o ≡ x → end_by facts x s ≡ TakesBack from → elim x as (λ y. Type 0) [ Some c ↦ IsTakenBack later c (later_at s locks at) from | None ↦ end_of_all later ≡ TakesBack from ]
+      by_command (Some c) here is = record { end = end_same facts later c s locks at goes ∙ is; free = goes.free; plain = none c here }
       by_command None here is = of_first TakesBack Ends later.running facts.running goes.same ∙ is
 
   -- the release is made: what runs then fits the blocks after the command, and isn't visible

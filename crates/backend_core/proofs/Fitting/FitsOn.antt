@@ -1,11 +1,11 @@
 -- What the choice keeps where a backend goes on without an entry.
-use Rattle.std.proofs.Common.{◌≡◌, ◌≤◌, ◌+◌, ◌∙◌, ◌==◌, ◌&&◌, ◌++◌, inl, inr, ℕ, Bool, true, false, Option, Some, None, List, [], refl, sym, ap, subst, map, is_none, arith, not, ◌||◌}
+use Rattle.std.proofs.Common.{◌≡◌, ◌≤◌, ◌+◌, ◌∙◌, ◌==◌, ◌&&◌, ◌++◌, inl, inr, ℕ, Bool, true, false, Option, Some, None, List, [], refl, sym, ap, subst, map, is_none, arith, ◌||◌}
 use Rattle.std.specs.Option.{option_map_or}
 use Rattle.std.proofs.lemmas.Bool.{both_ways, ne_eqb, and_parts, or_from}
 use Rattle.std.proofs.lemmas.List.{length_push}
 use Rattle.txn_blocks.specs.Blocks.{Block, Outside, Inside, Failed}
 use Rattle.base_types.specs.declared.scan.Purpose.TheVariants as scans
-use Rattle.ddl_effect.specs.Plans.{Act, Plan, Do, Lookup, Search, Absent, Open}
+use Rattle.ddl_effect.specs.Plans.{Act, Plan, Do, Lookup, Absent, Open}
 use Rattle.event_kinds.specs.declared.entry.Event.TheVariants as events
 use Rattle.history_model.specs.Transactions.{Running}
 use Rattle.history_model.specs.Writes.{is_empty}
@@ -14,9 +14,9 @@ use Rattle.cacheless.specs.Session.{Session, number_of, outcome_of, is_settled}
 use Rattle.cacheless.specs.Owed.{OwesScan, owed_at_start, owed_after, scans_owed, owed_of, started_in, act_owed}
 use Rattle.cacheless.specs.Ends.{End, Ends, Commits, TakesBack, end_of, end_of_all, end_left, next_of_end}
 use Rattle.cacheless.specs.Settled.{act_done, is_finished, blocks_after, finished_as, next_session, class_oid, opened_by}
-use Rattle.cacheless.proofs.Plans.SilentActs.{both_empty, empty_list, IsDoneHere, kept_already, gives_class}
+use Rattle.cacheless.proofs.Plans.SilentActs.{both_empty, empty_list, IsDoneHere, gives_class}
 use Rattle.backend_core.specs.Types.{Row, Command, Event, Frame, Opening}
-use Rattle.backend_core.specs.Fits.{looks_due, first_at, LevelsRise, RunsAt, RunsIn, RunsBy, RunsAfter, TransactionFits, IsPast, Fits, IsLookedFor, Lacks, Unfound, Said, FramesFit, IsUnheld}
+use Rattle.backend_core.specs.Fits.{looks_due, first_at, LevelsRise, RunsAt, RunsIn, RunsBy, RunsAfter, TransactionFits, IsPast, Fits, IsLookedFor, Lacks, Unfound, Said, FramesFit, IsUnheld, IsTakenBack}
 use Rattle.backend_core.proofs.Fitting.NextTransaction.{LevelsFit, levels_next, next_silent}
 use Rattle.cacheless.specs.Types.{Mode}
 use Rattle.cacheless.specs.State.{is_absent}
@@ -125,7 +125,7 @@ on_its_way facts command s event done going comes = both_ways _ (ap (λ e. is_no
 -- where the last entry took writes back the command isn't finished
 gone_unfinished : (facts : Facts) (o : Option Command) (s : Session) (looked : Bool) (frames : List Frame) (told : Bool) (command : Command) (from : ℕ) → o ≡ Some command → is_finished facts command s ≡ true → Fits facts o s looked frames told → facts.last ≡ Some (events.Gone from) → ⊥
 gone_unfinished facts o s looked frames told command from at finished fits is = on_its_way facts command s _ (parts_of facts command s finished) (fits.taken from is).going
-    (ap (next_of_end facts) (subst (λ x. elim x as (λ y. Type 0) [ Some c ↦ (end_of facts c s ≡ TakesBack from) × (owed_of facts c s ≡ []) | None ↦ end_of_all facts ≡ TakesBack from ]) at (fits.taken from is).end).0)
+    (ap (next_of_end facts) (subst (λ x. elim x as (λ y. Type 0) [ Some c ↦ IsTakenBack facts c s from | None ↦ end_of_all facts ≡ TakesBack from ]) at (fits.taken from is).end).end)
 
 not_started : (number : ℕ) (own : Option Running) → option_map_or (λ t. t.first) own 0 ≤ number → option_map_or (λ t. elim (t.first == number + 1) as (λ x. ℕ) [ true ↦ 1 | false ↦ 0 ]) own 0 ≡ 0
 not_started number None low = refl

@@ -1,18 +1,15 @@
 -- What the rebuilds see to, by the facts and the session.
 use Rattle.std.proofs.Common.{◌≡◌, ◌∙◌, inl, inr, Bool, true, false, not, Option, Some, None, List, [], ◌∷◌, ◌++◌, ◌&&◌, ◌||◌, cond, refl, sym, ap, subst, map, filter, is_some, ◌⊎◌}
 use Rattle.std.specs.List.{find, list_any, AllByRecursion}
-use Rattle.std.proofs.Math.Bool.{and-false}
 use Rattle.std.proofs.lemmas.Bool.{both_ways, false_from_ne_true}
 use Rattle.base_types.specs.Scans.{build_scans}
-use Rattle.ddl_effect.specs.Stages.{plan_at}
-use Rattle.history_model.specs.Writes.{is_empty}
 use Rattle.seg_calls.specs.Calls.{took_back}
 use Rattle.cacheless.specs.Facts.{Facts}
 use Rattle.cacheless.specs.Holds.{FactsFit}
-use Rattle.cacheless.specs.May.{has_failed, lacks_opened, lacks_any, owes_nothing}
+use Rattle.cacheless.specs.May.{lacks_opened}
 use Rattle.cacheless.specs.Owed.{OwesScan, owed_at_start, owed_after, unusable, builds_owed, act_owed, scans_owed, owed_of}
 use Rattle.cacheless.specs.Session.{Session, Outcome, Well, Badly, Unsettled, outcome_of}
-use Rattle.cacheless.specs.State.{kept_at, is_kept, owed_at, owed_first}
+use Rattle.cacheless.specs.State.{kept_at, is_kept}
 use Rattle.cacheless.proofs.Plans.SilentActs.{both_empty}
 use Rattle.backend_core.specs.Types.{Purpose, Command, Opening, Frame, Progress}
 use Rattle.backend_core.specs.Fits.{keeps_whole, FramesFit}

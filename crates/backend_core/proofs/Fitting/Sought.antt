@@ -1,5 +1,5 @@
 -- What a look was made for, and the lock that a lookup took.
-use Rattle.std.proofs.Common.{◌≡◌, ◌∙◌, ◌==◌, ◌&&◌, ◌||◌, ◌⊎◌, inl, inr, ℕ, Bool, true, false, not, Option, Some, None, List, [], ◌∷◌, ◌++◌, refl, sym, ap, map, is_none, is_some, slice_get}
+use Rattle.std.proofs.Common.{◌≡◌, ◌∙◌, ◌==◌, ◌&&◌, ◌||◌, ℕ, Bool, true, false, not, Option, Some, None, List, [], ◌∷◌, ◌++◌, refl, sym, ap, map, is_none, is_some, slice_get}
 use Rattle.std.specs.List.{find, list_any}
 use Rattle.std.specs.Option.{option_map_or}
 use Rattle.std.proofs.lemmas.Bool.{and_parts, both_ways, eq-eqb, and_from, false_from_ne_true}
@@ -10,7 +10,6 @@ use Rattle.base_types.specs.declared.scan.Purpose.TheVariants as scans
 use Rattle.ddl_effect.specs.declared.told.Told.TheVariants as tells
 use Rattle.lock_modes.specs.Own.{is_own, cleared}
 use Rattle.ddl_effect.specs.Plans.{Plan, Act, Done, Fails, Absent, NotBuilt, Do, Lookup, Open, Search, Read, Lock, Write}
-use Rattle.ddl_effect.specs.Stages.{plan_at}
 use Rattle.history_model.proofs.Every.{any-right}
 use Rattle.base_types.specs.Modes.{mode_number, same_mode}
 use Rattle.cacheless.specs.Facts.{Facts}

@@ -1,5 +1,5 @@
 -- What is among the held descriptors.
-use Rattle.std.proofs.Common.{◌≡◌, ◌∙◌, Bool, true, false, Option, Some, None, List, [], ◌∷◌, ◌++◌, cond, refl, sym, ap, is_some, ◌==◌, ◌||◌, subst}
+use Rattle.std.proofs.Common.{◌≡◌, ◌∙◌, Bool, true, false, Some, None, List, [], ◌∷◌, cond, refl, sym, ap, is_some, ◌||◌, subst}
 use Rattle.std.specs.List.{find, list_any, AllByRecursion}
 use Rattle.std.proofs.lemmas.Bool.{both_ways, or_left, or_right, false_from_ne_true, eq-eqb, eqb-true}
 use Rattle.base_types.specs.Scans.{same_oid}

@@ -1,8 +1,8 @@
 -- What descriptors lack, as what is kept changes.
-use Rattle.std.proofs.Common.{◌≡◌, ◌∙◌, Bool, true, false, not, Option, Some, None, List, [], ◌∷◌, ◌&&◌, ◌||◌, cond, refl, sym, ap, is_some, ℕ, ◌==◌}
-use Rattle.std.specs.List.{find, list_any, AllByRecursion}
+use Rattle.std.proofs.Common.{◌≡◌, ◌∙◌, Bool, true, false, not, Some, List, [], ◌∷◌, ◌&&◌, ◌||◌, cond, refl, ap, is_some, ℕ, ◌==◌}
+use Rattle.std.specs.List.{find, AllByRecursion}
 use Rattle.std.proofs.Math.Bool.{and-false}
-use Rattle.std.proofs.lemmas.Bool.{both_ways, false_from_ne_true, true_from_ne_false}
+use Rattle.std.proofs.lemmas.Bool.{both_ways, false_from_ne_true}
 use Rattle.base_types.specs.Scans.{same_oid, same_scan, scan_key, build_scans}
 use Rattle.base_types.specs.declared.kind.Kind.TheVariants.{Table, Index}
 use Rattle.base_types.specs.declared.scan.Purpose.TheVariants as scans

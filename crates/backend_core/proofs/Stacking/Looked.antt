@@ -1,12 +1,12 @@
 -- How many rebuilds have made the look for their next scan.
-use Rattle.std.proofs.Common.{◌≡◌, ◌≤◌, ◌<◌, ◌+◌, ◌∙◌, ◌⊎◌, inl, inr, ℕ, Bool, true, false, not, Option, Some, None, List, [], ◌∷◌, ◌++◌, ◌&&◌, cond, refl, sym, ap, subst, map, fold, length, arith}
+use Rattle.std.proofs.Common.{◌≡◌, ◌≤◌, ◌+◌, ◌∙◌, ◌⊎◌, inl, inr, Bool, true, false, not, Option, Some, None, List, [], ◌∷◌, ◌++◌, ◌&&◌, cond, refl, sym, ap, subst, map, arith}
 use Rattle.std.specs.List.{find}
 use Rattle.base_types.specs.Scans.{same_oid}
 use Rattle.inval_messages.specs.declared.message.Message.TheVariants.{Cat, Rel}
 use Rattle.backend_core.specs.Types.{Oid, Purpose, Message, Opening, Frame}
 use Rattle.cacheless.specs.State.{one_if}
 use Rattle.backend_core.specs.Fits.{looked_in, looked_on_top, told_owed}
-use Rattle.backend_core.specs.Frames.{is_of, is_rebuilding, restarted, told_if, new_frame, with_new, frames_told, frames_by, frames_after, on_top, with_look, looked_if, with_rest, least_left, frames_reset, scanned_on, left_of}
+use Rattle.backend_core.specs.Frames.{is_of, is_rebuilding, restarted, told_if, new_frame, with_new, frames_by, frames_after, on_top, with_look, looked_if, with_rest, least_left, frames_reset, scanned_on, left_of}
 use Rattle.backend_core.proofs.Stacking.Stacks.{IsSplit, split, on_top_push}
 
 one_most : (t : Bool) → one_if t ≤ 1

@@ -1,14 +1,13 @@
 -- Messages keep what the rebuilds see to.
-use Rattle.std.proofs.Common.{◌≡◌, ◌∙◌, inl, inr, Bool, true, false, not, Option, Some, None, List, [], ◌∷◌, ◌++◌, ◌&&◌, ◌||◌, cond, refl, sym, ap, subst, map, fold}
+use Rattle.std.proofs.Common.{◌≡◌, ◌∙◌, inl, inr, Bool, true, false, not, Option, Some, None, List, [], ◌∷◌, ◌++◌, ◌&&◌, ◌||◌, cond, refl, sym, ap, subst, map}
 use Rattle.std.specs.List.{find, list_any, AllByRecursion}
 use Rattle.std.proofs.Math.Bool.{and-false}
-use Rattle.std.proofs.lemmas.Bool.{both_ways, or_left}
 use Rattle.base_types.specs.Scans.{same_oid}
 use Rattle.inval_messages.specs.Messages.{covers, is_spared}
 use Rattle.inval_messages.specs.declared.message.Message.TheVariants.{Cat, Rel}
 use Rattle.backend_core.specs.Types.{Oid, Purpose, Message, Opening, Frame}
-use Rattle.backend_core.specs.Frames.{is_of, is_rebuilding, is_resetting, lacks, restarted, told_if, new_frame, with_new, frames_by, frames_after, IsAmong, IsFound, IsRebuilt, AreApart, IsStack}
-use Rattle.backend_core.proofs.Stacking.Among.{oid_is, oid_turned, find_is, find_among, none_among}
+use Rattle.backend_core.specs.Frames.{is_of, is_rebuilding, lacks, restarted, told_if, new_frame, with_new, frames_by, frames_after, IsFound, IsRebuilt, IsStack}
+use Rattle.backend_core.proofs.Stacking.Among.{oid_is, find_is, find_among, none_among}
 use Rattle.backend_core.proofs.Stacking.Lacking.{lacks_more, spared, spared_less, spared_cat, spared_rel, spared_told}
 use Rattle.backend_core.proofs.Stacking.Stacks.{KeepsFrames, map_on, map_resets, map_each, map_once, on_push, on_last, resets_push, each_push, once_push, found_to}
 

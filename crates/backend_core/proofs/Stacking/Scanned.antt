@@ -1,11 +1,11 @@
 -- A scan of the rebuild on top keeps what the rebuilds see to.
 use Rattle.std.proofs.Common.{◌≡◌, ◌∙◌, inl, inr, Bool, true, false, not, Option, Some, None, List, [], ◌∷◌, ◌++◌, ◌&&◌, ◌||◌, refl, sym, ap, subst}
-use Rattle.std.specs.List.{find, list_any, AllByRecursion}
+use Rattle.std.specs.List.{find, AllByRecursion}
 use Rattle.std.proofs.lemmas.Bool.{both_ways, and_parts, and_from}
 use Rattle.base_types.specs.Scans.{same_oid, build_scans}
-use Rattle.backend_core.specs.Types.{Oid, Purpose, Opening, Frame}
-use Rattle.backend_core.specs.Frames.{is_rebuilding, is_resetting, lacks, new_frame, top, below, left_of, with_rest, scanned_on, frames_scanned, IsAmong, IsFound, IsRebuilt, AreApart, IsStack}
-use Rattle.backend_core.proofs.Stacking.Among.{oid_is, oid_turned, oid_apart, oid_itself, find_is, find_among, none_among}
+use Rattle.backend_core.specs.Types.{Purpose, Opening, Frame}
+use Rattle.backend_core.specs.Frames.{is_rebuilding, is_resetting, lacks, new_frame, below, left_of, with_rest, scanned_on, frames_scanned, IsAmong, IsFound, IsRebuilt, AreApart, IsStack}
+use Rattle.backend_core.proofs.Stacking.Among.{oid_is, oid_apart, oid_itself, find_is, find_among, none_among}
 use Rattle.backend_core.proofs.Stacking.Lacking.{whole_more, with_scan, with_more, scan_apart}
 use Rattle.backend_core.proofs.Stacking.Rests.{rest_stack}
 use Rattle.backend_core.proofs.Stacking.Stacks.{top_push, below_push, on_push, on_last, on_under, resets_push, resets_last, resets_under, each_push, each_under, once_push, once_under, found_to}

@@ -1,5 +1,5 @@
 -- The rebuilds as a list: one more is put on, all are changed, and the one on top is taken off.
-use Rattle.std.proofs.Common.{◌≡◌, ◌≤◌, ◌<◌, ◌+◌, ◌-◌, ◌∙◌, ◌⊎◌, inl, inr, ℕ, Bool, true, false, Option, Some, None, List, [], ◌∷◌, ◌++◌, ◌||◌, cond, refl, sym, ap, subst, map, take, length, drop, get_or, slice_get, slice_set, arith}
+use Rattle.std.proofs.Common.{◌≡◌, ◌<◌, ◌+◌, ◌-◌, ◌∙◌, ◌⊎◌, inl, inr, ℕ, Bool, true, false, Some, None, List, [], ◌∷◌, ◌++◌, ◌||◌, refl, sym, ap, subst, map, take, length, drop, get_or, slice_get, slice_set, arith}
 use Rattle.std.specs.List.{list_any, AllByRecursion}
 use Rattle.std.proofs.lemmas.Bool.{or_parts, or_from, or_left, or_right}
 use Rattle.std.proofs.lemmas.List.Edits.{map_over_more}
@@ -94,9 +94,10 @@ each_push has held (g ∷ frames) f each one = (each.0, each_push has held frame
 
 pub once_push : (frames : List Frame) (f : Frame) → AreApart frames → is_rebuilding frames f.opening.rel ≡ false → AreApart (frames ++ f ∷ [])
 once_push [] f once off = (refl, tt)
-once_push (g ∷ frames) f once off = let parts = or_parts (same_oid f.opening.rel g.opening.rel) (is_rebuilding frames f.opening.rel) off in
-    (list_any-append (is_of g.opening.rel) frames (f ∷ []) ∙ or_from (is_rebuilding frames g.opening.rel) (is_rebuilding (f ∷ []) g.opening.rel) once.0 (ap (λ t. t || false) (oid_apart f.opening.rel g.opening.rel parts.0)),
-    once_push frames f once.1 parts.1)
+once_push (g ∷ frames) f once off = let parts = or_parts (same_oid f.opening.rel g.opening.rel) (is_rebuilding frames f.opening.rel) off in (
+  list_any-append (is_of g.opening.rel) frames (f ∷ []) ∙ or_from (is_rebuilding frames g.opening.rel) (is_rebuilding (f ∷ []) g.opening.rel) once.0 (ap (λ t. t || false) (oid_apart f.opening.rel g.opening.rel parts.0)),
+  once_push frames f once.1 parts.1,
+)
 
 -- the one on top is taken off
 pub each_under : (has : Purpose → Bool) (held : List Opening) (under : List Frame) (f : Frame) → AllByRecursion (IsRebuilt has held) (under ++ f ∷ []) → AllByRecursion (IsRebuilt has held) under × IsRebuilt has held f

@@ -1,17 +1,17 @@
 use Rattle.std.proofs.Common.{◌∙◌, sym, refl, inl, inr}
 use Rattle.backend_core.proofs.Choosing.NextActs.{search_next, open_next, read_none, fails_none}
-use Rattle.backend_core.proofs.Choosing.Nexting.{done_accepted}
+use Rattle.backend_core.proofs.Choosing.Nexting.{done_accepted, whole_of}
 use Rattle.backend_core.proofs.backend.Backend.next_of_want.Goals as goal
 
 pub next_of_act-requires : goal.next_of_act-requires
-next_of_act-requires c = record { next = search_next c.args.self.now _ c.requires.still c.requires.free c.requires.bare c.requires.whole _ (c.requires.want ∙ c.in-Search.is) }
+next_of_act-requires c = record { next = search_next c.args.self.now _ c.requires.still c.requires.free c.requires.bare (whole_of _ _ _ c.requires.whole (c.requires.want ∙ c.in-Search.is) refl) _ (c.requires.want ∙ c.in-Search.is) }
 
 pub next_of_act-requires-in-Some : goal.next_of_act-requires-in-Some
-next_of_act-requires-in-Some c = record { next = open_next c.args.self.now _ c.requires.still c.requires.free c.requires.bare c.requires.whole _ _ _ (c.requires.want ∙ c.in-Open.is) (sym c.first_missing.ensures ∙ c.in-Some.is) }
+next_of_act-requires-in-Some c = record { next = open_next c.args.self.now _ c.requires.still c.requires.free c.requires.bare (whole_of _ _ _ c.requires.whole (c.requires.want ∙ c.in-Open.is) refl) _ _ _ (c.requires.want ∙ c.in-Open.is) (sym c.first_missing.ensures ∙ c.in-Some.is) }
 
 pub unreachable-requires-in-Read : goal.unreachable-requires-in-Read
 unreachable-requires-in-Read c = elim c.in-Read.is [
-  | inl x ↦ read_none c.args.self.now _ c.requires.still c.requires.free c.requires.bare c.requires.whole x.0 (c.requires.want ∙ x.1) c.requires.reads
+  | inl x ↦ read_none c.args.self.now _ c.requires.still c.requires.free c.requires.bare (whole_of _ _ _ c.requires.whole (c.requires.want ∙ x.1) refl) x.0 (c.requires.want ∙ x.1) c.requires.reads
   | inr x ↦ elim x [ inl y ↦ fails_none c.args.self.now.progress _ c.requires.goes (c.requires.want ∙ y.1) refl | inr y ↦ fails_none c.args.self.now.progress _ c.requires.goes (c.requires.want ∙ y.1) refl ]
 ]
 

@@ -12,6 +12,6 @@ returns-clause-is c =
     let told : c.told_after-self.result ≡ told_after c.args.self.now (finds_none c.args.self.now.progress) (has_begun c.args.self.now.progress) = c.told_after-self.ensures ∙ (λ i. told_after c.args.self.now (c.finds_none-unfound.ensures i) (c.has_begun_build-marked.ensures i)) in
     let kept = is_kept (kept_at c.enter_reset.new.self) in
     let frames_are = (λ i. unless c.has_error-fails.result (c.restart.ensures i) (with_rest kept (c.as_slice.ensures i) (c.restart.ensures i)))
-        ∙ reset_frames c.has_error-fails.result (kept_at c.args.self.now.progress) (kept_at c.enter_reset.new.self) c.enter_reset.new.self.opened c.args.self.now.frames c.enter_reset.ensures.kept
-        ∙ (λ i. unless (c.has_error-fails.ensures i) c.args.self.now.frames (frames_reset (is_kept (kept_at c.args.self.now.progress)) c.enter_reset.new.self.opened c.args.self.now.frames)) in
+    ∙ reset_frames c.has_error-fails.result (kept_at c.args.self.now.progress) (kept_at c.enter_reset.new.self) c.enter_reset.new.self.opened c.args.self.now.frames c.enter_reset.ensures.kept
+    ∙ (λ i. unless (c.has_error-fails.ensures i) c.args.self.now.frames (frames_reset (is_kept (kept_at c.args.self.now.progress)) c.enter_reset.new.self.opened c.args.self.now.frames)) in
     then_so c.reset.result (λ frames i. record c.args.self.now { progress = c.enter_reset.new.self; looked = looked i; frames = (frames ∙ frames_are) i; told = told i }) c.reset.ensures
