@@ -169,7 +169,7 @@ fetch_fits facts o s now event usable command looked frames told unfound marked 
     }
 
     -- what a look was made for that counts still is lacking still
-    sought : (looked && not unfound && not marked) ≡ true → IsLookedFor later now.taken now.left × IsUnheld now.opened now.left
+    sought : (looked && not unfound && not marked) ≡ true → IsLookedFor later frames_now now.taken now.left × IsUnheld now.opened now.left
     sought made = let parts = and_parts looked (not unfound) (and_parts (looked && not unfound) (not marked) made).0 in by_case parts.0 (not_true unfound parts.1) (fits.sought parts.0)
       where
         by_plan : (p : Plan) → lacks_scan facts p ≡ true → lacks_scan later p ≡ true
@@ -187,10 +187,10 @@ fetch_fits facts o s now event usable command looked frames told unfound marked 
         there (Absent name) is = absurd (cc is)
         there p is = refl
 
-        by_case : looked ≡ true → unfound ≡ false → IsLookedFor facts s.taken s.left → IsLookedFor later now.taken now.left × IsUnheld now.opened now.left
+        by_case : looked ≡ true → unfound ≡ false → IsLookedFor facts frames s.taken s.left → IsLookedFor later frames_now now.taken now.left × IsUnheld now.opened now.left
         by_case was none (Lacks is) = (Lacks (subst (λ p. lacks_scan later p ≡ true) (sym (fetched.left (there s.left is))) (by_plan s.left is)),
             subst (λ held. IsUnheld held now.left) (sym fetched.opened) (subst (IsUnheld s.opened) (sym (fetched.left (there s.left is))) (fits.unheld was)))
-        by_case was none (Unfound is look) = absurd (both_ways _ none (finds is))
+        by_case was none (Unfound is look bare) = absurd (both_ways _ none (finds is))
         by_case was none (Said is) = absurd (both_ways _ none (says is))
 
 -- what an event has of a fetch

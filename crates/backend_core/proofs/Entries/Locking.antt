@@ -128,8 +128,8 @@ module _ (scenario : Scenario) (old : List Entry) (was : Backend) (waits : Await
   lock_request = may_request scenario old was waits next.command next.free.at (Acts acting.unsettled)
 
   -- no look was made that isn't used
-  unlooked : {X : Type 0} → IsLookedFor facts s.taken s.left → X
-  unlooked = no_look facts s.taken s.left (subst (λ p. lacks_scan facts p ≡ false) (sym is_act.is) (act_serves facts is_act.act is_act.rest (nothing_owed facts next.command s is_act.act is_act.rest is_act.is asks.0)))
+  unlooked : {X : Type 0} → IsLookedFor facts was.frames s.taken s.left → X
+  unlooked = no_look facts was.frames s.taken s.left (subst (λ p. lacks_scan facts p ≡ false) (sym is_act.is) (act_serves facts is_act.act is_act.rest (nothing_owed facts next.command s is_act.act is_act.rest is_act.is asks.0)))
       (lock_found facts s.taken s.left rel mode asks.2) (ap is_absent is_act.is)
 
   pub lock_free : has_lock was.progress.locks.items rel mode ≡ false

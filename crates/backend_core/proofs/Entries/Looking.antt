@@ -190,7 +190,7 @@ module _ (scenario : Scenario) (old : List Entry) (was : Backend) (waits : Await
     looks_more = record { enough = omega (arith, before.enough, counts.most, looked_due some_wait); within = omega (arith, before.within, counts.least, looked_due some_wait) }
 
     abbrev MadeFor : Type 0
-    MadeFor = looked ≡ true → IsLookedFor (looked_facts facts s some_wait) s.taken s.left × IsUnheld s.opened s.left
+    MadeFor = looked ≡ true → IsLookedFor (looked_facts facts s some_wait) frames s.taken s.left × IsUnheld s.opened s.left
 
     -- the rebuilds see to what they saw to
     look_rebuilds : Busy was.progress command → FramesFit facts (command_at was) s frames → FramesFit (looked_facts facts s some_wait) (Some command) now frames
@@ -219,7 +219,7 @@ pub look_enters : (scenario : Scenario) (old new : List Entry) (had has : ℕ �
     → Appends old new had has (entry_of was.progress.id (was.progress.finished + 1) (events.Look some_wait)) → Enters scenario old new had has was (record was { progress = p })
 look_enters scenario old new had has was p some_wait waits played courses next is goes kept none appends =
     look_agrees scenario old was waits courses next.command next.at some_wait was.looked was.frames was.told (by_side next.owes) new had has p played is (look_busy was.progress next) waits.fits.rebuilds
-    (λ made. (sought_looked facts (looked_facts facts (waiting waits) some_wait) (waiting waits).taken (waiting waits).left refl refl refl (waits.fits.sought made), waits.fits.unheld made)) goes kept none appends
+    (λ made. (sought_looked facts (looked_facts facts (waiting waits) some_wait) was.frames (waiting waits).taken (waiting waits).left refl refl refl (waits.fits.sought made), waits.fits.unheld made)) goes kept none appends
   where
     facts : Facts
     facts = facts_of old was.progress.id
@@ -370,8 +370,8 @@ accept_enters scenario old new had has was p some_wait told waits played courses
     absent_unheld held (Absent name) absent = tt
     absent_unheld held q absent = absurd (cc absent)
 
-    by_side : FindsNone was.progress next.command → IsLookedFor later (waiting waits).taken (waiting waits).left × IsUnheld (waiting waits).opened (waiting waits).left
-    by_side (Looks unfound owes) = (Unfound (unfound_facts facts was.progress (plan_at was.progress.opens was.progress.exec) waits.rests.holds.facts unfound) refl, lookup_unheld was.progress.opened (plan_at was.progress.opens was.progress.exec) unfound)
+    by_side : FindsNone was.progress next.command → IsLookedFor later was.frames (waiting waits).taken (waiting waits).left × IsUnheld (waiting waits).opened (waiting waits).left
+    by_side (Looks unfound owes) = (Unfound (unfound_facts facts was.progress (plan_at was.progress.opens was.progress.exec) waits.rests.holds.facts unfound) refl (bare (Looks unfound owes)), lookup_unheld was.progress.opened (plan_at was.progress.opens was.progress.exec) unfound)
     by_side (Says absent quiet) = (Said absent, absent_unheld was.progress.opened (plan_at was.progress.opens was.progress.exec) absent)
 
     runs : is_some facts.running ≡ true

@@ -135,8 +135,8 @@ module _ (scenario : Scenario) (old : List Entry) (was : Backend) (waits : Await
   same = runs_on (was.progress.finished + 1) facts.running acting.runs
 
   -- no look was made that isn't used
-  unlooked : {X : Type 0} → IsLookedFor facts s.taken s.left → X
-  unlooked = no_look facts s.taken s.left (subst (λ p. lacks_scan facts p ≡ false) (sym lookup.is) (act_serves facts act lookup.rest (nothing_owed facts next.command s act lookup.rest lookup.is asks.0)))
+  unlooked : {X : Type 0} → IsLookedFor facts was.frames s.taken s.left → X
+  unlooked = no_look facts was.frames s.taken s.left (subst (λ p. lacks_scan facts p ≡ false) (sym lookup.is) (act_serves facts act lookup.rest (nothing_owed facts next.command s act lookup.rest lookup.is asks.0)))
       (unlock_found facts s.taken s.left rel lookup.took) (ap is_absent lookup.is)
 
   -- after it the backend agrees

@@ -96,7 +96,7 @@ module _ (scenario : Scenario) (old : List Entry) (was : Backend) (draft : Draft
 
   -- no look was made that isn't used
   unlooked : was.looked ≡ true → ⊥
-  unlooked made = no_look facts s.taken (writing draft) refl refl refl (subst (IsLookedFor facts s.taken) at (waits.fits.sought made))
+  unlooked made = no_look facts was.frames s.taken (writing draft) refl refl refl (subst (IsLookedFor facts was.frames s.taken) at (waits.fits.sought made))
 
   way : OnItsWay old was.progress.id s next.command
   way = on_its_way old was.progress.id s next.command (Write draft) (λ given. Done tells.Ok) (follows scenario old was waits courses next.command next.free.at) at

@@ -92,7 +92,7 @@ module _ (facts later : Facts) (o : Option Command) (s now : Session) (command :
 
 -- what the choice keeps
 pub fits_inside : (facts later : Facts) (o : Option Command) (s now : Session) (looked : Bool) (frames : List Frame) (told looked_now : Bool) (frames_now : List Frame) (told_now : Bool) (command : Command) → o ≡ Some command → Fits facts o s looked frames told → StaysInside facts later (number_of s) → StaysAt s now → RunsHere facts o s → is_visible facts.running ≡ false → s.ended ≡ false
-    → LooksFit later now looked_now frames_now told_now → FramesFit later o now frames_now → (looked_now ≡ true → IsLookedFor later now.taken now.left × IsUnheld now.opened now.left) → TakesFit (number_of now) now.locks now.taken now.left → Fits later o now looked_now frames_now told_now
+    → LooksFit later now looked_now frames_now told_now → FramesFit later o now frames_now → (looked_now ≡ true → IsLookedFor later frames_now now.taken now.left × IsUnheld now.opened now.left) → TakesFit (number_of now) now.locks now.taken now.left → Fits later o now looked_now frames_now told_now
 fits_inside facts later o s now looked frames told looked_now frames_now told_now command at fits stays same goes hidden going looks rebuilds sought takes = record {
   looks = λ _. looks;
   rebuilds = rebuilds;

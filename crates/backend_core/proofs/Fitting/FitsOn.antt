@@ -27,13 +27,13 @@ use Rattle.backend_core.specs.Frames.{lacks}
 use Rattle.std.proofs.lemmas.List.Folds.{list_any-append}
 
 -- a look that was made for an act is used, where that is done: then its lookup has found no relation, and the command says so
-absent_after : (facts : Facts) (s : Session) (act : Act) (further : List Row → Plan) (given : List Row) → IsDoneHere facts s act further given → ((name : List ℕ) (mode : Mode) → act ≡ Lookup name mode → class_oid given ≡ None → is_absent (further given) ≡ true)
-    → IsLookedFor facts s.taken (Do act further) → is_absent (further given) ≡ true
-absent_after facts s act further given done says (Said is) = absurd (cc is)
-absent_after facts s act further given done says (Lacks is) = absurd (both_ways _ (act_serves facts act further done.owed) is)
-absent_after facts s (Lookup name mode) further given done says (Unfound is look) =
+absent_after : (facts : Facts) (s : Session) (frames : List Frame) (act : Act) (further : List Row → Plan) (given : List Row) → IsDoneHere facts s act further given → ((name : List ℕ) (mode : Mode) → act ≡ Lookup name mode → class_oid given ≡ None → is_absent (further given) ≡ true)
+    → IsLookedFor facts frames s.taken (Do act further) → is_absent (further given) ≡ true
+absent_after facts s frames act further given done says (Said is) = absurd (cc is)
+absent_after facts s frames act further given done says (Lacks is) = absurd (both_ways _ (act_serves facts act further done.owed) is)
+absent_after facts s frames (Lookup name mode) further given done says (Unfound is look bare) =
     says name mode refl (sym (gives_class facts s mode (facts.rows (scans.RelName name)) given done.gave) ∙ no_class (facts.rows (scans.RelName name)) (and_parts (is_none s.taken && facts.usable (scans.RelName name)) _ is).1)
-absent_after facts s act further given done says (Unfound is look) = absurd (cc is)
+absent_after facts s frames act further given done says (Unfound is look bare) = absurd (cc is)
 
 -- such a command opens nothing
 absent_unheld : (held : List Opening) (p : Plan) → is_absent p ≡ true → IsUnheld held p
@@ -68,7 +68,7 @@ fits_act facts o s looked frames told command act further given at left going do
 }
   where
     absent : looked ≡ true → is_absent (further given) ≡ true
-    absent made = absent_after facts s act further given done says (subst (IsLookedFor facts s.taken) left (fits.sought made))
+    absent made = absent_after facts s frames act further given done says (subst (IsLookedFor facts frames s.taken) left (fits.sought made))
 
     unsettled : is_settled (outcome_of s.left) ≡ true → ⊥
     unsettled out = both_ways _ (ap (λ p. is_settled (outcome_of p)) left) out

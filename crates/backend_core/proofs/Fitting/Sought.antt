@@ -25,7 +25,7 @@ use Rattle.cacheless.proofs.Resting.{kept_rows}
 use Rattle.cacheless.proofs.Same.{builds_of}
 use Rattle.cacheless.proofs.Plans.SilentActs.{kept_already}
 use Rattle.cacheless.proofs.ReadsBuilds.{ReadsBuilds}
-use Rattle.backend_core.specs.Types.{Oid, Mode, Row, Purpose, OwnLock, Opening, Progress}
+use Rattle.backend_core.specs.Types.{Oid, Mode, Row, Purpose, OwnLock, Opening, Progress, Frame}
 use Rattle.backend_core.specs.Fits.{TakesFit, IsLookedFor, Lacks, Unfound, Said, IsUnheld, lacks_scan, finds_no_name, is_look}
 use Rattle.backend_core.specs.Frames.{lacks, IsAmong}
 use Rattle.backend_core.proofs.Fitting.Rebuilding.{found_none, usable_is}
@@ -59,10 +59,10 @@ takes_cleared false number locks (Some rel) (Fails error) takes = tt
 takes_cleared false number locks (Some rel) NotBuilt takes = tt
 
 -- a look more leaves what one was made for
-pub sought_looked : (facts later : Facts) (taken : Option Oid) (p : Plan) → later.usable ≡ facts.usable → later.rows ≡ facts.rows → is_look later.last ≡ true → IsLookedFor facts taken p → IsLookedFor later taken p
-sought_looked facts later taken p usable rows look (Lacks is) = Lacks (ap (λ u. lacks_scan (record facts { usable = u }) p) usable ∙ is)
-sought_looked facts later taken p usable rows look (Unfound is last) = Unfound ((λ i. finds_no_name (record facts { usable = usable i; rows = rows i }) taken p) ∙ is) look
-sought_looked facts later taken p usable rows look (Said is) = Said is
+pub sought_looked : (facts later : Facts) (frames : List Frame) (taken : Option Oid) (p : Plan) → later.usable ≡ facts.usable → later.rows ≡ facts.rows → is_look later.last ≡ true → IsLookedFor facts frames taken p → IsLookedFor later frames taken p
+sought_looked facts later frames taken p usable rows look (Lacks is) = Lacks (ap (λ u. lacks_scan (record facts { usable = u }) p) usable ∙ is)
+sought_looked facts later frames taken p usable rows look (Unfound is last bare) = Unfound ((λ i. finds_no_name (record facts { usable = usable i; rows = rows i }) taken p) ∙ is) look bare
+sought_looked facts later frames taken p usable rows look (Said is) = Said is
 
 -- what the code holds to have found no relation has found none
 pub unfound_facts : (facts : Facts) (s : Progress) (p : Plan) → FactsFit facts s → is_unfound s p ≡ true → finds_no_name facts s.taken p ≡ true
@@ -141,10 +141,10 @@ act_serves facts (Open rel kind) rest none = found_none (λ scan. not (facts.usa
 act_serves facts act rest none = refl
 
 -- no look was made where nothing is lacked, no lookup has failed, and none says so
-pub no_look : (facts : Facts) (taken : Option Oid) (p : Plan) → lacks_scan facts p ≡ false → finds_no_name facts taken p ≡ false → is_absent p ≡ false → {X : Type 0} → IsLookedFor facts taken p → X
-no_look facts taken p serves found there (Lacks is) = absurd (both_ways _ serves is)
-no_look facts taken p serves found there (Unfound is look) = absurd (both_ways _ found is)
-no_look facts taken p serves found there (Said is) = absurd (both_ways _ there is)
+pub no_look : (facts : Facts) (frames : List Frame) (taken : Option Oid) (p : Plan) → lacks_scan facts p ≡ false → finds_no_name facts taken p ≡ false → is_absent p ≡ false → {X : Type 0} → IsLookedFor facts frames taken p → X
+no_look facts frames taken p serves found there (Lacks is) = absurd (both_ways _ serves is)
+no_look facts frames taken p serves found there (Unfound is look bare) = absurd (both_ways _ found is)
+no_look facts frames taken p serves found there (Said is) = absurd (both_ways _ there is)
 
 -- a lookup that asks for a lock has found a relation
 pub lock_found : (facts : Facts) (taken : Option Oid) (p : Plan) (rel : Oid) (mode : Mode) → IsLock facts p rel mode → finds_no_name facts taken p ≡ false
