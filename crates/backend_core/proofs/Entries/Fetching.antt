@@ -252,7 +252,7 @@ messages_bring scenario old was count waits due served = record {
   spares = λ scan none. ap (λ t. is_spared scan (fetched_by old was.progress.id count) && t) none ∙ and-false (is_spared scan (fetched_by old was.progress.id count));
   facts = λ i. record (facts_by old was.progress.id (was.progress.finished + 1) (events.Fetch count) (facts_of old was.progress.id)) { running = Some (begun (sym waits.rests.holds.count i + 1) (facts_of old was.progress.id).running) };
   fetched = record {
-    stays = let r = is_resumed s.left s in record { blocks = r.blocks; opens = r.opens; finished = ap length r.finished; blocked = r.blocked; ended = r.ended; left = λ out present. r.left present };
+    stays = let r = is_resumed s.left s in record { blocks = r.blocks; opens = r.opens; held = inl r.opened; finished = ap length r.finished; blocked = r.blocked; ended = r.ended; left = λ out present. r.left present };
     looks = full_same full more (λ t. t.looks) (λ n. refl);
     scans = full_same full more (λ t. t.scans) (λ n. refl);
     grants = full_same full more (λ t. t.grants) (λ n. refl);
@@ -288,7 +288,7 @@ reset_brings scenario old was waits due lapped = record {
   spares = λ scan none. refl;
   facts = λ i. record (facts_by old was.progress.id (was.progress.finished + 1) events.FetchReset (facts_of old was.progress.id)) { running = Some (begun (sym waits.rests.holds.count i + 1) (facts_of old was.progress.id).running) };
   fetched = record {
-    stays = let r = is_resumed s.left s in record { blocks = r.blocks; opens = r.opens; finished = ap length r.finished; blocked = r.blocked; ended = r.ended; left = λ out present. r.left present };
+    stays = let r = is_resumed s.left s in record { blocks = r.blocks; opens = r.opens; held = inl r.opened; finished = ap length r.finished; blocked = r.blocked; ended = r.ended; left = λ out present. r.left present };
     looks = refl;
     scans = refl;
     grants = refl;

@@ -146,7 +146,7 @@ module _ (scenario : Scenario) (old : List Entry) (was : Backend) (waits : Await
       own_enters scenario old new had has was (record was { progress = p }) event waits played courses (record { plays = plays; truly = tt; queue = tt }) goes
       kept
       (fits_at scenario old was event waits p goes was.looked was.frames was.told
-      (inside_fits scenario old was waits courses next.command next.free.at later now was.looked was.frames was.told same refl (λ from is. cc is) (record { blocks = refl; opens = refl; finished = refl; blocked = refl; ended = refl; left = λ is there. refl }) acting.runs (Acts acting.unsettled)
+      (inside_fits scenario old was waits courses next.command next.free.at later now was.looked was.frames was.told same refl (λ from is. cc is) (record { blocks = refl; opens = refl; held = inl refl; finished = refl; blocked = refl; ended = refl; left = λ is there. refl }) acting.runs (Acts acting.unsettled)
       (record { enough = omega (arith, before.enough, ap looks_due acting.owed, started); within = omega (arith, before.within, ap looks_due acting.owed, started) })
       (same_fits facts later (command_at was) s now was.frames refl refl refl refl (sym not_taken_back) waits.fits.rebuilds)
       (λ made. unlooked (waits.fits.sought made)) tt))

@@ -12,7 +12,7 @@ use Rattle.ddl_effect.specs.Plans.{Plan, left_rests_on, Done, Fails, Absent, Not
 use Rattle.history_model.specs.Sent.{ends_transaction}
 use Rattle.history_model.specs.Transactions.{Running, begun, after_release, is_visible}
 use Rattle.history_model.specs.Writes.{is_empty}
-use Rattle.cacheless.specs.Ends.{End, Ends, Commits, TakesBack, end_of_all, end_of_block, end_well, end_badly, end_of}
+use Rattle.cacheless.specs.Ends.{End, Ends, Commits, TakesBack, end_of_all, end_of_block, end_well, end_badly, end_of, next_of_end}
 use Rattle.cacheless.specs.Facts.{Facts}
 use Rattle.cacheless.proofs.Allowed.Releases.{OwesNoScan}
 use Rattle.cacheless.specs.Owed.{Owes, OwesLook, OwesScan, unusable, owed_at_start, owed_after, begins, builds_owed, act_owed, scans_owed, owed_of, started_in}
@@ -24,6 +24,7 @@ use Rattle.backend_core.proofs.Fitting.NextTransaction.{failed_on}
 use Rattle.cacheless.specs.Types.{Oid, Purpose, OwnLock}
 use Rattle.cacheless.proofs.Tests.{not_true}
 use Rattle.backend_core.proofs.Fitting.Rebuilding.{bare_fits}
+use Rattle.backend_core.proofs.Fitting.OpenRelations.{opens_over}
 use Rattle.seg_calls.specs.Calls.{took_back}
 use Rattle.backend_core.specs.Words.{has_error}
 
@@ -162,6 +163,7 @@ module _ (facts later : Facts) (o : Option Command) (s : Session) (looked : Bool
     sought = λ is. sought_out facts later frames s.taken s.left ends.out spares (fits.sought is);
     takes = takes_out (number_of s) s.locks (number_of s) locks s.taken s.left ends.out fits.takes;
     unheld = fits.unheld;
+    relations = record { inside = fits.relations.inside; held = fits.relations.held; over = λ over. absurd (both_ways _ ends.going over) };
   }
     where
       started : started_in (number_of s) later ≡ started_in (number_of s) facts
@@ -228,6 +230,7 @@ module _ (facts later : Facts) (o : Option Command) (s : Session) (looked : Bool
     sought = λ is. sought_out facts later frames s.taken s.left ends.out spares (fits.sought is);
     takes = takes_out (number_of s) s.locks (number_of s) locks s.taken s.left ends.out fits.takes;
     unheld = λ is. unheld_none s.left;
+    relations = record { inside = fits.relations.inside; held = λ going. absurd (cc going); over = λ over command at. opens_over facts s command event (ap (λ x. next_of_end facts (end_by facts x s)) (sym at) ∙ ends.comes) fits.relations.inside };
   }
     where
       by_command : (x : Option Command) → RunsAfter later x s → RunsAfter later x (record s { ended = true; opened = []; locks = locks; last = at })

@@ -64,6 +64,12 @@ sought_looked facts later frames taken p usable rows look (Lacks is) = Lacks (ap
 sought_looked facts later frames taken p usable rows look (Unfound is last bare) = Unfound ((λ i. finds_no_name (record facts { usable = usable i; rows = rows i }) taken p) ∙ is) look bare
 sought_looked facts later frames taken p usable rows look (Said is) = Said is
 
+-- so does one for a rebuild, before which something is rebuilt
+pub sought_rebuilt : (facts later : Facts) (frames now : List Frame) (taken : Option Oid) (p : Plan) → later.usable ≡ facts.usable → (frames ≡ [] → ⊥) → IsLookedFor facts frames taken p → IsLookedFor later now taken p
+sought_rebuilt facts later frames now taken p usable some (Lacks is) = Lacks (ap (λ u. lacks_scan (record facts { usable = u }) p) usable ∙ is)
+sought_rebuilt facts later frames now taken p usable some (Unfound is last bare) = absurd (some bare)
+sought_rebuilt facts later frames now taken p usable some (Said is) = Said is
+
 -- what the code holds to have found no relation has found none
 pub unfound_facts : (facts : Facts) (s : Progress) (p : Plan) → FactsFit facts s → is_unfound s p ≡ true → finds_no_name facts s.taken p ≡ true
 unfound_facts facts s (Do (Lookup name mode) rest) fits is =
