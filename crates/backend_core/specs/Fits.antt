@@ -47,10 +47,15 @@ abbrev pub told_owed : Bool → List Frame → ℕ
 told_owed told [] = one_if told
 told_owed told (f ∷ frames) = 1
 
--- its looks are as many as these, those that were made for next scans and its full fetches that ask for one, and no more than these, that for the scan that comes next and two for each fetch; where messages came since a lookup began, one more may be made
+-- 1 once the command has come out well: then the messages of its own write may have put rebuilds on
+abbrev pub came_well : Plan → ℕ
+came_well (Done told) = 1
+came_well plan = 0
+
+-- its looks are as many as these, those that were made for next scans and its full fetches that ask for one, and no more than these, that for the scan that comes next and two for each fetch; where messages came since a lookup began, one more may be made, and so once the command has come out well
 pub record LooksFit (facts : Facts) (s : Session) (looked : Bool) (frames : List Frame) (told : Bool) : Type 0 where
   pub enough : s.tally.full + looks_owed facts s + one_if looked + looked_in frames ≤ s.tally.looks + looks_due (owed_after facts.last)
-  pub within : s.tally.looks + looks_due (owed_after facts.last) + told_owed told frames ≤ 2 * s.tally.fetches + looks_owed facts s + looked_on_top looked frames
+  pub within : s.tally.looks + looks_due (owed_after facts.last) + told_owed told frames ≤ 2 * s.tally.fetches + looks_owed facts s + looked_on_top looked frames + came_well s.left
 
 -- the first command of the running transaction, or 0
 abbrev pub first_at : Facts → ℕ

@@ -31,6 +31,7 @@ use Rattle.backend_core.proofs.Fitting.Entered.{fits_at}
 use Rattle.backend_core.proofs.Entries.Inside.{runs_on, inside_fits}
 use Rattle.backend_core.proofs.Own.{waiting, going, own_enters}
 use Rattle.cacheless.specs.Types.{Oid}
+use Rattle.backend_core.proofs.Fitting.Sought.{well_settled}
 use Rattle.backend_core.proofs.Fitting.Rebuilding.{bare_fits}
 use Rattle.backend_core.specs.Words.{has_error}
 use Rattle.std.proofs.Math.Bool.{and-false}
@@ -115,5 +116,5 @@ failed_enters scenario old new had has was p event error command waits played co
     looks : LooksFit later now was.looked was.frames was.told
     looks = record {
       enough = omega (arith, before.enough, ap looks_due acting.owed, ap looks_due shows.owes, started, ap (λ (t : Tally). t.looks) shows.tally, ap (λ (t : Tally). t.scans) shows.tally, ap (λ (t : Tally). t.grants) shows.tally, ap (λ (t : Tally). t.full) shows.tally);
-      within = omega (arith, before.within, ap looks_due acting.owed, ap looks_due shows.owes, started, ap (λ (t : Tally). t.looks) shows.tally, ap (λ (t : Tally). t.scans) shows.tally, ap (λ (t : Tally). t.grants) shows.tally, ap (λ (t : Tally). t.fetches) shows.tally);
+      within = omega (arith, before.within, well_settled (plan_at was.progress.opens was.progress.exec) acting.unsettled, ap looks_due acting.owed, ap looks_due shows.owes, started, ap (λ (t : Tally). t.looks) shows.tally, ap (λ (t : Tally). t.scans) shows.tally, ap (λ (t : Tally). t.grants) shows.tally, ap (λ (t : Tally). t.fetches) shows.tally);
     }

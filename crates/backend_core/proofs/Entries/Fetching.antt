@@ -29,13 +29,13 @@ use Rattle.cacheless.specs.State.{owed_at, one_if, kept_at, nothing_kept, kept_s
 use Rattle.session_laws.specs.Awaiting.{KeepsScans, answer_after}
 use Rattle.backend_core.specs.Types.{Oid, Purpose, Command, Scenario, Entry, Event, Message, OwnLock, Progress, Backend, Opening, Frame}
 use Rattle.backend_core.specs.Agrees.{IsPlayed, command_at, AwaitsEntry}
-use Rattle.backend_core.specs.Fits.{looks_due, LooksFit, TakesFit, IsLookedFor, Lacks, Unfound, Said, lacks_scan, finds_no_name, Fits, FramesFit, IsUnheld, keeps_whole, looked_in, looked_on_top, told_owed}
+use Rattle.backend_core.specs.Fits.{looks_due, LooksFit, came_well, TakesFit, IsLookedFor, Lacks, Unfound, Said, lacks_scan, finds_no_name, Fits, FramesFit, IsUnheld, keeps_whole, looked_in, looked_on_top, told_owed}
 use Rattle.backend_core.specs.Steps.{Enters, MakesEntry}
 use Rattle.backend_core.specs.Words.{is_unfound, finds_none, has_begun, marks_build, told_after, has_error, looked_after, frames_given, frames_reset_of}
 use Rattle.backend_core.proofs.Choosing.Chosen.{Busy, due_busy, may_call, hidden, one_at_most, started_still}
 use Rattle.backend_core.proofs.Fitting.Entered.{fits_at}
 use Rattle.backend_core.proofs.Fitting.FitsEntries.{StaysAt, Goes, fits_inside}
-use Rattle.backend_core.proofs.Fitting.Sought.{takes_cleared, unfound_held}
+use Rattle.backend_core.proofs.Fitting.Sought.{takes_cleared, unfound_held, well_there}
 use Rattle.backend_core.proofs.Entries.Looking.{begun_written}
 use Rattle.cacheless.proofs.Tests.{not_true}
 use Rattle.backend_core.proofs.Own.{waiting, going, OwnEntry, own_enters, follows, own_makes}
@@ -162,10 +162,17 @@ fetch_fits facts o s now event usable command looked frames told unfound marked 
     started : started_in (number_of now) later ≡ started_in (number_of s) facts
     started = ap (λ n. started_in (n + 1) later) fetched.stays.finished ∙ started_still (number_of s) (number_of s) facts.running runs
 
+    well : came_well s.left ≤ came_well now.left
+    well = by_absent (is_absent s.left) refl
+      where
+        by_absent : (t : Bool) → is_absent s.left ≡ t → came_well s.left ≤ came_well now.left
+        by_absent true is = omega (arith, well_there s.left is)
+        by_absent false is = omega (arith, ap came_well (fetched.left is))
+
     looks : LooksFit later now (looked && not unfound && not marked) frames_now told_now
     looks = record {
       enough = omega (arith, before.enough, ap looks_due owed, started, fetched.looks, fetched.scans, fetched.grants, tells.full, tells.less);
-      within = omega (arith, before.within, ap looks_due owed, started, fetched.looks, fetched.scans, fetched.grants, fetched.fetches, tells.most);
+      within = omega (arith, before.within, ap looks_due owed, started, fetched.looks, fetched.scans, fetched.grants, fetched.fetches, tells.most, well);
     }
 
     -- what a look was made for that counts still is lacking still

@@ -34,7 +34,7 @@ use Rattle.backend_core.proofs.Choosing.Chosen.{Busy, Owes, due_busy, may_call, 
 use Rattle.backend_core.proofs.Fitting.Entered.{fits_at}
 use Rattle.backend_core.proofs.Fitting.FitsEntries.{RunsHere, Goes, Starts, fits_inside}
 use Rattle.backend_core.proofs.Own.{waiting, going, own_enters, follows}
-use Rattle.backend_core.proofs.Fitting.Sought.{takes_cleared, unfound_facts, sought_looked, sought_rebuilt, next_act}
+use Rattle.backend_core.proofs.Fitting.Sought.{takes_cleared, unfound_facts, sought_looked, sought_rebuilt, next_act, well_most}
 use Rattle.ddl_effect.specs.Stages.{plan_at}
 use Rattle.ddl_effect.specs.Plans.{Plan, Do, Absent, Open, Lookup, Search, Read, Lock, Write}
 use Rattle.backend_core.proofs.Fitting.Rebuilding.{same_fits, owed_bare, look_fit}
@@ -183,7 +183,7 @@ module _ (scenario : Scenario) (old : List Entry) (was : Backend) (waits : Await
 
     -- the look stays within its bound
     within : s.tally.looks + 1 ≤ s.tally.scans + s.tally.grants + 2 * s.tally.fetches + 3
-    within = omega (arith, before.within, counts.least, started_most (number_of s) (looked_facts facts s some_wait), top_most looked frames)
+    within = omega (arith, before.within, counts.least, started_most (number_of s) (looked_facts facts s some_wait), top_most looked frames, well_most s.left)
 
     -- and is counted
     looks_more : LooksFit (looked_facts facts s some_wait) now looked frames told

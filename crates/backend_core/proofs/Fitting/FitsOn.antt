@@ -16,7 +16,7 @@ use Rattle.cacheless.specs.Ends.{End, Ends, Commits, TakesBack, end_of, end_of_a
 use Rattle.cacheless.specs.Settled.{act_done, is_finished, blocks_after, finished_as, next_session, class_oid, opened_by, opens_well, opens_after}
 use Rattle.cacheless.proofs.Plans.SilentActs.{both_empty, empty_list, IsDoneHere, kept_already, gives_class}
 use Rattle.backend_core.specs.Types.{Row, Command, Event, Frame, Opening}
-use Rattle.backend_core.specs.Fits.{looks_due, first_at, LevelsRise, RunsAt, RunsIn, RunsBy, RunsAfter, TransactionFits, IsPast, Fits, IsLookedFor, Lacks, Unfound, Said, FramesFit, IsUnheld}
+use Rattle.backend_core.specs.Fits.{looks_due, first_at, LevelsRise, came_well, RunsAt, RunsIn, RunsBy, RunsAfter, TransactionFits, IsPast, Fits, IsLookedFor, Lacks, Unfound, Said, FramesFit, IsUnheld}
 use Rattle.backend_core.proofs.Fitting.NextTransaction.{LevelsFit, levels_next, next_silent}
 use Rattle.cacheless.specs.Types.{Mode}
 use Rattle.cacheless.specs.State.{is_absent}
@@ -52,7 +52,7 @@ pub fits_act : (facts : Facts) (o : Option Command) (s : Session) (looked : Bool
 fits_act facts o s looked frames told command act further given at left going done says fits = record {
   rebuilds = subst (FramesFit facts o (act_done act given (further given) s)) (sym (builds_bare facts o s frames fits.rebuilds done.builds)) (bare_fits facts o (act_done act given (further given) s)
       (λ keeps. list_any-append (lacks facts.usable) s.opened (opened_by act) ∙ or_from (list_any (lacks facts.usable) s.opened) (list_any (lacks facts.usable) (opened_by act)) (owed_whole facts s.opened done.builds) (opened_whole facts act further done.owed)));
-  looks = λ _. let l = fits.looks going in record { enough = l.enough; within = l.within };
+  looks = λ _. let l = fits.looks going in record { enough = l.enough; within = omega (arith, l.within, ap came_well left) };
   transaction = subst (TransactionFits facts o (act_done act given (further given) s)) (sym going) (by_block s.blocks.block (subst (TransactionFits facts o s) going fits.transaction));
   first = fits.first;
   opens = fits.opens;

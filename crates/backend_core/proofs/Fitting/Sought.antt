@@ -1,5 +1,5 @@
 -- What a look was made for, and the lock that a lookup took.
-use Rattle.std.proofs.Common.{◌≡◌, ◌∙◌, ◌==◌, ◌&&◌, ◌||◌, ◌⊎◌, inl, inr, ℕ, Bool, true, false, not, Option, Some, None, List, [], ◌∷◌, ◌++◌, refl, sym, ap, map, is_none, is_some, slice_get}
+use Rattle.std.proofs.Common.{◌≡◌, ◌≤◌, ◌∙◌, ◌==◌, ◌&&◌, ◌||◌, ◌⊎◌, inl, inr, arith, ℕ, Bool, true, false, not, Option, Some, None, List, [], ◌∷◌, ◌++◌, refl, sym, ap, map, is_none, is_some, slice_get}
 use Rattle.std.specs.List.{find, list_any}
 use Rattle.std.specs.Option.{option_map_or}
 use Rattle.std.proofs.lemmas.Bool.{and_parts, both_ways, eq-eqb, and_from, false_from_ne_true}
@@ -26,7 +26,7 @@ use Rattle.cacheless.proofs.Same.{builds_of}
 use Rattle.cacheless.proofs.Plans.SilentActs.{kept_already}
 use Rattle.cacheless.proofs.ReadsBuilds.{ReadsBuilds}
 use Rattle.backend_core.specs.Types.{Oid, Mode, Row, Purpose, OwnLock, Opening, Progress, Frame}
-use Rattle.backend_core.specs.Fits.{TakesFit, IsLookedFor, Lacks, Unfound, Said, IsUnheld, lacks_scan, finds_no_name, is_look}
+use Rattle.backend_core.specs.Fits.{TakesFit, IsLookedFor, Lacks, Unfound, Said, IsUnheld, lacks_scan, finds_no_name, is_look, came_well}
 use Rattle.backend_core.specs.Frames.{lacks, IsAmong}
 use Rattle.backend_core.proofs.Fitting.Rebuilding.{found_none, usable_is}
 use Rattle.backend_core.proofs.Stacking.Among.{find_all, oid_apart}
@@ -69,6 +69,24 @@ pub sought_rebuilt : (facts later : Facts) (frames now : List Frame) (taken : Op
 sought_rebuilt facts later frames now taken p usable some (Lacks is) = Lacks (ap (λ u. lacks_scan (record facts { usable = u }) p) usable ∙ is)
 sought_rebuilt facts later frames now taken p usable some (Unfound is last bare) = absurd (some bare)
 sought_rebuilt facts later frames now taken p usable some (Said is) = Said is
+
+-- a command comes out once
+pub well_most : (p : Plan) → came_well p ≤ 1
+well_most (Done told) = omega arith
+well_most (Fails error) = omega arith
+well_most (Absent name) = omega arith
+well_most NotBuilt = omega arith
+well_most (Do act rest) = omega arith
+
+-- one that hasn't come out hasn't come out well
+pub well_settled : (p : Plan) → is_settled (outcome_of p) ≡ false → came_well p ≡ 0
+well_settled (Done told) is = absurd (cc is)
+well_settled p is = refl
+
+-- nor has one that found no relation
+pub well_there : (p : Plan) → is_absent p ≡ true → came_well p ≡ 0
+well_there (Absent name) is = refl
+well_there p is = absurd (cc is)
 
 -- what the code holds to have found no relation has found none
 pub unfound_facts : (facts : Facts) (s : Progress) (p : Plan) → FactsFit facts s → is_unfound s p ≡ true → finds_no_name facts s.taken p ≡ true
