@@ -1,5 +1,6 @@
 -- What the choice keeps of a session.
 pub mod Rebuilding
+pub mod OpenRelations
 pub mod Entered
 pub mod NextTransaction
 pub mod FitsOn

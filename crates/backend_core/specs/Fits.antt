@@ -1,5 +1,5 @@
 -- What the program's choice keeps of a session, by the facts of the backend's entries, the running command and the looks for the next scans.
-use Rattle.std.specs.Prelude.{◌≡◌, ◌≤◌, ◌+◌, ◌*◌, ◌==◌, ◌&&◌, ◌⊎◌, ⊤, ℕ, Bool, true, false, Option, Some, None, List, [], ◌∷◌, is_none, is_some, slice_get, not}
+use Rattle.std.specs.Prelude.{◌≡◌, ◌≤◌, ◌+◌, ◌*◌, ◌==◌, ◌&&◌, ◌⊎◌, ⊤, ℕ, Bool, true, false, Option, Some, None, List, [], ◌∷◌, is_none, is_some, map, slice_get, not}
 use Rattle.std.specs.Option.{option_map_or}
 use Rattle.std.specs.List.{list_any}
 use Rattle.base_types.specs.Scans.{same_oid}
@@ -13,10 +13,11 @@ use Rattle.history_model.specs.Transactions.{is_visible}
 use Rattle.history_model.specs.Writes.{is_empty}
 use Rattle.cacheless.specs.Facts.{Facts}
 use Rattle.seg_calls.specs.Calls.{took_back}
-use Rattle.cacheless.specs.Session.{Session, Badly, number_of, outcome_of, is_settled, plan_first, refused_first}
+use Rattle.cacheless.specs.Session.{Session, Badly, opening_of, number_of, outcome_of, is_settled, plan_first, refused_first}
 use Rattle.cacheless.specs.Owed.{Owes, OwesLook, owed_after, owed_of, begins, started_in}
 use Rattle.cacheless.specs.Ends.{Commits, TakesBack, end_of, end_of_all}
-use Rattle.cacheless.specs.Settled.{blocks_after}
+use Rattle.cacheless.specs.Settled.{blocks_after, opens_after}
+use Rattle.cacheless.specs.Types.{OpenRelation}
 use Rattle.cacheless.specs.State.{one_if, is_absent}
 use Rattle.backend_core.specs.Types.{Oid, Command, Event, OwnLock, Opening, Frame}
 use Rattle.backend_core.specs.Frames.{lacks, IsStack}
@@ -46,10 +47,15 @@ abbrev pub told_owed : Bool → List Frame → ℕ
 told_owed told [] = one_if told
 told_owed told (f ∷ frames) = 1
 
--- its looks are as many as these, those that were made for next scans and its full fetches that ask for one, and no more than these, that for the scan that comes next and two for each fetch; where messages came since a lookup began, one more may be made
+-- 1 once the command has come out well: then the messages of its own write may have put rebuilds on
+abbrev pub came_well : Plan → ℕ
+came_well (Done told) = 1
+came_well plan = 0
+
+-- its looks are as many as these, those that were made for next scans and its full fetches that ask for one, and no more than these, that for the scan that comes next and two for each fetch; where messages came since a lookup began, one more may be made, and so once the command has come out well
 pub record LooksFit (facts : Facts) (s : Session) (looked : Bool) (frames : List Frame) (told : Bool) : Type 0 where
   pub enough : s.tally.full + looks_owed facts s + one_if looked + looked_in frames ≤ s.tally.looks + looks_due (owed_after facts.last)
-  pub within : s.tally.looks + looks_due (owed_after facts.last) + told_owed told frames ≤ 2 * s.tally.fetches + looks_owed facts s + looked_on_top looked frames
+  pub within : s.tally.looks + looks_due (owed_after facts.last) + told_owed told frames ≤ 2 * s.tally.fetches + looks_owed facts s + looked_on_top looked frames + came_well s.left
 
 -- the first command of the running transaction, or 0
 abbrev pub first_at : Facts → ℕ
@@ -160,11 +166,11 @@ abbrev pub is_look : Option Event → Bool
 is_look (Some (events.Look some_wait)) = true
 is_look last = false
 
--- what a look was made for: a scan that the next act lacks, a lookup that has found no relation, after which nothing else came, or one that says so
-pub data IsLookedFor (facts : Facts) (taken : Option Oid) (plan : Plan) : Type 0 where
-  Lacks : lacks_scan facts plan ≡ true → IsLookedFor facts taken plan
-  Unfound : finds_no_name facts taken plan ≡ true → is_look facts.last ≡ true → IsLookedFor facts taken plan
-  Said : is_absent plan ≡ true → IsLookedFor facts taken plan
+-- what a look was made for: a scan that the next act lacks, a lookup that has found no relation, after which nothing else came and while nothing is rebuilt, or one that says so
+pub data IsLookedFor (facts : Facts) (frames : List Frame) (taken : Option Oid) (plan : Plan) : Type 0 where
+  Lacks : lacks_scan facts plan ≡ true → IsLookedFor facts frames taken plan
+  Unfound : finds_no_name facts taken plan ≡ true → is_look facts.last ≡ true → frames ≡ [] → IsLookedFor facts frames taken plan
+  Said : is_absent plan ≡ true → IsLookedFor facts frames taken plan
 
 -- the descriptor that the next act opens isn't held yet
 abbrev pub IsUnheld : List Opening → Plan → Type 0
@@ -182,6 +188,21 @@ pub record FramesFit (facts : Facts) (o : Option Command) (s : Session) (frames 
   pub badly : outcome_of s.left ≡ Badly → frames ≡ []
   pub past : o ≡ None → frames ≡ []
 
+-- none is open but in a block that goes on
+abbrev pub OpensIn : Block → List OpenRelation → Type 0
+OpensIn Inside opens = ⊤
+OpensIn block opens = opens ≡ []
+
+-- what is so of no held descriptor is so of no relation that is open
+abbrev pub AreHeld : List Opening → List OpenRelation → Type 0
+AreHeld held opens = (p : Opening → Bool) → list_any p held ≡ false → list_any p (map opening_of opens) ≡ false
+
+-- the relations that are open before the command: until its release their descriptors are held, and after it none of them is open any more
+pub record OpensFit (o : Option Command) (s : Session) : Type 0 where
+  pub inside : OpensIn s.blocks.block s.opens
+  pub held : s.ended ≡ false → AreHeld s.opened s.opens
+  pub over : s.ended ≡ true → (command : Command) → o ≡ Some command → opens_after command s ≡ []
+
 -- what the choice keeps
 pub record Fits (facts : Facts) (o : Option Command) (s : Session) (looked : Bool) (frames : List Frame) (told : Bool) : Type 0 where
   pub looks : s.ended ≡ false → LooksFit facts s looked frames told
@@ -197,6 +218,7 @@ pub record Fits (facts : Facts) (o : Option Command) (s : Session) (looked : Boo
   pub taken : (from : ℕ) → facts.last ≡ Some (events.Gone from) → OnTakingBack facts o s from
   pub accepts : is_empty (owed_after facts.last) ≡ false → is_some facts.running ≡ true
   pub past : o ≡ None → IsPast facts s
-  pub sought : looked ≡ true → IsLookedFor facts s.taken s.left
+  pub relations : OpensFit o s
+  pub sought : looked ≡ true → IsLookedFor facts frames s.taken s.left
   pub takes : TakesFit (number_of s) s.locks s.taken s.left
   pub unheld : looked ≡ true → IsUnheld s.opened s.left

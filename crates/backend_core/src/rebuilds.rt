@@ -93,7 +93,7 @@ impl Frames {
     }
 
     // Messages, in order.
-    fn tell_each(
+    pub(crate) fn tell_each(
         &mut self,
         caches: &LocalCaches,
         held: &[Opening],

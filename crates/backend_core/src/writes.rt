@@ -11,8 +11,8 @@ impl Backend {
     ghost use Rattle.backend_core.specs.declared.next.Next.TheVariants as nexts;
     ghost use Rattle.backend_core.specs.Steps.{Enters, IsRefused, IsNextOf};
 
-    // Writes the draft of its command, or ends the command where a name that it gives is taken. Out of
-    // memory, the backend may not be used any more.
+    // Writes the draft of its command, whose messages the rebuilds are told, or ends the command where a
+    // name that it gives is taken. Out of memory, the backend may not be used any more.
     pub(crate) fn write<L: Seg>(&mut self, alloc: Global, seg: &mut L) -> Result<(), NoMemory>
         requires ready { IsReady (L.script seg.old) (L.history seg.old) self.old }
         requires next { IsNextOf self.old (nexts.Write) }
@@ -32,6 +32,11 @@ impl Backend {
                     written.messages.as_slice(),
                     new_oids,
                     written.first_oid,
+                )?;
+                self.frames.tell_each(
+                    &self.progress.caches,
+                    self.progress.opened.as_slice(),
+                    written.messages.as_slice(),
                 )
             }
             Err(refusal) => match refusal {

@@ -103,7 +103,7 @@ choice_sound scenario seen s waits courses = record {
     by_command looked finds none None at = absurd (both_ways _ (finds_serves facts s.progress.taken (plan_at s.progress.opens s.progress.exec) finds).2 (waits.fits.past at).out)
     by_command looked finds none (Some command) at = by_case (waits.fits.sought looked)
       where
-        by_case : IsLookedFor facts s.progress.taken (plan_at s.progress.opens s.progress.exec) → has_accepted_at s.progress ≡ true
+        by_case : IsLookedFor facts s.frames s.progress.taken (plan_at s.progress.opens s.progress.exec) → has_accepted_at s.progress ≡ true
         by_case (Lacks lacks) = absurd (both_ways _ (finds_serves facts s.progress.taken (plan_at s.progress.opens s.progress.exec) finds).0 lacks)
-        by_case (Unfound found look) = by_look command at looked finds none look
+        by_case (Unfound found look bare) = by_look command at looked finds none look
         by_case (Said absent) = absurd (both_ways _ (finds_serves facts s.progress.taken (plan_at s.progress.opens s.progress.exec) finds).1 absent)

@@ -31,6 +31,7 @@ use Rattle.backend_core.proofs.Fitting.Entered.{fits_at}
 use Rattle.backend_core.proofs.Entries.Inside.{runs_on, inside_fits}
 use Rattle.backend_core.proofs.Own.{waiting, going, own_enters}
 use Rattle.cacheless.specs.Types.{Oid}
+use Rattle.backend_core.proofs.Fitting.Sought.{well_settled}
 use Rattle.backend_core.proofs.Fitting.Rebuilding.{bare_fits}
 use Rattle.backend_core.specs.Words.{has_error}
 use Rattle.std.proofs.Math.Bool.{and-false}
@@ -55,6 +56,7 @@ pub record ShowsError (scenario : Scenario) (old : List Entry) (was : Backend) (
   last : (from : ℕ) → Some event ≡ Some (events.Gone from) → ⊥
   owes : owed_after (Some event) ≡ []
   blocks : (now_of old was event s).blocks ≡ s.blocks
+  opened : (now_of old was event s).opened ≡ s.opened
   opens : (now_of old was event s).opens ≡ s.opens
   finished : (now_of old was event s).finished ≡ s.finished
   blocked : (now_of old was event s).blocked ≡ s.blocked
@@ -63,11 +65,11 @@ pub record ShowsError (scenario : Scenario) (old : List Entry) (was : Backend) (
   tally : (now_of old was event s).tally ≡ s.tally
 
 pub held_shows : (scenario : Scenario) (old : List Entry) (was : Backend) (s : Session) (rel : Oid) (mode : Mode) (holder : ℕ) (held : Mode) → ShowsError scenario old was s (events.LockHeld rel mode holder held) (errors.Locked rel holder held)
-held_shows scenario old was s rel mode holder held = record { truly = tt; queue = tt; lives = refl; keeps = λ now kept. kept; on = λ stop. cc stop; unanswered = λ answer. refl; running = refl; lists = refl; last = λ from is. cc is; owes = refl; blocks = refl; opens = refl; finished = refl; blocked = refl; ended = refl; left = refl; tally = refl }
+held_shows scenario old was s rel mode holder held = record { truly = tt; queue = tt; lives = refl; keeps = λ now kept. kept; on = λ stop. cc stop; unanswered = λ answer. refl; running = refl; lists = refl; last = λ from is. cc is; owes = refl; blocks = refl; opens = refl; opened = refl; finished = refl; blocked = refl; ended = refl; left = refl; tally = refl }
 
 pub clash_shows : (scenario : Scenario) (old : List Entry) (was : Backend) (s : Session) (name : List ℕ) (clash : Clash) → ShowsError scenario old was s (clash_event name clash) (error_of name clash)
-clash_shows scenario old was s name (clashes.Row rel) = record { truly = tt; queue = tt; lives = refl; keeps = λ now kept. kept; on = λ stop. cc stop; unanswered = λ answer. refl; running = refl; lists = refl; last = λ from is. cc is; owes = refl; blocks = refl; opens = refl; finished = refl; blocked = refl; ended = refl; left = refl; tally = refl }
-clash_shows scenario old was s name (clashes.Running xid) = record { truly = tt; queue = tt; lives = refl; keeps = λ now kept. kept; on = λ stop. cc stop; unanswered = λ answer. refl; running = refl; lists = refl; last = λ from is. cc is; owes = refl; blocks = refl; opens = refl; finished = refl; blocked = refl; ended = refl; left = refl; tally = refl }
+clash_shows scenario old was s name (clashes.Row rel) = record { truly = tt; queue = tt; lives = refl; keeps = λ now kept. kept; on = λ stop. cc stop; unanswered = λ answer. refl; running = refl; lists = refl; last = λ from is. cc is; owes = refl; blocks = refl; opens = refl; opened = refl; finished = refl; blocked = refl; ended = refl; left = refl; tally = refl }
+clash_shows scenario old was s name (clashes.Running xid) = record { truly = tt; queue = tt; lives = refl; keeps = λ now kept. kept; on = λ stop. cc stop; unanswered = λ answer. refl; running = refl; lists = refl; last = λ from is. cc is; owes = refl; blocks = refl; opens = refl; opened = refl; finished = refl; blocked = refl; ended = refl; left = refl; tally = refl }
 
 -- a backend before such an entry: an act of its command comes next
 pub record IsActing (scenario : Scenario) (old : List Entry) (was : Backend) (command : Command) : Type 0 where
@@ -86,7 +88,7 @@ failed_enters scenario old new had has was p event error command waits played co
     (shows.keeps p kept)
     (fits_at scenario old was event waits p goes was.looked was.frames was.told
     (inside_fits scenario old was waits courses command acting.at later now was.looked was.frames was.told same shows.lists shows.last
-    (record { blocks = shows.blocks; opens = shows.opens; finished = ap length shows.finished; blocked = shows.blocked; ended = shows.ended; left = λ is there. absurd (both_ways _ acting.unsettled is) }) acting.runs (Acts acting.unsettled) looks rebuilds (λ made. absurd (unlooked made)) (subst (TakesFit (number_of now) now.locks now.taken) (sym shows.left) (takes_none now.taken))))
+    (record { blocks = shows.blocks; opens = shows.opens; held = inl shows.opened; finished = ap length shows.finished; blocked = shows.blocked; ended = shows.ended; left = λ is there. absurd (both_ways _ acting.unsettled is) }) acting.runs (Acts acting.unsettled) looks rebuilds (λ made. absurd (unlooked made)) (subst (TakesFit (number_of now) now.locks now.taken) (sym shows.left) (takes_none now.taken))))
     refl shows.lives refl shows.on (none ∙ sym (shows.unanswered was.progress.answer)) appends
   where
     takes_none : (o : Option Oid) → TakesFit (number_of (now_of old was event (waiting waits))) (now_of old was event (waiting waits)).locks o (Fails error)
@@ -114,5 +116,5 @@ failed_enters scenario old new had has was p event error command waits played co
     looks : LooksFit later now was.looked was.frames was.told
     looks = record {
       enough = omega (arith, before.enough, ap looks_due acting.owed, ap looks_due shows.owes, started, ap (λ (t : Tally). t.looks) shows.tally, ap (λ (t : Tally). t.scans) shows.tally, ap (λ (t : Tally). t.grants) shows.tally, ap (λ (t : Tally). t.full) shows.tally);
-      within = omega (arith, before.within, ap looks_due acting.owed, ap looks_due shows.owes, started, ap (λ (t : Tally). t.looks) shows.tally, ap (λ (t : Tally). t.scans) shows.tally, ap (λ (t : Tally). t.grants) shows.tally, ap (λ (t : Tally). t.fetches) shows.tally);
+      within = omega (arith, before.within, well_settled (plan_at was.progress.opens was.progress.exec) acting.unsettled, ap looks_due acting.owed, ap looks_due shows.owes, started, ap (λ (t : Tally). t.looks) shows.tally, ap (λ (t : Tally). t.scans) shows.tally, ap (λ (t : Tally). t.grants) shows.tally, ap (λ (t : Tally). t.fetches) shows.tally);
     }

@@ -29,13 +29,13 @@ use Rattle.cacheless.specs.State.{owed_at, one_if, kept_at, nothing_kept, kept_s
 use Rattle.session_laws.specs.Awaiting.{KeepsScans, answer_after}
 use Rattle.backend_core.specs.Types.{Oid, Purpose, Command, Scenario, Entry, Event, Message, OwnLock, Progress, Backend, Opening, Frame}
 use Rattle.backend_core.specs.Agrees.{IsPlayed, command_at, AwaitsEntry}
-use Rattle.backend_core.specs.Fits.{looks_due, LooksFit, TakesFit, IsLookedFor, Lacks, Unfound, Said, lacks_scan, finds_no_name, Fits, FramesFit, IsUnheld, keeps_whole, looked_in, looked_on_top, told_owed}
+use Rattle.backend_core.specs.Fits.{looks_due, LooksFit, came_well, TakesFit, IsLookedFor, Lacks, Unfound, Said, lacks_scan, finds_no_name, Fits, FramesFit, IsUnheld, keeps_whole, looked_in, looked_on_top, told_owed}
 use Rattle.backend_core.specs.Steps.{Enters, MakesEntry}
 use Rattle.backend_core.specs.Words.{is_unfound, finds_none, has_begun, marks_build, told_after, has_error, looked_after, frames_given, frames_reset_of}
 use Rattle.backend_core.proofs.Choosing.Chosen.{Busy, Due, may_call, hidden, one_at_most, started_still}
 use Rattle.backend_core.proofs.Fitting.Entered.{fits_at}
 use Rattle.backend_core.proofs.Fitting.FitsEntries.{StaysAt, Goes, fits_inside}
-use Rattle.backend_core.proofs.Fitting.Sought.{takes_cleared, unfound_held}
+use Rattle.backend_core.proofs.Fitting.Sought.{takes_cleared, unfound_held, well_there}
 use Rattle.backend_core.proofs.Entries.Looking.{begun_written}
 use Rattle.cacheless.proofs.Tests.{not_true}
 use Rattle.backend_core.proofs.Own.{waiting, going, OwnEntry, own_enters, follows, own_makes}
@@ -162,14 +162,21 @@ fetch_fits facts o s now event usable command looked frames told unfound marked 
     started : started_in (number_of now) later ≡ started_in (number_of s) facts
     started = ap (λ n. started_in (n + 1) later) fetched.stays.finished ∙ started_still (number_of s) (number_of s) facts.running runs
 
+    well : came_well s.left ≤ came_well now.left
+    well = by_absent (is_absent s.left) refl
+      where
+        by_absent : (t : Bool) → is_absent s.left ≡ t → came_well s.left ≤ came_well now.left
+        by_absent true is = omega (arith, well_there s.left is)
+        by_absent false is = omega (arith, ap came_well (fetched.left is))
+
     looks : LooksFit later now (looked && not unfound && not marked) frames_now told_now
     looks = record {
       enough = omega (arith, before.enough, ap looks_due owed, started, fetched.looks, fetched.scans, fetched.grants, tells.full, tells.less);
-      within = omega (arith, before.within, ap looks_due owed, started, fetched.looks, fetched.scans, fetched.grants, fetched.fetches, tells.most);
+      within = omega (arith, before.within, ap looks_due owed, started, fetched.looks, fetched.scans, fetched.grants, fetched.fetches, tells.most, well);
     }
 
     -- what a look was made for that counts still is lacking still
-    sought : (looked && not unfound && not marked) ≡ true → IsLookedFor later now.taken now.left × IsUnheld now.opened now.left
+    sought : (looked && not unfound && not marked) ≡ true → IsLookedFor later frames_now now.taken now.left × IsUnheld now.opened now.left
     sought made = let parts = and_parts looked (not unfound) (and_parts (looked && not unfound) (not marked) made).0 in by_case parts.0 (not_true unfound parts.1) (fits.sought parts.0)
       where
         by_plan : (p : Plan) → lacks_scan facts p ≡ true → lacks_scan later p ≡ true
@@ -187,12 +194,10 @@ fetch_fits facts o s now event usable command looked frames told unfound marked 
         there (Absent name) is = absurd (cc is)
         there p is = refl
 
-        by_case : looked ≡ true → unfound ≡ false → IsLookedFor facts s.taken s.left → IsLookedFor later now.taken now.left × IsUnheld now.opened now.left
-        by_case was none (Lacks is) = (
-          Lacks (subst (λ p. lacks_scan later p ≡ true) (sym (fetched.left (there s.left is))) (by_plan s.left is)),
-          subst (λ held. IsUnheld held now.left) (sym fetched.opened) (subst (IsUnheld s.opened) (sym (fetched.left (there s.left is))) (fits.unheld was)),
-        )
-        by_case was none (Unfound is look) = absurd (both_ways _ none (finds is))
+        by_case : looked ≡ true → unfound ≡ false → IsLookedFor facts frames s.taken s.left → IsLookedFor later frames_now now.taken now.left × IsUnheld now.opened now.left
+        by_case was none (Lacks is) = (Lacks (subst (λ p. lacks_scan later p ≡ true) (sym (fetched.left (there s.left is))) (by_plan s.left is)),
+            subst (λ held. IsUnheld held now.left) (sym fetched.opened) (subst (IsUnheld s.opened) (sym (fetched.left (there s.left is))) (fits.unheld was)))
+        by_case was none (Unfound is look bare) = absurd (both_ways _ none (finds is))
         by_case was none (Said is) = absurd (both_ways _ none (says is))
 
 -- what an event has of a fetch
@@ -254,7 +259,7 @@ messages_bring scenario old was count waits due served = record {
   spares = λ scan none. ap (λ t. is_spared scan (fetched_by old was.progress.id count) && t) none ∙ and-false (is_spared scan (fetched_by old was.progress.id count));
   facts = λ i. record (facts_by old was.progress.id (was.progress.finished + 1) (events.Fetch count) (facts_of old was.progress.id)) { running = Some (begun (sym waits.rests.holds.count i + 1) (facts_of old was.progress.id).running) };
   fetched = record {
-    stays = let r = is_resumed s.left s in record { blocks = r.blocks; opens = r.opens; finished = ap length r.finished; blocked = r.blocked; ended = r.ended; left = λ out present. r.left present };
+    stays = let r = is_resumed s.left s in record { blocks = r.blocks; opens = r.opens; held = inl r.opened; finished = ap length r.finished; blocked = r.blocked; ended = r.ended; left = λ out present. r.left present };
     looks = full_same full more (λ t. t.looks) (λ n. refl);
     scans = full_same full more (λ t. t.scans) (λ n. refl);
     grants = full_same full more (λ t. t.grants) (λ n. refl);
@@ -290,7 +295,7 @@ reset_brings scenario old was waits due lapped = record {
   spares = λ scan none. refl;
   facts = λ i. record (facts_by old was.progress.id (was.progress.finished + 1) events.FetchReset (facts_of old was.progress.id)) { running = Some (begun (sym waits.rests.holds.count i + 1) (facts_of old was.progress.id).running) };
   fetched = record {
-    stays = let r = is_resumed s.left s in record { blocks = r.blocks; opens = r.opens; finished = ap length r.finished; blocked = r.blocked; ended = r.ended; left = λ out present. r.left present };
+    stays = let r = is_resumed s.left s in record { blocks = r.blocks; opens = r.opens; held = inl r.opened; finished = ap length r.finished; blocked = r.blocked; ended = r.ended; left = λ out present. r.left present };
     looks = refl;
     scans = refl;
     grants = refl;

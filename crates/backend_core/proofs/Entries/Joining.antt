@@ -29,6 +29,7 @@ use Rattle.backend_core.specs.Fits.{looks_due, IsPast, Fits}
 use Rattle.backend_core.specs.Steps.{MakesEntry, Enters}
 use Rattle.backend_core.proofs.Own.{no_entry, appended_makes}
 use Rattle.backend_core.proofs.Fitting.Rebuilding.{bare_fits}
+use Rattle.backend_core.proofs.Fitting.OpenRelations.{held_all}
 
 -- it may be entered
 pub join_call : (scenario : Scenario) (seen : List Entry) (s : Backend) → HasNotJoined scenario seen s → MayCall scenario seen (entry_of s.progress.id 0 events.Start)
@@ -54,6 +55,7 @@ fits_first facts o at runs lists last = record {
   levels = omega arith;
   blocked = refl;
   settled = λ is. refl;
+  relations = record { inside = refl; held = λ going. held_all []; over = λ over. absurd (cc over) };
   written = λ is. absurd (both_ways _ (ap (has_write_from 0) lists) is);
   visible = λ is. absurd (both_ways _ (ap (λ r. is_visible r) runs) is);
   taken = λ from is. absurd (let both : Some events.Start ≡ Some (events.Gone from) = sym last ∙ is in cc both);

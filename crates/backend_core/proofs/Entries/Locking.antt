@@ -128,8 +128,8 @@ module _ (scenario : Scenario) (old : List Entry) (was : Backend) (waits : Await
   lock_request = may_request scenario old was waits next.command next.free.at (Acts acting.unsettled)
 
   -- no look was made that isn't used
-  unlooked : {X : Type 0} → IsLookedFor facts s.taken s.left → X
-  unlooked = no_look facts s.taken s.left (subst (λ p. lacks_scan facts p ≡ false) (sym is_act.is) (act_serves facts is_act.act is_act.rest (nothing_owed facts next.command s is_act.act is_act.rest is_act.is asks.0)))
+  unlooked : {X : Type 0} → IsLookedFor facts was.frames s.taken s.left → X
+  unlooked = no_look facts was.frames s.taken s.left (subst (λ p. lacks_scan facts p ≡ false) (sym is_act.is) (act_serves facts is_act.act is_act.rest (nothing_owed facts next.command s is_act.act is_act.rest is_act.is asks.0)))
       (lock_found facts s.taken s.left rel mode asks.2) (ap is_absent is_act.is)
 
   pub lock_free : has_lock was.progress.locks.items rel mode ≡ false
@@ -149,7 +149,7 @@ module _ (scenario : Scenario) (old : List Entry) (was : Backend) (waits : Await
         own_enters scenario old new had has was (record was { progress = p; told = false }) event waits played courses (record { plays = plays event next.may; truly = tt; queue = tt }) goes
         kept
         (fits_at scenario old was event waits p goes was.looked was.frames false
-        (inside_fits scenario old was waits courses next.command next.free.at later now was.looked was.frames false same refl (λ from is. cc is) (record { blocks = refl; opens = refl; finished = refl; blocked = refl; ended = refl; left = λ is there. refl }) acting.runs (Acts acting.unsettled)
+        (inside_fits scenario old was waits courses next.command next.free.at later now was.looked was.frames false same refl (λ from is. cc is) (record { blocks = refl; opens = refl; held = inl refl; finished = refl; blocked = refl; ended = refl; left = λ is there. refl }) acting.runs (Acts acting.unsettled)
         (record { enough = omega (arith, before.enough, ap looks_due acting.owed, started); within = omega (arith, told_none was.told was.frames, before.within, ap looks_due acting.owed, started) })
         (same_fits facts later (command_at was) s now was.frames refl refl refl refl (sym (standing scenario old was waits next.command next.free.at (Acts acting.unsettled))) waits.fits.rebuilds)
         (λ made. unlooked (waits.fits.sought made)) (takes_cleared _ (number_of s) (s.locks ++ record { rel = rel; mode = mode; command = was.progress.finished + 1; clear = false } ∷ []) (Some rel) s.left

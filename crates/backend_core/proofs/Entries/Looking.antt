@@ -36,7 +36,7 @@ use Rattle.backend_core.proofs.Choosing.Chosen.{Busy, Due, Begins, Scans, Starts
 use Rattle.backend_core.proofs.Fitting.Entered.{fits_at}
 use Rattle.backend_core.proofs.Fitting.FitsEntries.{RunsHere, Goes, Starts, fits_inside}
 use Rattle.backend_core.proofs.Own.{waiting, going, own_enters, follows}
-use Rattle.backend_core.proofs.Fitting.Sought.{takes_cleared, unfound_facts, sought_looked, next_act}
+use Rattle.backend_core.proofs.Fitting.Sought.{takes_cleared, unfound_facts, sought_looked, sought_rebuilt, next_act, well_most}
 use Rattle.ddl_effect.specs.Stages.{plan_at}
 use Rattle.ddl_effect.specs.Plans.{Plan, left_rests_on, told_rests_on, Done, Do, Absent, Open, Lookup, Search, Read, Lock, Write}
 use Rattle.backend_core.proofs.Fitting.Rebuilding.{same_fits, owed_bare, look_fit}
@@ -168,14 +168,14 @@ module _ (scenario : Scenario) (old : List Entry) (was : Backend) (waits : Await
 
     -- the look stays within its bound
     within : s.tally.looks + 1 ≤ s.tally.scans + s.tally.grants + 2 * s.tally.fetches + 3
-    within = omega (arith, before.within, counts.least, started_most (number_of s) (looked_facts facts s some_wait), top_most looked frames)
+    within = omega (arith, before.within, counts.least, started_most (number_of s) (looked_facts facts s some_wait), top_most looked frames, well_most s.left)
 
     -- and is counted
     looks_more : LooksFit (looked_facts facts s some_wait) now looked frames told
     looks_more = record { enough = omega (arith, before.enough, counts.most, looked_due some_wait); within = omega (arith, before.within, counts.least, looked_due some_wait) }
 
     abbrev MadeFor : Type 0
-    MadeFor = looked ≡ true → IsLookedFor (looked_facts facts s some_wait) s.taken s.left × IsUnheld s.opened s.left
+    MadeFor = looked ≡ true → IsLookedFor (looked_facts facts s some_wait) frames s.taken s.left × IsUnheld s.opened s.left
 
     -- the rebuilds see to what they saw to
     look_rebuilds : Busy (facts_of old was.progress.id).last was.progress command → FramesFit facts (command_at was) s frames → FramesFit (looked_facts facts s some_wait) (Some command) now frames
@@ -186,7 +186,7 @@ module _ (scenario : Scenario) (old : List Entry) (was : Backend) (waits : Await
     look_fits hides rebuilds sought = subst (λ f. Fits f (command_at was) now looked frames told) (sym later_is) (subst (λ o. Fits (looked_facts facts s some_wait) o now looked frames told) (sym at)
         (fits_inside facts (looked_facts facts s some_wait) (Some command) s now was.looked was.frames was.told looked frames told command refl (subst (λ o. Fits facts o s was.looked was.frames was.told) at waits.fits)
         (record { runs = refl; written = λ is. begun_written (number_of s) facts.running (waits.fits.written is); last = λ from is. cc is })
-        (record { blocks = refl; opens = refl; finished = refl; blocked = refl; ended = refl; left = λ is there. refl }) counts.goes hides (going scenario old was waits courses command at) looks_more rebuilds sought (takes_cleared _ (number_of s) s.locks s.taken s.left waits.fits.takes)))
+        (record { blocks = refl; opens = refl; held = inl refl; finished = refl; blocked = refl; ended = refl; left = λ is there. refl }) counts.goes hides (going scenario old was waits courses command at) looks_more rebuilds sought (takes_cleared _ (number_of s) s.locks s.taken s.left waits.fits.takes)))
 
     -- so after it the backend agrees
     pub look_agrees : (new : List Entry) (had has : ℕ → ℕ) (p : Progress) → IsPlayed scenario old → some_wait ≡ is_waiting old was.progress.id → Busy (facts_of old was.progress.id).last was.progress command → FramesFit facts (command_at was) s frames → MadeFor → HasEntered scenario old was.progress event waits.rests p → kept_at p ≡ kept_at was.progress → p.answer ≡ None
@@ -204,7 +204,7 @@ pub look_enters : (scenario : Scenario) (old new : List Entry) (had has : ℕ �
     → Appends old new had has (entry_of was.progress.id (was.progress.finished + 1) (events.Look some_wait)) → Enters scenario old new had has was (record was { progress = p })
 look_enters scenario old new had has was p some_wait waits played courses next is goes kept none appends =
     look_agrees scenario old was waits courses next.command next.at some_wait was.looked was.frames was.told (by_side next.owes) new had has p played is (look_busy facts.last was.progress next) waits.fits.rebuilds
-    (λ made. (sought_looked facts (looked_facts facts (waiting waits) some_wait) (waiting waits).taken (waiting waits).left refl refl refl (waits.fits.sought made), waits.fits.unheld made)) goes kept none appends
+    (λ made. (sought_looked facts (looked_facts facts (waiting waits) some_wait) was.frames (waiting waits).taken (waiting waits).left refl refl refl (waits.fits.sought made), waits.fits.unheld made)) goes kept none appends
   where
     facts : Facts
     facts = facts_of old was.progress.id
@@ -266,6 +266,10 @@ on_top_of s scan turn = by_split (split s.frames)
       looked = ap (λ o. option_map_or (λ (f : Frame). f.looked) o false) on;
     }
 
+-- so something is rebuilt
+pub on_some : (s : Backend) (scan : Purpose) → IsOnTop s scan → s.frames ≡ [] → ⊥
+on_some s scan on none = let no_top : None ≡ Some on.parts.one = sym (ap top none) ∙ ap top on.parts.is ∙ top_push on.parts.under on.parts.one in cc no_top
+
 -- before a descriptor is opened no other one is held
 pub opens_unheld : (scenario : Scenario) (seen : List Entry) (s : Backend) (waits : AwaitsEntry scenario seen s) → AllOnCourse scenario seen → (command : Command) → command_at s ≡ Some command → IsUnheld (waiting waits).opened (waiting waits).left
 opens_unheld scenario seen s waits courses command at = by_plan (waiting waits).left refl
@@ -300,8 +304,8 @@ look_before_enters scenario old new had has was p some_wait rebuilds waits playe
     runs = scan_runs scenario old was waits courses next.next.command next.next.free.at next.scan next.next.next next.next.free.first
 
     -- what a look of the act was made for before stays
-    stays : (was.looked || false) ≡ true → IsLookedFor later (waiting waits).taken (waiting waits).left × IsUnheld (waiting waits).opened (waiting waits).left
-    stays made = let before = sym (or-false was.looked) ∙ made in (sought_looked facts later (waiting waits).taken (waiting waits).left refl refl refl (waits.fits.sought before), waits.fits.unheld before)
+    stays : IsScanNext was next.scan true → (was.looked || false) ≡ true → IsLookedFor later (on_top with_look was.frames) (waiting waits).taken (waiting waits).left × IsUnheld (waiting waits).opened (waiting waits).left
+    stays scan made = let before = sym (or-false was.looked) ∙ made in (sought_rebuilt facts later was.frames (on_top with_look was.frames) (waiting waits).taken (waiting waits).left refl (on_some was next.scan (on_top_of was next.scan scan.turn)) (waits.fits.sought before), waits.fits.unheld before)
 
     of_rebuild : IsScanNext was next.scan true → is_looked_for true was ≡ false → Enters scenario old new had has was (record was { progress = p; looked = was.looked || false; frames = on_top with_look was.frames })
     of_rebuild scan unlooked = look_agrees scenario old was waits courses next.next.command next.next.free.at some_wait (was.looked || false) (on_top with_look was.frames) was.told
@@ -309,7 +313,7 @@ look_before_enters scenario old new had has was p some_wait rebuilds waits playe
         (subst (λ l. LookCounts facts (waiting waits) next.next.command was.looked l was.told was.looked (on_top with_look l) was.told) (sym on.parts.is)
         (subst (λ l. LookCounts facts (waiting waits) next.next.command was.looked (on.parts.under ++ on.parts.one ∷ []) was.told was.looked l was.told) (sym (on_top_push with_look on.parts.under on.parts.one))
         (counts_rebuild facts (waiting waits) next.next.command was.looked was.told on.parts.under on.parts.one owed runs (sym on.looked ∙ unlooked)))))
-        new had has p played is (scan_busy scenario old was next.scan true waits scan) (look_fit facts (command_at was) (waiting waits) was.frames waits.fits.rebuilds) stays goes kept none appends
+        new had has p played is (scan_busy scenario old was next.scan true waits scan) (look_fit facts (command_at was) (waiting waits) was.frames waits.fits.rebuilds) (stays scan) goes kept none appends
       where
         on : IsOnTop was next.scan
         on = on_top_of was next.scan scan.turn
@@ -380,8 +384,8 @@ accept_enters scenario old new had has was p some_wait told waits played courses
     absent_unheld held (Absent name) absent = tt
     absent_unheld held q absent = absurd (cc absent)
 
-    by_side : FindsNone was.progress next.command → IsLookedFor later (waiting waits).taken (waiting waits).left × IsUnheld (waiting waits).opened (waiting waits).left
-    by_side (Looks unfound owes) = (Unfound (unfound_facts facts was.progress (plan_at was.progress.opens was.progress.exec) waits.rests.holds.facts unfound) refl, lookup_unheld was.progress.opened (plan_at was.progress.opens was.progress.exec) unfound)
+    by_side : FindsNone was.progress next.command → IsLookedFor later was.frames (waiting waits).taken (waiting waits).left × IsUnheld (waiting waits).opened (waiting waits).left
+    by_side (Looks unfound owes) = (Unfound (unfound_facts facts was.progress (plan_at was.progress.opens was.progress.exec) waits.rests.holds.facts unfound) refl (bare (Looks unfound owes)), lookup_unheld was.progress.opened (plan_at was.progress.opens was.progress.exec) unfound)
     by_side (Says absent quiet) = (Said absent, absent_unheld was.progress.opened (plan_at was.progress.opens was.progress.exec) absent)
 
     runs : is_some facts.running ≡ true

@@ -30,18 +30,18 @@ use Rattle.backend_core.proofs.Choosing.ActsRun.{scan_runs}
 use Rattle.backend_core.proofs.Choosing.Chosen.{may_request, standing}
 use Rattle.backend_core.proofs.Fitting.Entered.{fits_at}
 use Rattle.backend_core.proofs.Entries.Inside.{runs_on, inside_fits}
-use Rattle.backend_core.proofs.Entries.Looking.{scan_busy, IsOnTop, on_top_of}
+use Rattle.backend_core.proofs.Entries.Looking.{scan_busy, IsOnTop, on_top_of, on_some}
 use Rattle.backend_core.proofs.Own.{waiting, going, OwnEntry, own_makes, own_enters, follows}
 use Rattle.backend_core.proofs.Fitting.Sought.{takes_cleared, built_leaves}
 use Rattle.cacheless.proofs.ReadsBuilds.{stage_reads}
-use Rattle.std.specs.List.{find}
+use Rattle.std.specs.List.{find, list_any}
 use Rattle.cacheless.proofs.Plans.SilentActs.{lookup_opens_none}
+use Rattle.base_types.proofs.SameScan.{same_scan-true}
 use Rattle.backend_core.proofs.Fitting.Rebuilding.{usable_is, top_rebuilt}
 use Rattle.backend_core.proofs.Stacking.Looked.{in_push, top_most, told_push, told_most, scanned_less}
 use Rattle.backend_core.proofs.Stacking.Stacks.{top_push}
 use Rattle.backend_core.proofs.Stacking.Scanned.{scanned_push, stack_scanned, stack_other}
 use Rattle.backend_core.proofs.Stacking.Lacking.{with_scan}
-use Rattle.backend_core.proofs.Stacking.Among.{none_held}
 use Rattle.backend_core.specs.Frames.{top, scanned_on, frames_scanned, IsAmong, IsRebuilt, IsStack}
 use Rattle.std.proofs.Math.Bool.{and-true, and-false}
 
@@ -190,12 +190,12 @@ module _ (scenario : Scenario) (old : List Entry) (was : Backend) (waits : Await
   }
 
   scan_fits : Fits later (command_at was) now (was.looked && rebuilds) (frames_now rebuilds) was.told
-  scan_fits = inside_fits scenario old was waits courses next.command next.free.at later now (was.looked && rebuilds) (frames_now rebuilds) was.told same refl (λ from is. cc is) (record { blocks = refl; opens = refl; finished = refl; blocked = refl; ended = refl; left = λ is there. refl })
+  scan_fits = inside_fits scenario old was waits courses next.command next.free.at later now (was.looked && rebuilds) (frames_now rebuilds) was.told same refl (λ from is. cc is) (record { blocks = refl; opens = refl; held = inl refl; finished = refl; blocked = refl; ended = refl; left = λ is there. refl })
       (scan_runs scenario old was waits courses next.command next.free.at scan next.next next.free.first) (scan_busy scenario old was scan rebuilds waits next) looks_less rebuilds_now
       (λ made. sought rebuilds next.turn (and_parts was.looked rebuilds made)) (takes_cleared _ (number_of s) s.locks s.taken s.left waits.fits.takes)
     where
       -- what a look of the act was made for it lacks still, after a scan of a rebuild
-      sought : (t : Bool) → IsInTurn t was scan → (was.looked ≡ true) × (t ≡ true) → IsLookedFor later s.taken s.left × IsUnheld s.opened s.left
+      sought : (t : Bool) → IsInTurn t was scan → (was.looked ≡ true) × (t ≡ true) → IsLookedFor later (frames_now t) s.taken s.left × IsUnheld s.opened s.left
       sought false turn made = absurd (cc (made.1))
       sought true turn made = (by_case (waits.fits.sought made.0), waits.fits.unheld made.0)
         where
@@ -205,22 +205,9 @@ module _ (scenario : Scenario) (old : List Entry) (was : Backend) (waits : Await
           built : IsRebuilt facts.usable was.progress.opened on.parts.one
           built = top_rebuilt facts (command_at was) s was.frames on.parts.one waits.fits.rebuilds (ap top on.parts.is ∙ top_push on.parts.under on.parts.one)
 
-          -- a lookup that has found no relation lacks nothing, and nothing is rebuilt
-          never : (name : List ℕ) (mode : Mode) (rest : List Row → Plan) → plan_at was.progress.opens was.progress.exec ≡ Do (Lookup name mode) rest → ⊥
-          never name mode rest at = none_held on.parts.one.opening (subst (λ l. IsAmong l on.parts.one.opening) (lookup_opens_none old was.progress.id s next.command name mode rest (follows scenario old was waits courses next.command next.free.at) at) built.among)
-
-          no_name : (p : Plan) → plan_at was.progress.opens was.progress.exec ≡ p → finds_no_name facts s.taken p ≡ true → ⊥
-          no_name (Do (Lookup name mode) rest) at finds = never name mode rest at
-          no_name (Do (Open of kind) rest) at finds = cc finds
-          no_name (Do (Search other) rest) at finds = cc finds
-          no_name (Do (Reading other) rest) at finds = cc finds
-          no_name (Do (Lock of mode) rest) at finds = cc finds
-          no_name (Do (Write draft) rest) at finds = cc finds
-          no_name p at finds = cc finds
-
-          by_case : IsLookedFor facts s.taken s.left → IsLookedFor later s.taken s.left
+          by_case : IsLookedFor facts was.frames s.taken s.left → IsLookedFor later (frames_now true) s.taken s.left
           by_case (Lacks lacks_it) = Lacks (built_leaves facts later scan was.progress.opened on.parts.one.opening s.left (stage_reads was.progress.exec) (first_of on) built.among (waits.fits.unheld made.0) refl lacks_it)
-          by_case (Unfound finds look) = absurd (no_name s.left refl finds)
+          by_case (Unfound finds look bare) = absurd (on_some was scan on bare)
           by_case (Said absent) = absurd (both_ways _ present absent)
 
   -- so after it the backend agrees

@@ -135,8 +135,8 @@ module _ (scenario : Scenario) (old : List Entry) (was : Backend) (waits : Await
   same = runs_on (was.progress.finished + 1) facts.running acting.runs
 
   -- no look was made that isn't used
-  unlooked : {X : Type 0} → IsLookedFor facts s.taken s.left → X
-  unlooked = no_look facts s.taken s.left (subst (λ p. lacks_scan facts p ≡ false) (sym lookup.is) (act_serves facts act lookup.rest (nothing_owed facts next.command s act lookup.rest lookup.is asks.0)))
+  unlooked : {X : Type 0} → IsLookedFor facts was.frames s.taken s.left → X
+  unlooked = no_look facts was.frames s.taken s.left (subst (λ p. lacks_scan facts p ≡ false) (sym lookup.is) (act_serves facts act lookup.rest (nothing_owed facts next.command s act lookup.rest lookup.is asks.0)))
       (unlock_found facts s.taken s.left rel lookup.took) (ap is_absent lookup.is)
 
   -- after it the backend agrees
@@ -146,7 +146,7 @@ module _ (scenario : Scenario) (old : List Entry) (was : Backend) (waits : Await
       own_enters scenario old new had has was (record was { progress = p }) event waits played courses (record { plays = plays; truly = tt; queue = tt }) goes
       kept
       (fits_at scenario old was event waits p goes was.looked was.frames was.told
-      (inside_fits scenario old was waits courses next.command next.free.at later now was.looked was.frames was.told same refl (λ from is. cc is) (record { blocks = refl; opens = refl; finished = refl; blocked = refl; ended = refl; left = λ is there. refl }) acting.runs (Acts acting.unsettled)
+      (inside_fits scenario old was waits courses next.command next.free.at later now was.looked was.frames was.told same refl (λ from is. cc is) (record { blocks = refl; opens = refl; held = inl refl; finished = refl; blocked = refl; ended = refl; left = λ is there. refl }) acting.runs (Acts acting.unsettled)
       (record { enough = omega (arith, before.enough, ap looks_due acting.owed, started); within = omega (arith, before.within, ap looks_due acting.owed, started) })
       (same_fits facts later (command_at was) s now was.frames refl refl refl refl (sym not_taken_back) waits.fits.rebuilds)
       (λ made. unlooked (waits.fits.sought made)) tt))

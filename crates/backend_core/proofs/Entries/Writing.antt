@@ -1,8 +1,8 @@
 -- The write of a backend, where its draft is at hand.
-use Rattle.std.proofs.Common.{◌≡◌, ◌≤◌, ◌<◌, ◌+◌, ◌∙◌, ◌==◌, ◌&&◌, ◌||◌, ℕ, false, Some, None, Result, Ok, Err, OnOk, OnErr, List, [], ◌∷◌, refl, sym, ap, subst, length, drop, arith, true}
+use Rattle.std.proofs.Common.{◌≡◌, ◌≤◌, ◌<◌, ◌+◌, ◌∙◌, ◌==◌, ◌&&◌, ◌||◌, inl, inr, ℕ, Bool, false, not, map, Some, None, Result, Ok, Err, OnOk, OnErr, List, [], ◌∷◌, refl, sym, ap, subst, length, drop, arith, true}
 use Rattle.std.specs.List.{AllByRecursion, flat_map, list_any}
 use Rattle.std.proofs.Math.Bool.{and-false}
-use Rattle.std.proofs.lemmas.Bool.{both_ways, ne_eqb}
+use Rattle.std.proofs.lemmas.Bool.{both_ways, ne_eqb, false_from_ne_true}
 use Rattle.base_types.specs.Modes.{same_mode}
 use Rattle.base_types.specs.declared.mode.Mode.TheVariants.{AccessExclusive}
 use Rattle.event_kinds.specs.declared.entry.Event.TheVariants as events
@@ -31,9 +31,9 @@ use Rattle.cacheless.specs.Locks.{locked_by}
 use Rattle.cacheless.specs.OnCourse.{OnItsWay, AllOnCourse}
 use Rattle.cacheless.specs.Owed.{owed_of, started_in}
 use Rattle.cacheless.specs.Plays.{IsWrite, IsClash, MayPlay, MayPlayIn}
-use Rattle.cacheless.specs.Session.{Session, none_open, number_of, outcome_of, is_settled}
+use Rattle.cacheless.specs.Session.{Session, Well, Badly, Unsettled, opening_of, number_of, outcome_of, is_settled}
 use Rattle.cacheless.specs.Sessions.{written, entered}
-use Rattle.cacheless.specs.State.{lists_at, kept_at, kept_spared, locks_made, messages_in, clash_event, error_of}
+use Rattle.cacheless.specs.State.{lists_at, kept_at, kept_spared, locks_made, messages_in, clash_event, error_of, one_if}
 use Rattle.cacheless.proofs.Allowed.NamesRead.{read_as_now}
 use Rattle.cacheless.proofs.Allowed.NextKeeps.{spelled_at}
 use Rattle.cacheless.proofs.Plans.AloneLocks.{session_holds}
@@ -42,9 +42,9 @@ use Rattle.cacheless.proofs.Same.{owes_nothing_is}
 use Rattle.cacheless.proofs.Plans.SilentActs.{empty_list, on_its_way}
 use Rattle.cacheless.proofs.Written.NamesGiven.{AreReadAsNow}
 use Rattle.cacheless.proofs.Written.WriteFits.{WriteFits, write_fits}
-use Rattle.backend_core.specs.Types.{Oid, Xid, Command, Draft, Item, Message, Scenario, Entry, Event, Progress, Backend}
+use Rattle.backend_core.specs.Types.{Oid, Xid, Command, Draft, Item, Message, Purpose, Scenario, Entry, Event, Frame, Progress, Backend}
 use Rattle.backend_core.specs.Agrees.{IsPlayed, command_at, AwaitsEntry}
-use Rattle.backend_core.specs.Fits.{looks_due, LooksFit, IsLookedFor, TakesFit, FramesFit}
+use Rattle.backend_core.specs.Fits.{looks_due, looked_on_top, came_well, LooksFit, IsLookedFor, TakesFit, FramesFit, keeps_whole}
 use Rattle.backend_core.specs.Steps.{IsWriteNext, MakesEntry, Enters, IsRefused}
 use Rattle.backend_core.proofs.Choosing.ActsRun.{act_runs}
 use Rattle.backend_core.proofs.Entries.Alike.{alike_enters}
@@ -54,8 +54,14 @@ use Rattle.backend_core.proofs.Entries.Failing.{IsActing, clash_shows, failed_en
 use Rattle.backend_core.proofs.Entries.Inside.{made_refused, entry_fits}
 use Rattle.backend_core.proofs.Own.{waiting, waiting_is, waiting_course, at_session, follows, going, OwnEntry, own_makes, own_enters}
 use Rattle.backend_core.proofs.Fitting.Sought.{no_look}
-use Rattle.backend_core.proofs.Fitting.Rebuilding.{owed_bare, bare_fits}
-use Rattle.backend_core.specs.Frames.{lacks}
+use Rattle.backend_core.proofs.Fitting.Rebuilding.{owed_bare, owed_whole, owed_builds, each_whole}
+use Rattle.backend_core.proofs.Stacking.Looked.{after_less, told_most}
+use Rattle.backend_core.proofs.Stacking.Messages.{stack_after}
+use Rattle.backend_core.specs.Frames.{lacks, frames_after, IsStack}
+use Rattle.backend_core.specs.Words.{has_error}
+use Rattle.seg_calls.specs.Calls.{took_back}
+use Rattle.inval_messages.specs.Messages.{is_spared}
+use Rattle.cacheless.proofs.Entries.EnteredWrites.{spared_alike}
 
 -- on a relation that is still to be drawn there is no lock
 none_held : (b : ℕ) (rel : Oid) (next : ℕ) (held : List Grant) → rel.0 ≡ next → AllByRecursion (λ g. g.rel.0 < next) held → holds held b rel AccessExclusive ≡ false
@@ -96,7 +102,7 @@ module _ (scenario : Scenario) (old : List Entry) (was : Backend) (draft : Draft
 
   -- no look was made that isn't used
   unlooked : was.looked ≡ true → ⊥
-  unlooked made = no_look facts s.taken (writing draft) refl refl refl (subst (IsLookedFor facts s.taken) at (waits.fits.sought made))
+  unlooked made = no_look facts was.frames s.taken (writing draft) refl refl refl (subst (IsLookedFor facts was.frames s.taken) at (waits.fits.sought made))
 
   way : OnItsWay old was.progress.id s next.command
   way = on_its_way old was.progress.id s next.command (Write draft) (λ given. Done tells.Ok) (follows scenario old was waits courses next.command next.free.at) at
@@ -139,19 +145,26 @@ module _ (scenario : Scenario) (old : List Entry) (was : Backend) (draft : Draft
   wrote_refused first id new had has result made makes = made_refused scenario old new had has first.progress.id result
       (subst (MakesEntry scenario old new had has) id (own_makes scenario old new had has was (events.Write made.xid (items_drawn old draft)) waits played courses (write_own made.xid) makes.appends))
 
+  -- what was held before it lacked no scan, so nothing that is open does
+  open_whole : list_any (lacks facts.usable) (map opening_of s.opens) ≡ false
+  open_whole = waits.fits.relations.held (going scenario old was waits courses next.command next.free.at) (lacks facts.usable)
+      (owed_whole facts s.opened (owed_builds facts s next.command (λ badly. let both : Unsettled ≡ Badly = sym (ap outcome_of at) ∙ badly in cc both) owed_none))
+
+  -- the rebuilds that its messages put on
+  abbrev frames_wrote : (Purpose → Bool) → List Frame
+  frames_wrote kept = frames_after kept (map opening_of s.opens) (messages_in old was.progress.id (items_drawn old draft)) []
+
   -- after it the backend agrees
-  wrote_enters : (new : List Entry) (had has : ℕ → ℕ) (p : Progress) (xid : Xid) → HasEntered scenario old was.progress (events.Write xid (items_drawn old draft)) waits.rests p → kept_at p ≡ kept_spared (messages_in old was.progress.id (items_drawn old draft)) (kept_at was.progress) → p.answer ≡ None
-      → Appends old new had has (entry_of was.progress.id (was.progress.finished + 1) (events.Write xid (items_drawn old draft))) → Enters scenario old new had has was (record was { progress = p })
-  wrote_enters new had has p xid goes kept none appends =
-      own_enters scenario old new had has was (record was { progress = p }) event waits played courses (write_own xid) goes
+  wrote_enters : (new : List Entry) (had has : ℕ → ℕ) (p : Progress) (kept_then : Purpose → Bool) (xid : Xid) → HasEntered scenario old was.progress (events.Write xid (items_drawn old draft)) waits.rests p → kept_at p ≡ kept_spared (messages_in old was.progress.id (items_drawn old draft)) (kept_at was.progress) → p.answer ≡ None
+      → Appends old new had has (entry_of was.progress.id (was.progress.finished + 1) (events.Write xid (items_drawn old draft))) → Enters scenario old new had has was (record was { progress = p; frames = frames_wrote kept_then })
+  wrote_enters new had has p kept_then xid goes kept none appends =
+      own_enters scenario old new had has was (record was { progress = p; frames = frames_wrote kept_then }) event waits played courses (write_own xid) goes
       kept
-      (fits_at scenario old was event waits p goes was.looked was.frames was.told
-      (entry_fits scenario old was waits courses next.command next.free.at later now was.looked was.frames was.told
+      (fits_at scenario old was event waits p goes was.looked (frames_wrote kept_then) was.told
+      (entry_fits scenario old was waits courses next.command next.free.at later now was.looked (frames_wrote kept_then) was.told
       (record { runs = λ i. Some (record (begun (sym waits.rests.holds.count i + 1) facts.running) { xid = Some xid.0 }); written = λ is. refl; last = λ from is. cc is })
-      (record { blocks = ap (λ q. (written q s).blocks) at; finished = ap (λ q. length (written q s).finished) at; blocked = ap (λ q. (written q s).blocked) at; ended = ap (λ q. (written q s).ended) at; left = λ is there. absurd (both_ways _ acting.unsettled is) })
-      acting.runs (Acts acting.unsettled)
-      (record { enough = omega (arith, before.enough, ap looks_due acting.owed, started); within = omega (arith, before.within, ap looks_due acting.owed, started) })
-      (subst (FramesFit later (command_at was) now) (sym acting.bare) (bare_fits later (command_at was) now (λ keeps. ap (λ q. list_any (lacks later.usable) (written q s).opened) at)))
+      (record { blocks = ap (λ q. (written q s).blocks) at; opens = ap (λ q. (written q s).opens) at; held = inr (ap (λ q. (written q s).opened) at); finished = ap (λ q. length (written q s).finished) at; blocked = ap (λ q. (written q s).blocked) at; ended = ap (λ q. (written q s).ended) at; left = λ is there. absurd (both_ways _ acting.unsettled is) })
+      acting.runs (Acts acting.unsettled) looks rebuilds
       (λ made. absurd (unlooked made)) (subst (λ q. TakesFit (number_of now) now.locks (written q s).taken (written q s).left) (sym at) tt)))
       refl refl refl (λ stop. cc stop) none appends
     where
@@ -170,12 +183,50 @@ module _ (scenario : Scenario) (old : List Entry) (was : Backend) (draft : Draft
       started : started_in (number_of now) later ≡ started_in (number_of s) facts
       started = ap (λ q. started_in (length (written q s).finished + 1) later) at ∙ started_still (number_of s) (was.progress.finished + 1) facts.running acting.runs
 
-  -- so it does where memory for it isn't refused
-  pub wrote_agrees : {E : Type 0} (first : Backend) → was.progress.id ≡ first.progress.id → (new : List Entry) (had has : ℕ → ℕ) (p : Progress) (result : Result (Unit {0}) E) (made : Made) (messages : List Message) → MakesWrite old new had has was.progress.id (was.progress.finished + 1) draft made → messages ≡ made.messages.items → OnOk result (kept_at p ≡ kept_spared messages (kept_at was.progress)) → OnOk result (p.answer ≡ None)
-      → OnOk result ((scenario : Scenario) (seen : List Entry) (items : List Item) → (rests : Rests scenario seen was.progress) → messages ≡ messages_in seen was.progress.id items → flat_map (locked_by (was.progress.finished + 1)) items ≡ locks_made draft.new_oids made.first_oid (was.progress.finished + 1) → HasEntered scenario seen was.progress (events.Write made.xid items) rests p)
-      → OnOk result (Enters scenario old new had has first (record was { progress = p }))
-  wrote_agrees first id new had has p (Ok x) made messages makes are kept none goes = alike_enters scenario old new had has first was (record was { progress = p }) id (wrote_enters new had has p made.xid (goes scenario old (items_drawn old draft) waits.rests (are ∙ makes.messages) (suits.locks made.first_oid [] makes.first)) (kept ∙ ap (λ m. kept_spared m (kept_at was.progress)) (are ∙ makes.messages)) none makes.appends)
-  wrote_agrees first id new had has p (Err e) made messages makes are kept none goes = tt
+      -- no look was made for the next scan
+      no_looks : looked_on_top was.looked was.frames ≡ 0
+      no_looks = ap (looked_on_top was.looked) acting.bare ∙ ap one_if (false_from_ne_true was.looked unlooked)
+
+      looks : LooksFit later now was.looked (frames_wrote kept_then) was.told
+      looks = record {
+        enough = omega (arith, before.enough, ap looks_due acting.owed, started, after_less kept_then (map opening_of s.opens) (messages_in old was.progress.id (items_drawn old draft)) []);
+        within = omega (arith, before.within, ap looks_due acting.owed, started, no_looks, told_most was.told (frames_wrote kept_then), ap came_well at, ap (λ q. came_well (written q s).left) at);
+      }
+
+      usable_then : later.usable ≡ (λ scan. is_spared scan (messages_in old was.progress.id (items_drawn old draft)) && facts.usable scan)
+      usable_then = λ i scan. spared_alike old was.progress.id (items_drawn old draft) scan (~ i) && facts.usable scan
+
+      stack : IsStack later.usable (map opening_of s.opens) (frames_wrote kept_then)
+      stack = subst (λ h. IsStack h (map opening_of s.opens) (frames_wrote kept_then)) (sym usable_then)
+          (stack_after kept_then facts.usable (map opening_of s.opens) (messages_in old was.progress.id (items_drawn old draft)) []
+          (record { found = λ o among. inl (each_whole facts.usable (map opening_of s.opens) o open_whole among); each = tt; once = tt }))
+
+      keeps : keeps_whole later now ≡ true
+      keeps = ap (λ q. not (took_back later.last) && not (written q s).ended && not (has_error (written q s).left)) at ∙ ap (λ t. not false && not t && not false) (going scenario old was waits courses next.command next.free.at)
+
+      rebuilds : FramesFit later (command_at was) now (frames_wrote kept_then)
+      rebuilds = record {
+        stack = λ keeps_it. subst (λ held. IsStack later.usable held (frames_wrote kept_then)) (sym (ap (λ q. (written q s).opened) at)) stack;
+        over = λ over. absurd (both_ways _ over keeps);
+        badly = λ badly. absurd (let both : Well ≡ Badly = sym (ap (λ q. outcome_of (written q s).left) at) ∙ badly in cc both);
+        past = λ none. absurd (let both : Some next.command ≡ None = sym next.free.at ∙ none in cc both);
+      }
+
+  -- so it does where no memory is refused, neither for it nor for the rebuilds
+  pub wrote_agrees : {E D : Type 0} (first : Backend) → was.progress.id ≡ first.progress.id → (new : List Entry) (had has : ℕ → ℕ) (p : Progress) (kept_then : Purpose → Bool) (frames : List Frame) (result : Result (Unit {0}) D) (made : Made) (messages : List Message) → MakesWrite old new had has was.progress.id (was.progress.finished + 1) draft made → messages ≡ made.messages.items → kept_at p ≡ kept_spared messages (kept_at was.progress) → p.answer ≡ None
+      → ((scenario : Scenario) (seen : List Entry) (items : List Item) → (rests : Rests scenario seen was.progress) → messages ≡ messages_in seen was.progress.id items → flat_map (locked_by (was.progress.finished + 1)) items ≡ locks_made draft.new_oids made.first_oid (was.progress.finished + 1) → HasEntered scenario seen was.progress (events.Write made.xid items) rests p)
+      → OnOk result (frames ≡ frames_after kept_then p.opened messages was.frames)
+      → OnOk result (Enters scenario old new had has first (record was { progress = p; frames = frames }))
+  wrote_agrees first id new had has p kept_then frames (Err e) made messages makes are kept none goes told = tt
+  wrote_agrees first id new had has p kept_then frames (Ok x) made messages makes are kept none goes told = alike_enters scenario old new had has first was (record was { progress = p; frames = frames }) id
+      (subst (λ l. Enters scenario old new had has was (record was { progress = p; frames = l })) (sym frames_are)
+      (wrote_enters new had has p kept_then made.xid entered_it (kept ∙ ap (λ m. kept_spared m (kept_at was.progress)) (are ∙ makes.messages)) none makes.appends))
+    where
+      entered_it : HasEntered scenario old was.progress (events.Write made.xid (items_drawn old draft)) waits.rests p
+      entered_it = goes scenario old (items_drawn old draft) waits.rests (are ∙ makes.messages) (suits.locks made.first_oid [] makes.first)
+
+      frames_are : frames ≡ frames_wrote kept_then
+      frames_are = told ∙ (λ i. frames_after kept_then ((ap (λ (x : Session). x.opened) entered_it.session ∙ ap (λ q. (written q s).opened) at) i) ((are ∙ makes.messages) i) (acting.bare i))
 
   -- and after one that is refused
   pub clash_enters : (first : Backend) → was.progress.id ≡ first.progress.id → (new : List Entry) (had has : ℕ → ℕ) (p : Progress) (name : List ℕ) (clash : Clash) → HasEntered scenario old was.progress (clash_event name clash) waits.rests p → kept_at p ≡ kept_at was.progress → p.answer ≡ None

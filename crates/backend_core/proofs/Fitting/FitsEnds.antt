@@ -12,7 +12,7 @@ use Rattle.ddl_effect.specs.Plans.{Plan, left_rests_on, Done, Fails, Absent, Not
 use Rattle.history_model.specs.Sent.{ends_transaction}
 use Rattle.history_model.specs.Transactions.{Running, begun, after_release, is_visible}
 use Rattle.history_model.specs.Writes.{is_empty}
-use Rattle.cacheless.specs.Ends.{End, Ends, Commits, TakesBack, end_of_all, end_of_block, end_well, end_badly, end_of}
+use Rattle.cacheless.specs.Ends.{End, Ends, Commits, TakesBack, end_of_all, end_of_block, end_well, end_badly, end_of, next_of_end}
 use Rattle.cacheless.specs.Facts.{Facts}
 use Rattle.cacheless.proofs.Allowed.Releases.{OwesNoScan}
 use Rattle.cacheless.specs.Owed.{Owes, OwesLook, OwesScan, unusable, owed_at_start, owed_after, begins, builds_owed, act_owed, scans_owed, owed_of, started_in}
@@ -24,6 +24,7 @@ use Rattle.backend_core.proofs.Fitting.NextTransaction.{failed_on}
 use Rattle.cacheless.specs.Types.{Oid, Purpose, OwnLock}
 use Rattle.cacheless.proofs.Tests.{not_true}
 use Rattle.backend_core.proofs.Fitting.Rebuilding.{bare_fits}
+use Rattle.backend_core.proofs.Fitting.OpenRelations.{opens_over}
 use Rattle.seg_calls.specs.Calls.{took_back}
 use Rattle.backend_core.specs.Words.{has_error}
 
@@ -94,22 +95,22 @@ owed_later facts later command s locks at goes out built =
     by_plan NotBuilt at is none = absurd (cc is)
 
 -- a look that was made for a command that has come out: for its answer, or to say that there is no relation of a name
-sought_out : (facts later : Facts) (taken : Option Oid) (p : Plan) → is_settled (outcome_of p) ≡ true → ((scan : Purpose) → facts.usable scan ≡ false → later.usable scan ≡ false) → IsLookedFor facts taken p → IsLookedFor later taken p
-sought_out facts later taken p out spares (Said is) = Said is
-sought_out facts later taken (Done told) out spares (Lacks is) = Lacks (by_scan (told_rests_on told) is)
+sought_out : (facts later : Facts) (frames : List Frame) (taken : Option Oid) (p : Plan) → is_settled (outcome_of p) ≡ true → ((scan : Purpose) → facts.usable scan ≡ false → later.usable scan ≡ false) → IsLookedFor facts frames taken p → IsLookedFor later frames taken p
+sought_out facts later frames taken p out spares (Said is) = Said is
+sought_out facts later frames taken (Done told) out spares (Lacks is) = Lacks (by_scan (told_rests_on told) is)
   where
     by_scan : (o : Option Purpose) → option_map_or (λ scan. not (facts.usable scan)) o false ≡ true → option_map_or (λ scan. not (later.usable scan)) o false ≡ true
     by_scan None lacks = lacks
     by_scan (Some scan) lacks = ap not (spares scan (not_true (facts.usable scan) lacks))
-sought_out facts later taken (Do act rest) out spares (Lacks is) = absurd (cc out)
-sought_out facts later taken (Fails error) out spares (Lacks is) = absurd (cc is)
-sought_out facts later taken (Absent name) out spares (Lacks is) = absurd (cc is)
-sought_out facts later taken NotBuilt out spares (Lacks is) = absurd (cc is)
-sought_out facts later taken (Do act rest) out spares (Unfound is look) = absurd (cc out)
-sought_out facts later taken (Done told) out spares (Unfound is look) = absurd (cc is)
-sought_out facts later taken (Fails error) out spares (Unfound is look) = absurd (cc is)
-sought_out facts later taken (Absent name) out spares (Unfound is look) = absurd (cc is)
-sought_out facts later taken NotBuilt out spares (Unfound is look) = absurd (cc is)
+sought_out facts later frames taken (Do act rest) out spares (Lacks is) = absurd (cc out)
+sought_out facts later frames taken (Fails error) out spares (Lacks is) = absurd (cc is)
+sought_out facts later frames taken (Absent name) out spares (Lacks is) = absurd (cc is)
+sought_out facts later frames taken NotBuilt out spares (Lacks is) = absurd (cc is)
+sought_out facts later frames taken (Do act rest) out spares (Unfound is look bare) = absurd (cc out)
+sought_out facts later frames taken (Done told) out spares (Unfound is look bare) = absurd (cc is)
+sought_out facts later frames taken (Fails error) out spares (Unfound is look bare) = absurd (cc is)
+sought_out facts later frames taken (Absent name) out spares (Unfound is look bare) = absurd (cc is)
+sought_out facts later frames taken NotBuilt out spares (Unfound is look bare) = absurd (cc is)
 
 -- such a command needs no lock that its lookup took
 takes_out : (number : ℕ) (locks : List OwnLock) (number' : ℕ) (locks' : List OwnLock) (taken : Option Oid) (p : Plan) → is_settled (outcome_of p) ≡ true → TakesFit number locks taken p → TakesFit number' locks' taken p
@@ -159,9 +160,10 @@ module _ (facts later : Facts) (o : Option Command) (s : Session) (looked : Bool
     taken = taken;
     accepts = λ owes. absurd (both_ways _ owes (ap (λ l. is_empty l) goes.free));
     past = λ none. let p = fits.past none in record { out = p.out; free = goes.free };
-    sought = λ is. sought_out facts later s.taken s.left ends.out spares (fits.sought is);
+    sought = λ is. sought_out facts later frames s.taken s.left ends.out spares (fits.sought is);
     takes = takes_out (number_of s) s.locks (number_of s) locks s.taken s.left ends.out fits.takes;
     unheld = fits.unheld;
+    relations = record { inside = fits.relations.inside; held = fits.relations.held; over = λ over. absurd (both_ways _ ends.going over) };
   }
     where
       started : started_in (number_of s) later ≡ started_in (number_of s) facts
@@ -225,9 +227,10 @@ module _ (facts later : Facts) (o : Option Command) (s : Session) (looked : Bool
     taken = λ n is. absurd (let no : Some (events.Release from) ≡ Some (events.Gone n) = sym last ∙ is in cc no);
     accepts = λ owes. absurd (both_ways _ owes (ap (λ l. is_empty (owed_after l)) last));
     past = λ past. let p = fits.past past in record { out = p.out; free = ap owed_after last };
-    sought = λ is. sought_out facts later s.taken s.left ends.out spares (fits.sought is);
+    sought = λ is. sought_out facts later frames s.taken s.left ends.out spares (fits.sought is);
     takes = takes_out (number_of s) s.locks (number_of s) locks s.taken s.left ends.out fits.takes;
     unheld = λ is. unheld_none s.left;
+    relations = record { inside = fits.relations.inside; held = λ going. absurd (cc going); over = λ over command at. opens_over facts s command event (ap (λ x. next_of_end facts (end_by facts x s)) (sym at) ∙ ends.comes) fits.relations.inside };
   }
     where
       by_command : (x : Option Command) → RunsAfter later x s → RunsAfter later x (record s { ended = true; opened = []; locks = locks; last = at })

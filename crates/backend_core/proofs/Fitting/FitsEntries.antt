@@ -1,5 +1,5 @@
 -- What the choice keeps with an entry of a command that runs: a look, a fetch, a scan, a lock, a write, or one that is refused.
-use Rattle.std.proofs.Common.{◌≡◌, ◌≤◌, ◌+◌, ◌∙◌, ◌&&◌, inl, inr, ℕ, Bool, true, false, not, Option, Some, None, refl, sym, ap, subst, length, is_none, is_some, arith, List}
+use Rattle.std.proofs.Common.{◌≡◌, ◌≤◌, ◌+◌, ◌∙◌, ◌&&◌, ◌⊎◌, inl, inr, map, ℕ, Bool, true, false, not, Option, Some, None, refl, sym, ap, subst, length, is_none, is_some, arith, List}
 use Rattle.std.specs.Option.{option_map_or}
 use Rattle.std.proofs.lemmas.Bool.{both_ways}
 use Rattle.event_kinds.specs.declared.entry.Event.TheVariants as events
@@ -8,12 +8,13 @@ use Rattle.txn_blocks.specs.Blocks.{Block, Outside, Inside, Failed, no_block, is
 use Rattle.history_model.specs.Transactions.{Running, begun, is_visible}
 use Rattle.history_model.specs.Writes.{is_empty}
 use Rattle.cacheless.specs.Facts.{Facts}
-use Rattle.cacheless.specs.Session.{Session, number_of, outcome_of, is_settled, plan_first, refused_first}
+use Rattle.cacheless.specs.Session.{Session, opening_of, number_of, outcome_of, is_settled, plan_first, refused_first}
 use Rattle.cacheless.specs.Owed.{begins}
 use Rattle.cacheless.specs.State.{is_absent}
 use Rattle.cacheless.proofs.Entries.EnteredLooks.{not_absent}
 use Rattle.backend_core.specs.Types.{Command, Frame}
-use Rattle.backend_core.specs.Fits.{LooksFit, FramesFit, IsUnheld, first_at, LevelsRise, RunsBlock, RunsFailed, RunsBy, TransactionFits, Fits, IsLookedFor, TakesFit}
+use Rattle.backend_core.specs.Fits.{LooksFit, FramesFit, IsUnheld, first_at, LevelsRise, RunsBlock, RunsFailed, RunsBy, TransactionFits, Fits, IsLookedFor, TakesFit, OpensIn, AreHeld, OpensFit}
+use Rattle.backend_core.proofs.Fitting.OpenRelations.{held_all}
 use Rattle.backend_core.proofs.Fitting.NextTransaction.{some_first, failed_on}
 
 -- what such an entry leaves of the facts: its transaction runs, with its first command, and isn't visible
@@ -26,10 +27,23 @@ pub record StaysInside (facts later : Facts) (number : ℕ) : Type 0 where
 pub record StaysAt (s later : Session) : Type 0 where
   pub blocks : later.blocks ≡ s.blocks
   pub opens : later.opens ≡ s.opens
+  pub held : (later.opened ≡ s.opened) ⊎ (later.opened ≡ map opening_of s.opens)
   pub finished : length later.finished ≡ length s.finished
   pub blocked : later.blocked ≡ s.blocked
   pub ended : later.ended ≡ s.ended
   pub left : is_settled (outcome_of s.left) ≡ true → is_absent s.left ≡ false → later.left ≡ s.left
+
+-- what is held of the relations that are open goes on
+opens_stay : (o : Option Command) (s now : Session) → StaysAt s now → s.ended ≡ false → OpensFit o s → OpensFit o now
+opens_stay o s now same going fits = record {
+  inside = subst (λ b. OpensIn b.block now.opens) (sym same.blocks) (subst (OpensIn s.blocks.block) (sym same.opens) fits.inside);
+  held = λ on. subst (AreHeld now.opened) (sym same.opens) (by_held same.held);
+  over = λ over. absurd (both_ways _ (same.ended ∙ going) over);
+}
+  where
+    by_held : (now.opened ≡ s.opened) ⊎ (now.opened ≡ map opening_of s.opens) → AreHeld now.opened s.opens
+    by_held (inl is) = subst (λ held. AreHeld held s.opens) (sym is) (fits.held going)
+    by_held (inr is) = subst (λ held. AreHeld held s.opens) (sym is) (held_all s.opens)
 
 -- the plan with which the command began
 plan_then : (o : Option Command) (s later : Session) → StaysAt s later → plan_first s.blocks s.opens o ≡ plan_first later.blocks later.opens o
@@ -92,7 +106,7 @@ module _ (facts later : Facts) (o : Option Command) (s now : Session) (command :
 
 -- what the choice keeps
 pub fits_inside : (facts later : Facts) (o : Option Command) (s now : Session) (looked : Bool) (frames : List Frame) (told looked_now : Bool) (frames_now : List Frame) (told_now : Bool) (command : Command) → o ≡ Some command → Fits facts o s looked frames told → StaysInside facts later (number_of s) → StaysAt s now → RunsHere facts o s → is_visible facts.running ≡ false → s.ended ≡ false
-    → LooksFit later now looked_now frames_now told_now → FramesFit later o now frames_now → (looked_now ≡ true → IsLookedFor later now.taken now.left × IsUnheld now.opened now.left) → TakesFit (number_of now) now.locks now.taken now.left → Fits later o now looked_now frames_now told_now
+    → LooksFit later now looked_now frames_now told_now → FramesFit later o now frames_now → (looked_now ≡ true → IsLookedFor later frames_now now.taken now.left × IsUnheld now.opened now.left) → TakesFit (number_of now) now.locks now.taken now.left → Fits later o now looked_now frames_now told_now
 fits_inside facts later o s now looked frames told looked_now frames_now told_now command at fits stays same goes hidden going looks rebuilds sought takes = record {
   looks = λ _. looks;
   rebuilds = rebuilds;
@@ -108,6 +122,7 @@ fits_inside facts later o s now looked frames told looked_now frames_now told_no
   taken = λ from is. absurd (stays.last from is);
   accepts = λ _. ap (λ r. is_some r) stays.runs;
   past = λ none. absurd (let both : Some command ≡ None = sym at ∙ none in cc both);
+  relations = opens_stay o s now same going fits.relations;
   sought = λ made. (sought made).0;
   takes = takes;
   unheld = λ made. (sought made).1;

@@ -10,30 +10,32 @@ use Rattle.event_kinds.specs.declared.entry.Event.TheVariants as events
 use Rattle.history_model.specs.Transactions.{Running}
 use Rattle.history_model.specs.Writes.{is_empty}
 use Rattle.cacheless.specs.Facts.{Facts}
-use Rattle.cacheless.specs.Session.{Session, number_of, outcome_of, is_settled}
+use Rattle.cacheless.specs.Session.{Session, Outcome, Well, Badly, Unsettled, opening_of, number_of, outcome_of, is_settled}
 use Rattle.cacheless.specs.Owed.{OwesScan, owed_at_start, owed_after, scans_owed, owed_of, started_in, act_owed}
 use Rattle.cacheless.specs.Ends.{End, Ends, Commits, TakesBack, end_of, end_of_all, end_left, next_of_end}
-use Rattle.cacheless.specs.Settled.{act_done, is_finished, blocks_after, finished_as, next_session, class_oid, opened_by}
-use Rattle.cacheless.proofs.Plans.SilentActs.{both_empty, empty_list, IsDoneHere, gives_class}
+use Rattle.cacheless.specs.Settled.{act_done, is_finished, blocks_after, finished_as, next_session, class_oid, opened_by, opens_well, opens_after}
+use Rattle.cacheless.proofs.Plans.SilentActs.{both_empty, empty_list, IsDoneHere, gives_class, kept_already}
 use Rattle.backend_core.specs.Types.{Row, Command, Event, Frame, Opening}
-use Rattle.backend_core.specs.Fits.{looks_due, first_at, LevelsRise, RunsAt, RunsIn, RunsBy, RunsAfter, TransactionFits, IsPast, Fits, IsLookedFor, Lacks, Unfound, Said, FramesFit, IsUnheld, IsTakenBack}
+use Rattle.backend_core.specs.Fits.{looks_due, first_at, LevelsRise, RunsAt, RunsIn, RunsBy, RunsAfter, TransactionFits, IsPast, Fits, IsLookedFor, Lacks, Unfound, Said, FramesFit, IsUnheld, IsTakenBack, came_well}
 use Rattle.backend_core.proofs.Fitting.NextTransaction.{LevelsFit, levels_next, next_silent}
 use Rattle.cacheless.specs.Types.{Mode}
 use Rattle.cacheless.specs.State.{is_absent}
 use Rattle.backend_core.proofs.Fitting.Sought.{no_class, act_serves}
-use Rattle.backend_core.proofs.Fitting.Rebuilding.{bare_fits, builds_bare, owed_whole}
+use Rattle.backend_core.proofs.Fitting.Rebuilding.{bare_fits, builds_bare, owed_whole, owed_builds}
+use Rattle.backend_core.proofs.Fitting.OpenRelations.{held_front, passed_none, opens_next}
+use Rattle.cacheless.specs.Types.{OpenRelation}
 use Rattle.std.specs.List.{list_any}
 use Rattle.backend_core.specs.Frames.{lacks}
 use Rattle.std.proofs.lemmas.List.Folds.{list_any-append}
 
 -- a look that was made for an act is used, where that is done: then its lookup has found no relation, and the command says so
-absent_after : (facts : Facts) (s : Session) (act : Act) (further : List Row → Plan) (given : List Row) → IsDoneHere facts s act further given → ((name : List ℕ) (mode : Mode) → act ≡ Lookup name mode → class_oid given ≡ None → is_absent (further given) ≡ true)
-    → IsLookedFor facts s.taken (Do act further) → is_absent (further given) ≡ true
-absent_after facts s act further given done says (Said is) = absurd (cc is)
-absent_after facts s act further given done says (Lacks is) = absurd (both_ways _ (act_serves facts act further done.owed) is)
-absent_after facts s (Lookup name mode) further given done says (Unfound is look) =
+absent_after : (facts : Facts) (s : Session) (frames : List Frame) (act : Act) (further : List Row → Plan) (given : List Row) → IsDoneHere facts s act further given → ((name : List ℕ) (mode : Mode) → act ≡ Lookup name mode → class_oid given ≡ None → is_absent (further given) ≡ true)
+    → IsLookedFor facts frames s.taken (Do act further) → is_absent (further given) ≡ true
+absent_after facts s frames act further given done says (Said is) = absurd (cc is)
+absent_after facts s frames act further given done says (Lacks is) = absurd (both_ways _ (act_serves facts act further done.owed) is)
+absent_after facts s frames (Lookup name mode) further given done says (Unfound is look bare) =
     says name mode refl (sym (gives_class facts s mode (facts.rows (scans.RelName name)) given done.gave) ∙ no_class (facts.rows (scans.RelName name)) (and_parts (is_none s.taken && facts.usable (scans.RelName name)) _ is).1)
-absent_after facts s act further given done says (Unfound is look) = absurd (cc is)
+absent_after facts s frames act further given done says (Unfound is look bare) = absurd (cc is)
 
 -- such a command opens nothing
 absent_unheld : (held : List Opening) (p : Plan) → is_absent p ≡ true → IsUnheld held p
@@ -50,7 +52,7 @@ pub fits_act : (facts : Facts) (o : Option Command) (s : Session) (looked : Bool
 fits_act facts o s looked frames told command act further given at left going done says fits = record {
   rebuilds = subst (FramesFit facts o (act_done act given (further given) s)) (sym (builds_bare facts o s frames fits.rebuilds done.builds)) (bare_fits facts o (act_done act given (further given) s)
       (λ keeps. list_any-append (lacks facts.usable) s.opened (opened_by act) ∙ or_from (list_any (lacks facts.usable) s.opened) (list_any (lacks facts.usable) (opened_by act)) (owed_whole facts s.opened done.builds) (opened_whole facts act further done.owed)));
-  looks = λ _. let l = fits.looks going in record { enough = l.enough; within = l.within };
+  looks = λ _. let l = fits.looks going in record { enough = l.enough; within = omega (arith, l.within, ap came_well left) };
   transaction = subst (TransactionFits facts o (act_done act given (further given) s)) (sym going) (by_block s.blocks.block (subst (TransactionFits facts o s) going fits.transaction));
   first = fits.first;
   opens = fits.opens;
@@ -62,13 +64,14 @@ fits_act facts o s looked frames told command act further given at left going do
   taken = λ from is. absurd (unsettled (fits.taken from is).out);
   accepts = fits.accepts;
   past = λ none. absurd (let both : Some command ≡ None = sym at ∙ none in cc both);
+  relations = record { inside = fits.relations.inside; held = λ on. held_front s.opened (opened_by act) s.opens (fits.relations.held on); over = λ over. absurd (both_ways _ going over) };
   sought = λ is. Said (absent is);
   takes = tt;
   unheld = λ is. absent_unheld (s.opened ++ opened_by act) (further given) (absent is);
 }
   where
     absent : looked ≡ true → is_absent (further given) ≡ true
-    absent made = absent_after facts s act further given done says (subst (IsLookedFor facts s.taken) left (fits.sought made))
+    absent made = absent_after facts s frames act further given done says (subst (IsLookedFor facts frames s.taken) left (fits.sought made))
 
     unsettled : is_settled (outcome_of s.left) ≡ true → ⊥
     unsettled out = both_ways _ (ap (λ p. is_settled (outcome_of p)) left) out
@@ -85,9 +88,10 @@ record IsFinished (facts : Facts) (command : Command) (s : Session) : Type 0 whe
   none : is_none (end_left facts command s) ≡ true
   first : owed_at_start facts command s ≡ []
   after : owed_after facts.last ≡ []
+  owed : owed_of facts command s ≡ []
 
 parts_of : (facts : Facts) (command : Command) (s : Session) → is_finished facts command s ≡ true → IsFinished facts command s
-parts_of facts command s is = record { out = front.0; none = front.1; first = (both_empty (owed_at_start facts command s) (owed_after facts.last) owed).0; after = (both_empty (owed_at_start facts command s) (owed_after facts.last) owed).1 }
+parts_of facts command s is = record { out = front.0; none = front.1; first = (both_empty (owed_at_start facts command s) (owed_after facts.last) owed).0; after = (both_empty (owed_at_start facts command s) (owed_after facts.last) owed).1; owed = empty_list (owed_of facts command s) both.1 }
   where
     both : (is_settled (outcome_of s.left) && is_none (end_left facts command s) ≡ true) × (is_empty (owed_of facts command s) ≡ true)
     both = and_parts (is_settled (outcome_of s.left) && is_none (end_left facts command s)) (is_empty (owed_of facts command s)) is
@@ -134,7 +138,7 @@ not_started number (Some t) low = ap (λ x. elim x as (λ y. ℕ) [ true ↦ 1 |
 -- a command that is finished is passed over
 pub fits_pass : (facts : Facts) (o : Option Command) (s : Session) (looked : Bool) (frames : List Frame) (told : Bool) (command : Command) (next : Option Command) → o ≡ Some command → is_finished facts command s ≡ true → Fits facts o s looked frames told → Fits facts next (next_session command next s) false [] false
 fits_pass facts o s looked frames told command next at finished fits = record {
-  rebuilds = bare_fits facts next now (λ keeps. refl);
+  rebuilds = bare_fits facts next now (λ keeps. open_whole);
   looks = λ going. record {
     enough = omega (arith, started);
     within = omega (arith, ap looks_due done.after);
@@ -150,6 +154,7 @@ fits_pass facts o s looked frames told command next at finished fits = record {
       ap (next_of_end facts) (subst (λ x. end_of facts x s ≡ Commits (first_at facts)) (one c.command c.at) c.end)));
   taken = λ from is. absurd (gone_unfinished facts o s looked frames told command from at finished fits is);
   accepts = fits.accepts;
+  relations = opens_next o next s command at fits.settled fits.relations;
   past = λ none. subst (λ x. IsPast facts (next_session command x s)) (sym none) (record { out = refl; free = done.after });
   sought = λ is. absurd (cc is);
   takes = tt;
@@ -161,6 +166,21 @@ fits_pass facts o s looked frames told command next at finished fits = record {
 
     done : IsFinished facts command s
     done = parts_of facts command s finished
+
+    -- none of the relations that are open then lacks a scan: their descriptors were held, and none of those did
+    open_whole : list_any (lacks facts.usable) now.opened ≡ false
+    open_whole = by_ended s.ended refl
+      where
+        by_outcome : s.ended ≡ false → (x : Outcome) → outcome_of s.left ≡ x → list_any (lacks facts.usable) (map opening_of (elim x as (λ y. List OpenRelation) [ Well ↦ opens_well (number_of s) command s.opened s.opens | outcome ↦ [] ])) ≡ false
+        by_outcome going Well is = ap (λ y. list_any (lacks facts.usable) (map opening_of (elim y as (λ z. List OpenRelation) [ Well ↦ opens_well (number_of s) command s.opened s.opens | outcome ↦ [] ]))) (sym is)
+            ∙ passed_none (lacks facts.usable) s.opened s.opens (fits.relations.held going)
+            (owed_whole facts s.opened (owed_builds facts s command (λ badly. let both : Well ≡ Badly = sym is ∙ badly in cc both) done.owed)) s.left (number_of s) command
+        by_outcome going Badly is = refl
+        by_outcome going Unsettled is = refl
+
+        by_ended : (t : Bool) → s.ended ≡ t → list_any (lacks facts.usable) (map opening_of (opens_after command s)) ≡ false
+        by_ended true over = ap (λ l. list_any (lacks facts.usable) (map opening_of l)) (fits.relations.over over command at)
+        by_ended false going = by_outcome going (outcome_of s.left) refl
 
     counts : number_of now ≡ number_of s + 1
     counts = ap (λ n. n + 1) (length_push s.finished (finished_as s))

@@ -1,5 +1,5 @@
 -- What a look was made for, and the lock that a lookup took.
-use Rattle.std.proofs.Common.{◌≡◌, ◌∙◌, ◌==◌, ◌&&◌, ◌||◌, ℕ, Bool, true, false, not, Option, Some, None, List, [], ◌∷◌, ◌++◌, refl, sym, ap, map, is_none, is_some, slice_get}
+use Rattle.std.proofs.Common.{◌≡◌, ◌∙◌, ◌==◌, ◌&&◌, ◌||◌, ℕ, Bool, true, false, not, Option, Some, None, List, [], ◌∷◌, ◌++◌, refl, sym, ap, map, is_none, is_some, slice_get, ◌≤◌, ◌⊎◌, inl, inr, arith}
 use Rattle.std.specs.List.{find, list_any}
 use Rattle.std.specs.Option.{option_map_or}
 use Rattle.std.proofs.lemmas.Bool.{and_parts, both_ways, eq-eqb, and_from, false_from_ne_true}
@@ -24,8 +24,8 @@ use Rattle.cacheless.proofs.Resting.{kept_rows}
 use Rattle.cacheless.proofs.Same.{builds_of}
 use Rattle.cacheless.proofs.Plans.SilentActs.{kept_already}
 use Rattle.cacheless.proofs.ReadsBuilds.{ReadsBuilds}
-use Rattle.backend_core.specs.Types.{Oid, Mode, Row, Purpose, OwnLock, Opening, Progress}
-use Rattle.backend_core.specs.Fits.{TakesFit, IsLookedFor, Lacks, Unfound, Said, IsUnheld, lacks_scan, finds_no_name, is_look}
+use Rattle.backend_core.specs.Types.{Oid, Mode, Row, Purpose, OwnLock, Opening, Progress, Frame}
+use Rattle.backend_core.specs.Fits.{TakesFit, IsLookedFor, Lacks, Unfound, Said, IsUnheld, lacks_scan, finds_no_name, is_look, came_well}
 use Rattle.backend_core.specs.Frames.{lacks, IsAmong}
 use Rattle.backend_core.proofs.Fitting.Rebuilding.{found_none, usable_is}
 use Rattle.backend_core.proofs.Stacking.Among.{find_all, oid_apart}
@@ -58,10 +58,34 @@ takes_cleared false number locks (Some rel) (Fails error) takes = tt
 takes_cleared false number locks (Some rel) NotBuilt takes = tt
 
 -- a look more leaves what one was made for
-pub sought_looked : (facts later : Facts) (taken : Option Oid) (p : Plan) → later.usable ≡ facts.usable → later.rows ≡ facts.rows → is_look later.last ≡ true → IsLookedFor facts taken p → IsLookedFor later taken p
-sought_looked facts later taken p usable rows look (Lacks is) = Lacks (ap (λ u. lacks_scan (record facts { usable = u }) p) usable ∙ is)
-sought_looked facts later taken p usable rows look (Unfound is last) = Unfound ((λ i. finds_no_name (record facts { usable = usable i; rows = rows i }) taken p) ∙ is) look
-sought_looked facts later taken p usable rows look (Said is) = Said is
+pub sought_looked : (facts later : Facts) (frames : List Frame) (taken : Option Oid) (p : Plan) → later.usable ≡ facts.usable → later.rows ≡ facts.rows → is_look later.last ≡ true → IsLookedFor facts frames taken p → IsLookedFor later frames taken p
+sought_looked facts later frames taken p usable rows look (Lacks is) = Lacks (ap (λ u. lacks_scan (record facts { usable = u }) p) usable ∙ is)
+sought_looked facts later frames taken p usable rows look (Unfound is last bare) = Unfound ((λ i. finds_no_name (record facts { usable = usable i; rows = rows i }) taken p) ∙ is) look bare
+sought_looked facts later frames taken p usable rows look (Said is) = Said is
+
+-- so does one for a rebuild, before which something is rebuilt
+pub sought_rebuilt : (facts later : Facts) (frames now : List Frame) (taken : Option Oid) (p : Plan) → later.usable ≡ facts.usable → (frames ≡ [] → ⊥) → IsLookedFor facts frames taken p → IsLookedFor later now taken p
+sought_rebuilt facts later frames now taken p usable some (Lacks is) = Lacks (ap (λ u. lacks_scan (record facts { usable = u }) p) usable ∙ is)
+sought_rebuilt facts later frames now taken p usable some (Unfound is last bare) = absurd (some bare)
+sought_rebuilt facts later frames now taken p usable some (Said is) = Said is
+
+-- a command comes out once
+pub well_most : (p : Plan) → came_well p ≤ 1
+well_most (Done told) = omega arith
+well_most (Fails error) = omega arith
+well_most (Absent name) = omega arith
+well_most NotBuilt = omega arith
+well_most (Do act rest) = omega arith
+
+-- one that hasn't come out hasn't come out well
+pub well_settled : (p : Plan) → is_settled (outcome_of p) ≡ false → came_well p ≡ 0
+well_settled (Done told) is = absurd (cc is)
+well_settled p is = refl
+
+-- nor has one that found no relation
+pub well_there : (p : Plan) → is_absent p ≡ true → came_well p ≡ 0
+well_there (Absent name) is = refl
+well_there p is = absurd (cc is)
 
 -- what the code holds to have found no relation has found none
 pub unfound_facts : (facts : Facts) (s : Progress) (p : Plan) → FactsFit facts s → is_unfound s p ≡ true → finds_no_name facts s.taken p ≡ true
@@ -140,10 +164,10 @@ act_serves facts (Open rel kind) rest none = found_none (λ scan. not (facts.usa
 act_serves facts act rest none = refl
 
 -- no look was made where nothing is lacked, no lookup has failed, and none says so
-pub no_look : (facts : Facts) (taken : Option Oid) (p : Plan) → lacks_scan facts p ≡ false → finds_no_name facts taken p ≡ false → is_absent p ≡ false → {X : Type 0} → IsLookedFor facts taken p → X
-no_look facts taken p serves found there (Lacks is) = absurd (both_ways _ serves is)
-no_look facts taken p serves found there (Unfound is look) = absurd (both_ways _ found is)
-no_look facts taken p serves found there (Said is) = absurd (both_ways _ there is)
+pub no_look : (facts : Facts) (frames : List Frame) (taken : Option Oid) (p : Plan) → lacks_scan facts p ≡ false → finds_no_name facts taken p ≡ false → is_absent p ≡ false → {X : Type 0} → IsLookedFor facts frames taken p → X
+no_look facts frames taken p serves found there (Lacks is) = absurd (both_ways _ serves is)
+no_look facts frames taken p serves found there (Unfound is look bare) = absurd (both_ways _ found is)
+no_look facts frames taken p serves found there (Said is) = absurd (both_ways _ there is)
 
 -- a lookup that asks for a lock has found a relation
 pub lock_found : (facts : Facts) (taken : Option Oid) (p : Plan) (rel : Oid) (mode : Mode) → IsLock facts p rel mode → finds_no_name facts taken p ≡ false
