@@ -1,23 +1,29 @@
 -- In a command that acts or scans, and whose transaction's first look is made, a transaction runs.
-use Rattle.std.proofs.Common.{◌≡◌, ◌≢◌, ◌∙◌, ◌&&◌, ◌||◌, inl, inr, Bool, true, false, not, Option, Some, None, List, [], ◌∷◌, refl, sym, ap, subst, is_none, is_some, ℕ}
+use Rattle.std.proofs.Common.{◌≡◌, ◌≢◌, ◌∙◌, ◌&&◌, ◌||◌, inl, inr, Bool, true, false, not, Option, Some, None, List, [], ◌∷◌, refl, sym, ap, subst, map, length, nat_le, is_none, is_some, ℕ}
+use Rattle.std.specs.Prelude.{⊤}
+use Rattle.std.specs.Option.{option_map_or}
+use Rattle.base_types.specs.Fields.{has_field}
+use Rattle.base_types.specs.declared.command.NewColumn.{NewColumn}
+use Rattle.base_types.specs.declared.dropped.TheConstants.{MOST_COLUMNS}
 use Rattle.std.specs.List.{list_any}
 use Rattle.std.proofs.lemmas.Bool.{both_ways}
 use Rattle.std.proofs.lemmas.Option.{slice_get_within, get_or_from_slice_get}
 use Rattle.base_types.specs.declared.command.Command.TheVariants as commands
 use Rattle.command_answers.specs.declared.error.CommandError.TheVariants as errors
 use Rattle.txn_blocks.specs.Blocks.{Block, Outside, Inside, Failed, no_block, ends_block, ends_failure, refused_in, refused_by}
-use Rattle.ddl_effect.specs.Commands.{plan_of}
+use Rattle.ddl_effect.specs.Commands.{plan_of, if_passes, if_no_column, first_twice, writing, new_table, told_fields, peeking, closing}
+use Rattle.ddl_effect.specs.Opens.{latest_open}
 use Rattle.ddl_effect.specs.declared.told.Told.TheVariants as tells
-use Rattle.ddl_effect.specs.Plans.{Act, Plan, Done, Fails, Absent, NotBuilt, Do, Lookup}
+use Rattle.ddl_effect.specs.Plans.{Act, Plan, Done, Fails, Absent, NotBuilt, Do, Lookup, told_rests_on}
 use Rattle.ddl_effect.specs.Stages.{plan_at}
 use Rattle.cacheless.specs.Facts.{Facts, facts_of}
-use Rattle.cacheless.specs.May.{is_first_missing, is_next_of_act, has_failed, is_next_at}
+use Rattle.cacheless.specs.May.{is_missing, is_first_missing, is_next_of_act, has_failed, is_next_at}
 use Rattle.cacheless.specs.OnCourse.{OnItsWay, AllOnCourse}
 use Rattle.cacheless.specs.Owed.{Owes, OwesLook, begins, owed_at_start}
 use Rattle.cacheless.specs.Runs.{runs}
-use Rattle.cacheless.specs.Session.{Session, Unsettled, Badly, none_open, outcome_of, is_settled, plan_admitted, plan_first, refused_first}
+use Rattle.cacheless.specs.Session.{opening_of, Session, Unsettled, Badly, none_open, outcome_of, is_settled, plan_admitted, plan_first, refused_first}
 use Rattle.cacheless.specs.State.{kept_at, owed_first, is_absent}
-use Rattle.cacheless.specs.Types.{CommandError, Told, OpenRelation}
+use Rattle.cacheless.specs.Types.{Field, Draft, CommandError, Told, OpenRelation}
 use Rattle.ddl_effect.proofs.HasPlan.{built_alike}
 use Rattle.cacheless.proofs.Plans.ActOrder.{FollowsOrder, follows_order}
 use Rattle.cacheless.proofs.Same.{start_owed}
@@ -27,11 +33,45 @@ use Rattle.cacheless.proofs.Tests.{and_true, not_true, or_either}
 use Rattle.cacheless.proofs.Plans.Ways.{acts as acting, none_reached}
 use Rattle.backend_core.specs.Types.{Row, Purpose, Command, Scenario, Entry, Backend, Frame}
 use Rattle.backend_core.specs.Agrees.{command_at, AwaitsEntry}
-use Rattle.backend_core.specs.Fits.{RunsBy, TransactionFits, Fits}
+use Rattle.backend_core.specs.Fits.{RunsBy, TransactionFits, OpensIn, Fits}
 use Rattle.backend_core.specs.Steps.{FindsNone, Looks, Says}
 use Rattle.backend_core.specs.Words.{is_unfound}
 use Rattle.backend_core.proofs.Fitting.NextTransaction.{some_first}
 use Rattle.backend_core.proofs.Own.{waiting, follows, going}
+
+-- a plan that is over at its beginning tells of nothing that rests on a scan
+abbrev RestsFirst : Plan → Type 0
+RestsFirst (Done told) = told_rests_on told ≡ None
+RestsFirst plan = ⊤
+
+rests_creating : (passes : Bool) (twice : Option (List ℕ)) (draft : Draft) → RestsFirst (if_passes passes errors.TooManyColumns (if_no_column twice (writing draft)))
+rests_creating false twice draft = tt
+rests_creating true None draft = tt
+rests_creating true (Some column) draft = tt
+
+rests_peeking : (name : List ℕ) (field : Option Field) (latest : Option OpenRelation) → RestsFirst (peeking name field latest)
+rests_peeking name field None = tt
+rests_peeking name None (Some o) = refl
+rests_peeking name (Some field) (Some o) = by_test (has_field o.kind field)
+  where
+    by_test : (t : Bool) → RestsFirst (if_passes t (errors.NoField name field) (Done (told_fields (Some field) o.rel o.kind)))
+    by_test true = refl
+    by_test false = tt
+
+rests_closing : (name : List ℕ) (latest : Option OpenRelation) → RestsFirst (closing name latest)
+rests_closing name None = tt
+rests_closing name (Some o) = refl
+
+rests_first : (opens : List OpenRelation) (command : Command) → RestsFirst (plan_of opens command)
+rests_first opens commands.Begin = refl
+rests_first opens commands.Commit = refl
+rests_first opens commands.Rollback = refl
+rests_first opens (commands.Show name None) = tt
+rests_first opens (commands.Show name (Some field)) = tt
+rests_first opens (commands.CreateTable name columns) = rests_creating (nat_le (length columns) MOST_COLUMNS) (first_twice [] (map (λ (c : NewColumn). c.name) columns)) (new_table name columns)
+rests_first opens (commands.Peek name field) = rests_peeking name field (latest_open name opens)
+rests_first opens (commands.CloseRel name) = rests_closing name (latest_open name opens)
+rests_first opens command = tt
 
 -- a command that the blocks refuse fails
 refused_badly : (o : Option Command) (s : Session) → is_some (refused_first s.blocks o) ≡ true → outcome_of (plan_first s.blocks s.opens o) ≡ Badly
@@ -138,18 +178,31 @@ module _ (scenario : Scenario) (seen : List Entry) (s : Backend) (waits : Awaits
 
   -- before a scan
   pub scan_runs : (scan : Purpose) → is_next_at scan s.progress ≡ true → owed_first s.progress command ≡ [] → is_some (facts_of seen s.progress.id).running ≡ true
-  scan_runs scan next free = runs_here free (λ badly. both_ways _ (not_true (has_failed s.progress) both.0) (ap (λ o. elim o as (λ x. Bool) [ Badly ↦ true | other ↦ false ]) badly))
-      (λ told none. or_either (list_any (λ o. is_first_missing scan (kept_at s.progress) o.kind o.rel) s.progress.opened) (is_next_of_act scan s.progress (plan_at s.progress.opens s.progress.exec)) both.1
-      (λ opened. both_ways _ (ap (list_any (λ o. is_first_missing scan (kept_at s.progress) o.kind o.rel)) ((follows scenario seen s waits courses command at).plain told none).opened) opened)
-      (λ act. by_plan (plan_at s.progress.opens s.progress.exec) refl act told none))
+  scan_runs scan next free = by_block s.progress.blocks.block refl waits.fits.relations.inside
     where
+      going_on : (waiting waits).ended ≡ false
+      going_on = going scenario seen s waits courses command at
+
       both : (not (has_failed s.progress) ≡ true) × ((list_any (λ o. is_first_missing scan (kept_at s.progress) o.kind o.rel) s.progress.opened || is_next_of_act scan s.progress (plan_at s.progress.opens s.progress.exec)) ≡ true)
       both = and_true (not (has_failed s.progress)) _ next
 
       by_plan : (p : Plan) → plan_at s.progress.opens s.progress.exec ≡ p → is_next_of_act scan s.progress p ≡ true → DoesSome (plan_of s.progress.opens command)
       by_plan (Do act rest) is of = acts_none act rest is
-      by_plan (Done (tells.Regclass oid)) is of = λ told none. subst FollowsOrder (none ∙ sym (((follows scenario seen s waits courses command at).plain told none).left (ap outcome_of is)) ∙ is) (follows_order s.progress.opens command (built_alike s.progress.opens none_open command ∙ built))
-      by_plan (Done told) is of = absurd (cc of)
-      by_plan (Fails error) is of = absurd (cc of)
-      by_plan (Absent name) is of = absurd (cc of)
-      by_plan NotBuilt is of = absurd (cc of)
+      by_plan (Done told) is of = λ given none. both_ways _ (ap (λ o. option_map_or (is_missing scan (kept_at s.progress)) o false)
+          (subst RestsFirst (none ∙ sym (((follows scenario seen s waits courses command at).plain given none).left (ap outcome_of is)) ∙ is) (rests_first s.progress.opens command))) of
+      by_plan p is of = absurd (cc of)
+
+      -- where no relation is open before the command
+      none_opened : s.progress.opens ≡ [] → (told : Told) → plan_of s.progress.opens command ≡ Done told → s.progress.opened ≡ []
+      none_opened none told is = ((follows scenario seen s waits courses command at).plain told is).opened going_on ∙ ap (map opening_of) none
+
+      outside : s.progress.opens ≡ [] → is_some (facts_of seen s.progress.id).running ≡ true
+      outside none = runs_here free (λ badly. both_ways _ (not_true (has_failed s.progress) both.0) (ap (λ o. elim o as (λ x. Bool) [ Badly ↦ true | other ↦ false ]) badly))
+          (λ told is. or_either (list_any (λ o. is_first_missing scan (kept_at s.progress) o.kind o.rel) s.progress.opened) (is_next_of_act scan s.progress (plan_at s.progress.opens s.progress.exec)) both.1
+          (λ opened. both_ways _ (ap (list_any (λ o. is_first_missing scan (kept_at s.progress) o.kind o.rel)) (none_opened none told is)) opened)
+          (λ act. by_plan (plan_at s.progress.opens s.progress.exec) refl act told is))
+
+      by_block : (block : Block) → s.progress.blocks.block ≡ block → OpensIn block s.progress.opens → is_some (facts_of seen s.progress.id).running ≡ true
+      by_block Outside is none = outside none
+      by_block Failed is none = outside none
+      by_block Inside is opens = (subst (RunsBy (facts_of seen s.progress.id) (command_at s) (waiting waits)) is (subst (TransactionFits (facts_of seen s.progress.id) (command_at s) (waiting waits)) going_on waits.fits.transaction)).runs

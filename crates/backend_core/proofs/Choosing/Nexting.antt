@@ -96,7 +96,7 @@ takes_back_next s command next from still free out ready accepted end comes = en
 
 -- a command whose end waits for no scan makes an entry
 pub never_ends : (s : Backend) (command : Command) → IsAtRest s.progress → IsFree s.progress command → is_out s.progress ≡ true → WaitsForNone s command → end_at s.progress command ≡ Ends → ⊥
-never_ends s command still free out (inl lacks) end = both_ways _ refl (end_is s.progress command Ends still free out lacks end).1
+never_ends s command still free out (inl lacks) end = both_ways _ (end_is s.progress command Ends still free out lacks end).1 refl
 never_ends s command still free out (inr gone) end = let no : Ends ≡ TakesBack gone.from = sym end ∙ gone.end in cc no
 
 -- a plan that wants something isn't that of a command whose writes were taken back
@@ -106,7 +106,7 @@ wants_nothing want = false
 
 pub whole_of : (s : Backend) (command : Command) (want : Want) → IsWhole s command → want_of (plan_at s.progress.opens s.progress.exec) ≡ want → wants_nothing want ≡ false → lacks_opened (kept_at s.progress) s.progress.opened ≡ false
 whole_of s command want (inl whole) at other = whole
-whole_of s command want (inr gone) at other = absurd (both_ways _ (ap wants_nothing (sym at ∙ gone.wants)) other)
+whole_of s command want (inr gone) at other = absurd (both_ways _ other (ap wants_nothing (sym at ∙ gone.wants)))
 
 -- a command that has failed lacks nothing
 pub failed_lacks : (s : Backend) (command : Command) → has_failed s.progress ≡ true → WaitsForNone s command
