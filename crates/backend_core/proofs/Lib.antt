@@ -9,3 +9,4 @@ pub mod Choosing
 pub mod Silent
 pub mod Entries
 pub mod NewFacts
+pub mod BuildsBegin

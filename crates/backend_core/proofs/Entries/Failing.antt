@@ -1,5 +1,5 @@
 -- An entry that shows an error, which ends its command: a lock or a write that is refused.
-use Rattle.std.proofs.Common.{◌≡◌, ◌≢◌, ◌+◌, ◌∙◌, ℕ, true, false, Some, None, List, [], refl, sym, ap, subst, length, drop, is_some, arith, Option, not, ◌&&◌}
+use Rattle.std.proofs.Common.{inl, ◌≡◌, ◌≢◌, ◌+◌, ◌∙◌, ℕ, true, false, Some, None, List, [], refl, sym, ap, subst, length, drop, is_some, arith, Option, not, ◌&&◌}
 use Rattle.std.proofs.lemmas.Bool.{both_ways}
 use Rattle.event_kinds.specs.declared.entry.Event.TheVariants as events
 use Rattle.row_visibility.specs.declared.clash.Clash.{Clash}

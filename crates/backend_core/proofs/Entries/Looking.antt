@@ -28,7 +28,7 @@ use Rattle.cacheless.specs.Sessions.{entered}
 use Rattle.cacheless.specs.State.{kept_at, owed_at, owed_first, begins_in, one_if, running_of, is_kept, is_absent}
 use Rattle.backend_core.specs.Types.{Command, Scenario, Entry, Event, Progress, Backend, Frame, Purpose, Opening}
 use Rattle.backend_core.specs.Agrees.{IsPlayed, command_at, AwaitsEntry}
-use Rattle.backend_core.specs.Fits.{looks_due, LooksFit, Fits, IsLookedFor, Lacks, Unfound, Said, FramesFit, IsTakenBack, IsUnheld, looked_in, looked_on_top, told_owed}
+use Rattle.backend_core.specs.Fits.{looks_due, LooksFit, Fits, IsLookedFor, Lacks, Unfound, Said, FramesFit, IsTakenBack, IsUnheld, looked_in, looked_on_top, told_owed, lacks_scan}
 use Rattle.backend_core.specs.Steps.{OwesLookNow, IsLookNext, Enters, IsScanNext, FindsNone, Looks, Says, IsAcceptNext, IsInTurn}
 use Rattle.backend_core.specs.Words.{has_error, is_looked_for, is_unfound, scan_on_top, frames_looked}
 use Rattle.backend_core.proofs.Choosing.ActsRun.{scan_runs, find_runs}
@@ -36,13 +36,13 @@ use Rattle.backend_core.proofs.Choosing.Chosen.{Busy, Due, Begins, Scans, Starts
 use Rattle.backend_core.proofs.Fitting.Entered.{fits_at}
 use Rattle.backend_core.proofs.Fitting.FitsEntries.{RunsHere, Goes, Starts, fits_inside}
 use Rattle.backend_core.proofs.Own.{waiting, going, own_enters, follows}
-use Rattle.backend_core.proofs.Fitting.Sought.{takes_cleared, unfound_facts, sought_looked, sought_rebuilt, next_act, well_most}
+use Rattle.backend_core.proofs.Fitting.Sought.{takes_cleared, unfound_facts, sought_looked, sought_rebuilt, next_act, well_most, unheld_lacking}
 use Rattle.ddl_effect.specs.Stages.{plan_at}
 use Rattle.ddl_effect.specs.Plans.{Plan, left_rests_on, told_rests_on, Done, Do, Absent, Open, Lookup, Search, Read, Lock, Write}
-use Rattle.backend_core.proofs.Fitting.Rebuilding.{same_fits, owed_bare, look_fit}
+use Rattle.backend_core.proofs.Fitting.Rebuilding.{same_fits, owed_bare, look_fit, none_lacks}
 use Rattle.backend_core.proofs.Stacking.Looked.{in_push, top_looked, top_most, told_push}
 use Rattle.backend_core.proofs.Stacking.Stacks.{IsSplit, split, top_push, on_top_push}
-use Rattle.backend_core.specs.Frames.{top, on_top, with_look}
+use Rattle.backend_core.specs.Frames.{top, on_top, with_look, IsStack}
 use Rattle.std.specs.List.{find, list_any, cons_option}
 use Rattle.base_types.specs.Scans.{same_oid, build_scans}
 use Rattle.cacheless.specs.ActsDone.{made_in, relation_by, opening_by}
@@ -270,21 +270,23 @@ on_top_of s scan turn = by_split (split s.frames)
 pub on_some : (s : Backend) (scan : Purpose) → IsOnTop s scan → s.frames ≡ [] → ⊥
 on_some s scan on none = let no_top : None ≡ Some on.parts.one = sym (ap top none) ∙ ap top on.parts.is ∙ top_push on.parts.under on.parts.one in cc no_top
 
--- before a descriptor is opened no other one is held
-pub opens_unheld : (scenario : Scenario) (seen : List Entry) (s : Backend) (waits : AwaitsEntry scenario seen s) → AllOnCourse scenario seen → (command : Command) → command_at s ≡ Some command → IsUnheld (waiting waits).opened (waiting waits).left
-opens_unheld scenario seen s waits courses command at = by_plan (waiting waits).left refl
+-- a descriptor that lacks a scan isn't held, where nothing is rebuilt
+pub opens_unheld : (scenario : Scenario) (seen : List Entry) (s : Backend) (waits : AwaitsEntry scenario seen s) → AllOnCourse scenario seen → (command : Command) → command_at s ≡ Some command → Busy (facts_of seen s.progress.id).last s.progress command → s.frames ≡ []
+    → lacks_scan (facts_of seen s.progress.id) (waiting waits).left ≡ true → IsUnheld (waiting waits).opened (waiting waits).left
+opens_unheld scenario seen s waits courses command at busy bare lacking = by_plan (waiting waits).left refl lacking
   where
-    by_plan : (p : Plan) → (waiting waits).left ≡ p → IsUnheld (waiting waits).opened p
-    by_plan (Do (Open rel kind) rest) is = ap (list_any (λ o. same_oid rel o.rel)) (way.opened ∙ (at_opening (made_in relation_by way.gave (plan_of none_open command)) (made_in opening_by way.gave (plan_of none_open command)) rel kind rest (its_place seen s.progress.id (waiting waits) command (Open rel kind) rest way is)).1)
-      where
-        way : OnItsWay seen s.progress.id (waiting waits) command
-        way = on_its_way seen s.progress.id (waiting waits) command (Open rel kind) rest (follows scenario seen s waits courses command at) is
-    by_plan (Do (Lookup name mode) rest) is = tt
-    by_plan (Do (Search scan) rest) is = tt
-    by_plan (Do (Read scan) rest) is = tt
-    by_plan (Do (Lock rel mode) rest) is = tt
-    by_plan (Do (Write draft) rest) is = tt
-    by_plan p is = tt
+    facts : Facts
+    facts = facts_of seen s.progress.id
+
+    by_plan : (p : Plan) → (waiting waits).left ≡ p → lacks_scan facts p ≡ true → IsUnheld (waiting waits).opened p
+    by_plan (Do (Open rel kind) rest) is lacks_it = unheld_lacking facts.usable (waiting waits).opened rel kind
+        (none_lacks facts.usable (waiting waits).opened (subst (IsStack facts.usable (waiting waits).opened) bare (waits.fits.rebuilds.stack (λ i. not (standing scenario seen s waits command at busy i) && not (going scenario seen s waits courses command at i) && not (has_error (is i)))))) lacks_it
+    by_plan (Do (Lookup name mode) rest) is lacks_it = tt
+    by_plan (Do (Search scan) rest) is lacks_it = tt
+    by_plan (Do (Read scan) rest) is lacks_it = tt
+    by_plan (Do (Lock rel mode) rest) is lacks_it = tt
+    by_plan (Do (Write draft) rest) is lacks_it = tt
+    by_plan p is lacks_it = tt
 
 pub look_before_enters : (scenario : Scenario) (old new : List Entry) (had has : ℕ → ℕ) (was : Backend) (p : Progress) (some_wait rebuilds : Bool) (waits : AwaitsEntry scenario old was) → IsPlayed scenario old → AllOnCourse scenario old → IsLookNext rebuilds was → some_wait ≡ is_waiting old was.progress.id
     → HasEntered scenario old was.progress (events.Look some_wait) waits.rests p → kept_at p ≡ kept_at was.progress → p.answer ≡ None
@@ -313,7 +315,7 @@ look_before_enters scenario old new had has was p some_wait rebuilds waits playe
         (subst (λ l. LookCounts facts (waiting waits) next.next.command was.looked l was.told was.looked (on_top with_look l) was.told) (sym on.parts.is)
         (subst (λ l. LookCounts facts (waiting waits) next.next.command was.looked (on.parts.under ++ on.parts.one ∷ []) was.told was.looked l was.told) (sym (on_top_push with_look on.parts.under on.parts.one))
         (counts_rebuild facts (waiting waits) next.next.command was.looked was.told on.parts.under on.parts.one owed runs (sym on.looked ∙ unlooked)))))
-        new had has p played is (scan_busy scenario old was next.scan true waits scan) (look_fit facts (command_at was) (waiting waits) was.frames waits.fits.rebuilds) (stays scan) goes kept none appends
+        new had has p played is (scan_busy scenario old was next.scan rebuilds waits next.next) (look_fit facts (command_at was) (waiting waits) was.frames waits.fits.rebuilds) (stays scan) goes kept none appends
       where
         on : IsOnTop was next.scan
         on = on_top_of was next.scan scan.turn
@@ -323,8 +325,11 @@ look_before_enters scenario old new had has was p some_wait rebuilds waits playe
         (subst (λ l. LookCounts facts (waiting waits) next.next.command was.looked was.frames was.told l was.frames was.told) (sym (or-true was.looked))
         (subst (λ l. LookCounts facts (waiting waits) next.next.command was.looked l was.told true l was.told) (sym scan.turn.0)
         (counts_act facts (waiting waits) next.next.command was.looked was.told owed runs unlooked)))
-        new had has p played is (scan_busy scenario old was next.scan false waits scan) waits.fits.rebuilds
-        (λ made. (Lacks (next_act facts was.progress next.scan waits.rests.holds.facts (plan_at was.progress.opens was.progress.exec) scan.turn.1), opens_unheld scenario old was waits courses next.next.command next.next.free.at)) goes kept none appends
+        new had has p played is (scan_busy scenario old was next.scan rebuilds waits next.next) waits.fits.rebuilds
+        (λ made. (Lacks lacking, opens_unheld scenario old was waits courses next.next.command next.next.free.at (scan_busy scenario old was next.scan rebuilds waits next.next) scan.turn.0 lacking)) goes kept none appends
+      where
+        lacking : lacks_scan facts (plan_at was.progress.opens was.progress.exec) ≡ true
+        lacking = next_act facts was.progress next.scan waits.rests.holds.facts (plan_at was.progress.opens was.progress.exec) scan.turn.1
 
     by_kind : (t : Bool) → IsScanNext was next.scan t → is_looked_for t was ≡ false → Enters scenario old new had has was (record was { progress = p; looked = was.looked || not t; frames = frames_looked t was.frames })
     by_kind true scan unlooked = of_rebuild scan unlooked

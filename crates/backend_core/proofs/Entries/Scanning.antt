@@ -1,5 +1,5 @@
 -- The scans of a backend.
-use Rattle.std.proofs.Common.{◌≡◌, ◌≤◌, ◌+◌, ◌∙◌, ◌&&◌, ℕ, Bool, true, false, not, None, List, [], refl, sym, ap, subst, length, drop, arith, Some, ◌∷◌, ◌++◌, ◌||◌, cond, is_some}
+use Rattle.std.proofs.Common.{inl, ◌≡◌, ◌≤◌, ◌+◌, ◌∙◌, ◌&&◌, ℕ, Bool, true, false, not, None, List, [], refl, sym, ap, subst, length, drop, arith, Some, ◌∷◌, ◌++◌, ◌||◌, cond, is_some}
 use Rattle.std.proofs.lemmas.Bool.{both_ways, lt-ltb, and_parts}
 use Rattle.base_types.specs.Scans.{same_scan, build_scans}
 use Rattle.event_kinds.specs.declared.entry.Event.TheVariants as events
@@ -35,8 +35,9 @@ use Rattle.backend_core.proofs.Own.{waiting, going, OwnEntry, own_makes, own_ent
 use Rattle.backend_core.proofs.Fitting.Sought.{takes_cleared, built_leaves}
 use Rattle.cacheless.proofs.ReadsBuilds.{stage_reads}
 use Rattle.std.specs.List.{find, list_any}
-use Rattle.cacheless.proofs.Plans.SilentActs.{lookup_opens_none}
+use Rattle.backend_core.proofs.BuildsBegin.{AreBegun, builds_begin}
 use Rattle.base_types.proofs.SameScan.{same_scan-true}
+use Rattle.cacheless.proofs.Plans.SilentActs.{lookup_opens_none}
 use Rattle.backend_core.proofs.Fitting.Rebuilding.{usable_is, top_rebuilt}
 use Rattle.backend_core.proofs.Stacking.Looked.{in_push, top_most, told_push, told_most, scanned_less}
 use Rattle.backend_core.proofs.Stacking.Stacks.{top_push}
@@ -189,8 +190,8 @@ module _ (scenario : Scenario) (old : List Entry) (was : Backend) (waits : Await
     past = λ none. absurd (let both : Some next.command ≡ None = sym next.free.at ∙ none in cc both);
   }
 
-  scan_fits : Fits later (command_at was) now (was.looked && rebuilds) (frames_now rebuilds) was.told
-  scan_fits = inside_fits scenario old was waits courses next.command next.free.at later now (was.looked && rebuilds) (frames_now rebuilds) was.told same refl (λ from is. cc is) (record { blocks = refl; opens = refl; held = inl refl; finished = refl; blocked = refl; ended = refl; left = λ is there. refl })
+  scan_fits : AreBegun facts.usable → Fits later (command_at was) now (was.looked && rebuilds) (frames_now rebuilds) was.told
+  scan_fits begun = inside_fits scenario old was waits courses next.command next.free.at later now (was.looked && rebuilds) (frames_now rebuilds) was.told same refl (λ from is. cc is) (record { blocks = refl; opens = refl; held = inl refl; finished = refl; blocked = refl; ended = refl; left = λ is there. refl })
       (scan_runs scenario old was waits courses next.command next.free.at scan next.next next.free.first) (scan_busy scenario old was scan rebuilds waits next) looks_less rebuilds_now
       (λ made. sought rebuilds next.turn (and_parts was.looked rebuilds made)) (takes_cleared _ (number_of s) s.locks s.taken s.left waits.fits.takes)
     where
@@ -206,7 +207,7 @@ module _ (scenario : Scenario) (old : List Entry) (was : Backend) (waits : Await
           built = top_rebuilt facts (command_at was) s was.frames on.parts.one waits.fits.rebuilds (ap top on.parts.is ∙ top_push on.parts.under on.parts.one)
 
           by_case : IsLookedFor facts was.frames s.taken s.left → IsLookedFor later (frames_now true) s.taken s.left
-          by_case (Lacks lacks_it) = Lacks (built_leaves facts later scan was.progress.opened on.parts.one.opening s.left (stage_reads was.progress.exec) (first_of on) built.among (waits.fits.unheld made.0) refl lacks_it)
+          by_case (Lacks lacks_it) = Lacks (built_leaves facts later scan was.progress.opened on.parts.one.opening s.left (stage_reads was.progress.opens was.progress.exec) begun (first_of on) built.among (waits.fits.unheld made.0) refl lacks_it)
           by_case (Unfound finds look bare) = absurd (on_some was scan on bare)
           by_case (Said absent) = absurd (both_ways _ present absent)
 
@@ -217,7 +218,7 @@ module _ (scenario : Scenario) (old : List Entry) (was : Backend) (waits : Await
   scan_enters new had has p rows at played enters rows_are at_is kept none appends = subst (λ l. Enters scenario old new had has was (record was { progress = p; looked = was.looked && rebuilds; frames = l })) (sym (frames_are p rows at enters kept))
       (own_enters scenario old new had has was (record was { progress = p; looked = was.looked && rebuilds; frames = frames_now rebuilds }) event waits played courses scan_own enters
       (kept ∙ (λ i. kept_with scan (rows_are i) (at_is i) (kept_at was.progress)))
-      (fits_at scenario old was event waits p enters (was.looked && rebuilds) (frames_now rebuilds) was.told scan_fits)
+      (fits_at scenario old was event waits p enters (was.looked && rebuilds) (frames_now rebuilds) was.told (scan_fits (builds_begin scenario old played.plays was.progress.id)))
       refl refl refl (λ stop. cc stop) none appends)
     where
       frames_are : (q : Progress) (given : List Row) (place : ℕ) → HasEntered scenario old was.progress event waits.rests q → kept_at q ≡ kept_with scan given place (kept_at was.progress) → frames_noted rebuilds (is_kept (kept_at q)) q.opened was.frames ≡ frames_now rebuilds

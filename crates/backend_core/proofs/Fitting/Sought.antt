@@ -1,10 +1,11 @@
 -- What a look was made for, and the lock that a lookup took.
-use Rattle.std.proofs.Common.{◌≡◌, ◌∙◌, ◌==◌, ◌&&◌, ◌||◌, ℕ, Bool, true, false, not, Option, Some, None, List, [], ◌∷◌, ◌++◌, refl, sym, ap, map, is_none, is_some, slice_get, ◌≤◌, ◌⊎◌, inl, inr, arith}
-use Rattle.std.specs.List.{find, list_any}
+use Rattle.std.proofs.Common.{◌≡◌, ◌∙◌, ◌==◌, ◌&&◌, ◌||◌, ℕ, Bool, true, false, not, Option, Some, None, List, [], ◌∷◌, ◌++◌, refl, sym, ap, map, is_none, is_some, slice_get, ◌≤◌, ◌⊎◌, inl, inr, arith, cond, subst}
+use Rattle.std.specs.List.{find, list_any, AllByRecursion}
 use Rattle.std.specs.Option.{option_map_or}
-use Rattle.std.proofs.lemmas.Bool.{and_parts, both_ways, eq-eqb, and_from, false_from_ne_true}
+use Rattle.std.proofs.lemmas.Bool.{and_parts, both_ways, eq-eqb, and_from, or_left, or_right, false_from_ne_true}
 use Rattle.base_types.specs.Scans.{same_oid, same_scan, is_build_scan, build_scans}
 use Rattle.base_types.proofs.SameScan.{same_scan-true}
+use Rattle.base_types.specs.declared.kind.Kind.TheVariants.{Table, Index}
 use Rattle.base_types.specs.declared.row.Row.TheVariants as rows
 use Rattle.base_types.specs.declared.scan.Purpose.TheVariants as scans
 use Rattle.ddl_effect.specs.declared.told.Told.TheVariants as tells
@@ -24,12 +25,13 @@ use Rattle.cacheless.proofs.Resting.{kept_rows}
 use Rattle.cacheless.proofs.Same.{builds_of}
 use Rattle.cacheless.proofs.Plans.SilentActs.{kept_already}
 use Rattle.cacheless.proofs.ReadsBuilds.{ReadsBuilds}
-use Rattle.backend_core.specs.Types.{Oid, Mode, Row, Purpose, OwnLock, Opening, Progress, Frame}
-use Rattle.backend_core.specs.Fits.{TakesFit, IsLookedFor, Lacks, Unfound, Said, IsUnheld, lacks_scan, finds_no_name, is_look, came_well}
+use Rattle.backend_core.specs.Types.{Oid, Mode, Row, Purpose, OwnLock, Opening, Progress, Frame, Kind}
+use Rattle.backend_core.specs.Fits.{TakesFit, IsLookedFor, Lacks, Unfound, Said, IsUnheld, lacks_scan, finds_no_name, is_look, came_well, same_kind}
 use Rattle.backend_core.specs.Frames.{lacks, IsAmong}
-use Rattle.backend_core.proofs.Fitting.Rebuilding.{found_none, usable_is}
-use Rattle.backend_core.proofs.Stacking.Among.{find_all, oid_apart}
-use Rattle.backend_core.proofs.Stacking.Lacking.{with_scan, scan_apart}
+use Rattle.backend_core.proofs.Fitting.Rebuilding.{found_none, usable_is, each_whole}
+use Rattle.backend_core.proofs.Stacking.Among.{find_all, found_any, oid_is, oid_apart, IsWitness, any_among}
+use Rattle.backend_core.proofs.Stacking.Lacking.{with_scan, scan_apart, lacks_same}
+use Rattle.backend_core.proofs.BuildsBegin.{class_scan, AreBegun}
 use Rattle.backend_core.specs.Words.{relation_named, is_unfound}
 
 -- the first row is no relation's
@@ -132,9 +134,50 @@ next_act facts s scan fits p lacking = by_act p lacking
     by_act (Done (tells.Regclass oid)) is = missing_is (scans.RelOid oid) is
     by_act q is = absurd (cc is)
 
+-- where a relation's row isn't kept, no other scan for its descriptor is
+unbegun : (has : Purpose → Bool) (scan : Purpose) → AreBegun has → is_build_scan scan ≡ true → has (class_scan scan) ≡ false → has scan ≡ false
+unbegun has scan begun builds lacked = false_from_ne_true (has scan) (λ kept. both_ways _ lacked (begun scan builds kept))
+
+-- two kinds are one
+kind_is : (a b : Kind) → same_kind a b ≡ true → a ≡ b
+kind_is Table Table same = refl
+kind_is Index Index same = refl
+kind_is a b same = absurd (cc same)
+
+-- where no held descriptor lacks a scan, one that lacks some isn't held
+pub unheld_lacking : (has : Purpose → Bool) (held : List Opening) (rel : Oid) (kind : Kind) → list_any (lacks has) held ≡ false → lacks has (record { rel = rel; kind = kind }) ≡ true → list_any (λ o. same_oid rel o.rel && same_kind kind o.kind) held ≡ false
+unheld_lacking has held rel kind none lacking = false_from_ne_true _ (λ some. by_one (any_among (λ o. same_oid rel o.rel && same_kind kind o.kind) held some))
+  where
+    by_one : IsWitness (λ o. same_oid rel o.rel && same_kind kind o.kind) held → ⊥
+    by_one w = let same = and_parts (same_oid rel w.one.rel) (same_kind kind w.one.kind) w.is in
+        both_ways _ (each_whole has held w.one none w.among) ((λ i. lacks has (record { rel = sym (oid_is rel w.one.rel same.0) i; kind = sym (kind_is kind w.one.kind same.1) i })) ∙ lacking)
+
+-- a scan of one relation's descriptor leaves what another descriptor of it, of the other kind, lacks
+other_kind : (has : Purpose → Bool) (scan : Purpose) (rel : Oid) (kind built : Kind) → AreBegun has → same_kind kind built ≡ false → find (λ d. not (has d)) (build_scans built rel) ≡ Some scan
+    → lacks has (record { rel = rel; kind = kind }) ≡ true → lacks (with_scan scan has) (record { rel = rel; kind = kind }) ≡ true
+other_kind has scan rel Table Table begun differ first lacking = absurd (cc differ)
+other_kind has scan rel Index Index begun differ first lacking = absurd (cc differ)
+other_kind has scan rel Table Index begun differ first lacking = by_class (has (scans.Class rel)) refl first
+  where
+    by_class : (t : Bool) → has (scans.Class rel) ≡ t → cond (not t) (Some (scans.Class rel)) (find (λ d. not (has d)) (scans.IndexRow rel ∷ [])) ≡ Some scan → lacks (with_scan scan has) (record { rel = rel; kind = Table }) ≡ true
+    by_class true kept is = lacks_same has (with_scan scan has) (record { rel = rel; kind = Table })
+        (find_all (λ d. AllByRecursion (λ x. with_scan d has x ≡ has x) (build_scans Table rel)) (λ d. not (has d)) (scans.IndexRow rel ∷ []) scan ((refl, (refl, (refl, (refl, (refl, (refl, tt)))))), tt) is) ∙ lacking
+    by_class false lacked is = let it : scans.Class rel ≡ scan = cc is in subst (λ d. lacks (with_scan d has) (record { rel = rel; kind = Table }) ≡ true) it
+        (found_any (λ d. not (with_scan (scans.Class rel) has d)) (build_scans Table rel) ∙ or_right (not (with_scan (scans.Class rel) has (scans.Class rel))) _ (or_left (not (has (scans.Attribute rel))) _ (ap not (unbegun has (scans.Attribute rel) begun refl lacked))))
+other_kind has scan rel Index Table begun differ first lacking = by_class (has (scans.Class rel)) refl first
+  where
+    more : List Purpose
+    more = scans.Attribute rel ∷ scans.AttrDef rel ∷ scans.Constraint rel ∷ scans.Index rel ∷ scans.Trigger rel ∷ []
+
+    by_class : (t : Bool) → has (scans.Class rel) ≡ t → cond (not t) (Some (scans.Class rel)) (find (λ d. not (has d)) more) ≡ Some scan → lacks (with_scan scan has) (record { rel = rel; kind = Index }) ≡ true
+    by_class true kept is = lacks_same has (with_scan scan has) (record { rel = rel; kind = Index })
+        (find_all (λ d. AllByRecursion (λ x. with_scan d has x ≡ has x) (build_scans Index rel)) (λ d. not (has d)) more scan ((refl, (refl, tt)), ((refl, (refl, tt)), ((refl, (refl, tt)), ((refl, (refl, tt)), ((refl, (refl, tt)), tt))))) is) ∙ lacking
+    by_class false lacked is = let it : scans.Class rel ≡ scan = cc is in subst (λ d. lacks (with_scan d has) (record { rel = rel; kind = Index }) ≡ true) it
+        (found_any (λ d. not (with_scan (scans.Class rel) has d)) (build_scans Index rel) ∙ or_right (not (with_scan (scans.Class rel) has (scans.Class rel))) _ (or_left (not (has (scans.IndexRow rel))) _ (ap not (unbegun has (scans.IndexRow rel) begun refl lacked))))
+
 -- a scan for a held descriptor leaves it lacking
-pub built_leaves : (facts later : Facts) (scan : Purpose) (held : List Opening) (built : Opening) (p : Plan) → ReadsBuilds p → find (λ d. not (facts.usable d)) (build_scans built.kind built.rel) ≡ Some scan → IsAmong held built → IsUnheld held p → later.usable ≡ with_scan scan facts.usable → lacks_scan facts p ≡ true → lacks_scan later p ≡ true
-built_leaves facts later scan held built p reads first among unheld usable = by_plan p reads unheld
+pub built_leaves : (facts later : Facts) (scan : Purpose) (held : List Opening) (built : Opening) (p : Plan) → ReadsBuilds p → AreBegun facts.usable → find (λ d. not (facts.usable d)) (build_scans built.kind built.rel) ≡ Some scan → IsAmong held built → IsUnheld held p → later.usable ≡ with_scan scan facts.usable → lacks_scan facts p ≡ true → lacks_scan later p ≡ true
+built_leaves facts later scan held built p reads begun first among unheld usable = by_plan p reads unheld
   where
     builds : is_build_scan scan ≡ true
     builds = find_all (λ d. is_build_scan d ≡ true) (λ d. not (facts.usable d)) (build_scans built.kind built.rel) scan (builds_of built.kind built.rel) first
@@ -146,13 +189,19 @@ built_leaves facts later scan held built p reads first among unheld usable = by_
         by_same true same = absurd (both_ways _ named (sym (ap is_build_scan (same_scan-true scan other same)) ∙ builds))
         by_same false differs = lacks_it
 
-    apart : (rel : Oid) → list_any (λ o. same_oid rel o.rel) held ≡ false → same_oid built.rel rel ≡ false
-    apart rel none = oid_apart rel built.rel (false_from_ne_true (same_oid rel built.rel) (λ same. both_ways _ none (among (λ o. same_oid rel o.rel) same)))
+    opening_stays : (rel : Oid) (kind : Kind) → list_any (λ o. same_oid rel o.rel && same_kind kind o.kind) held ≡ false → lacks facts.usable (record { rel = rel; kind = kind }) ≡ true → lacks (with_scan scan facts.usable) (record { rel = rel; kind = kind }) ≡ true
+    opening_stays rel kind none lacks_it = by_same (same_oid rel built.rel) refl
+      where
+        by_same : (t : Bool) → same_oid rel built.rel ≡ t → lacks (with_scan scan facts.usable) (record { rel = rel; kind = kind }) ≡ true
+        by_same false differ = scan_apart facts.usable scan built (record { rel = rel; kind = kind }) first (oid_apart rel built.rel differ) ∙ lacks_it
+        by_same true same = other_kind facts.usable scan rel kind built.kind begun
+            (false_from_ne_true (same_kind kind built.kind) (λ alike. both_ways _ none (among (λ o. same_oid rel o.rel && same_kind kind o.kind) (and_from (same_oid rel built.rel) (same_kind kind built.kind) same alike))))
+            (ap (λ r. find (λ d. not (facts.usable d)) (build_scans built.kind r)) (oid_is rel built.rel same) ∙ first) lacks_it
 
     by_plan : (q : Plan) → ReadsBuilds q → IsUnheld held q → lacks_scan facts q ≡ true → lacks_scan later q ≡ true
     by_plan (Do (Lookup name mode) rest) of none lacks_it = other_stays (scans.RelName name) refl lacks_it
     by_plan (Do (Search wanted) rest) of none lacks_it = other_stays wanted of lacks_it
-    by_plan (Do (Open rel kind) rest) of none lacks_it = ap (λ u. lacks u (record { rel = rel; kind = kind })) usable ∙ scan_apart facts.usable scan built (record { rel = rel; kind = kind }) first (apart rel none) ∙ lacks_it
+    by_plan (Do (Open rel kind) rest) of none lacks_it = ap (λ u. lacks u (record { rel = rel; kind = kind })) usable ∙ opening_stays rel kind none lacks_it
     by_plan (Done (tells.Regclass oid)) of none lacks_it = other_stays (scans.RelOid oid) refl lacks_it
     by_plan q of none lacks_it = absurd (cc lacks_it)
 

@@ -103,7 +103,7 @@ with_more scan has d some = by_same (same_scan scan d)
     by_same false = some
 
 -- the scans of a descriptor are of its relation
-each_of : (kind : Kind) (rel : Oid) → AllByRecursion (λ d. (scan_key d).1 ≡ rel.0) (build_scans kind rel)
+pub each_of : (kind : Kind) (rel : Oid) → AllByRecursion (λ d. (scan_key d).1 ≡ rel.0) (build_scans kind rel)
 each_of Table rel = (refl, (refl, (refl, (refl, (refl, (refl, tt))))))
 each_of Index rel = (refl, (refl, tt))
 
