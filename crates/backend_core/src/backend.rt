@@ -26,7 +26,7 @@ impl Drop for Backend {
             progress: _,
             life: _,
             looked: _,
-            looked_to_build: _,
+            frames: _,
             told: _,
             lines: _,
         } = self;

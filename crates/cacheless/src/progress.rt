@@ -100,6 +100,7 @@ impl Drop for Progress {
             tally: _,
             due: _,
             blocks: _,
+            opens: _,
             running: _,
             lists: _,
             taken: _,
