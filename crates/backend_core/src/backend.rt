@@ -7,7 +7,6 @@ use std::alloc::Global;
 
 /// One backend: how far it is in its commands, what it has looked for, and the answers of its finished
 /// commands.
-#[derive(Drop)]
 pub struct Backend {
     pub(crate) progress: Progress,
     pub(crate) life: Life,
@@ -18,6 +17,20 @@ pub struct Backend {
     // messages came since the lookup of a relation by its name began
     pub(crate) told: bool,
     pub(crate) lines: Listed<Line>,
+}
+
+// Written out, and not derived: so it is proved here, and not again wherever one is dropped.
+impl Drop for Backend {
+    fn drop(self) {
+        let Backend {
+            progress: _,
+            life: _,
+            looked: _,
+            frames: _,
+            told: _,
+            lines: _,
+        } = self;
+    }
 }
 
 impl Backend {

@@ -59,7 +59,6 @@ impl Counts {
 /// How far a backend is in its commands: what the definitions' session and the facts of its own entries
 /// hold of it, and what its command answers, once that is worked out. It changes by the calls of this
 /// crate; what uses it may put another form of the same plan in its place.
-#[derive(Drop)]
 pub struct Progress {
     pub id: u32,
     pub commands: Listed<Command>,
@@ -86,6 +85,31 @@ pub struct Progress {
     pub caches: LocalCaches,
     // what the running command answers, where that is worked out
     pub answer: Option<LineText>,
+}
+
+// Written out, and not derived: so it is proved here, and not again wherever one is dropped.
+impl Drop for Progress {
+    fn drop(self) {
+        let Progress {
+            id: _,
+            commands: _,
+            finished: _,
+            exec: _,
+            blocked: _,
+            ended: _,
+            tally: _,
+            due: _,
+            blocks: _,
+            opens: _,
+            running: _,
+            lists: _,
+            taken: _,
+            opened: _,
+            locks: _,
+            caches: _,
+            answer: _,
+        } = self;
+    }
 }
 
 impl Progress {

@@ -14,7 +14,6 @@ use pin_pool::{Pool, Ref};
 use std::alloc::Global;
 
 /// A catalog cache (`CatCache` in `src/include/utils/catcache.h`).
-#[derive(Drop)]
 pub struct CatCache {
     id: CacheId,
     pool: Pool<Cached>,
@@ -24,6 +23,18 @@ pub struct CatCache {
     ghost rows: { Stands id true pool keys },
     // and prefixes live lists
     ghost lists: { Stands id false pool prefixes },
+}
+
+// Written out, and not derived: so it is proved here, and not again wherever one is dropped.
+impl Drop for CatCache {
+    fn drop(self) {
+        let CatCache {
+            id: _,
+            pool: _,
+            keys: _,
+            prefixes: _,
+        } = self;
+    }
 }
 
 #[tactic(auto, unfolding(crate::specs::Caches::entry_of, crate::specs::Caches::list_of, crate::specs::Caches::shown))]

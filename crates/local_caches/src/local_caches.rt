@@ -19,10 +19,19 @@ use std::alloc::Global;
 /// `src/backend/utils/cache/syscache.c`) and its relation cache (`RelationIdCache` in
 /// `src/backend/utils/cache/relcache.c`). Contracts see for each scan nothing, or what it gave and at which
 /// entry of the history.
-#[derive(Drop)]
 pub struct LocalCaches {
     catalogs: CatCaches,
     descriptors: Descriptors,
+}
+
+// Written out, and not derived: so it is proved here, and not again wherever one is dropped.
+impl Drop for LocalCaches {
+    fn drop(self) {
+        let LocalCaches {
+            catalogs: _,
+            descriptors: _,
+        } = self;
+    }
 }
 
 #[tactic(auto, unfolding(crate::specs::Caches::kept_of))]

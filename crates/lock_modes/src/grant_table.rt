@@ -14,12 +14,22 @@ use std::marker::Model;
 
 /// Grants of locks that were read somewhere, whether they exclude each other or not. A [`LockTable`](crate::LockTable)
 /// grants locks itself, and what it holds excludes each other.
-#[derive(Drop)]
 pub struct GrantTable {
     by_rel: GrantLists,
     by_backend: GrantLists,
     // all that was granted and released, in order; contracts alone see it
     changes: GhostList<LockChange>,
+}
+
+// Written out, and not derived: so it is proved here, and not again wherever one is dropped.
+impl Drop for GrantTable {
+    fn drop(self) {
+        let GrantTable {
+            by_rel: _,
+            by_backend: _,
+            changes: _,
+        } = self;
+    }
 }
 
 impl Model for GrantTable {

@@ -19,13 +19,24 @@ use std::marker::Model;
 
 /// The locks that all backends hold on relations (`LockMethodLockHash` and `LockMethodProcLockHash` in
 /// `src/backend/storage/lmgr/lock.c`).
-#[derive(Drop)]
 pub struct LockTable {
     by_rel: GrantLists,
     by_backend: GrantLists,
     prepared: Vec<Grant>,
     // all that was granted and released, in order; contracts alone see it
     changes: GhostList<LockChange>,
+}
+
+// Written out, and not derived: so it is proved here, and not again wherever one is dropped.
+impl Drop for LockTable {
+    fn drop(self) {
+        let LockTable {
+            by_rel: _,
+            by_backend: _,
+            prepared: _,
+            changes: _,
+        } = self;
+    }
 }
 
 impl Model for LockTable {

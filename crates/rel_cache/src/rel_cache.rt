@@ -11,7 +11,6 @@ use pin_pool::{Back, Pool, Ref};
 use std::alloc::Global;
 
 /// Descriptors by relation (`RelationIdCache` in `src/backend/utils/cache/relcache.c`).
-#[derive(Drop)]
 pub struct RelCache<D> {
     descriptors: Pool<Kept<D>>,
     // by the number of the relation
@@ -20,6 +19,16 @@ pub struct RelCache<D> {
     ghost indexed: { AreIndexed descriptors index },
     // and each descriptor has its place
     ghost placed: { ArePlaced descriptors index },
+}
+
+// Written out, and not derived: so it is proved here, and not again wherever one is dropped.
+impl<D: Drop> Drop for RelCache<D> {
+    fn drop(self) {
+        let RelCache {
+            descriptors: _,
+            index: _,
+        } = self;
+    }
 }
 
 #[tactic(auto, unfolding(crate::specs::Caches::held_of))]

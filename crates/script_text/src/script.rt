@@ -5,13 +5,25 @@ use base_types::{Listed, Placed, Turns};
 use std::marker::Model;
 
 /// A script within its ranges and limits.
-#[derive(Drop)]
 pub struct Script {
     size: u32,
     from: u64,
     backends: u32,
     commands: Listed<Placed>,
     steps: Listed<Listed<Turns>>,
+}
+
+// Written out, and not derived: so it is proved here, and not again wherever one is dropped.
+impl Drop for Script {
+    fn drop(self) {
+        let Script {
+            size: _,
+            from: _,
+            backends: _,
+            commands: _,
+            steps: _,
+        } = self;
+    }
 }
 
 impl Model for Script {
