@@ -154,7 +154,9 @@ fn put_again(caches: &mut LocalCaches, alloc: Global) -> bool {
 }
 
 // The row of a column.
-fn one_column(alloc: Global) -> Option<Vec<Row>> {
+fn one_column(alloc: Global) -> Option<Vec<Row>>
+    ensures { IfSome result (λ rows. length rows.items ≤ 1) }
+{
     let row = Row::Att {
         rel: REL,
         num: 1,
@@ -166,30 +168,35 @@ fn one_column(alloc: Global) -> Option<Vec<Row>> {
     Vec::from_slice(alloc, &[row]).ok()
 }
 
-// Whether fields have their texts once a table's own row and its columns are read, and whether they have none of another
+// Whether fields have their texts once a table's own row and its columns are kept, and whether they have none of another
 // relation, and after a message.
 fn kept_texts(alloc: Global) -> [bool; 3] {
-    let (Some(own), Some(columns)) = (one_row(alloc), one_column(alloc)) else {
-        return [false; 3];
-    };
-    let mut caches = LocalCaches::new(alloc);
-    if !put_both(&mut caches, own, columns) {
-        return [false; 3];
-    }
+    let mut caches = with_texts(alloc);
     let there = has_texts(&caches);
     let others = has_none(&caches, OTHER);
     caches.execute(&[rel(REL)]);
     [there, others, has_none(&caches, REL)]
 }
 
-// Whether a table's own row and its columns are kept once they are put.
-fn put_both(caches: &mut LocalCaches, own: Vec<Row>, columns: Vec<Row>) -> bool {
-    let scan = Purpose::Class(REL);
-    if caches.has(&scan) || caches.put(&scan, own, 4).is_err() {
-        return false;
+// The caches with a table's own row and its columns.
+fn with_texts(alloc: Global) -> LocalCaches {
+    let mut caches = LocalCaches::new(alloc);
+    if let Some(rows) = one_row(alloc) {
+        put_rows(&mut caches, Purpose::Class(REL), rows);
     }
-    let scan = Purpose::Attribute(REL);
-    !caches.has(&scan) && caches.put(&scan, columns, 5).is_ok()
+    if let Some(rows) = one_column(alloc) {
+        put_rows(&mut caches, Purpose::Attribute(REL), rows);
+    }
+    caches
+}
+
+// Keeps what a scan gave.
+fn put_rows(caches: &mut LocalCaches, scan: Purpose, rows: Vec<Row>)
+    requires { length rows.items ≤ 1 }
+{
+    if !caches.has(&scan) {
+        let _ = caches.put(&scan, rows, 4);
+    }
 }
 
 // Whether each field has its text.

@@ -22,6 +22,8 @@
 //! functions of that list that are defined there. A step that is out of memory leaves the build as it
 //! was. Where it differs from the server: a descriptor keeps the rows themselves, and a build that a
 //! message marked starts over by [`DescBuild::restart`] before its next scan, not at its end.
+//!
+//! [`values_read`] and [`value_in`] give the texts of the fields of one scan, for a cache that keeps scans one by one.
 #![tactic(auto)]
 
 mod desc_build;
