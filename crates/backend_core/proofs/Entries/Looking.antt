@@ -17,11 +17,11 @@ use Rattle.txn_blocks.specs.declared.transaction.RunningTransaction.{RunningTran
 use Rattle.cacheless.specs.Facts.{Facts, facts_of, facts_by}
 use Rattle.cacheless.specs.Holds.{HasEntered, with_own}
 use Rattle.cacheless.specs.May.{lacks_any}
-use Rattle.cacheless.specs.OnCourse.{AllOnCourse, OnItsWay}
+use Rattle.cacheless.specs.OnCourse.{AllOnCourse}
 use Rattle.cacheless.specs.Owed.{Owes as Owing, OwesLook, owed_after, begins, started_in, owed_of}
 use Rattle.cacheless.specs.Plays.{MayPlayIn}
 use Rattle.cacheless.specs.Schedule.{LooksTruly}
-use Rattle.cacheless.specs.Session.{Session, number_of, is_settled, outcome_of, Badly, none_open}
+use Rattle.cacheless.specs.Session.{Session, number_of, is_settled, outcome_of, Badly}
 use Rattle.cacheless.specs.Sessions.{entered}
 use Rattle.cacheless.specs.State.{kept_at, owed_at, owed_first, begins_in, one_if, running_of, is_kept, is_absent}
 use Rattle.backend_core.specs.Types.{Command, Scenario, Entry, Event, Progress, Backend, Frame, Purpose, Opening}
@@ -33,7 +33,7 @@ use Rattle.backend_core.proofs.Choosing.ActsRun.{scan_runs, find_runs}
 use Rattle.backend_core.proofs.Choosing.Chosen.{Busy, Owes, due_busy, may_call, hidden, one_at_most, started_most, started_by, started_now, started_still, look_may, Acts, Sought, standing}
 use Rattle.backend_core.proofs.Fitting.Entered.{fits_at}
 use Rattle.backend_core.proofs.Fitting.FitsEntries.{RunsHere, Goes, Starts, fits_inside}
-use Rattle.backend_core.proofs.Own.{waiting, going, own_enters, follows}
+use Rattle.backend_core.proofs.Own.{waiting, going, own_enters}
 use Rattle.backend_core.proofs.Fitting.Sought.{takes_cleared, unfound_facts, sought_looked, next_act, unheld_lacking}
 use Rattle.ddl_effect.specs.Stages.{plan_at}
 use Rattle.ddl_effect.specs.Plans.{Plan, Do, Absent, Open, Lookup, Search, Read, Lock, Write}
