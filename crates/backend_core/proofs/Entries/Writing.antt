@@ -194,7 +194,7 @@ module _ (scenario : Scenario) (old : List Entry) (was : Backend) (draft : Draft
       }
 
       usable_then : later.usable ≡ (λ scan. is_spared scan (messages_in old was.progress.id (items_drawn old draft)) && facts.usable scan)
-      usable_then = λ i scan. spared_alike old was.progress.id (items_drawn old draft) scan (~ i) && facts.usable scan
+      usable_then = λ i scan. sym (spared_alike old was.progress.id (items_drawn old draft) scan) i && facts.usable scan
 
       stack : IsStack later.usable (map opening_of s.opens) (frames_wrote kept_then)
       stack = subst (λ h. IsStack h (map opening_of s.opens) (frames_wrote kept_then)) (sym usable_then)
@@ -213,7 +213,7 @@ module _ (scenario : Scenario) (old : List Entry) (was : Backend) (draft : Draft
       }
 
   -- so it does where no memory is refused, neither for it nor for the rebuilds
-  pub wrote_agrees : {E D : Type 0} (first : Backend) → was.progress.id ≡ first.progress.id → (new : List Entry) (had has : ℕ → ℕ) (p : Progress) (kept_then : Purpose → Bool) (frames : List Frame) (result : Result (Unit {0}) D) (made : Made) (messages : List Message) → MakesWrite old new had has was.progress.id (was.progress.finished + 1) draft made → messages ≡ made.messages.items → kept_at p ≡ kept_spared messages (kept_at was.progress) → p.answer ≡ None
+  pub wrote_agrees : {D : Type 0} (first : Backend) → was.progress.id ≡ first.progress.id → (new : List Entry) (had has : ℕ → ℕ) (p : Progress) (kept_then : Purpose → Bool) (frames : List Frame) (result : Result (Unit {0}) D) (made : Made) (messages : List Message) → MakesWrite old new had has was.progress.id (was.progress.finished + 1) draft made → messages ≡ made.messages.items → kept_at p ≡ kept_spared messages (kept_at was.progress) → p.answer ≡ None
       → ((scenario : Scenario) (seen : List Entry) (items : List Item) → (rests : Rests scenario seen was.progress) → messages ≡ messages_in seen was.progress.id items → flat_map (locked_by (was.progress.finished + 1)) items ≡ locks_made draft.new_oids made.first_oid (was.progress.finished + 1) → HasEntered scenario seen was.progress (events.Write made.xid items) rests p)
       → OnOk result (frames ≡ frames_after kept_then p.opened messages was.frames)
       → OnOk result (Enters scenario old new had has first (record was { progress = p; frames = frames }))
