@@ -195,8 +195,10 @@ fetch_fits facts o s now event usable command looked frames told unfound marked 
         there p is = refl
 
         by_case : looked ≡ true → unfound ≡ false → IsLookedFor facts frames s.taken s.left → IsLookedFor later frames_now now.taken now.left × IsUnheld now.opened now.left
-        by_case was none (Lacks is) = (Lacks (subst (λ p. lacks_scan later p ≡ true) (sym (fetched.left (there s.left is))) (by_plan s.left is)),
-            subst (λ held. IsUnheld held now.left) (sym fetched.opened) (subst (IsUnheld s.opened) (sym (fetched.left (there s.left is))) (fits.unheld was)))
+        by_case was none (Lacks is) = (
+          Lacks (subst (λ p. lacks_scan later p ≡ true) (sym (fetched.left (there s.left is))) (by_plan s.left is)),
+          subst (λ held. IsUnheld held now.left) (sym fetched.opened) (subst (IsUnheld s.opened) (sym (fetched.left (there s.left is))) (fits.unheld was)),
+        )
         by_case was none (Unfound is look bare) = absurd (both_ways _ none (finds is))
         by_case was none (Said is) = absurd (both_ways _ none (says is))
 
