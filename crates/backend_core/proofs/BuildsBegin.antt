@@ -20,16 +20,17 @@ use Rattle.history_model.specs.Drawn.{next_oid}
 use Rattle.history_model.specs.Log.{fetched_by}
 use Rattle.history_model.specs.Read.{is_usable, usable_by, spares_by}
 use Rattle.history_model.specs.Sent.{messages_written, lists_of}
-use Rattle.history_model.proofs.ColumnsKept.{IsOfColumn, IsOfColumns}
+use Rattle.history_model.specs.Writes.{is_empty}
+use Rattle.history_model.proofs.ColumnsKept.{IsOfColumns}
 use Rattle.history_model.proofs.Prefixes.{each-keeps, along-keeps}
 use Rattle.history_model.proofs.Reading.{is_usable-own, is_usable-other}
 use Rattle.cacheless.specs.Types.{OpenRelation}
 use Rattle.cacheless.specs.Facts.{Facts, facts_of}
-use Rattle.cacheless.specs.Owed.{unusable, act_next, is_next_scan}
+use Rattle.cacheless.specs.Owed.{owed_at_start, owed_after, unusable, act_next, is_next_scan}
 use Rattle.cacheless.specs.Plays.{MayPlayIn, MayPlayAt, IsNext, Plays}
 use Rattle.cacheless.specs.Session.{Session, Outcome, Unsettled, Well, Badly, outcome_of, first_of, none_open, at_command, plan_admitted, plan_first}
 use Rattle.cacheless.specs.Sessions.{written, resumed, noted, commands_left, entered, session_by, session_of}
-use Rattle.cacheless.specs.Settled.{act_done, done_here, acted_on, acted, is_finished, next_session, settled}
+use Rattle.cacheless.specs.Settled.{act_done, done_here, acted_on, acted, is_finished, blocks_after, opens_after, next_session, settled}
 use Rattle.cacheless.proofs.Allowed.NextOnCourse.{entered_noted}
 use Rattle.cacheless.proofs.Plans.ActOrder.{IsEnded, FollowsOpen, FollowsFound, FollowsOrder, follows_order}
 use Rattle.cacheless.proofs.Plans.EffectAlong.{plain_row}
@@ -172,12 +173,9 @@ named_settled : (facts : Facts) (commands : List Command) (s : Session) → IsNa
 named_settled facts [] s named = named
 named_settled facts (command ∷ rest) s named = by_end (is_finished facts command (acted facts command s)) (named_settled facts rest)
   where
-    now : Session
-    now = acted facts command s
-
-    by_end : (t : Bool) → ((x : Session) → IsNamed x → IsNamed (settled facts rest x)) → IsNamed (elim t as (λ x. Session) [ true ↦ settled facts rest (next_session command (first_of rest) now) | false ↦ now ])
-    by_end true more = more (next_session command (first_of rest) now) (named_first _ _ (first_of rest), tt)
-    by_end false more = named_acted facts s _ named
+    by_end : (t : Bool) → ((x : Session) → IsNamed x → IsNamed (settled facts rest x)) → IsNamed (elim t as (λ x. Session) [ true ↦ settled facts rest (next_session command (first_of rest) (acted facts command s)) | false ↦ acted facts command s ])
+    by_end true more = more (next_session command (first_of rest) (acted facts command s)) (named_first (blocks_after command (acted facts command s)) (opens_after command (acted facts command s)) (first_of rest), tt)
+    by_end false more = named_acted facts s (is_empty (owed_at_start facts command s ++ owed_after facts.last)) named
 
 named_written : (plan : Plan) (s : Session) → SearchesNamed plan → IsNamed s → IsNamed (written plan s)
 named_written (Do (Write draft) rest) s plan named = (plan [], named.1)
@@ -310,28 +308,25 @@ next_first facts scan s named built is = by_outcome (outcome_of s.left) is
 
 -- the backend's own entry keeps it so
 module _ (scenario : Scenario) (history : List Entry) (b c : ℕ) (begun : AreBegun (is_usable history b)) (scan : Purpose) (builds : is_build_scan scan ≡ true) where
-  class : Purpose
-  class = class_scan scan
-
   -- an event that is no scan
-  spared : (event : Event) → (spares_by history b c scan event && is_usable history b scan) ≡ true → (spares_by history b c class event && is_usable history b class) ≡ true
+  spared : (event : Event) → (spares_by history b c scan event && is_usable history b scan) ≡ true → (spares_by history b c (class_scan scan) event && is_usable history b (class_scan scan)) ≡ true
   spared event used = let parts = and_parts (spares_by history b c scan event) (is_usable history b scan) used in
-      and_from (spares_by history b c class event) (is_usable history b class) (sym (spares_alike history b c scan event builds) ∙ parts.0) (begun scan builds parts.1)
+      and_from (spares_by history b c (class_scan scan) event) (is_usable history b (class_scan scan)) (sym (spares_alike history b c scan event builds) ∙ parts.0) (begun scan builds parts.1)
 
   -- a scan that may be made
-  made_next : (made : Purpose) (s : Session) → IsNamed s → is_next_scan made (facts_of history b) s ≡ true → (same_scan made scan || is_usable history b scan) ≡ true → (same_scan made class || is_usable history b class) ≡ true
+  made_next : (made : Purpose) (s : Session) → IsNamed s → is_next_scan made (facts_of history b) s ≡ true → (same_scan made scan || is_usable history b scan) ≡ true → (same_scan made (class_scan scan) || is_usable history b (class_scan scan)) ≡ true
   made_next made s named next used = by_same (same_scan made scan) refl used
     where
-      by_same : (t : Bool) → same_scan made scan ≡ t → (t || is_usable history b scan) ≡ true → (same_scan made class || is_usable history b class) ≡ true
+      by_same : (t : Bool) → same_scan made scan ≡ t → (t || is_usable history b scan) ≡ true → (same_scan made (class_scan scan) || is_usable history b (class_scan scan)) ≡ true
       by_same true same was = let it : made ≡ scan = same_scan-true made scan same in
-          ap (λ d. same_scan d class || is_usable history b class) it ∙ next_first (facts_of history b) scan s named builds (ap (λ d. is_next_scan d (facts_of history b) s) (sym it) ∙ next)
-      by_same false other was = or_right (same_scan made class) (is_usable history b class) (begun scan builds was)
+          ap (λ d. same_scan d (class_scan scan) || is_usable history b (class_scan scan)) it ∙ next_first (facts_of history b) scan s named builds (ap (λ d. is_next_scan d (facts_of history b) s) (sym it) ∙ next)
+      by_same false other was = or_right (same_scan made (class_scan scan)) (is_usable history b (class_scan scan)) (begun scan builds was)
 
   asked : (s : Session) (o : Option Command) (made : Purpose) (count : ℕ) → MayPlayIn (next_oid history) (facts_of history b) o s (events.Scan made count) → is_next_scan made (facts_of history b) s ≡ true
   asked s None made count plays = plays.1
   asked s (Some command) made count plays = plays.1
 
-  own_begun : (o : Option Session) (event : Event) → AreNamed o → MayPlayAt scenario history b o c event → usable_by history b c scan event (is_usable history b scan) ≡ true → usable_by history b c class event (is_usable history b class) ≡ true
+  own_begun : (o : Option Session) (event : Event) → AreNamed o → MayPlayAt scenario history b o c event → usable_by history b c scan event (is_usable history b scan) ≡ true → usable_by history b c (class_scan scan) event (is_usable history b (class_scan scan)) ≡ true
   own_begun None (events.Scan made count) named plays used = absurd plays
   own_begun (Some s) (events.Scan made count) named plays used = made_next made s named (asked s (slice_get (commands_of scenario b) (length s.finished)) made count plays.1) used
   own_begun None event named plays used = spared event used
@@ -347,5 +342,5 @@ builds_begin scenario history plays = each-keeps (IsNext scenario) (λ h. (b : �
         by_owner : (t : Bool) → (e.backend == b) ≡ t → AreBegun (is_usable (before ++ e ∷ []) b)
         by_owner true own = λ scan builds used. is_usable-own before e b (class_scan scan) own
             ∙ own_begun scenario before b e.command (begun b) scan builds (session_of scenario before b) e.event (named_session scenario before b)
-              (subst (λ a. MayPlayAt scenario before a (session_of scenario before a) e.command e.event) (eqb-true e.backend b own) next.1) (sym (is_usable-own before e b scan own) ∙ used)
+            (subst (λ a. MayPlayAt scenario before a (session_of scenario before a) e.command e.event) (eqb-true e.backend b own) next.1) (sym (is_usable-own before e b scan own) ∙ used)
         by_owner false other = λ scan builds used. is_usable-other before e b (class_scan scan) other ∙ begun b scan builds (sym (is_usable-other before e b scan other) ∙ used)

@@ -23,7 +23,7 @@ use Rattle.cacheless.specs.OnCourse.{AllOnCourse, OnItsWay}
 use Rattle.cacheless.specs.Owed.{Owes as Owing, OwesLook, owed_after, begins, started_in, owed_of}
 use Rattle.cacheless.specs.Plays.{MayPlayIn}
 use Rattle.cacheless.specs.Schedule.{LooksTruly}
-use Rattle.cacheless.specs.Session.{Session, number_of, is_settled, outcome_of, Badly, none_open}
+use Rattle.cacheless.specs.Session.{Session, number_of, is_settled, outcome_of, Badly}
 use Rattle.cacheless.specs.Sessions.{entered}
 use Rattle.cacheless.specs.State.{kept_at, owed_at, owed_first, begins_in, one_if, running_of, is_kept, is_absent}
 use Rattle.backend_core.specs.Types.{Command, Scenario, Entry, Event, Progress, Backend, Frame, Purpose, Opening}
