@@ -42,7 +42,7 @@ use Rattle.cacheless.proofs.Same.{owes_nothing_is}
 use Rattle.cacheless.proofs.Plans.SilentActs.{empty_list, on_its_way}
 use Rattle.cacheless.proofs.Written.NamesGiven.{AreReadAsNow}
 use Rattle.cacheless.proofs.Written.WriteFits.{WriteFits, write_fits}
-use Rattle.backend_core.specs.Types.{Oid, Xid, Command, Draft, Item, Message, Purpose, Scenario, Entry, Event, Frame, Progress, Backend}
+use Rattle.backend_core.specs.Types.{Oid, Xid, Command, Draft, Item, Message, Opening, Purpose, Scenario, Entry, Event, Frame, Progress, Backend}
 use Rattle.backend_core.specs.Agrees.{IsPlayed, command_at, AwaitsEntry}
 use Rattle.backend_core.specs.Fits.{looks_due, looked_on_top, came_well, LooksFit, IsLookedFor, TakesFit, FramesFit, keeps_whole}
 use Rattle.backend_core.specs.Steps.{IsWriteNext, MakesEntry, Enters, IsRefused}
@@ -215,10 +215,10 @@ module _ (scenario : Scenario) (old : List Entry) (was : Backend) (draft : Draft
   -- so it does where no memory is refused, neither for it nor for the rebuilds
   pub wrote_agrees : {D : Type 0} (first : Backend) → was.progress.id ≡ first.progress.id → (new : List Entry) (had has : ℕ → ℕ) (p : Progress) (kept_then : Purpose → Bool) (frames : List Frame) (result : Result (Unit {0}) D) (made : Made) (messages : List Message) → MakesWrite old new had has was.progress.id (was.progress.finished + 1) draft made → messages ≡ made.messages.items → kept_at p ≡ kept_spared messages (kept_at was.progress) → p.answer ≡ None
       → ((scenario : Scenario) (seen : List Entry) (items : List Item) → (rests : Rests scenario seen was.progress) → messages ≡ messages_in seen was.progress.id items → flat_map (locked_by (was.progress.finished + 1)) items ≡ locks_made draft.new_oids made.first_oid (was.progress.finished + 1) → HasEntered scenario seen was.progress (events.Write made.xid items) rests p)
-      → OnOk result (frames ≡ frames_after kept_then p.opened messages was.frames)
+      → (held : List Opening) (given : List Message) → held ≡ p.opened → given ≡ made.messages.items → OnOk result (frames ≡ frames_after kept_then held given was.frames)
       → OnOk result (Enters scenario old new had has first (record was { progress = p; frames = frames }))
-  wrote_agrees first id new had has p kept_then frames (Err e) made messages makes are kept none goes told = tt
-  wrote_agrees first id new had has p kept_then frames (Ok x) made messages makes are kept none goes told = alike_enters scenario old new had has first was (record was { progress = p; frames = frames }) id
+  wrote_agrees first id new had has p kept_then frames (Err e) made messages makes are kept none goes held given opens gives told = tt
+  wrote_agrees first id new had has p kept_then frames (Ok x) made messages makes are kept none goes held given opens gives told = alike_enters scenario old new had has first was (record was { progress = p; frames = frames }) id
       (subst (λ l. Enters scenario old new had has was (record was { progress = p; frames = l })) (sym frames_are)
       (wrote_enters new had has p kept_then made.xid entered_it (kept ∙ ap (λ m. kept_spared m (kept_at was.progress)) (are ∙ makes.messages)) none makes.appends))
     where
@@ -226,7 +226,7 @@ module _ (scenario : Scenario) (old : List Entry) (was : Backend) (draft : Draft
       entered_it = goes scenario old (items_drawn old draft) waits.rests (are ∙ makes.messages) (suits.locks made.first_oid [] makes.first)
 
       frames_are : frames ≡ frames_wrote kept_then
-      frames_are = told ∙ (λ i. frames_after kept_then ((ap (λ (x : Session). x.opened) entered_it.session ∙ ap (λ q. (written q s).opened) at) i) ((are ∙ makes.messages) i) (acting.bare i))
+      frames_are = told ∙ (λ i. frames_after kept_then ((opens ∙ ap (λ (x : Session). x.opened) entered_it.session ∙ ap (λ q. (written q s).opened) at) i) ((gives ∙ makes.messages) i) (acting.bare i))
 
   -- and after one that is refused
   pub clash_enters : (first : Backend) → was.progress.id ≡ first.progress.id → (new : List Entry) (had has : ℕ → ℕ) (p : Progress) (name : List ℕ) (clash : Clash) → HasEntered scenario old was.progress (clash_event name clash) waits.rests p → kept_at p ≡ kept_at was.progress → p.answer ≡ None

@@ -1,4 +1,6 @@
 use Rattle.std.proofs.Common.{refl, rules}
+use Rattle.local_caches.specs.Caches.{kept_of}
+use Rattle.cacheless.specs.State.{is_kept}
 use Rattle.backend_core.proofs.Entries.Alike.{reserved_id, reserved_awaits, reserved_write, drafted_awaits, drafted_write}
 use Rattle.backend_core.proofs.Entries.Writing.{write_request, may_write, lists_before, new_free, wrote_refused, wrote_agrees, clash_enters}
 use Rattle.backend_core.proofs.backend.Backend.write.Goals as goal
@@ -17,7 +19,7 @@ enter_write-requires-clause-new g c = λ some. new_free _ _ _ c.in_ok-draft.draf
 
 pub returns-in_ok-enter_write-in-Ok-clause-enters : goal.returns-in_ok-enter_write-in-Ok-clause-enters
 returns-in_ok-enter_write-in-Ok-clause-enters g c = wrote_agrees _ _ _ c.in_ok-draft.draft refl (drafted_awaits _ _ _ c.in_ok-draft.draft (search rules) (reserved_awaits _ _ c.args.self.now _ c.reserve_lock.ensures.same c.requires.ready.waits)) c.requires.ready.played c.requires.ready.course (drafted_write _ c.in_ok-draft.draft (search rules) (reserved_write _ _ c.reserve_lock.ensures.same c.requires.next))
-    c.args.self.now (reserved_id _ _ c.reserve_lock.ensures.same) _ _ _ _ _ _ c.tell_each.result c.in-Ok.written _ c.in-Ok.ensures.writes c.as_slice.ensures.value c.in_ok-enter_write-in-Ok.ensures.kept c.in_ok-enter_write-in-Ok.ensures.answer c.in_ok-enter_write-in-Ok.ensures.holds c.tell_each.ensures
+    c.args.self.now (reserved_id _ _ c.reserve_lock.ensures.same) _ _ _ _ (is_kept (kept_of c.enter_write.new.self.caches)) _ c.tell_each.result c.in-Ok.written _ c.in-Ok.ensures.writes c.as_slice.ensures.value c.in_ok-enter_write-in-Ok.ensures.kept c.in_ok-enter_write-in-Ok.ensures.answer c.in_ok-enter_write-in-Ok.ensures.holds _ _ c.as_slice-in-Ok.ensures c.as_slice-in-Ok-2.ensures.value c.tell_each.ensures
 
 pub returns-in_ok-enter_write-in-Ok-clause-refused : goal.returns-in_ok-enter_write-in-Ok-clause-refused
 returns-in_ok-enter_write-in-Ok-clause-refused g c = wrote_refused _ _ _ c.in_ok-draft.draft refl (drafted_awaits _ _ _ c.in_ok-draft.draft (search rules) (reserved_awaits _ _ c.args.self.now _ c.reserve_lock.ensures.same c.requires.ready.waits)) c.requires.ready.played c.requires.ready.course (drafted_write _ c.in_ok-draft.draft (search rules) (reserved_write _ _ c.reserve_lock.ensures.same c.requires.next)) c.args.self.now (reserved_id _ _ c.reserve_lock.ensures.same) _ _ _ c.tell_each.result c.in-Ok.written c.in-Ok.ensures.writes
