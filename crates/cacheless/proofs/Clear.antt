@@ -34,7 +34,7 @@ use Rattle.history_model.proofs.Accounted.{sound_placed}
 use Rattle.history_model.proofs.Granted.{granted_to, unheld}
 use Rattle.history_model.proofs.Past.{IsPast, past-end, past-other, past-own, past-new}
 use Rattle.cacheless.specs.Facts.{Facts, facts_of, facts_by}
-use Rattle.cacheless.specs.Locks.{locks_by}
+use Rattle.cacheless.specs.Locks.{grant_of, locks_by}
 use Rattle.cacheless.specs.Session.{Session, first_of}
 use Rattle.cacheless.specs.Owed.{Owes, OwesLook, OwesFetch, OwesScan, owed_at_start, owed_after, owes_build, owes_accept}
 use Rattle.cacheless.specs.Settled.{settled}
@@ -42,7 +42,7 @@ use Rattle.cacheless.specs.Sessions.{placed_at, counted, entered, commands_left,
 use Rattle.cacheless.specs.Plays.{IsNext, Plays}
 use Rattle.cacheless.proofs.Reading.{session_of-own, session_of-other}
 use Rattle.cacheless.proofs.Settling.{is_empty-after}
-use Rattle.cacheless.proofs.HeldLocks.{grant_of, is_of, locks_of, settled-locks, counted-locks, Follows, locks_are_held}
+use Rattle.cacheless.proofs.HeldLocks.{is_of, locks_of, settled-locks, counted-locks, Follows, locks_are_held}
 use Rattle.cacheless.proofs.Allowed.Patient.{IsNoFetch, IsPatient, patient}
 
 -- what is known while so much is owed: nothing while a fetch is; where a look is, only if nothing waited

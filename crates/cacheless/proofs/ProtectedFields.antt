@@ -34,11 +34,12 @@ use Rattle.history_model.proofs.Observed.{IsReadAs, LeavesRead, Leaves, IsDirty,
 use Rattle.history_model.proofs.Locked.{changing_modes, changed_under, unheld_leaves}
 use Rattle.history_model.proofs.Ordered.{all_each, locks_exclude}
 use Rattle.history_model.proofs.Past.{IsPast, none_in_way}
+use Rattle.cacheless.specs.Locks.{grant_of}
 use Rattle.cacheless.specs.Session.{Session}
 use Rattle.cacheless.specs.Sessions.{session_of}
 use Rattle.cacheless.specs.Protected.{clear_modes_of, is_protected}
 use Rattle.cacheless.specs.Plays.{Plays}
-use Rattle.cacheless.proofs.HeldLocks.{grant_of, locks_of}
+use Rattle.cacheless.proofs.HeldLocks.{locks_of}
 use Rattle.cacheless.proofs.Clear.{on_locks, clear_reached}
 
 -- each of these modes conflicts with one that the backend holds clear on the relation

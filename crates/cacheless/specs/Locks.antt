@@ -4,8 +4,13 @@ use Rattle.std.specs.List.{flat_map}
 use Rattle.base_types.specs.declared.row.Row.TheVariants.{Class}
 use Rattle.event_kinds.specs.declared.entry.Event.TheVariants.{LockOk, Unlock, Write, Release}
 use Rattle.event_kinds.specs.declared.entry.Item.TheVariants.{Add}
+use Rattle.lock_modes.specs.declared.grant.Grant.{Grant}
 use Rattle.lock_modes.specs.Own.{is_own, new_lock}
 use Rattle.cacheless.specs.Types.{Oid, OwnLock, Item, Event}
+
+-- the grant that a lock of a backend is
+abbrev pub grant_of : ℕ → OwnLock → Grant
+grant_of b lock = record { backend = b; command = lock.command; rel = lock.rel; mode = lock.mode }
 
 -- the lock on a new relation, which is clear at once
 abbrev pub locked_by : ℕ → Item → List OwnLock

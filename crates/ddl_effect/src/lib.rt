@@ -32,6 +32,6 @@ pub use exec::Exec;
 pub use facts::{EffectRefusal, Facts, effect};
 pub use finding::Finding;
 pub use open_relation::OpenRelation;
-pub use opens::without_latest;
+pub use opens::{latest_open, without_latest};
 pub use told::Told;
 pub use want::Want;

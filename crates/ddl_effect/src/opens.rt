@@ -20,8 +20,8 @@ fn latest_place(name: &Name, opens: &[OpenRelation]) -> Option<usize>
     place
 }
 
-// The latest that was opened under a name.
-pub(crate) fn latest_open(name: &Name, opens: &[OpenRelation]) -> Option<OpenRelation>
+/// The latest that was opened under a name. `None`: exactly where none was.
+pub fn latest_open(name: &Name, opens: &[OpenRelation]) -> Option<OpenRelation>
     ensures { result ≡ the_latest name.now opens.now }
 {
     match latest_place(name, opens) {

@@ -25,6 +25,7 @@ use Rattle.history_model.proofs.Locked.{changing_modes}
 use Rattle.history_model.proofs.Prefixes.{EachEntry-weaker, EachEntry-prefix}
 use Rattle.cacheless.specs.Types.{Oid, Mode, Kind, Row, Purpose, OwnLock, Entry, Opening}
 use Rattle.cacheless.specs.ActsDone.{LockedRelation, locked_relation_by, reached, made_in, opening_by, relation_by, IsHeld, WayHolds}
+use Rattle.cacheless.specs.Locks.{grant_of}
 use Rattle.cacheless.specs.Plays.{Plays}
 use Rattle.cacheless.specs.Session.{Session}
 use Rattle.cacheless.specs.Sessions.{session_of}
@@ -32,7 +33,7 @@ use Rattle.cacheless.specs.TableWrites.{WritesColumns}
 use Rattle.cacheless.proofs.Answers.ReadPlaces.{read_at_place}
 use Rattle.cacheless.proofs.ColumnAnswers.{numbered_same}
 use Rattle.cacheless.proofs.Plans.ActOrder.{FollowsOrder}
-use Rattle.cacheless.proofs.HeldLocks.{Follows, grant_of, locks_of, locks_are_held, lock_is_held}
+use Rattle.cacheless.proofs.HeldLocks.{Follows, locks_of, locks_are_held, lock_is_held}
 use Rattle.cacheless.proofs.Plans.LateActs.{relation_only, locked_are_found, late_alone}
 use Rattle.cacheless.proofs.ProtectedFields.{AreKeptOut, kept_out_read, kept_out_answers}
 use Rattle.cacheless.proofs.Plans.StillAfter.{IsOf}
