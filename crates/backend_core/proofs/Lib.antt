@@ -3,6 +3,7 @@ pub mod Own
 pub mod Stacking
 pub mod Fitting
 pub mod Coherent
+pub mod Fields
 pub mod Stepped
 pub mod Others
 pub mod Choosing

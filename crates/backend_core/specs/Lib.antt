@@ -3,5 +3,6 @@ pub mod Frames
 pub mod Words
 pub mod Fits
 pub mod Agrees
+pub mod Fields
 pub mod Coherent
 pub mod Steps

@@ -50,6 +50,7 @@
 mod backend;
 mod choice;
 mod ends;
+mod field;
 mod frame;
 mod frames;
 mod join;

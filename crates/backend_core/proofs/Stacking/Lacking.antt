@@ -34,6 +34,15 @@ lacks_more has now o spares lacking = found_more has now (build_scans o.kind o.r
 pub whole_more : (has now : Purpose → Bool) (o : Opening) → ((d : Purpose) → has d ≡ true → now d ≡ true) → lacks has o ≡ false → lacks now o ≡ false
 whole_more has now o keeps whole = false_from_ne_true (lacks now o) (λ lacking. both_ways _ whole (lacks_more now has o (λ d none. false_from_ne_true (has d) (λ some. both_ways _ none (keeps d some))) lacking))
 
+-- what is whole keeps each of its scans
+pub whole_each : (has : Purpose → Bool) (xs : List Purpose) → is_some (find (λ d. not (has d)) xs) ≡ false → AllByRecursion (λ d. has d ≡ true) xs
+whole_each has [] whole = tt
+whole_each has (x ∷ xs) whole = by_test (has x) refl whole (whole_each has xs)
+  where
+    by_test : (t : Bool) → has x ≡ t → is_some (cond (not t) (Some x) (find (λ d. not (has d)) xs)) ≡ false → (is_some (find (λ d. not (has d)) xs) ≡ false → AllByRecursion (λ d. has d ≡ true) xs) → AllByRecursion (λ d. has d ≡ true) (x ∷ xs)
+    by_test true at later more = (at, more later)
+    by_test false at here more = absurd (cc here)
+
 found_same : (has now : Purpose → Bool) (xs : List Purpose) → AllByRecursion (λ d. now d ≡ has d) xs → is_some (find (λ d. not (now d)) xs) ≡ is_some (find (λ d. not (has d)) xs)
 found_same has now [] all = refl
 found_same has now (x ∷ xs) all = (λ i. is_some (cond (not (all.0 i)) (Some x) (find (λ d. not (now d)) xs))) ∙ by_test (has x) (found_same has now xs all.1)
