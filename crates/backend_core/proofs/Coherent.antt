@@ -1,16 +1,23 @@
 -- A backend that stands in a sound history is coherent with it.
-use Rattle.std.proofs.Common.{◌≡◌, ◌∙◌, ℕ, true, Option, Some, None, IfSome, List, is_some, sym, ap, subst, take}
-use Rattle.history_model.specs.Orderly.{IsSound}
+use Rattle.std.proofs.Common.{◌≡◌, ◌∙◌, ◌⊎◌, inl, inr, ℕ, Bool, true, false, Option, Some, None, IfSome, List, [], is_some, refl, sym, ap, subst, take, map}
+use Rattle.history_model.specs.Orderly.{MayComeNext, IsSound}
 use Rattle.history_model.specs.Read.{is_usable, place_read, rows_read}
 use Rattle.history_model.specs.Coming.{IsAccounted}
 use Rattle.history_model.specs.Versions.{answer_of}
 use Rattle.history_model.proofs.Accounted.{usable_accounted, usable_read}
-use Rattle.cacheless.specs.Holds.{AreRight}
+use Rattle.history_model.proofs.Prefixes.{EachEntry-weaker}
+use Rattle.cacheless.specs.Facts.{facts_of}
+use Rattle.cacheless.specs.Holds.{AreRight, FactsFit}
+use Rattle.cacheless.specs.Locks.{grant_of}
 use Rattle.cacheless.specs.State.{kept_at, is_kept}
-use Rattle.backend_core.specs.Types.{Purpose, Scenario, Entry, Read, Kept, Life, Backend}
+use Rattle.cacheless.proofs.HeldLocks.{Follows, locks_of, locks_are_held}
+use Rattle.backend_core.specs.Types.{Purpose, Scenario, Entry, Read, Kept, Opening, Life, Frame, Backend}
 use Rattle.backend_core.specs.declared.life.Life.TheVariants as lives
 use Rattle.backend_core.specs.Agrees.{AreLastScans, HasNotJoined, AwaitsEntry, HasLeft, Stands}
-use Rattle.backend_core.specs.Coherent.{IsCoherentScan, IsCoherent}
+use Rattle.backend_core.specs.Coherent.{IsCoherentScan, IsCoherentSession, IsCoherent}
+use Rattle.backend_core.specs.Frames.{lacks, IsFound}
+use Rattle.backend_core.proofs.Fitting.Rebuilding.{usable_is}
+use Rattle.backend_core.proofs.Own.{waiting, waiting_is}
 use Rattle.cacheless.proofs.Answers.ReadPlaces.{read_at_place}
 
 -- what is kept of a scan that is usable, with its place and what it gave
@@ -30,11 +37,53 @@ all_coherent seen b kept sound usable right at scan = by_read (kept scan) (usabl
     by_read None serves rows place = tt
     by_read (Some read) serves rows place = scan_coherent seen b scan read sound serves place rows
 
--- where it stands in a sound history, its caches are coherent with it: right after a step of its own, and after any entry of another
-pub stands_coherent : (scenario : Scenario) (seen : List Entry) (s : Backend) → IsSound seen → Stands scenario seen s → IsCoherent seen s
-stands_coherent scenario seen s sound stands = by_life s.life stands
+-- where a relation isn't rebuilt and no reset goes on, what is in use of it is whole
+whole_found : (has : Purpose → Bool) (frames : List Frame) (o : Opening) → frames ≡ [] → IsFound has frames o → lacks has o ≡ false
+whole_found has frames o none found = by_found (subst (λ l. IsFound has l o) none found)
   where
-    by_life : (l : Life) → elim l as (λ x. Type 0) [ lives.Unstarted ↦ HasNotJoined scenario seen s | lives.Alive ↦ AwaitsEntry scenario seen s | lives.Stopped ↦ HasLeft scenario seen s ] → IsCoherent seen s
-    by_life lives.Unstarted before = subst (λ (kept : Kept). (scan : Purpose) → IfSome (kept scan) (IsCoherentScan seen s.progress.id scan)) (sym before.new.progress.kept) (λ scan. tt)
-    by_life lives.Alive waits = all_coherent seen s.progress.id (kept_at s.progress) sound waits.rests.holds.facts.usable waits.rests.holds.facts.kept waits.keeps.places.kept
-    by_life lives.Stopped left = all_coherent seen s.progress.id (kept_at s.progress) sound left.holds.facts.usable left.holds.facts.kept left.kept
+    by_found : IsFound has [] o → lacks has o ≡ false
+    by_found (inl whole) = whole
+    by_found (inr (inl is)) = absurd (cc is)
+    by_found (inr (inr is)) = absurd (cc is)
+
+-- one that waits for its next entry has at hand what its session has
+session_coherent : (scenario : Scenario) (seen : List Entry) (s : Backend) → IsSound seen → AwaitsEntry scenario seen s → IsCoherentSession scenario seen s
+session_coherent scenario seen s sound waits = record {
+  session = waiting waits;
+  is = waiting_is scenario seen s waits;
+  keeps = record { scans = λ scan. sym (facts.usable scan); descriptors = λ o. ap (λ has. lacks has o) (sym (usable_is (facts_of seen s.progress.id) s.progress facts)) };
+  uses = record { opens = refl; opened = refl };
+  holds = record {
+    locks = refl;
+    grants = locks_are_held scenario seen s.progress.id (EachEntry-weaker MayComeNext Follows (λ before e comes. comes.follows.life) seen sound) ∙ ap (λ x. map (grant_of s.progress.id) (locks_of x)) (waiting_is scenario seen s waits);
+  };
+  rebuilds = record {
+    stack = waits.fits.rebuilds.stack;
+    whole = λ whole none o among. whole_found (is_usable seen s.progress.id) s.frames o none ((waits.fits.rebuilds.stack whole).found o among);
+    over = waits.fits.rebuilds.over;
+  };
+}
+  where
+    facts : FactsFit (facts_of seen s.progress.id) s.progress
+    facts = waits.rests.holds.facts
+
+-- where it stands in a sound history, it is coherent with it: right after a step of its own, and after any entry of another
+pub stands_coherent : (scenario : Scenario) (seen : List Entry) (s : Backend) → IsSound seen → Stands scenario seen s → IsCoherent scenario seen s
+stands_coherent scenario seen s sound stands = by_life s.life refl stands
+  where
+    runs_not : {X : Type 0} (l : Life) → s.life ≡ l → (l ≡ lives.Alive → ⊥) → s.life ≡ lives.Alive → X
+    runs_not l is other alive = absurd (other (sym is ∙ alive))
+
+    by_life : (l : Life) → s.life ≡ l → elim l as (λ x. Type 0) [ lives.Unstarted ↦ HasNotJoined scenario seen s | lives.Alive ↦ AwaitsEntry scenario seen s | lives.Stopped ↦ HasLeft scenario seen s ] → IsCoherent scenario seen s
+    by_life lives.Unstarted is before = record {
+      scans = subst (λ (kept : Kept). (scan : Purpose) → IfSome (kept scan) (IsCoherentScan seen s.progress.id scan)) (sym before.new.progress.kept) (λ scan. tt);
+      running = runs_not lives.Unstarted is (λ same. cc same);
+    }
+    by_life lives.Alive is waits = record {
+      scans = all_coherent seen s.progress.id (kept_at s.progress) sound waits.rests.holds.facts.usable waits.rests.holds.facts.kept waits.keeps.places.kept;
+      running = λ alive. session_coherent scenario seen s sound waits;
+    }
+    by_life lives.Stopped is left = record {
+      scans = all_coherent seen s.progress.id (kept_at s.progress) sound left.holds.facts.usable left.holds.facts.kept left.kept;
+      running = runs_not lives.Stopped is (λ same. cc same);
+    }

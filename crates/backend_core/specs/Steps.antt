@@ -29,12 +29,12 @@ pub record MakesEntry (scenario : Scenario) (old new : List Entry) (had has : �
   pub most : has b ≤ had b
   pub others : (a : ℕ) → a ≢ b → has a ≡ had a
 
--- a step: one entry, after which the backend is right, and its caches are coherent with the history
+-- a step: one entry, after which the backend is right, and coherent with the history
 pub record Steps (scenario : Scenario) (old new : List Entry) (had has : ℕ → ℕ) (was now : Backend) : Type 0 where
   pub makes : MakesEntry scenario old new had has was.progress.id
   pub id : now.progress.id ≡ was.progress.id
   pub stands : Stands scenario new now
-  pub coherent : IsCoherent new now
+  pub coherent : IsCoherent scenario new now
 
 -- a step that was refused memory: nothing has changed, or its entry is made
 pub data IsRefused (scenario : Scenario) (old new : List Entry) (had has : ℕ → ℕ) (b : ℕ) : Type 0 where

@@ -85,5 +85,5 @@ pub stand_each : (s : Scenario) (h : List Entry) (bs : List Backend) → AllStan
 stand_each s h bs stand = all_at (Stands s h) bs (λ i x is. (stand.each i x is).stands)
 
 -- and is coherent with it
-pub stand_coherent : (s : Scenario) (h : List Entry) (bs : List Backend) → AllStand s h bs → All (IsCoherent h) bs
-stand_coherent s h bs stand = all_at (IsCoherent h) bs (λ i x is. stands_coherent s h x (entered_played s h stand.spelled stand.entered).sound (stand.each i x is).stands)
+pub stand_coherent : (s : Scenario) (h : List Entry) (bs : List Backend) → AllStand s h bs → All (IsCoherent s h) bs
+stand_coherent s h bs stand = all_at (IsCoherent s h) bs (λ i x is. stands_coherent s h x (entered_played s h stand.spelled stand.entered).sound (stand.each i x is).stands)

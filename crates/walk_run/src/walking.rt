@@ -38,7 +38,7 @@ pub fn walk(alloc: Global, script: &Script) -> Result<World, NoMemory>
     ensures walk { IfOk result (λ world. IsWalk script.now world.entries world.lines) }
     ensures sessions { IfOk result (λ world. AreSessions script.now world.entries world.lines world.backends) }
     ensures stand { IfOk result (λ world. All (Stands script.now world.entries) world.backends) }
-    ensures coherent { IfOk result (λ world. All (IsCoherent world.entries) world.backends) }
+    ensures coherent { IfOk result (λ world. All (IsCoherent script.now world.entries) world.backends) }
 {
     let mut seg = Shared::new(alloc, script)?;
     let backends = walk_on(alloc, script, &mut seg)?;
@@ -65,7 +65,7 @@ pub fn walk_on<L: Seg>(
     ensures walk { IfOk result (λ backends. IsWalk script.now (L.history seg.new) (transcripts_of backends.items)) }
     ensures sessions { IfOk result (λ backends. AreSessions script.now (L.history seg.new) (transcripts_of backends.items) backends.items) }
     ensures stand { IfOk result (λ backends. All (Stands script.now (L.history seg.new)) backends.items) }
-    ensures coherent { IfOk result (λ backends. All (IsCoherent (L.history seg.new)) backends.items) }
+    ensures coherent { IfOk result (λ backends. All (IsCoherent script.now (L.history seg.new)) backends.items) }
 {
     let mut walker = Walker::new(alloc, script)?;
     if script.steps().is_empty() {

@@ -56,7 +56,7 @@ leave_steps scenario old new had has was p waits played courses past none goes k
   makes = own_makes scenario old new had has was events.Stop waits played courses (record { plays = plays; truly = tt; queue = tt }) appends;
   id = goes.moves.id;
   stands = subst (λ h. HasLeft scenario h left) (sym appends.entries) has_left;
-  coherent = subst (λ h. IsCoherent h left) (sym appends.entries) (stands_coherent scenario (old ++ e ∷ []) left (EachEntry-more MayComeNext old e played.sound appends.comes) has_left);
+  coherent = subst (λ h. IsCoherent scenario h left) (sym appends.entries) (stands_coherent scenario (old ++ e ∷ []) left (EachEntry-more MayComeNext old e played.sound appends.comes) has_left);
 }
   where
     b : ℕ
