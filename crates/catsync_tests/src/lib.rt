@@ -41,6 +41,8 @@ mod locks;
 #[cfg(test)]
 mod messages;
 #[cfg(test)]
+mod open_fields;
+#[cfg(test)]
 mod pins;
 #[cfg(test)]
 mod queues;
