@@ -1,5 +1,5 @@
 -- The field of an open relation that a backend shows, and that it is fresh where it is protected.
-use Rattle.std.proofs.Common.{◌≡◌, ◌∙◌, ◌&&◌, ℕ, Bool, true, false, not, Option, Some, None, IfSome, List, [], cond, is_some, refl, sym, ap, subst}
+use Rattle.std.proofs.Common.{◌≡◌, ◌∙◌, ◌&&◌, ℕ, Bool, true, false, not, Option, Some, None, IfSome, List, cond, refl, sym, ap, subst}
 use Rattle.std.specs.Option.{option_and_then}
 use Rattle.std.proofs.lemmas.Bool.{and_parts}
 use Rattle.base_types.specs.Fields.{field_text, has_field, read_by}
