@@ -5,3 +5,4 @@ pub mod Fits
 pub mod Agrees
 pub mod Coherent
 pub mod Steps
+pub mod Noted
