@@ -14,3 +14,4 @@ pub mod Locking
 pub mod Unlocking
 pub mod Writing
 pub mod Leaving
+pub mod Noting

@@ -6,3 +6,4 @@ pub mod Agrees
 pub mod Fields
 pub mod Coherent
 pub mod Steps
+pub mod Noted

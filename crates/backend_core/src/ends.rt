@@ -10,6 +10,7 @@ impl Backend {
     ghost use Rattle.backend_core.specs.Agrees.{IsReady};
     ghost use Rattle.backend_core.specs.declared.next.Next.TheVariants as nexts;
     ghost use Rattle.backend_core.specs.Steps.{IsNextOf, Steps, Enters};
+    ghost use Rattle.backend_core.specs.Noted.{IsNoted};
 
     // Its transaction is committed.
     pub(crate) fn commit<L: Seg>(&mut self, seg: &mut L, xid: Xid)
@@ -18,6 +19,7 @@ impl Backend {
         requires next { IsNextOf self.old (nexts.Commit xid) }
         ensures script { L.script seg.new ≡ L.script seg.old }
         ensures enters { Enters (L.script seg.old) (L.history seg.old) (L.history seg.new) (L.promised seg.old) (L.promised seg.new) self.old self.new }
+        ensures noted { IsNoted (L.history seg.old) (L.history seg.new) self.old (nexts.Commit xid) self.new }
     {
         seg.visible(self.progress.id, self.progress.finished + 1, xid);
         self.progress.enter_visible(xid);
@@ -30,6 +32,7 @@ impl Backend {
         requires next { IsNextOf self.old (nexts.Publish) }
         ensures script { L.script seg.new ≡ L.script seg.old }
         ensures enters { Enters (L.script seg.old) (L.history seg.old) (L.history seg.new) (L.promised seg.old) (L.promised seg.new) self.old self.new }
+        ensures noted { IsNoted (L.history seg.old) (L.history seg.new) self.old (nexts.Publish) self.new }
     {
         let messages = self.progress.unpublished();
         let count = messages.len();
@@ -44,6 +47,7 @@ impl Backend {
         requires next { IsNextOf self.old (nexts.TakeBack from) }
         ensures script { L.script seg.new ≡ L.script seg.old }
         ensures enters { Enters (L.script seg.old) (L.history seg.old) (L.history seg.new) (L.promised seg.old) (L.promised seg.new) self.old self.new }
+        ensures noted { IsNoted (L.history seg.old) (L.history seg.new) self.old (nexts.TakeBack from) self.new }
     {
         seg.gone(self.progress.id, self.progress.finished + 1, from);
         self.progress.enter_gone(from);
@@ -56,6 +60,7 @@ impl Backend {
         requires next { IsNextOf self.old (nexts.Release from) }
         ensures script { L.script seg.new ≡ L.script seg.old }
         ensures enters { Enters (L.script seg.old) (L.history seg.old) (L.history seg.new) (L.promised seg.old) (L.promised seg.new) self.old self.new }
+        ensures noted { IsNoted (L.history seg.old) (L.history seg.new) self.old (nexts.Release from) self.new }
     {
         seg.release(self.progress.id, self.progress.finished + 1, from);
         self.progress.enter_release(alloc, from);
@@ -68,6 +73,7 @@ impl Backend {
         requires next { IsNextOf self.old (nexts.Leave) }
         ensures script { L.script seg.new ≡ L.script seg.old }
         ensures steps { Steps (L.script seg.old) (L.history seg.old) (L.history seg.new) (L.promised seg.old) (L.promised seg.new) self.old self.new }
+        ensures noted { IsNoted (L.history seg.old) (L.history seg.new) self.old (nexts.Leave) self.new }
     {
         seg.stop(self.progress.id, self.progress.finished + 1);
         self.progress.enter_stop();

@@ -9,6 +9,7 @@ impl Backend {
     ghost use Rattle.backend_core.specs.Agrees.{IsReady};
     ghost use Rattle.backend_core.specs.declared.next.Next.TheVariants as nexts;
     ghost use Rattle.backend_core.specs.Steps.{Enters, IsRefused, IsNextOf};
+    ghost use Rattle.backend_core.specs.Noted.{IsNoted};
 
     // It asks for a lock.
     pub(crate) fn lock<L: Seg>(&mut self, seg: &mut L, rel: Oid, mode: Mode) -> Result<(), NoMemory>
@@ -16,6 +17,7 @@ impl Backend {
         requires next { IsNextOf self.old (nexts.Lock rel mode) }
         ensures script { L.script seg.new ≡ L.script seg.old }
         ensures enters { OnOk result (Enters (L.script seg.old) (L.history seg.old) (L.history seg.new) (L.promised seg.old) (L.promised seg.new) self.old self.new) }
+        ensures noted { OnOk result (IsNoted (L.history seg.old) (L.history seg.new) self.old (nexts.Lock rel mode) self.new) }
         ensures refused { OnErr result (IsRefused (L.script seg.old) (L.history seg.old) (L.history seg.new) (L.promised seg.old) (L.promised seg.new) self.old.progress.id) }
     {
         self.progress.reserve_lock()?;
@@ -40,7 +42,7 @@ impl Backend {
         requires next { IsNextOf self.old (nexts.Unlock rel mode) }
         ensures script { L.script seg.new ≡ L.script seg.old }
         ensures enters { Enters (L.script seg.old) (L.history seg.old) (L.history seg.new) (L.promised seg.old) (L.promised seg.new) self.old self.new }
-        ensures told { self.new.told ≡ self.old.told }
+        ensures noted { IsNoted (L.history seg.old) (L.history seg.new) self.old (nexts.Unlock rel mode) self.new }
     {
         seg.unlock(self.progress.id, self.progress.finished + 1, rel, mode);
         self.progress.enter_unlock(rel, mode);

@@ -30,6 +30,7 @@ impl Backend {
     ghost use Rattle.backend_core.specs.Agrees.{IsReady};
     ghost use Rattle.backend_core.specs.declared.next.Next.TheVariants as nexts;
     ghost use Rattle.backend_core.specs.Steps.{Enters, IsRefused, IsNextOf};
+    ghost use Rattle.backend_core.specs.Noted.{IsNoted};
 
     // The look that is owed: at its transaction's start, or in an acceptance of messages.
     pub(crate) fn look<L: Seg>(&mut self, seg: &mut L)
@@ -38,7 +39,7 @@ impl Backend {
         requires next { IsNextOf self.old (nexts.Look) }
         ensures script { L.script seg.new ≡ L.script seg.old }
         ensures enters { Enters (L.script seg.old) (L.history seg.old) (L.history seg.new) (L.promised seg.old) (L.promised seg.new) self.old self.new }
-        ensures told { self.new.told ≡ self.old.told }
+        ensures noted { IsNoted (L.history seg.old) (L.history seg.new) self.old (nexts.Look) self.new }
     {
         let some_wait = seg.waits(self.progress.id);
         seg.looked(self.progress.id, self.progress.finished + 1, some_wait);
@@ -52,7 +53,7 @@ impl Backend {
         requires next { IsNextOf self.old (nexts.LookBeforeScan rebuilds) }
         ensures script { L.script seg.new ≡ L.script seg.old }
         ensures enters { Enters (L.script seg.old) (L.history seg.old) (L.history seg.new) (L.promised seg.old) (L.promised seg.new) self.old self.new }
-        ensures told { self.new.told ≡ self.old.told }
+        ensures noted { IsNoted (L.history seg.old) (L.history seg.new) self.old (nexts.LookBeforeScan rebuilds) self.new }
     {
         let some_wait = seg.waits(self.progress.id);
         seg.looked(self.progress.id, self.progress.finished + 1, some_wait);
@@ -80,7 +81,7 @@ impl Backend {
         requires next { IsNextOf self.old (nexts.LookBeforeAbsent) }
         ensures script { L.script seg.new ≡ L.script seg.old }
         ensures enters { Enters (L.script seg.old) (L.history seg.old) (L.history seg.new) (L.promised seg.old) (L.promised seg.new) self.old self.new }
-        ensures told { self.new.told ≡ (self.old.told && not self.old.looked) }
+        ensures noted { IsNoted (L.history seg.old) (L.history seg.new) self.old (nexts.LookBeforeAbsent) self.new }
     {
         let some_wait = seg.waits(self.progress.id);
         seg.looked(self.progress.id, self.progress.finished + 1, some_wait);
@@ -97,6 +98,7 @@ impl Backend {
         requires next { IsNextOf self.old (nexts.Fetch) }
         ensures script { L.script seg.new ≡ L.script seg.old }
         ensures enters { OnOk result (Enters (L.script seg.old) (L.history seg.old) (L.history seg.new) (L.promised seg.old) (L.promised seg.new) self.old self.new) }
+        ensures noted { OnOk result (IsNoted (L.history seg.old) (L.history seg.new) self.old (nexts.Fetch) self.new) }
         ensures refused { OnErr result (IsRefused (L.script seg.old) (L.history seg.old) (L.history seg.new) (L.promised seg.old) (L.promised seg.new) self.old.progress.id) }
     {
         let mut messages = ArrayVec::new();

@@ -10,7 +10,8 @@ impl Backend {
     ghost use Rattle.backend_core.specs.Agrees.{IsReady};
     ghost use Rattle.backend_core.specs.declared.next.Next.TheVariants as nexts;
     ghost use Rattle.backend_core.specs.Steps.{Enters, IsRefused, IsNextOf};
-    ghost use Rattle.backend_core.specs.Words.{frames_noted, frames_with_scan};
+    ghost use Rattle.backend_core.specs.Noted.{IsNoted};
+    ghost use Rattle.backend_core.specs.Words.{frames_noted};
 
     // A scan, of the rebuild on top, or of the next act. Out of memory, it may not be used any more.
     pub(crate) fn scan<L: Seg>(
@@ -23,8 +24,7 @@ impl Backend {
         requires next { IsNextOf self.old (nexts.Scan scan.now rebuilds) }
         ensures script { L.script seg.new ≡ L.script seg.old }
         ensures enters { OnOk result (Enters (L.script seg.old) (L.history seg.old) (L.history seg.new) (L.promised seg.old) (L.promised seg.new) self.old self.new) }
-        ensures told { OnOk result (self.new.told ≡ self.old.told) }
-        ensures frames { OnOk result (self.new.frames ≡ frames_with_scan rebuilds scan.now self.old) }
+        ensures noted { OnOk result (IsNoted (L.history seg.old) (L.history seg.new) self.old (nexts.Scan scan.now rebuilds) self.new) }
         ensures refused { OnErr result (IsRefused (L.script seg.old) (L.history seg.old) (L.history seg.new) (L.promised seg.old) (L.promised seg.new) self.old.progress.id) }
     {
         let scanned = seg.scan(self.progress.id, self.progress.finished + 1, scan)?;

@@ -15,12 +15,14 @@ use std::alloc::Global;
 impl Backend {
     ghost use Rattle.cacheless.specs.Runs.{runs};
     ghost use Rattle.backend_core.specs.Agrees.{AgreesNow, GoesOn, AwaitsEntry};
+    ghost use Rattle.backend_core.specs.Noted.{Settles};
 
     // Goes on as far as it can without an entry. The segment isn't used: the contract names it.
     pub(crate) fn settle<L: Seg>(&mut self, alloc: Global, seg: &L) -> Result<(), NoMemory>
         requires agrees { AgreesNow (L.script seg.now) (L.history seg.now) self.old }
         ensures waits { OnOk result (AwaitsEntry (L.script seg.now) (L.history seg.now) self.new) }
         ensures same { OnOk result (self.new.progress.id ≡ self.old.progress.id) }
+        ensures noted { OnOk result (Settles self.old self.new) }
     {
         'settling: loop {
             match self.progress.silent() {
@@ -37,6 +39,7 @@ impl Backend {
         requires acts { Acts self.old.progress }
         ensures keeps { OnOk result ((scenario : Scenario) (seen : List Entry) → AgreesNow scenario seen self.old → GoesOn scenario seen self.old self.new) }
         ensures less { OnOk result (left_of self.new.progress < left_of self.old.progress) }
+        ensures noted { OnOk result ((scenario : Scenario) (seen : List Entry) → AgreesNow scenario seen self.old → Settles self.old self.new) }
     {
         self.progress.act(alloc)
     }
@@ -46,6 +49,7 @@ impl Backend {
         requires answers { Answers self.old.progress }
         ensures keeps { OnOk result ((scenario : Scenario) (seen : List Entry) → AgreesNow scenario seen self.old → GoesOn scenario seen self.old self.new) }
         ensures less { OnOk result (left_of self.new.progress < left_of self.old.progress) }
+        ensures noted { OnOk result ((scenario : Scenario) (seen : List Entry) → AgreesNow scenario seen self.old → Settles self.old self.new) }
     {
         self.progress.answer(alloc)
     }
@@ -57,6 +61,7 @@ impl Backend {
         requires finishes { Finishes self.old.progress }
         ensures keeps { OnOk result ((scenario : Scenario) (seen : List Entry) → AgreesNow scenario seen self.old → GoesOn scenario seen self.old self.new) }
         ensures less { OnOk result (left_of self.new.progress < left_of self.old.progress) }
+        ensures noted { OnOk result ((scenario : Scenario) (seen : List Entry) → AgreesNow scenario seen self.old → Settles self.old self.new) }
     {
         let line = self.progress.finish(alloc)?;
         self.lines.push(line)?;

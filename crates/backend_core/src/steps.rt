@@ -10,6 +10,7 @@ impl Backend {
     ghost use Rattle.backend_core.specs.Agrees.{IsReady};
     ghost use Rattle.backend_core.specs.declared.next.Next.TheVariants as nexts;
     ghost use Rattle.backend_core.specs.Steps.{Enters, Steps, IsRefused, IsNextOf};
+    ghost use Rattle.backend_core.specs.Noted.{IsNoted, NotesStep};
 
     // Its step, where it has joined and hasn't left.
     pub(crate) fn go_on<L: Seg>(&mut self, alloc: Global, seg: &mut L) -> Result<(), NoMemory>
@@ -17,6 +18,7 @@ impl Backend {
         requires place { 0 < L.promised seg.old self.old.progress.id }
         ensures script { L.script seg.new ≡ L.script seg.old }
         ensures steps { OnOk result (Steps (L.script seg.old) (L.history seg.old) (L.history seg.new) (L.promised seg.old) (L.promised seg.new) self.old self.new) }
+        ensures noted { OnOk result (NotesStep (L.history seg.old) (L.history seg.new) self.old self.new) }
         ensures refused { OnErr result (IsRefused (L.script seg.old) (L.history seg.old) (L.history seg.new) (L.promised seg.old) (L.promised seg.new) self.old.progress.id) }
     {
         let next = self.next();
@@ -36,6 +38,7 @@ impl Backend {
         requires stays { next.now ≢ nexts.Leave }
         ensures script { L.script seg.new ≡ L.script seg.old }
         ensures enters { OnOk result (Enters (L.script seg.old) (L.history seg.old) (L.history seg.new) (L.promised seg.old) (L.promised seg.new) self.old self.new) }
+        ensures noted { OnOk result (IsNoted (L.history seg.old) (L.history seg.new) self.old next.now self.new) }
         ensures refused { OnErr result (IsRefused (L.script seg.old) (L.history seg.old) (L.history seg.new) (L.promised seg.old) (L.promised seg.new) self.old.progress.id) }
     {
         match next {

@@ -31,6 +31,8 @@ use Rattle.backend_core.specs.Types.{Oid, Purpose, Command, Scenario, Entry, Eve
 use Rattle.backend_core.specs.Agrees.{IsPlayed, command_at, AwaitsEntry}
 use Rattle.backend_core.specs.Fits.{looks_due, LooksFit, came_well, TakesFit, IsLookedFor, Lacks, Unfound, Said, lacks_scan, finds_no_name, Fits, FramesFit, IsUnheld, keeps_whole, looked_in, looked_on_top, told_owed}
 use Rattle.backend_core.specs.Steps.{Enters, MakesEntry}
+use Rattle.backend_core.specs.Noted.{noted_of, noted_given, noted_reset, IsNoted}
+use Rattle.backend_core.specs.declared.next.Next.TheVariants as nexts
 use Rattle.backend_core.specs.Words.{is_unfound, finds_none, has_begun, marks_build, told_after, has_error, looked_after, frames_given, frames_reset_of}
 use Rattle.backend_core.proofs.Choosing.Chosen.{Busy, Due, may_call, hidden, one_at_most, started_still}
 use Rattle.backend_core.proofs.Fitting.Entered.{fits_at}
@@ -623,3 +625,24 @@ reset_makes scenario old new had has was given waits played courses due gives = 
 pub reset_frames : (fails : Bool) (before kept : Kept) (held : List Opening) (frames : List Frame) → kept ≡ nothing_kept → unless fails (unless fails frames (map (restarted (is_kept before)) frames)) (with_rest (is_kept kept) held (unless fails frames (map (restarted (is_kept before)) frames))) ≡ unless fails frames (frames_reset (is_kept before) held frames)
 reset_frames true before kept held frames none = refl
 reset_frames false before kept held frames none = ap (λ k. with_rest (is_kept k) held (map (restarted (is_kept before)) frames)) none
+
+-- what is noted with the messages
+pub messages_noted : (scenario : Scenario) (old new : List Entry) (had has : ℕ → ℕ) (was now : Backend) (count : ℕ) (taken given : List Message) (waits : AwaitsEntry scenario old was) → Fetches scenario.size old new had has was.progress.id (was.progress.finished + 1) taken (fetches.Messages count) → given ≡ taken
+    → (given ≡ fetched_by old was.progress.id (length given) → HasEntered scenario old was.progress (events.Fetch (length given)) waits.rests now.progress)
+    → now ≡ record was { progress = now.progress; looked = looked_after was (finds_none was.progress) (marks_build was.progress given); frames = frames_given was given; told = told_after was (finds_none was.progress) (marks_build was.progress given) } → IsNoted old new was nexts.Fetch now
+messages_noted scenario old new had has was now count taken given waits gives same goes is = record {
+  event = events.Fetch count;
+  entered = gives.appends.entries;
+  number = (goes (same ∙ gives.messages ∙ ap (fetched_by old was.progress.id) (given_count scenario old new had has was count taken given gives same))).moves.finished;
+  noted = ap noted_of is ∙ ap (noted_given was) (same ∙ gives.messages);
+}
+
+-- and with a reset
+pub reset_noted : (scenario : Scenario) (old new : List Entry) (had has : ℕ → ℕ) (was now : Backend) (given : List Message) (waits : AwaitsEntry scenario old was) → Fetches scenario.size old new had has was.progress.id (was.progress.finished + 1) given fetches.Reset → HasEntered scenario old was.progress events.FetchReset waits.rests now.progress
+    → now ≡ record was { progress = now.progress; looked = looked_after was (finds_none was.progress) (has_begun was.progress); frames = frames_reset_of was now.progress.opened; told = told_after was (finds_none was.progress) (has_begun was.progress) } → IsNoted old new was nexts.Fetch now
+reset_noted scenario old new had has was now given waits gives goes is = record {
+  event = events.FetchReset;
+  entered = gives.appends.entries;
+  number = goes.moves.finished;
+  noted = ap noted_of is ∙ (λ i. record (noted_reset was) { frames = frames_reset_of was ((ap (λ (x : Session). x.opened) goes.session ∙ (is_resumed (waiting waits).left (waiting waits)).opened) i) });
+}

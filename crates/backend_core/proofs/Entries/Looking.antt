@@ -14,18 +14,17 @@ use Rattle.history_model.proofs.Sound.{sound_is_legal}
 use Rattle.history_model.proofs.Waiting.{not_waited}
 use Rattle.seg_calls.specs.Calls.{entry_of, took_back, MayCall, Appends}
 use Rattle.cacheless.specs.declared.progress.Due.TheVariants as dues
-use Rattle.txn_blocks.specs.declared.transaction.RunningTransaction.{RunningTransaction}
 use Rattle.cacheless.specs.Facts.{Facts, facts_of, facts_by}
 use Rattle.cacheless.specs.Holds.{HasEntered, with_own}
-use Rattle.cacheless.specs.May.{lacks_any, is_missing, is_next_of_act}
+use Rattle.cacheless.specs.May.{is_missing, is_next_of_act}
 use Rattle.cacheless.specs.Ends.{TakesBack, end_of_all}
-use Rattle.cacheless.specs.OnCourse.{AllOnCourse, OnItsWay}
-use Rattle.cacheless.specs.Owed.{Owes as Owing, OwesLook, owed_after, begins, started_in, owed_of}
+use Rattle.cacheless.specs.OnCourse.{AllOnCourse}
+use Rattle.cacheless.specs.Owed.{OwesLook, owed_after, begins, started_in, owed_of}
 use Rattle.cacheless.specs.Plays.{MayPlayIn}
 use Rattle.cacheless.specs.Schedule.{LooksTruly}
 use Rattle.cacheless.specs.Session.{Session, number_of, is_settled, outcome_of, Badly}
 use Rattle.cacheless.specs.Sessions.{entered}
-use Rattle.cacheless.specs.State.{kept_at, owed_at, owed_first, begins_in, one_if, running_of, is_kept, is_absent}
+use Rattle.cacheless.specs.State.{kept_at, owed_at, owed_first, one_if, running_of, is_kept, is_absent}
 use Rattle.backend_core.specs.Types.{Command, Scenario, Entry, Event, Progress, Backend, Frame, Purpose, Opening}
 use Rattle.backend_core.specs.Agrees.{IsPlayed, command_at, AwaitsEntry}
 use Rattle.backend_core.specs.Fits.{looks_due, LooksFit, Fits, IsLookedFor, Lacks, Unfound, Said, FramesFit, IsTakenBack, IsUnheld, looked_in, looked_on_top, told_owed, lacks_scan}
@@ -35,7 +34,7 @@ use Rattle.backend_core.proofs.Choosing.ActsRun.{scan_runs, find_runs}
 use Rattle.backend_core.proofs.Choosing.Chosen.{Busy, Due, Begins, Scans, StartsNow, starts_now, may_call, hidden, started_most, started_by, started_now, started_still, look_may, Acts, Sought, standing}
 use Rattle.backend_core.proofs.Fitting.Entered.{fits_at}
 use Rattle.backend_core.proofs.Fitting.FitsEntries.{RunsHere, Goes, Starts, fits_inside}
-use Rattle.backend_core.proofs.Own.{waiting, going, own_enters, follows}
+use Rattle.backend_core.proofs.Own.{waiting, going, own_enters}
 use Rattle.backend_core.proofs.Fitting.Sought.{takes_cleared, unfound_facts, sought_looked, sought_rebuilt, next_act, well_most, unheld_lacking}
 use Rattle.ddl_effect.specs.Stages.{plan_at}
 use Rattle.ddl_effect.specs.Plans.{Plan, left_rests_on, told_rests_on, Done, Do, Absent, Open, Lookup, Search, Read, Lock, Write}
@@ -43,12 +42,9 @@ use Rattle.backend_core.proofs.Fitting.Rebuilding.{same_fits, owed_bare, look_fi
 use Rattle.backend_core.proofs.Stacking.Looked.{in_push, top_looked, top_most, told_push}
 use Rattle.backend_core.proofs.Stacking.Stacks.{IsSplit, split, top_push, on_top_push}
 use Rattle.backend_core.specs.Frames.{top, on_top, with_look, IsStack}
-use Rattle.std.specs.List.{find, list_any, cons_option}
-use Rattle.base_types.specs.Scans.{same_oid, build_scans}
-use Rattle.cacheless.specs.ActsDone.{made_in, relation_by, opening_by}
-use Rattle.cacheless.proofs.Plans.SilentActs.{on_its_way, its_place, empty_list}
-use Rattle.cacheless.proofs.Plans.ActOrder.{at_opening}
-use Rattle.ddl_effect.specs.Commands.{plan_of}
+use Rattle.std.specs.List.{find, cons_option}
+use Rattle.base_types.specs.Scans.{build_scans}
+use Rattle.cacheless.proofs.Plans.SilentActs.{empty_list}
 use Rattle.cacheless.proofs.Same.{owes_nothing_is}
 
 -- where a look is owed something is

@@ -3,7 +3,7 @@ use Rattle.std.proofs.Common.{inl, ◌≡◌, ◌≤◌, ◌+◌, ◌∙◌, ◌
 use Rattle.std.proofs.lemmas.Bool.{both_ways, lt-ltb, and_parts}
 use Rattle.base_types.specs.Scans.{same_scan, build_scans}
 use Rattle.event_kinds.specs.declared.entry.Event.TheVariants as events
-use Rattle.ddl_effect.specs.Plans.{Plan, Absent, Do, Lookup, Open, Search, Read as Reading, Lock, Write, Fails}
+use Rattle.ddl_effect.specs.Plans.{Plan, Absent, Fails}
 use Rattle.ddl_effect.specs.Stages.{plan_at}
 use Rattle.local_caches.specs.Kept.{is_keyed, Kept}
 use Rattle.history_model.specs.Drawn.{next_oid}
@@ -21,9 +21,9 @@ use Rattle.cacheless.specs.State.{kept_at, kept_with, is_absent, one_if, is_kept
 use Rattle.cacheless.proofs.OneOfKey.{one_of_key}
 use Rattle.cacheless.proofs.Same.{next_same}
 use Rattle.cacheless.proofs.Tests.{and_true, not_true}
-use Rattle.backend_core.specs.Types.{Mode, Row, Purpose, Scenario, Entry, Event, Progress, Backend, Opening, Frame}
+use Rattle.backend_core.specs.Types.{Row, Purpose, Scenario, Entry, Event, Progress, Backend, Opening, Frame}
 use Rattle.backend_core.specs.Agrees.{IsPlayed, command_at, AwaitsEntry}
-use Rattle.backend_core.specs.Fits.{looks_due, LooksFit, Fits, IsLookedFor, Lacks, Unfound, Said, finds_no_name, FramesFit, IsUnheld, looked_in, looked_on_top, told_owed}
+use Rattle.backend_core.specs.Fits.{looks_due, LooksFit, Fits, IsLookedFor, Lacks, Unfound, Said, FramesFit, IsUnheld, looked_in, looked_on_top, told_owed}
 use Rattle.backend_core.specs.Steps.{IsScanNext, MakesEntry, Enters, IsInTurn}
 use Rattle.backend_core.specs.Words.{is_looked_for, has_error, frames_noted, frames_with_scan}
 use Rattle.backend_core.proofs.Choosing.ActsRun.{scan_runs}
@@ -31,19 +31,17 @@ use Rattle.backend_core.proofs.Choosing.Chosen.{may_request, standing}
 use Rattle.backend_core.proofs.Fitting.Entered.{fits_at}
 use Rattle.backend_core.proofs.Entries.Inside.{runs_on, inside_fits}
 use Rattle.backend_core.proofs.Entries.Looking.{scan_busy, IsOnTop, on_top_of, on_some}
-use Rattle.backend_core.proofs.Own.{waiting, going, OwnEntry, own_makes, own_enters, follows}
+use Rattle.backend_core.proofs.Own.{waiting, going, OwnEntry, own_makes, own_enters}
 use Rattle.backend_core.proofs.Fitting.Sought.{takes_cleared, built_leaves}
 use Rattle.cacheless.proofs.ReadsBuilds.{stage_reads}
-use Rattle.std.specs.List.{find, list_any}
+use Rattle.std.specs.List.{find}
 use Rattle.backend_core.proofs.BuildsBegin.{AreBegun, builds_begin}
-use Rattle.base_types.proofs.SameScan.{same_scan-true}
-use Rattle.cacheless.proofs.Plans.SilentActs.{lookup_opens_none}
 use Rattle.backend_core.proofs.Fitting.Rebuilding.{usable_is, top_rebuilt}
 use Rattle.backend_core.proofs.Stacking.Looked.{in_push, top_most, told_push, told_most, scanned_less}
 use Rattle.backend_core.proofs.Stacking.Stacks.{top_push}
 use Rattle.backend_core.proofs.Stacking.Scanned.{scanned_push, stack_scanned, stack_other}
 use Rattle.backend_core.proofs.Stacking.Lacking.{with_scan}
-use Rattle.backend_core.specs.Frames.{top, scanned_on, frames_scanned, IsAmong, IsRebuilt, IsStack}
+use Rattle.backend_core.specs.Frames.{top, scanned_on, frames_scanned, IsRebuilt, IsStack}
 use Rattle.std.proofs.Math.Bool.{and-true, and-false}
 
 -- the scan that comes next may be asked for

@@ -33,7 +33,7 @@ use Rattle.cacheless.specs.Owed.{owed_of, started_in}
 use Rattle.cacheless.specs.Plays.{IsWrite, IsClash, MayPlay, MayPlayIn}
 use Rattle.cacheless.specs.Session.{Session, Well, Badly, Unsettled, opening_of, number_of, outcome_of, is_settled}
 use Rattle.cacheless.specs.Sessions.{written, entered}
-use Rattle.cacheless.specs.State.{lists_at, kept_at, kept_spared, locks_made, messages_in, clash_event, error_of, one_if}
+use Rattle.cacheless.specs.State.{lists_at, kept_at, kept_spared, is_kept, locks_made, messages_in, clash_event, error_of, one_if}
 use Rattle.cacheless.proofs.Allowed.NamesRead.{read_as_now}
 use Rattle.cacheless.proofs.Allowed.NextKeeps.{spelled_at}
 use Rattle.cacheless.proofs.Plans.AloneLocks.{session_holds}
@@ -46,6 +46,8 @@ use Rattle.backend_core.specs.Types.{Oid, Xid, Command, Draft, Item, Message, Op
 use Rattle.backend_core.specs.Agrees.{IsPlayed, command_at, AwaitsEntry}
 use Rattle.backend_core.specs.Fits.{looks_due, looked_on_top, came_well, LooksFit, IsLookedFor, TakesFit, FramesFit, keeps_whole}
 use Rattle.backend_core.specs.Steps.{IsWriteNext, MakesEntry, Enters, IsRefused}
+use Rattle.backend_core.specs.Noted.{noted_of, noted_by, IsNoted}
+use Rattle.backend_core.specs.declared.next.Next.TheVariants as nexts
 use Rattle.backend_core.proofs.Choosing.ActsRun.{act_runs}
 use Rattle.backend_core.proofs.Entries.Alike.{alike_enters}
 use Rattle.backend_core.proofs.Choosing.Chosen.{Acts, may_request, started_still}
@@ -79,6 +81,11 @@ clashes_as old new had has b c draft name (clashes.Running xid) writes = writes
 clash_plays : (next : ℕ) (facts : Facts) (command : Command) (s : Session) (name : List ℕ) (clash : Clash) → owed_of facts command s ≡ [] → IsClash facts next s.left name → MayPlay next facts command s (clash_event name clash)
 clash_plays next facts command s name (clashes.Row rel) none clashes = (none, clashes)
 clash_plays next facts command s name (clashes.Running xid) none clashes = (none, clashes)
+
+-- one that is refused leaves what is noted
+clash_leaves : (old : List Entry) (was : Backend) (name : List ℕ) (clash : Clash) → noted_of was ≡ noted_by old was nexts.Write (clash_event name clash)
+clash_leaves old was name (clashes.Row rel) = refl
+clash_leaves old was name (clashes.Running xid) = refl
 
 -- all that a write rests on
 module _ (scenario : Scenario) (old : List Entry) (was : Backend) (draft : Draft) (at : plan_at was.progress.opens was.progress.exec ≡ writing draft) (waits : AwaitsEntry scenario old was) (played : IsPlayed scenario old) (courses : AllOnCourse scenario old) (next : IsWriteNext was.progress) where
@@ -234,3 +241,33 @@ module _ (scenario : Scenario) (old : List Entry) (was : Backend) (draft : Draft
   clash_enters first id new had has p name clash goes kept none writes = let refused = clashes_as old new had has was.progress.id (was.progress.finished + 1) draft name clash writes in alike_enters scenario old new had has first was (record was { progress = p }) id (failed_enters scenario old new had has was p (clash_event name clash) (error_of name clash) next.command waits played courses acting unlooked (clash_shows scenario old was s name clash)
       (subst (λ o. MayPlayIn (next_oid old) facts o s (clash_event name clash)) (sym next.free.at)
       (clash_plays (next_oid old) facts next.command s name clash owed_none (subst (λ p. IsClash facts (next_oid old) p name) (sym at) (suits.names read name refused.is_new)))) goes kept none refused.appends)
+
+  -- what is noted with it
+  pub wrote_noted : {D : Type 0} (new : List Entry) (had has : ℕ → ℕ) (p : Progress) (frames : List Frame) (result : Result (Unit {0}) D) (made : Made) (messages : List Message) → MakesWrite old new had has was.progress.id (was.progress.finished + 1) draft made → messages ≡ made.messages.items → kept_at p ≡ kept_spared messages (kept_at was.progress)
+      → ((scenario : Scenario) (seen : List Entry) (items : List Item) → (rests : Rests scenario seen was.progress) → messages ≡ messages_in seen was.progress.id items → flat_map (locked_by (was.progress.finished + 1)) items ≡ locks_made draft.new_oids made.first_oid (was.progress.finished + 1) → HasEntered scenario seen was.progress (events.Write made.xid items) rests p)
+      → (held : List Opening) (given : List Message) → held ≡ p.opened → given ≡ made.messages.items → OnOk result (frames ≡ frames_after (is_kept (kept_at p)) held given was.frames) → OnOk result (IsNoted old new was nexts.Write (record was { progress = p; frames = frames }))
+  wrote_noted new had has p frames (Err e) made messages makes are kept goes held given opens gives told = tt
+  wrote_noted new had has p frames (Ok x) made messages makes are kept goes held given opens gives told = record {
+    event = events.Write made.xid (items_drawn old draft);
+    entered = makes.appends.entries;
+    number = entered_it.moves.finished;
+    noted = λ i. record (noted_of was) { frames = (told ∙ frames_are) i };
+  }
+    where
+      entered_it : HasEntered scenario old was.progress (events.Write made.xid (items_drawn old draft)) waits.rests p
+      entered_it = goes scenario old (items_drawn old draft) waits.rests (are ∙ makes.messages) (suits.locks made.first_oid [] makes.first)
+
+      now_kept : kept_at p ≡ kept_spared (messages_in old was.progress.id (items_drawn old draft)) (kept_at was.progress)
+      now_kept = kept ∙ ap (λ m. kept_spared m (kept_at was.progress)) (are ∙ makes.messages)
+
+      frames_are : frames_after (is_kept (kept_at p)) held given was.frames ≡ frames_after (is_kept (kept_spared (messages_in old was.progress.id (items_drawn old draft)) (kept_at was.progress))) (map opening_of was.progress.opens) (messages_in old was.progress.id (items_drawn old draft)) was.frames
+      frames_are = λ i. frames_after (is_kept (now_kept i)) ((opens ∙ ap (λ (x : Session). x.opened) entered_it.session ∙ ap (λ q. (written q s).opened) at) i) ((gives ∙ makes.messages) i) was.frames
+
+  -- and with one that is refused
+  pub clash_noted : (new : List Entry) (had has : ℕ → ℕ) (p : Progress) (name : List ℕ) (clash : Clash) → HasEntered scenario old was.progress (clash_event name clash) waits.rests p → Writes old new had has was.progress.id (was.progress.finished + 1) draft (Err (refusals.Clash name clash)) → IsNoted old new was nexts.Write (record was { progress = p })
+  clash_noted new had has p name clash goes writes = record {
+    event = clash_event name clash;
+    entered = (clashes_as old new had has was.progress.id (was.progress.finished + 1) draft name clash writes).appends.entries;
+    number = goes.moves.finished;
+    noted = clash_leaves old was name clash;
+  }

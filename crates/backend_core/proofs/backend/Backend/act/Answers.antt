@@ -1,5 +1,9 @@
 use Rattle.backend_core.proofs.Silent.{act_goes}
+use Rattle.backend_core.proofs.Entries.Noting.{act_settles}
 use Rattle.backend_core.proofs.backend.Backend.act.Goals as goal
 
 pub returns-clause-keeps : goal.returns-clause-keeps
 returns-clause-keeps c = act_goes c.args.self.now _ _ c.act.ensures.acts c.act.ensures.kept c.act.ensures.answer
+
+pub returns-clause-noted : goal.returns-clause-noted
+returns-clause-noted c = act_settles c.args.self.now _ _ c.act.ensures.acts

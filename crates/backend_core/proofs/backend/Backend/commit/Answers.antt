@@ -1,5 +1,7 @@
 use Rattle.backend_core.proofs.Fitting.Entered.{is_few}
 use Rattle.backend_core.proofs.Entries.Committing.{commit_call, commit_enters}
+use Rattle.std.proofs.Common.{refl}
+use Rattle.backend_core.proofs.Entries.Noting.{noted_with}
 use Rattle.backend_core.proofs.backend.Backend.commit.Goals as goal
 
 pub visible-requires-clause-call : goal.visible-requires-clause-call
@@ -10,3 +12,6 @@ enter_visible-requires g c = record { few = is_few _ _ c.args.self.now c.require
 
 pub returns-clause-enters : goal.returns-clause-enters
 returns-clause-enters g c = commit_enters _ _ _ _ _ c.args.self.now _ _ c.requires.ready.waits c.requires.ready.played c.requires.ready.course c.requires.next (c.enter_visible.ensures.holds _ _ c.requires.ready.waits.rests) c.enter_visible.ensures.kept c.enter_visible.ensures.answer c.visible.ensures.appends
+
+pub returns-clause-noted : goal.returns-clause-noted
+returns-clause-noted g c = noted_with _ _ _ _ _ c.args.self.now _ _ _ _ (c.enter_visible.ensures.holds _ _ c.requires.ready.waits.rests) c.visible.ensures.appends refl

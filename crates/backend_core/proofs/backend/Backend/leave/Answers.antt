@@ -1,5 +1,7 @@
 use Rattle.backend_core.proofs.Fitting.Entered.{is_few}
 use Rattle.backend_core.proofs.Entries.Leaving.{leave_call, leave_steps}
+use Rattle.std.proofs.Common.{refl}
+use Rattle.backend_core.proofs.Entries.Noting.{noted_with}
 use Rattle.backend_core.proofs.backend.Backend.leave.Goals as goal
 
 pub stop-requires-clause-call : goal.stop-requires-clause-call
@@ -10,3 +12,6 @@ enter_stop-requires g c = record { few = is_few _ _ c.args.self.now c.requires.r
 
 pub returns-clause-steps : goal.returns-clause-steps
 returns-clause-steps g c = leave_steps _ _ _ _ _ c.args.self.now _ c.requires.ready.waits c.requires.ready.played c.requires.ready.course c.requires.next.0 c.requires.next.1 (c.enter_stop.ensures.holds _ _ c.requires.ready.waits.rests) c.enter_stop.ensures.kept c.stop.ensures.appends
+
+pub returns-clause-noted : goal.returns-clause-noted
+returns-clause-noted g c = noted_with _ _ _ _ _ c.args.self.now _ _ _ _ (c.enter_stop.ensures.holds _ _ c.requires.ready.waits.rests) c.stop.ensures.appends refl

@@ -1,4 +1,6 @@
 use Rattle.backend_core.proofs.Entries.Looking.{look_call, look_enters}
+use Rattle.std.proofs.Common.{refl}
+use Rattle.backend_core.proofs.Entries.Noting.{noted_with}
 use Rattle.backend_core.proofs.backend.Backend.look.Goals as goal
 
 pub looked-requires-clause-call : goal.looked-requires-clause-call
@@ -6,3 +8,6 @@ looked-requires-clause-call g c = look_call _ _ c.args.self.now _ c.requires.rea
 
 pub returns-clause-enters : goal.returns-clause-enters
 returns-clause-enters g c = look_enters _ _ _ _ _ c.args.self.now _ _ c.requires.ready.waits c.requires.ready.played c.requires.ready.course c.requires.next c.waits-some_wait.ensures (c.enter_look.ensures.holds _ _ c.requires.ready.waits.rests) c.enter_look.ensures.kept c.enter_look.ensures.answer c.looked.ensures.appends
+
+pub returns-clause-noted : goal.returns-clause-noted
+returns-clause-noted g c = noted_with _ _ _ _ _ c.args.self.now _ _ _ _ (c.enter_look.ensures.holds _ _ c.requires.ready.waits.rests) c.looked.ensures.appends refl

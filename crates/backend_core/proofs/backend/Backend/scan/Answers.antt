@@ -1,10 +1,11 @@
-use Rattle.std.proofs.Common.{◌≡◌, refl, arith}
+use Rattle.std.proofs.Common.{◌&&◌, arith}
 use Rattle.backend_core.proofs.Fitting.Entered.{has_room, is_few}
 use Rattle.backend_core.proofs.Entries.Inside.{made_refused, left_so}
 use Rattle.backend_core.proofs.Entries.Scanning.{scan_request, scan_one, scan_makes, scan_enters, scan_frames}
-use Rattle.backend_core.specs.Types.{Backend}
 use Rattle.backend_core.specs.Steps.{Enters}
-use Rattle.backend_core.specs.Words.{frames_with_scan}
+use Rattle.backend_core.specs.Noted.{IsNoted}
+use Rattle.backend_core.specs.declared.next.Next.TheVariants as nexts
+use Rattle.backend_core.proofs.Entries.Noting.{noted_with}
 use Rattle.backend_core.proofs.backend.Backend.scan.Goals as goal
 
 pub scan-requires : goal.scan-requires
@@ -26,12 +27,10 @@ pub returns-clause-enters : goal.returns-clause-enters
 returns-clause-enters g c = left_so (Enters _ _ _ _ _ c.args.self.now) _ _ _ c.note_scan.ensures (scan_enters _ _ c.args.self.now c.requires.ready.waits c.requires.ready.course c.args.scan.now c.args.rebuilds c.requires.next.0 c.requires.next.1 _ _ _ _ _ _ _ c.requires.ready.played
     (c.in_ok-enter_scan.ensures.holds _ _ _ c.requires.ready.waits.rests c.in_ok-scanned.ensures.scans.rows) c.in_ok-scanned.ensures.scans.rows c.in_ok-scanned.ensures.scans.at c.in_ok-enter_scan.ensures.kept c.in_ok-enter_scan.ensures.answer c.in_ok-scanned.ensures.scans.appends)
 
-pub returns-clause-frames : goal.returns-clause-frames
-returns-clause-frames g c = left_so (λ (s : Backend). s.frames ≡ frames_with_scan c.args.rebuilds c.args.scan.now c.args.self.now) _ _ _ c.note_scan.ensures (scan_frames _ _ c.args.self.now c.requires.ready.waits c.requires.ready.course c.args.scan.now c.args.rebuilds c.requires.next.0 c.requires.next.1 0 _ _ _
-    (c.in_ok-enter_scan.ensures.holds _ _ 0 c.requires.ready.waits.rests c.in_ok-scanned.ensures.scans.rows) c.in_ok-enter_scan.ensures.kept)
-
-pub returns-clause-told : goal.returns-clause-told
-returns-clause-told g c = left_so (λ (s : Backend). s.told ≡ c.args.self.now.told) _ _ _ c.note_scan.ensures refl
+pub returns-clause-noted : goal.returns-clause-noted
+returns-clause-noted g c = left_so (IsNoted _ _ c.args.self.now (nexts.Scan c.args.scan.now c.args.rebuilds)) _ _ _ c.note_scan.ensures
+    (noted_with _ _ _ _ _ c.args.self.now _ _ _ _ (c.in_ok-enter_scan.ensures.holds _ _ _ c.requires.ready.waits.rests c.in_ok-scanned.ensures.scans.rows) c.in_ok-scanned.ensures.scans.appends
+    (λ i. record { looked = c.args.self.now.looked && c.args.rebuilds; frames = scan_frames _ _ c.args.self.now c.requires.ready.waits c.requires.ready.course c.args.scan.now c.args.rebuilds c.requires.next.0 c.requires.next.1 0 _ _ _ (c.in_ok-enter_scan.ensures.holds _ _ 0 c.requires.ready.waits.rests c.in_ok-scanned.ensures.scans.rows) c.in_ok-enter_scan.ensures.kept i; told = c.args.self.now.told }))
 
 pub returns-clause-refused : goal.returns-clause-refused
 returns-clause-refused g c = made_refused _ _ _ _ _ _ _ (scan_makes _ _ c.args.self.now c.requires.ready.waits c.requires.ready.course c.args.scan.now c.args.rebuilds c.requires.next.0 c.requires.next.1 _ _ _ _ c.requires.ready.played c.in_ok-scanned.ensures.scans.appends)

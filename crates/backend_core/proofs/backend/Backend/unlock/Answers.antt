@@ -1,5 +1,7 @@
 use Rattle.backend_core.proofs.Fitting.Entered.{is_few}
 use Rattle.backend_core.proofs.Entries.Unlocking.{unlock_call, unlock_held, unlock_enters}
+use Rattle.std.proofs.Common.{refl}
+use Rattle.backend_core.proofs.Entries.Noting.{noted_with}
 use Rattle.backend_core.proofs.backend.Backend.unlock.Goals as goal
 
 pub unlock-requires-clause-call : goal.unlock-requires-clause-call
@@ -13,3 +15,6 @@ enter_unlock-requires-clause-held g c = unlock_held _ _ c.args.self.now c.requir
 
 pub returns-clause-enters : goal.returns-clause-enters
 returns-clause-enters g c = unlock_enters _ _ c.args.self.now c.requires.ready.waits c.requires.ready.played c.requires.ready.course _ _ c.requires.next _ _ _ _ (c.enter_unlock.ensures.holds _ _ c.requires.ready.waits.rests) c.enter_unlock.ensures.kept c.enter_unlock.ensures.answer c.unlock.ensures.appends
+
+pub returns-clause-noted : goal.returns-clause-noted
+returns-clause-noted g c = noted_with _ _ _ _ _ c.args.self.now _ _ _ _ (c.enter_unlock.ensures.holds _ _ c.requires.ready.waits.rests) c.unlock.ensures.appends refl

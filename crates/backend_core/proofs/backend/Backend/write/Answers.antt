@@ -2,7 +2,9 @@ use Rattle.std.proofs.Common.{refl, rules}
 use Rattle.local_caches.specs.Caches.{kept_of}
 use Rattle.cacheless.specs.State.{is_kept}
 use Rattle.backend_core.proofs.Entries.Alike.{reserved_id, reserved_awaits, reserved_write, drafted_awaits, drafted_write}
-use Rattle.backend_core.proofs.Entries.Writing.{write_request, may_write, lists_before, new_free, wrote_refused, wrote_agrees, clash_enters}
+use Rattle.backend_core.proofs.Entries.Writing.{write_request, may_write, lists_before, new_free, wrote_refused, wrote_agrees, clash_enters, wrote_noted, clash_noted}
+use Rattle.backend_core.proofs.Entries.Inside.{then_so}
+use Rattle.backend_core.proofs.Entries.Noting.{written_noted}
 use Rattle.backend_core.proofs.backend.Backend.write.Goals as goal
 
 pub write-requires-clause-call : goal.write-requires-clause-call
@@ -30,3 +32,11 @@ returns-in_err-enter_write-in-Ok-clause-refused g c = wrote_refused _ _ _ c.in_o
 pub returns-in-Clash-clause-enters : goal.returns-in-Clash-clause-enters
 returns-in-Clash-clause-enters g c = clash_enters _ _ _ c.in_ok-draft.draft refl (drafted_awaits _ _ _ c.in_ok-draft.draft (search rules) (reserved_awaits _ _ c.args.self.now _ c.reserve_lock.ensures.same c.requires.ready.waits)) c.requires.ready.played c.requires.ready.course (drafted_write _ c.in_ok-draft.draft (search rules) (reserved_write _ _ c.reserve_lock.ensures.same c.requires.next))
     c.args.self.now (reserved_id _ _ c.reserve_lock.ensures.same) _ _ _ _ c.in-Clash.name c.in-Clash.clash (c.enter_clash.ensures.holds _ _ _) c.enter_clash.ensures.kept c.enter_clash.ensures.answer (rw c.in-Clash.is at c.in-Err.ensures.writes)
+
+pub returns-in_ok-enter_write-in-Ok-clause-noted : goal.returns-in_ok-enter_write-in-Ok-clause-noted
+returns-in_ok-enter_write-in-Ok-clause-noted g c = then_so c.tell_each.result (written_noted _ _ c.args.self.now _ _ _ c.reserve_lock.ensures.same) (wrote_noted _ _ _ c.in_ok-draft.draft refl (drafted_awaits _ _ _ c.in_ok-draft.draft (search rules) (reserved_awaits _ _ c.args.self.now _ c.reserve_lock.ensures.same c.requires.ready.waits)) c.requires.ready.played c.requires.ready.course (drafted_write _ c.in_ok-draft.draft (search rules) (reserved_write _ _ c.reserve_lock.ensures.same c.requires.next))
+    _ _ _ _ _ c.tell_each.result c.in-Ok.written _ c.in-Ok.ensures.writes c.as_slice.ensures.value c.in_ok-enter_write-in-Ok.ensures.kept c.in_ok-enter_write-in-Ok.ensures.holds _ _ c.as_slice-in-Ok.ensures c.as_slice-in-Ok-2.ensures.value c.tell_each.ensures)
+
+pub returns-in-Clash-clause-noted : goal.returns-in-Clash-clause-noted
+returns-in-Clash-clause-noted g c = written_noted _ _ c.args.self.now _ _ _ c.reserve_lock.ensures.same (clash_noted _ _ _ c.in_ok-draft.draft refl (drafted_awaits _ _ _ c.in_ok-draft.draft (search rules) (reserved_awaits _ _ c.args.self.now _ c.reserve_lock.ensures.same c.requires.ready.waits)) c.requires.ready.played c.requires.ready.course (drafted_write _ c.in_ok-draft.draft (search rules) (reserved_write _ _ c.reserve_lock.ensures.same c.requires.next))
+    _ _ _ _ c.in-Clash.name c.in-Clash.clash (c.enter_clash.ensures.holds _ _ _) (rw c.in-Clash.is at c.in-Err.ensures.writes))

@@ -1,0 +1,77 @@
+-- What a backend notes beside how far it is: whether the look for the next scan of its act is made, the rebuilds that are on their way, and whether messages came since its lookup began; and what each entry makes of that.
+use Rattle.std.specs.Prelude.{◌≡◌, ◌<◌, ◌+◌, ◌++◌, ◌∷◌, ◌&&◌, ◌||◌, Bool, true, false, not, List, [], map}
+use Rattle.event_kinds.specs.declared.entry.Event.TheVariants as events
+use Rattle.history_model.specs.Log.{fetched_by}
+use Rattle.seg_calls.specs.Calls.{entry_of, messages_in}
+use Rattle.cacheless.specs.Session.{opening_of}
+use Rattle.cacheless.specs.State.{kept_at, kept_spared, is_kept}
+use Rattle.backend_core.specs.Types.{Message, Entry, Event, Frame, Next, Backend}
+use Rattle.backend_core.specs.declared.next.Next.TheVariants as nexts
+use Rattle.backend_core.specs.Frames.{frames_after}
+use Rattle.backend_core.specs.Steps.{IsNextOf}
+use Rattle.backend_core.specs.Words.{finds_none, has_begun, marks_build, looked_after, told_after, frames_given, frames_reset_of, frames_looked, frames_with_scan}
+
+-- what is noted
+pub record Noted : Type 0 where
+  pub looked : Bool
+  pub frames : List Frame
+  pub told : Bool
+
+-- by a backend
+abbrev pub noted_of : Backend → Noted
+noted_of s = record { looked = s.looked; frames = s.frames; told = s.told }
+
+-- nothing, as at the beginning of a command
+abbrev pub nothing_noted : Noted
+nothing_noted = record { looked = false; frames = []; told = false }
+
+-- after a fetch of these messages
+abbrev pub noted_given : Backend → List Message → Noted
+noted_given s messages = record {
+  looked = looked_after s (finds_none s.progress) (marks_build s.progress messages);
+  frames = frames_given s messages;
+  told = told_after s (finds_none s.progress) (marks_build s.progress messages);
+}
+
+-- after one of a reset
+abbrev pub noted_reset : Backend → Noted
+noted_reset s = record {
+  looked = looked_after s (finds_none s.progress) (has_begun s.progress);
+  frames = frames_reset_of s s.progress.opened;
+  told = told_after s (finds_none s.progress) (has_begun s.progress);
+}
+
+-- after a write of these messages, by which what its command opened is closed
+abbrev pub noted_written : Backend → List Message → Noted
+noted_written s messages = record (noted_of s) { frames = frames_after (is_kept (kept_spared messages (kept_at s.progress))) (map opening_of s.progress.opens) messages s.frames }
+
+-- after the entry of this event, which the backend chose as that which comes next: any other entry leaves it as it is
+abbrev pub noted_by : List Entry → Backend → Next → Event → Noted
+noted_by before s (nexts.LookBeforeScan rebuilds) event = record { looked = s.looked || not rebuilds; frames = frames_looked rebuilds s.frames; told = s.told }
+noted_by before s nexts.LookBeforeAbsent event = record { looked = true; frames = s.frames; told = s.told && not s.looked }
+noted_by before s nexts.Fetch (events.Fetch count) = noted_given s (fetched_by before s.progress.id count)
+noted_by before s nexts.Fetch events.FetchReset = noted_reset s
+noted_by before s (nexts.Scan scan rebuilds) event = record { looked = s.looked && rebuilds; frames = frames_with_scan rebuilds scan s; told = s.told }
+noted_by before s (nexts.Lock rel mode) (events.LockOk granted in_mode) = record (noted_of s) { told = false }
+noted_by before s nexts.Write (events.Write xid items) = noted_written s (messages_in before s.progress.id items)
+noted_by before s next event = noted_of s
+
+-- the entry that came next is made, in the same command, and what is noted is what it makes of it
+pub record IsNoted (old new : List Entry) (was : Backend) (next : Next) (now : Backend) : Type 0 where
+  pub event : Event
+  pub entered : new ≡ old ++ entry_of was.progress.id (was.progress.finished + 1) event ∷ []
+  pub number : now.progress.finished ≡ was.progress.finished
+  pub noted : noted_of now ≡ noted_by old was next event
+
+-- going on without an entry changes nothing of it, but where a command is passed: then nothing is noted
+pub data Settles (was now : Backend) : Type 0 where
+  Stays : now.progress.finished ≡ was.progress.finished → noted_of now ≡ noted_of was → Settles was now
+  Passes : was.progress.finished < now.progress.finished → noted_of now ≡ nothing_noted → Settles was now
+
+-- a step notes what its entry makes of it, and then goes on
+pub record NotesStep (old new : List Entry) (was now : Backend) : Type 0 where
+  pub next : Next
+  pub chosen : IsNextOf was next
+  pub entered : Backend
+  pub noted : IsNoted old new was next entered
+  pub settled : Settles entered now
