@@ -1,5 +1,5 @@
 -- What contracts see of a table, of its passes and of its turns.
-use Rattle.std.specs.Prelude.{◌≡◌, ℕ, List, [], ◌∷◌, Bool}
+use Rattle.std.specs.Prelude.{◌≡◌, ⊤, ℕ, ◌+◌, List, [], ◌∷◌, Bool, false}
 use Rattle.turn_table.specs.declared.table.TurnTable.{TurnTable}
 use Rattle.turn_table.specs.declared.pass.Pass.{Pass}
 use Rattle.turn_table.specs.declared.turn.Turn.{Turn}
@@ -42,3 +42,9 @@ module _ {V E F : Type 0} {of : Ghosts V E F} where
   -- its last look since its last turn said that something waits
   abbrev pub was_told : Pass V E F of → Bool
   was_told pass = told_in pass.seat.me.0.parts
+
+  -- they are the passes of the seats from k on, in order, before their first turn
+  abbrev pub AreNumbered : (history : V → List E) (room : V → ℕ → ℕ) → TurnTable V E F → ℕ → List (Pass V E F of) → Type 0
+  AreNumbered history room table k [] = ⊤
+  AreNumbered history room table k (p ∷ ps) =
+      (p.number ≡ k) × IsPassOf table p × (seen_by p ≡ history (start_of table)) × (room_of p ≡ room (start_of table) k) × (was_told p ≡ false) × AreNumbered history room table (k + 1) ps

@@ -31,11 +31,12 @@ impl<V: Turned> TurnTable<V> {
     ghost use Rattle.std.specs.List.{AllByRecursion};
     ghost use Rattle.turn_table.specs.Histories.{Follows, Grew};
     ghost use Rattle.turn_table.specs.Words.{TellExactly};
-    ghost use Rattle.turn_table.specs.Numbered.{Numbered, HasSeat};
-    ghost use Rattle.turn_table.specs.Passes.{start_of, seats_of, IsPassOf, IsTurnOf, seen_by, room_of, was_told, words_of};
+    ghost use Rattle.turn_table.specs.Numbered.{HasSeat};
+    ghost use Rattle.turn_table.specs.Passes.{AreNumbered, start_of, seats_of, IsPassOf, IsTurnOf, seen_by, room_of, was_told, words_of};
 
     /// A table of this value, with a pass for each seat, in order. There are 1 to 64 seats, and nothing
     /// waits for any of them. Out of memory, the value is dropped.
+    #[tactic(auto, using(crate::proofs::Numbering::numbered))]
     pub fn new(
         alloc: Global,
         value: V,
@@ -44,7 +45,7 @@ impl<V: Turned> TurnTable<V> {
         requires seats { (0 < seats) × (seats ≤ 64) }
         requires quiet { (k : ℕ) → 0 < k → k ≤ seats → V.waiting (V.history value) k ≡ false }
         ensures told { IfOk result (λ r. (seats_of r.0 ≡ seats) × (start_of r.0 ≡ value)) }
-        ensures passes { IfOk result (λ r. (length r.1.items ≡ seats) × Numbered V.history V.room r.0.table.shared.table_id r.0.table.shared.key 1 (map (λ p. (p.number, p.seat)) r.1.items)) }
+        ensures passes { IfOk result (λ r. (length r.1.items ≡ seats) × AreNumbered V.history V.room r.0 1 r.1.items) }
     {
         let passes = Vec::with_capacity(alloc, seats as usize)?;
         let (table, seat) = lay(alloc, value, seats)?;

@@ -79,7 +79,7 @@ impl<'a, V: Tells> Turn<'a, V> {
         let seats = self.table.seats();
         let mut seat = 1;
         while seat <= seats {
-            if self.value.waits(seat) {
+            if self.value.waits_for(seat) {
                 self.raise(seat);
             } else if seat == self.number {
                 self.lower();

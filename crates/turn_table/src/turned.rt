@@ -29,6 +29,6 @@ pub trait Turned: Drop {
 pub trait Tells: Turned {
     ghost use Rattle.std.specs.Prelude.{◌≡◌};
 
-    fn waits(&self, seat: u32) -> bool
+    fn waits_for(&self, seat: u32) -> bool
         ensures { result ≡ Self.Turned.waiting (Self.Turned.history self.now) seat };
 }

@@ -1,4 +1,4 @@
-use Rattle.std.proofs.Common.{arith, ◌<◌, ◌+◌, ◌∙◌, sym, ap, subst}
+use Rattle.std.proofs.Common.{arith, ◌<◌, ◌+◌, ◌∙◌, refl, sym, ap, subst}
 use Rattle.turn_table.specs.Views.{words_in}
 use Rattle.turn_table.proofs.Lists.{told_seats}
 use Rattle.turn_table.proofs.Calls.{passes_as, rested}
@@ -21,22 +21,13 @@ invariant_of-result g c = let V = g.V.Turned in let t = c.args.turn in let e = c
       fits = (t.fits.0, subst (λ z. t.number + 1 < z.words) (sym (f.0 ∙ e.0)) t.fits.1);
     }
 
-pub returns-clause-of : goal.returns-clause-of
-returns-clause-of g c = let V = g.V.Turned in let t = c.args.turn in let e = c.exchange-empty.ensures in let f = c.fetch_add.ensures in
+pub returns : goal.returns
+returns g c = let V = g.V.Turned in let t = c.args.turn in let e = c.exchange-empty.ensures in let f = c.fetch_add.ensures in
     let h = rested V.fixed V.history V.owner V.waiting V.room t.seat.me c.exchange-empty.new.seat.me c.fetch_add.new.seat.me c.fetch_add.result t.opened.value t.value t.number t.one.0 t.turns e.3 t.one.1 f.2 in
-    (f.0 ∙ (e.0 ∙ c.requires.of.0), h.of ∙ c.requires.of.1)
-
-pub returns-clause-seen : goal.returns-clause-seen
-returns-clause-seen g c = let V = g.V.Turned in let t = c.args.turn in let e = c.exchange-empty.ensures in let f = c.fetch_add.ensures in
-    let h = rested V.fixed V.history V.owner V.waiting V.room t.seat.me c.exchange-empty.new.seat.me c.fetch_add.new.seat.me c.fetch_add.result t.opened.value t.value t.number t.one.0 t.turns e.3 t.one.1 f.2 in
-    h.seen
-
-pub returns-clause-room : goal.returns-clause-room
-returns-clause-room g c = let V = g.V.Turned in let t = c.args.turn in let e = c.exchange-empty.ensures in let f = c.fetch_add.ensures in
-    let h = rested V.fixed V.history V.owner V.waiting V.room t.seat.me c.exchange-empty.new.seat.me c.fetch_add.new.seat.me c.fetch_add.result t.opened.value t.value t.number t.one.0 t.turns e.3 t.one.1 f.2 in
-    h.room_is
-
-pub returns-clause-told : goal.returns-clause-told
-returns-clause-told g c = let V = g.V.Turned in let t = c.args.turn in let e = c.exchange-empty.ensures in let f = c.fetch_add.ensures in
-    let h = rested V.fixed V.history V.owner V.waiting V.room t.seat.me c.exchange-empty.new.seat.me c.fetch_add.new.seat.me c.fetch_add.result t.opened.value t.value t.number t.one.0 t.turns e.3 t.one.1 f.2 in
-    h.told
+    record {
+      of = (f.0 ∙ (e.0 ∙ c.requires.of.0), h.of ∙ c.requires.of.1);
+      seat = refl;
+      seen = h.seen;
+      room = h.room_is;
+      told = h.told;
+    }

@@ -10,20 +10,9 @@ unwrap-requires g c = let V = g.V.Turned in let x = c.in-Some.field-0 in let s =
     let f = finished V.fixed V.history V.owner V.waiting V.room (λ p. p.number) (λ p. p.seat.me.0.parts) (λ p. p.one) c.args.self.table.shared.key c.args.passes.items c.gather-seat.result.id c.gather-seat.result.me _ _ c.take-value.result s.seat.2 c.requires.all within c.close_with-closed.ensures.values.2 c.take-value.ensures.value in
     subst (λ o. IsSome o) (sym f.1) refl
 
-pub returns-clause-fixed : goal.returns-clause-fixed
-returns-clause-fixed g c = let V = g.V.Turned in let x = c.in-Some.field-0 in let s = c.gather-seat.ensures in let its = c.in-Some.ensures.items in
+pub returns : goal.returns
+returns g c = let V = g.V.Turned in let x = c.in-Some.field-0 in let s = c.gather-seat.ensures in let its = c.in-Some.ensures.items in
     let within = subst (AllByRecursion (λ p. AllIn p.seat.me.0.parts c.gather-seat.result.me.0.parts)) (sym its) (each_snoc (λ p. AllIn p.seat.me.0.parts c.gather-seat.result.me.0.parts) c.pop.new.self.items x s.others s.first) in
     let f = finished V.fixed V.history V.owner V.waiting V.room (λ p. p.number) (λ p. p.seat.me.0.parts) (λ p. p.one) c.args.self.table.shared.key c.args.passes.items c.gather-seat.result.id c.gather-seat.result.me _ _ c.take-value.result s.seat.2 c.requires.all within c.close_with-closed.ensures.values.2 c.take-value.ensures.value in
-    (taken V.fixed V.history V.owner V.waiting V.room (λ p. p.number) (λ p. p.seat.me.0.parts) (λ p. p.one) c.args.self.table.shared.key c.args.passes.items c.take-value.result f c.unwrap.result c.unwrap.ensures).same
-
-pub returns-clause-seen : goal.returns-clause-seen
-returns-clause-seen g c = let V = g.V.Turned in let x = c.in-Some.field-0 in let s = c.gather-seat.ensures in let its = c.in-Some.ensures.items in
-    let within = subst (AllByRecursion (λ p. AllIn p.seat.me.0.parts c.gather-seat.result.me.0.parts)) (sym its) (each_snoc (λ p. AllIn p.seat.me.0.parts c.gather-seat.result.me.0.parts) c.pop.new.self.items x s.others s.first) in
-    let f = finished V.fixed V.history V.owner V.waiting V.room (λ p. p.number) (λ p. p.seat.me.0.parts) (λ p. p.one) c.args.self.table.shared.key c.args.passes.items c.gather-seat.result.id c.gather-seat.result.me _ _ c.take-value.result s.seat.2 c.requires.all within c.close_with-closed.ensures.values.2 c.take-value.ensures.value in
-    (taken V.fixed V.history V.owner V.waiting V.room (λ p. p.number) (λ p. p.seat.me.0.parts) (λ p. p.one) c.args.self.table.shared.key c.args.passes.items c.take-value.result f c.unwrap.result c.unwrap.ensures).seen
-
-pub returns-clause-room : goal.returns-clause-room
-returns-clause-room g c = let V = g.V.Turned in let x = c.in-Some.field-0 in let s = c.gather-seat.ensures in let its = c.in-Some.ensures.items in
-    let within = subst (AllByRecursion (λ p. AllIn p.seat.me.0.parts c.gather-seat.result.me.0.parts)) (sym its) (each_snoc (λ p. AllIn p.seat.me.0.parts c.gather-seat.result.me.0.parts) c.pop.new.self.items x s.others s.first) in
-    let f = finished V.fixed V.history V.owner V.waiting V.room (λ p. p.number) (λ p. p.seat.me.0.parts) (λ p. p.one) c.args.self.table.shared.key c.args.passes.items c.gather-seat.result.id c.gather-seat.result.me _ _ c.take-value.result s.seat.2 c.requires.all within c.close_with-closed.ensures.values.2 c.take-value.ensures.value in
-    (taken V.fixed V.history V.owner V.waiting V.room (λ p. p.number) (λ p. p.seat.me.0.parts) (λ p. p.one) c.args.self.table.shared.key c.args.passes.items c.take-value.result f c.unwrap.result c.unwrap.ensures).roomy
+    let last = taken V.fixed V.history V.owner V.waiting V.room (λ p. p.number) (λ p. p.seat.me.0.parts) (λ p. p.one) c.args.self.table.shared.key c.args.passes.items c.take-value.result f c.unwrap.result c.unwrap.ensures in
+    record { fixed = last.same; seen = last.seen; room = last.roomy }

@@ -18,11 +18,7 @@ invariant_of-self g c = let V = g.V.Turned in let t = c.args.self.now in let e =
       of = (e.0 ∙ t.of.0, ap setups h.parts ∙ t.of.1);
     }
 
-pub returns-clause-kept : goal.returns-clause-kept
-returns-clause-kept g c = let V = g.V.Turned in let t = c.args.self.now in let e = c.store.ensures in
+pub returns : goal.returns
+returns g c = let V = g.V.Turned in let t = c.args.self.now in let e = c.store.ensures in
     let h = lowered_of V.fixed V.history V.owner V.waiting V.room t.seat.me c.store.new.seat.me t.opened.value t.number 0 t.turns e.2 in
-    (refl, refl, refl, e.0, h.parts)
-
-pub returns-clause-words : goal.returns-clause-words
-returns-clause-words g c = let V = g.V.Turned in let t = c.args.self.now in let e = c.store.ensures in
-    (lowered_of V.fixed V.history V.owner V.waiting V.room t.seat.me c.store.new.seat.me t.opened.value t.number 0 t.turns e.2).words_are
+    record { kept = (refl, refl, refl, e.0, h.parts); words = h.words_are }
