@@ -188,11 +188,13 @@ module _ {V F E : Type 0} (fixed : V → F) (history : V → List E) (owner : E 
   shows : (m : Mine) (v : V) (one : length m.0.parts ≡ 1) → m ≡ in_turn v m → m ≡ (view_of (InTurn (opened v (words_in m.0.stage) (noted_in m.0.stage))) ((single m.0.parts one).0 ∷ []), (0, None) ∷ [])
   shows m v one is = is ∙ (let f : List (Part V E) → Mine = λ ps. (view_of (InTurn (opened v (words_in m.0.stage) (noted_in m.0.stage))) ps, (0, None) ∷ []) in ap f (single m.0.parts one).1)
 
-  pub raises_as : (setup : Setup V) (slots id : ℕ) (m : Mine) (v : V) (k : ℕ) (h : List E) → length m.0.parts ≡ 1 → m ≡ in_turn v m → 0 < k → k ≤ setup.seats → waiting h k ≡ true
-      → Allows (Rule setup) slots id m (k + 1) (λ _. 1) (λ _. raised fixed history owner waiting room (step slots (k + 1) 1 0 none) m 1)
-  raises_as setup slots id m v k h one is low high waits =
+  pub raises_as : (setup : Setup V) (slots id : ℕ) (m : Mine) (v : V) (number k : ℕ) (h : List E) → length m.0.parts ≡ 1 → m ≡ in_turn v m → seat_in m.0.parts ≡ number → 0 < k → k ≤ setup.seats → waiting h k ≡ true
+      → Grew owner number (history v) h → Allows (Rule setup) slots id m (k + 1) (λ _. 1) (λ _. raised fixed history owner waiting room (step slots (k + 1) 1 0 none) m 1)
+  raises_as setup slots id m v number k h one is at low high waits grew =
+      let p = single m.0.parts one in
+      let seat : number ≡ p.0.seat = sym at ∙ ap seat_in p.1 in
       subst (λ (y : Mine). Allows (Rule setup) slots id y (k + 1) (λ _. 1) (λ _. raised fixed history owner waiting room (step slots (k + 1) 1 0 none) y 1)) (sym (shows m v one is))
-      (raises fixed history owner waiting room setup slots id (opened v (words_in m.0.stage) (noted_in m.0.stage)) (single m.0.parts one).0 ((0, None) ∷ []) k h low high waits)
+      (raises fixed history owner waiting room setup slots id (opened v (words_in m.0.stage) (noted_in m.0.stage)) p.0 ((0, None) ∷ []) k h low high waits (subst (λ n. Grew owner n (history v) h) seat grew))
 
   pub lowers_as : (setup : Setup V) (slots id : ℕ) (m : Mine) (v : V) (number : ℕ) → length m.0.parts ≡ 1 → m ≡ in_turn v m → seat_in m.0.parts ≡ number
       → Allows (Rule setup) slots id m (number + 1) (λ _. 0) (λ _. lowered (step slots (number + 1) 0 0 none) m 0)

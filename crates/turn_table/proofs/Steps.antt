@@ -237,7 +237,7 @@ module _ {V F E : Type 0} (fixed : V → F) (history : V → List E) (owner : E 
             (record {
               sits = (sit, tt);
               distinct = (tt, tt);
-              knows = ((part p.setup p.seat (history c.last) p.room false, refl), refl, refl, omega arith, ap c.drawer same ∙ kn.4, (refl, tt));
+              knows = ((part p.setup p.seat (history c.last) p.room false, refl), refl, refl, omega arith, ap c.drawer same ∙ kn.4, ((refl, tt), tt));
             })
             (λ j d other e o. record { sits = o.sits; distinct = o.distinct; knows = others_take c id j d.parts d.stage out quiet o.knows }),
         told_any t p (get_or s.words 1 0) (w, (0, Some c.last) ∷ []) (
@@ -373,9 +373,9 @@ module _ {V F E : Type 0} (fixed : V → F) (history : V → List E) (owner : E 
   others_raise setup c id j k h ps (Drawn t) other out low high waits sits kn = (kn.0, each_raised setup c j k h ps low high waits sits kn.1, kn.2, kn.3, kn.4)
   others_raise setup c id j k h ps (InTurn o) other out low high waits sits kn = absurd (other (some-injective j id (sym kn.1 ∙ out)))
 
-  pub raises : (setup : Setup V) (slots id : ℕ) (o : Opened V E) (p : Part V E) (carried : List (ℕ × Option V)) (k : ℕ) (h : List E) → 0 < k → k ≤ setup.seats → waiting h k ≡ true
+  pub raises : (setup : Setup V) (slots id : ℕ) (o : Opened V E) (p : Part V E) (carried : List (ℕ × Option V)) (k : ℕ) (h : List E) → 0 < k → k ≤ setup.seats → waiting h k ≡ true → Grew owner p.seat (history o.value) h
       → Allows (Rule setup) slots id (view_of (InTurn o) (p ∷ []), carried) (k + 1) (λ _. 1) (λ _. raised fixed history owner waiting room (step slots (k + 1) 1 0 none) (view_of (InTurn o) (p ∷ []), carried) 1)
-  raises setup slots id o p carried k h low high waits s kept _ at fits =
+  raises setup slots id o p carried k h low high waits grew s kept _ at fits =
       let c : Core V E = kept.core in
       let u : D = view_of (InTurn o) (p ∷ []) in
       let ok = kept.each_view id u at in
@@ -394,7 +394,7 @@ module _ {V F E : Type 0} (fixed : V → F) (history : V → List E) (owner : E 
             (record {
               sits = ok.sits;
               distinct = ok.distinct;
-              knows = ((p, refl), kn.1, ap (λ (x : Opened V E). opened x.value (set_word x.words k 1) (h ∷ x.noted)) kn.2, kn.3, kn.4, kn.5);
+              knows = ((p, refl), kn.1, ap (λ (x : Opened V E). opened x.value (set_word x.words k 1) (h ∷ x.noted)) kn.2, kn.3, kn.4, ((kn.5.0.0, (subst (λ v. Grew owner p.seat (history v) h) (ap (λ (x : Opened V E). x.value) kn.2) grew, kn.5.0.1)), tt));
             })
             (λ j d other e x. record { sits = x.sits; distinct = x.distinct; knows = others_raise setup c id j k h d.parts d.stage other kn.1 low within waits x.sits x.knows }),
         (λ o' ps' e. (

@@ -10,7 +10,7 @@ use Rattle.turn_table.specs.declared.view.Part.{Part}
 use Rattle.turn_table.specs.declared.view.Stage.{Stage}
 use Rattle.turn_table.specs.declared.view.Stage.TheVariants.{Resting, Drawn, InTurn}
 use Rattle.turn_table.specs.declared.view.View.{View}
-use Rattle.turn_table.specs.Histories.{Follows}
+use Rattle.turn_table.specs.Histories.{Follows, Grew}
 use Rattle.turn_table.specs.Words.{bit, word_of}
 use Rattle.turn_table.specs.Views.{One, view_of, tickets, places, IsInTurn, Distinct, part, opened}
 
@@ -30,7 +30,7 @@ pub record Core (V E : Type 0) : Type 0 where
   pub words : List ℕ
   -- the view that has the value
   pub out : maybe.Option ℕ
-  -- the histories that the open turn noted as it raised words
+  -- the histories in hand as the open turn raised words
   pub noted : List (List E)
   -- which view stands for a seat, and which view drew a ticket
   pub place : ℕ → ℕ
@@ -55,12 +55,12 @@ module _ {V F E : Type 0} (fixed : V → F) (history : V → List E) (owner : E 
     pub raised : word_of words p.seat ≢ 0 → (waiting (history last) p.seat ≡ true) ⊎ Noted p.seat noted
     pub told : p.told ≡ true → word_of words p.seat ≢ 0
 
-  -- what a view knows, by its stage
+  -- what a view knows, by its stage; what a turn noted were histories of the value in hand
   abbrev pub Knows : Core V E → ℕ → List (Part V E) → Stage V E → Type 0
   Knows c id ps Resting = AllByRecursion (Rests c.last c.words c.noted) ps
   Knows c id ps (Drawn t) = One ps × AllByRecursion (Rests c.last c.words c.noted) ps × (c.serving ≤ t) × (t < c.ticket) × (c.drawer t ≡ id)
   Knows c id ps (InTurn o) = One ps × (c.out ≡ some id) × (o ≡ opened c.last c.words c.noted) × (c.serving < c.ticket) × (c.drawer c.serving ≡ id)
-      × AllByRecursion (λ p. p.seen ≡ history c.last) ps
+      × AllByRecursion (λ p. (p.seen ≡ history c.last) × AllByRecursion (λ h. Grew owner p.seat (history c.last) h) c.noted) ps
 
   -- the part is of a seat of this table, for which this view stands
   abbrev pub Sits : Setup V → Core V E → ℕ → Part V E → Type 0

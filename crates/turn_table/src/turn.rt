@@ -29,6 +29,7 @@ impl<'a, V: Turned> Turn<'a, V> {
     ghost use Rattle.std.specs.Borrow.{Lends, sem};
     ghost use Rattle.std.specs.Prelude.{◌≤◌, true, false};
     ghost use Rattle.turn_table.specs.contracts.turn.Turn.{the_row};
+    ghost use Rattle.turn_table.specs.Histories.{Grew};
     ghost use Rattle.turn_table.specs.Words.{set_word};
     ghost use Rattle.turn_table.specs.Passes.{words_of, IsSameTurn};
 
@@ -40,10 +41,11 @@ impl<'a, V: Turned> Turn<'a, V> {
         &mut self.value
     }
 
-    /// Raises the word of a seat for which something waits.
+    /// Raises the word of a seat for which something waits, after entries of this seat.
     pub fn raise(&mut self, seat: u32)
         requires seat { (0 < seat) × (seat ≤ length (words_of self.old)) }
         requires waits { V.waiting (V.history self.old.value) seat ≡ true }
+        requires grew { Grew V.owner self.old.number (V.history self.old.opened.value) (V.history self.old.value) }
         ensures kept { IsSameTurn self.old self.new }
         ensures words { words_of self.new ≡ set_word (words_of self.old) seat 1 }
     {

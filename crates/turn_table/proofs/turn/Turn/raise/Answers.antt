@@ -9,7 +9,7 @@ store-requires g c = let V = g.V.Turned in let t = c.args.self.now in let r = c.
     let low = r.seat.0 in let high = r.seat.1 in
     let wide = t.wide in
     let within : c.args.seat ≤ t.table.now.table.shared.key.seats = omega (arith, size.0, words, wide, high) in
-    (t.of.0, omega (arith, words, wide, high), raises_as V.fixed V.history V.owner V.waiting V.room _ _ _ t.seat.me t.opened.value c.args.seat (V.history t.value) t.one.0 t.turns low within r.waits)
+    (t.of.0, omega (arith, words, wide, high), raises_as V.fixed V.history V.owner V.waiting V.room _ _ _ t.seat.me t.opened.value t.number c.args.seat (V.history t.value) t.one.0 t.turns t.one.1 low within r.waits r.grew)
 
 pub invariant_of-self : goal.invariant_of-self
 invariant_of-self g c = let V = g.V.Turned in let t = c.args.self.now in let e = c.store.ensures in
