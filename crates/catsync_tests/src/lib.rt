@@ -63,4 +63,6 @@ mod segments;
 #[cfg(test)]
 mod sessions;
 #[cfg(test)]
+mod turns;
+#[cfg(test)]
 mod values;
