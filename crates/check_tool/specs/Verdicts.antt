@@ -1,0 +1,36 @@
+-- What a check finds.
+use Rattle.std.specs.Prelude.{◌≡◌, ◌+◌, ℕ, List, length}
+use Rattle.std.specs.List.{All}
+use Rattle.event_kinds.specs.Entries.{IsEntry}
+use Rattle.history_ledger.specs.Longest.{IsLongest}
+use Rattle.cacheless.specs.Output.{IsOutput}
+use Rattle.check_tool.specs.Leading.{Leads}
+use Rattle.check_tool.specs.Types.{Scenario, Entry}
+use Rattle.check_tool.specs.Walked.{MayBeWalked}
+use Rattle.check_tool.specs.declared.checking.Checked.{Checked}
+use Rattle.check_tool.specs.declared.checking.Checked.TheVariants as answers
+
+-- an output of the script, each of whose entries has a text: numbers of four bytes, names as they may be, and a write of something
+pub record IsTypedOutput (scenario : Scenario) (text : List ℕ) : Type 0 where
+  pub is : IsOutput scenario text
+  pub entries : All IsEntry is.history
+
+-- an output of the script, with so many entries
+pub record IsOutputOf (scenario : Scenario) (text : List ℕ) (count : ℕ) : Type 0 where
+  pub is : IsTypedOutput scenario text
+  pub count_is : count ≡ length is.is.history
+
+-- no output of the script; a walk of it may have come to the entries before this one of those that the text begins with, and not to one more
+pub record DiffersAt (scenario : Scenario) (text : List ℕ) (entry : ℕ) : Type 0 where
+  pub differs : IsTypedOutput scenario text → ⊥
+  pub entries : List Entry
+  pub rest : List ℕ
+  pub leads : Leads text entries rest
+  pub count : ℕ
+  pub longest : IsLongest (MayBeWalked scenario) entries count
+  pub entry_is : entry ≡ count + 1
+
+-- what holds of the script and the text where a check answers so
+abbrev pub IsVerdict : Scenario → List ℕ → Checked → Type 0
+IsVerdict scenario text (answers.Output entries) = IsOutputOf scenario text entries
+IsVerdict scenario text (answers.Differs entry) = DiffersAt scenario text entry

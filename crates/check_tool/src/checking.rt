@@ -1,0 +1,40 @@
+ghost use Rattle.std.specs.Prelude.{◌≡◌, true, IfOk};
+ghost use Rattle.by_backend.specs.Built.{is_built};
+ghost use Rattle.check_tool.specs.Verdicts.{IsVerdict};
+
+use crate::answer_lines::are_lines;
+use crate::leading::leading_entries;
+use crate::walked::walked_prefix;
+use base_types::NoMemory;
+use script_text::Script;
+use std::alloc::Global;
+
+/// What a check finds.
+#[derive(Clone, Copy, Debug)]
+pub enum Checked {
+    /// An output of the script, with so many entries.
+    Output { entries: u64 },
+    /// Something else. The number, from 1, of the first of its leading entries that a walk may not make there;
+    /// the number after the last where a walk may make all of them.
+    Differs { entry: u64 },
+}
+
+/// Whether the bytes are an output of `walk` for the script. Condition: the script's commands can be run.
+/// `NoMemory` comes where memory is short, or a number can't be counted.
+pub fn check(alloc: Global, script: &Script, output: &[u8]) -> Result<Checked, NoMemory>
+    requires { is_built script.now ≡ true }
+    ensures { IfOk result (IsVerdict script.now output.now) }
+{
+    let leading = leading_entries(alloc, output)?;
+    let far = walked_prefix(alloc, script, &leading.entries)?;
+    let rest = &output[leading.size..];
+    if far.is_whole && are_lines(rest, far.lines.as_slice()) {
+        Ok(Checked::Output {
+            entries: far.entries as u64,
+        })
+    } else {
+        Ok(Checked::Differs {
+            entry: far.entries as u64 + 1,
+        })
+    }
+}

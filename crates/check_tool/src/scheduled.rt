@@ -1,0 +1,190 @@
+ghost use Rattle.std.specs.Prelude.{◌≡◌, ◌≤◌, ◌+◌, ◌-◌, ◌++◌, ◌∷◌, [], Some, true, false, not, List, ℕ, length, drop, filter, slice_get, slice_set, replicate, All, IfOk, IfSome, OnOk};
+ghost use Rattle.std.specs.Bool.{Decides};
+ghost use Rattle.std.specs.List.{AllByRecursion, range_with_len, flat_map};
+ghost use Rattle.base_types.specs.Scenario.{IsBackend, AreTurns, schedule_of, turns_of};
+ghost use Rattle.event_kinds.specs.declared.entry.Entry.{Entry};
+ghost use Rattle.cacheless.specs.Schedule.{has_stopped, pass_stopped};
+ghost use Rattle.check_tool.specs.Walked.{HaveFollowed};
+ghost use Rattle.check_tool.specs.Turning.{TellStopped, stopped_after};
+
+use base_types::{Listed, NoMemory, Turns};
+use event_kinds::{Entry, Event};
+use script_text::Script;
+use std::alloc::Global;
+
+// How many entries, from the first on, follow a schedule, and whether all do and take all of its turns.
+#[derive(Drop)]
+pub(crate) struct Followed {
+    pub(crate) entries: usize,
+    pub(crate) is_whole: bool,
+}
+
+// How far these entries follow the script's schedule.
+pub(crate) fn follow(
+    alloc: Global,
+    script: &Script,
+    entries: &[Entry],
+) -> Result<Followed, NoMemory>
+    ensures { IfOk result (λ f. HaveFollowed script.now entries.now f.entries f.is_whole) }
+{
+    if script.steps().is_empty() {
+        in_turn(alloc, script, entries)
+    } else {
+        by_steps(alloc, script, entries)
+    }
+}
+
+// The same without lines of steps: each backend runs to its stop.
+fn in_turn(alloc: Global, script: &Script, entries: &[Entry]) -> Result<Followed, NoMemory>
+    requires { script.now.steps ≡ [] }
+    ensures { IfOk result (λ f. HaveFollowed script.now entries.now f.entries f.is_whole) }
+{
+    let mut stopped = all_running(alloc, script.backends())?;
+    for (at, e) in entries.iter().enumerate() {
+        if !is_turn_of(first_running(&stopped), e.backend) {
+            return Ok(Followed {
+                entries: at,
+                is_whole: false,
+            });
+        }
+        note(&mut stopped, e);
+    }
+    Ok(Followed {
+        entries: entries.len(),
+        is_whole: first_running(&stopped).is_none(),
+    })
+}
+
+// The same by lines of steps.
+fn by_steps(alloc: Global, script: &Script, entries: &[Entry]) -> Result<Followed, NoMemory>
+    requires { 1 ≤ length script.now.steps }
+    ensures { IfOk result (λ f. HaveFollowed script.now entries.now f.entries f.is_whole) }
+{
+    let steps = all_steps(alloc, script)?;
+    let mut stopped = all_running(alloc, script.backends())?;
+    let mut taken = 0usize;
+    for (at, e) in entries.iter().enumerate() {
+        taken = pass(&steps, taken, &stopped);
+        if !is_turn_of(step_at(&steps, taken), e.backend) {
+            return Ok(Followed {
+                entries: at,
+                is_whole: false,
+            });
+        }
+        taken += 1;
+        note(&mut stopped, e);
+    }
+    let left = pass(&steps, taken, &stopped);
+    Ok(Followed {
+        entries: entries.len(),
+        is_whole: left == steps.len(),
+    })
+}
+
+// Whether the next turn is this backend's.
+fn is_turn_of(turn: Option<u32>, b: u32) -> bool
+    ensures { Decides result (turn ≡ Some b) }
+{
+    match turn {
+        Some(next) => next == b,
+        None => false,
+    }
+}
+
+// The step at a place, if there is one.
+fn step_at(steps: &[u32], at: usize) -> Option<u32>
+    ensures { result ≡ slice_get steps.now at }
+{
+    if at < steps.len() {
+        Some(steps[at])
+    } else {
+        None
+    }
+}
+
+// The place of the first step from this one on whose backend hasn't stopped.
+fn pass(steps: &[u32], from: usize, stopped: &[bool]) -> usize
+    requires range { AllByRecursion (IsBackend (length stopped.now)) steps.now }
+    requires within { from ≤ length steps.now }
+    ensures passed { (seen : List Entry) → TellStopped seen stopped.now → pass_stopped seen (drop from steps.now) ≡ drop result steps.now }
+    ensures within { result ≤ length steps.now }
+{
+    let mut at = from;
+    'steps: while at < steps.len() && stopped[steps[at] as usize - 1] {
+        at += 1;
+    }
+    at
+}
+
+// The first backend that hasn't stopped.
+fn first_running(stopped: &[bool]) -> Option<u32>
+    requires { length stopped.now ≤ 64 }
+    ensures range { IfSome result (λ b. IsBackend (length stopped.now) b) }
+    ensures first { (seen : List Entry) → TellStopped seen stopped.now → result ≡ slice_get (filter (λ b. not (has_stopped seen b)) (range_with_len 1 (length stopped.now))) 0 }
+{
+    for (i, has) in stopped.iter().enumerate() {
+        if !*has {
+            return Some(i as u32 + 1);
+        }
+    }
+    None
+}
+
+// No backend has stopped yet.
+fn all_running(alloc: Global, backends: u32) -> Result<Vec<bool>, NoMemory>
+    ensures { IfOk result (λ stopped. stopped.items ≡ replicate backends false) }
+{
+    let mut stopped = Vec::new(alloc);
+    for _number in 0..backends {
+        stopped.push(false)?;
+    }
+    Ok(stopped)
+}
+
+// Notes an entry.
+fn note(stopped: &mut [bool], e: &Entry)
+    requires { IsBackend (length stopped.old) e.now.backend }
+    ensures tell { (seen : List Entry) → TellStopped seen stopped.old → TellStopped (seen ++ e.now ∷ []) stopped.new }
+    ensures count { length stopped.new ≡ length stopped.old }
+{
+    stopped[e.backend as usize - 1] = is_stop(&e.event);
+}
+
+// Whether a backend has stopped, after one of its events.
+fn is_stop(event: &Event) -> bool
+    ensures { result ≡ stopped_after event.now }
+{
+    matches!(event, Event::Stop)
+}
+
+// The backends of all steps, in order.
+fn all_steps(alloc: Global, script: &Script) -> Result<Vec<u32>, NoMemory>
+    ensures { IfOk result (λ steps. steps.items ≡ schedule_of script.now) }
+{
+    let mut steps = Vec::new(alloc);
+    let lines = script.steps();
+    for line in lines {
+        push_line(&mut steps, line.as_slice())?;
+    }
+    Ok(steps)
+}
+
+// The steps of a line, after those before it.
+fn push_line(steps: &mut Vec<u32>, line: &[Turns]) -> Result<(), NoMemory>
+    ensures { OnOk result (steps.new.items ≡ steps.old.items ++ turns_of line.now) }
+{
+    for turns in line {
+        push_turns(steps, turns)?;
+    }
+    Ok(())
+}
+
+// The steps of one item.
+fn push_turns(steps: &mut Vec<u32>, turns: &Turns) -> Result<(), NoMemory>
+    ensures { OnOk result (steps.new.items ≡ steps.old.items ++ replicate turns.now.count turns.now.backend) }
+{
+    for _step in 0..turns.count {
+        steps.push(turns.backend)?;
+    }
+    Ok(())
+}
