@@ -21,10 +21,10 @@ use Rattle.history_model.proofs.Every.{every-weaker, every, every-map, every-fil
 use Rattle.history_model.proofs.FixedRows.{fixed}
 use Rattle.history_model.proofs.ColumnsKept.{IsOfColumns, column_asks, column_fixes, AreAmong, columns_among, by_number}
 use Rattle.history_model.proofs.GivenRows.{given_asked}
-use Rattle.history_model.proofs.InOrder.{IsIn, Differ, every_given, some_given, pair_given}
+use Rattle.history_model.proofs.InOrder.{IsIn, Differ, every_given, some_given, pair_given, every_self}
 use Rattle.history_model.proofs.Ordered.{one_version, one_seen}
 use Rattle.history_model.proofs.Seen.{Pairwise, pair-weaker, pair-map, pair-filter}
-use Rattle.history_model.proofs.WeakChanges.{column_apart, every_self}
+use Rattle.history_model.proofs.WeakChanges.{column_apart}
 use Rattle.cacheless.specs.Types.{Oid, Row, Purpose, Entry}
 use Rattle.cacheless.specs.TableWrites.{AreNamesakes, WritesColumns}
 use Rattle.cacheless.proofs.WholeColumns.{whole_apart}

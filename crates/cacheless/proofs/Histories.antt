@@ -13,6 +13,7 @@ pub mod ThreeHolders
 pub mod RefusedCommands
 pub mod NoField
 pub mod WeakTargets
+pub mod WeakerModes
 pub mod LockedColumns
 pub mod AlteredTable
 pub mod DroppedTable

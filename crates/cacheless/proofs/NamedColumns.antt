@@ -58,7 +58,7 @@ called_pairs (item ∷ items) apart = (apart.0, called_pairs items apart.1)
 keeps_apart : (history : List Entry) (b c : ℕ) (event : Event) → IsSound history → MayComeNext history (entry_of b c event) → CallsBy history b event → KeepsApartBy AreNamesakes history b event
 keeps_apart history b c (events.Write xid items) sound comes calls = record {
   new = every-weaker (λ item. Guarded item × CallsApart history b item) (λ item. IfSome (added_row item) (λ row. IsFreeRow AreNamesakes history b items row ⊎ Inherits AreNamesakes history b item row)) (λ item h. free item (added_row item) h.0.0 h.1) items
-      (every-both Guarded (CallsApart history b) items (guards_lawful history b c (events.Write xid items) comes.follows.event k (early_at history (entry_of b c (events.Write xid items)) k comes.follows.life)) calls.0);
+      (every-both Guarded (CallsApart history b) items (guards_lawful history b c (events.Write xid items) comes.follows.event comes.orderly k (early_at history (entry_of b c (events.Write xid items)) k comes.follows.life)) calls.0);
   apart = called_pairs items calls.1;
 }
   where

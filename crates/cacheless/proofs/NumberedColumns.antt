@@ -41,8 +41,10 @@ use Rattle.history_model.proofs.Seen.{runs-after}
 use Rattle.history_model.proofs.InOrder.{IsIn, Rises, given_rises}
 use Rattle.history_model.proofs.Lives.{begun_at}
 use Rattle.history_model.proofs.Ordered.{Ordered, Ordered-start, Ordered-more, all_each, all_kept, find_passes, one_seen, lawful_of, sound_ordered}
-use Rattle.history_model.proofs.Steady.{find_some}
-use Rattle.history_model.proofs.WeakChanges.{column_apart, asked_differ}
+use Rattle.history_model.proofs.MaskedRows.{find_some}
+use Rattle.history_model.proofs.MaskedScans.{asked_differ}
+use Rattle.history_model.proofs.RowMasks.{fixed_mask}
+use Rattle.history_model.proofs.WeakChanges.{column_apart}
 use Rattle.history_model.proofs.Locked.{changing_modes, bars, IsBarred, AreBarred}
 use Rattle.cacheless.specs.Types.{Oid, Row, Purpose, Entry, Event, Item}
 use Rattle.cacheless.specs.TableWrites.{gives_key, is_next_column}
@@ -95,8 +97,8 @@ lasting history sound = (each-keeps MayComeNext (λ h. Ordered h × AllByRecursi
 
 barred_mode : (held : List Grant) (b : ℕ) (rel : Oid) (mode : Mode) → AreBarred held b rel changing_modes → is_changing mode ≡ true → IsBarred held b rel mode
 barred_mode held b rel ShareUpdateExclusive barred is = barred.0
-barred_mode held b rel ShareRowExclusive barred is = barred.1.0
-barred_mode held b rel AccessExclusive barred is = barred.1.1.0
+barred_mode held b rel ShareRowExclusive barred is = barred.1.1.0
+barred_mode held b rel AccessExclusive barred is = barred.1.1.1.0
 barred_mode held b rel mode barred is = absurd (cc)
 
 -- nobody else guards rows of a relation on which each mode under which rows are changed is barred
@@ -467,7 +469,7 @@ numbered_where history b rel sound numbers seen barred = record {
 
     rises : Rises given
     rises = given_rises d (filter (selects d) (rows_of history b)) (scan_of-answers d (rows_of history b)).order ((column_apart rel).by_number (rows_of history b))
-        (asked_differ d rel (column_apart rel) (sees history b) (versions_of history) (one_seen history b (versions_of history) (sound_ordered history sound).one))
+        (asked_differ (fixed_mask rel) d (column_apart rel) (sees history b) (versions_of history) (one_seen history b (versions_of history) (sound_ordered history sound).one))
 
     step : AreInStep 0 given
     step = in_step 0 given rises (every-weaker (λ row. (row_number row ≡ 0 + 1) ⊎ SomeOf (λ other. row_number row ≡ row_number other + 1) given) (λ row. 0 < row_number row) positive given steps) steps

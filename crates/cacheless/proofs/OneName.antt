@@ -23,12 +23,11 @@ use Rattle.history_model.specs.Orderly.{MayComeNext, IsSound}
 use Rattle.history_model.proofs.Asking.{bytes_same}
 use Rattle.history_model.proofs.Every.{every-weaker, every, every-both, SomeOf, some-weaker, some_with}
 use Rattle.history_model.proofs.GivenRows.{given_seen, row_given}
-use Rattle.history_model.proofs.InOrder.{IsIn}
+use Rattle.history_model.proofs.InOrder.{IsIn, every_self}
 use Rattle.history_model.proofs.Locked.{IsSeenAs}
 use Rattle.history_model.proofs.Ordered.{Ordered, all_flat, all_kept, ended_named, sound_ordered}
 use Rattle.history_model.proofs.Seen.{Pairwise, pair-weaker, pair-filter}
 use Rattle.history_model.proofs.Touched.{entry_of}
-use Rattle.history_model.proofs.WeakChanges.{every_self}
 use Rattle.cacheless.specs.Types.{Oid, Kind, Row, Purpose, Entry, Event, Item}
 use Rattle.cacheless.specs.TableWrites.{ShareName, AreNamedApart, NamesApartBy, WritesNamesApart}
 use Rattle.cacheless.proofs.Dropped.{ended_there}

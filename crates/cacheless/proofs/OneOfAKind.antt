@@ -15,12 +15,11 @@ use Rattle.history_model.specs.Orderly.{main_rel, MayComeNext, IsSound}
 use Rattle.history_model.proofs.Reading.{versions_of-more as versions-more}
 use Rattle.history_model.proofs.Every.{every-weaker, every, every-append, every-map, every-both, every-swap, SomeOf, some-weaker, some_with, from_some}
 use Rattle.history_model.proofs.Guards.{IsGuarded}
-use Rattle.history_model.proofs.InOrder.{IsIn}
+use Rattle.history_model.proofs.InOrder.{IsIn, every_self}
 use Rattle.history_model.proofs.Lawful.{EndsOnce}
 use Rattle.history_model.proofs.Ordered.{Ordered, lawful_of, sound_ordered}
 use Rattle.history_model.proofs.Seen.{Pairwise, pair-weaker, pair-map, pair-filter, pair-push}
 use Rattle.history_model.proofs.Touched.{entry_of, OfStamps, Touch}
-use Rattle.history_model.proofs.WeakChanges.{every_self}
 use Rattle.cacheless.specs.Types.{Row, Entry, Event, Item}
 use Rattle.cacheless.proofs.AlongSound.{along_sound}
 use Rattle.cacheless.proofs.EndedFirst.{EndedFirst, ended_on, ended_back, ended_hidden, EndsIt, ends_unended, AllCount, ended_or_seen, guarded_counts}

@@ -13,7 +13,7 @@ use Rattle.history_model.specs.Writes.{changed_key}
 use Rattle.history_model.proofs.Every.{every-weaker, every-append, every-map, SomeOf, some-weaker, some-left, some-right, some-map, some-filter}
 use Rattle.history_model.proofs.OneVersion.{distinct_split, differ_from, added_key}
 use Rattle.history_model.proofs.Ordered.{if_some}
-use Rattle.history_model.proofs.Steady.{not_ended}
+use Rattle.history_model.proofs.MaskedRows.{not_ended}
 use Rattle.cacheless.specs.Types.{Row, Entry, Item}
 
 -- a version of one of these rows, by this stamp

@@ -106,7 +106,7 @@ next_by rel num before b c (events.Write xid items) sound comes keeps next =
     Guarded item = AllByRecursion (λ v. ends before b item v ≡ true → IsGuarded held b c (main_rel v.row)) (versions_of before)
 
     lawfully : GuardsLawfully before b c (events.Write xid items)
-    lawfully = guards_lawful before b c (events.Write xid items) comes.follows.event k (early_at before e k comes.follows.life)
+    lawfully = guards_lawful before b c (events.Write xid items) comes.follows.event comes.orderly k (early_at before e k comes.follows.life)
 
     guarded : AllByRecursion Guarded items
     guarded = every-weaker (λ item. IfSome (added_row item) (λ row. IsGuarded held b c (main_rel row)) × Guarded item) Guarded (λ item h. h.1) items lawfully

@@ -16,7 +16,7 @@ use Rattle.history_model.specs.Held.{held_of}
 use Rattle.history_model.specs.Names.{new_name, new_names}
 use Rattle.history_model.specs.Transactions.{Running, running_transaction_of, last_xid, xid_for}
 use Rattle.history_model.specs.Versions.{ended_key, added_row, old_row, row_with}
-use Rattle.history_model.specs.Writes.{has_row, has_written, is_free, relations_of, modes_enough, is_guarded, keeps_kind}
+use Rattle.history_model.specs.Writes.{has_row, has_written, is_free, relations_changed, is_validation, modes_enough, is_guarded, keeps_kind}
 use Rattle.history_ledger.specs.Types.{Oid, Xid, Row, RowKey, Reader, Entry, Item, Add, Put, Remove, Force}
 use Rattle.history_ledger.specs.Reads.{Wrote}
 use Rattle.history_ledger.specs.Standing.{xid_of, kept_of, xid_in, transaction_of}
@@ -123,13 +123,16 @@ module _ (seen : List Entry) (b : ℕ) (store : Store) (reader : Reader) (own : 
   guard_is made item = ap (guards_rows (held_of seen) b made item) (old_same item) ∙ by (old_row seen b item) (added_row item)
     where
       guards : Option Row → Oid → Bool
-      guards old rel = list_any (same_oid rel) made || list_any (holds (held_of seen) b rel) (modes_enough old item)
+      guards old rel = list_any (same_oid rel) made || list_any (holds (held_of seen) b rel) (modes_enough old item rel)
 
-      by : (old added : Option Row) → (option_map_or (guards_row (held_of seen) b made old item) old true && option_map_or (guards_row (held_of seen) b made old item) added true) ≡ list_all (guards old) (flat_map relations_of (filter_map (λ row. row) (old ∷ added ∷ [])))
+      relations : Option Row → Row → List Oid
+      relations old = relations_changed (is_validation old item)
+
+      by : (old added : Option Row) → (option_map_or (guards_row (held_of seen) b made old item) old true && option_map_or (guards_row (held_of seen) b made old item) added true) ≡ list_all (guards old) (flat_map (relations old) (filter_map (λ row. row) (old ∷ added ∷ [])))
       by None None = refl
-      by None (Some row) = sym (all_flat (guards None) relations_of (row ∷ []) ∙ and_right (list_all (guards None) (relations_of row)))
-      by (Some had) None = and_right (list_all (guards (Some had)) (relations_of had)) ∙ sym (all_flat (guards (Some had)) relations_of (had ∷ []) ∙ and_right (list_all (guards (Some had)) (relations_of had)))
-      by (Some had) (Some row) = sym (all_flat (guards (Some had)) relations_of (had ∷ row ∷ []) ∙ ap (λ t. list_all (guards (Some had)) (relations_of had) && t) (and_right (list_all (guards (Some had)) (relations_of row))))
+      by None (Some row) = sym (all_flat (guards None) (relations None) (row ∷ []) ∙ and_right (list_all (guards None) (relations None row)))
+      by (Some had) None = and_right (list_all (guards (Some had)) (relations (Some had) had)) ∙ sym (all_flat (guards (Some had)) (relations (Some had)) (had ∷ []) ∙ and_right (list_all (guards (Some had)) (relations (Some had) had)))
+      by (Some had) (Some row) = sym (all_flat (guards (Some had)) (relations (Some had)) (had ∷ row ∷ []) ∙ ap (λ t. list_all (guards (Some had)) (relations (Some had) had) && t) (and_right (list_all (guards (Some had)) (relations (Some had) row))))
 
   -- what is asked of each change
   pub changes_is : (list : List Item) → list_all (λ item. may_change store (held_of seen) own b (flat_map made_by list) item (old_at store reader item)) list

@@ -10,7 +10,7 @@ use Rattle.history_model.specs.Covered.{scans_of, is_covered, same_row, same_row
 use Rattle.history_model.specs.Drawn.{drawn_by, made_by}
 use Rattle.history_model.specs.Names.{new_name}
 use Rattle.history_model.specs.Versions.{ended_key, added_row}
-use Rattle.history_model.specs.Writes.{changed_key, relations_of, modes_enough, same_kind}
+use Rattle.history_model.specs.Writes.{changed_key, relations_changed, is_validation, modes_enough, same_kind}
 use Rattle.base_types.specs.declared.row.Row.TheVariants as rows
 use Rattle.history_ledger.specs.Types.{Oid, Xid, Row, Purpose, Reader, Grant, Message, Entry, Event, Write, Item, Put}
 use Rattle.history_ledger.specs.Enters.{messages_at}
@@ -50,9 +50,9 @@ leaves_kind item old = true
 abbrev pub frees_names : Store → Option Xid → Item → Option Row → Bool
 frees_names store own item old = list_all (λ name. is_none (clash_of store own name)) (new_name old (added_row item))
 
--- the backend holds a mode that is enough on each relation that a row names, but on those that the write makes
+-- the backend holds a mode that is enough on each relation of a row that is changed, but on those that the write makes
 abbrev pub guards_row : List Grant → ℕ → List Oid → Option Row → Item → Row → Bool
-guards_row held b made old item row = list_all (λ rel. list_any (same_oid rel) made || list_any (holds held b rel) (modes_enough old item)) (relations_of row)
+guards_row held b made old item row = list_all (λ rel. list_any (same_oid rel) made || list_any (holds held b rel) (modes_enough old item rel)) (relations_changed (is_validation old item) row)
 
 -- so it is with the old row and the new one
 abbrev pub guards_rows : List Grant → ℕ → List Oid → Item → Option Row → Bool
@@ -130,11 +130,6 @@ same_con_row a b = false
 abbrev pub same_trigger_row : Row → Row → Bool
 same_trigger_row (rows.Trg oid rel name on) b = same_row (rows.Trg oid rel name on) b
 same_trigger_row a b = false
-
--- nothing but a column's statistics target differs
-abbrev pub changes_target : Row → Row → Bool
-changes_target (rows.Att rel num own col_type old live) (rows.Att to num' name col_type' stat live') = same_row (rows.Att rel num own col_type stat live) (rows.Att to num' name col_type' stat live')
-changes_target had row = false
 
 -- a backend may do this next
 abbrev pub may_do_at : Store → List Grant → ℕ → ℕ → ℕ → ℕ → ℕ → Standing → Event → Bool

@@ -7,8 +7,8 @@ ghost use Rattle.lock_modes.specs.Grants.{holds as do_hold};
 ghost use Rattle.history_model.specs.Drawn.{made_by};
 ghost use Rattle.history_model.specs.Names.{new_name as names_changed};
 ghost use Rattle.history_model.specs.Versions.{added_row as row_added};
-ghost use Rattle.history_model.specs.Writes.{modes_enough, enough_where, relations_of as relations_in, same_kind as kinds_match};
-ghost use Rattle.history_ledger.specs.Writing.{is_there as finds_old, leaves_kind as does_leave_kind, frees_names as does_free_names, guards_rows as does_guard_rows, may_change as may_be_changed, changes_target as targets_differ, old_at};
+ghost use Rattle.history_model.specs.Writes.{modes_enough, enough_with, update_where as update_if, weaker_mode as mode_weaker, mode_to_add as mode_for_added, mode_to_replace as mode_for_replaced, mode_to_remove as mode_for_removed, validates as does_validate, is_validation as is_validated, same_kind as kinds_match};
+ghost use Rattle.history_ledger.specs.Writing.{is_there as finds_old, leaves_kind as does_leave_kind, frees_names as does_free_names, guards_row as does_guard_row, guards_rows as does_guard_rows, may_change as may_be_changed, old_at};
 ghost use Rattle.history_ledger.specs.Follows.{reader_at};
 ghost use Rattle.history_ledger.specs.Standing.{standing_of, xid_in};
 
@@ -174,112 +174,61 @@ fn changed_name(old: &Option<Row>, row: &Row) -> Option<Name>
 fn guards_rows(locks: &GrantTable, b: u32, made: &[Oid], item: &Item, old: &Option<Row>) -> bool
     ensures { result ≡ does_guard_rows locks.now b made.now item.now old.now }
 {
-    let weak = is_weak(item, old);
     let old_guarded = match old {
-        Some(row) => guards_row(locks, b, made, weak, row),
+        Some(row) => guards_row(locks, b, made, item, old, row),
         None => true,
     };
     let new_guarded = match item {
-        Item::Add(row) | Item::Put(row) => guards_row(locks, b, made, weak, row),
+        Item::Add(row) | Item::Put(row) => guards_row(locks, b, made, item, old, row),
         Item::Remove(_) | Item::Force(_) => true,
     };
     old_guarded && new_guarded
 }
 
-// Whether ShareUpdateExclusive is enough for a change: nothing but a fillfactor or a statistics target
-// changes.
-fn is_weak(item: &Item, old: &Option<Row>) -> bool
-    ensures { modes_enough old.now item.now ≡ enough_where result }
-{
-    match (old, item) {
-        (Some(had), Item::Put(row)) => changes_settings(had, row),
-        _ => false,
-    }
-}
-
-// Whether nothing but a fillfactor or a statistics target differs.
-fn changes_settings(had: &Row, row: &Row) -> bool
-    ensures { modes_enough (Some had.now) (items.Put row.now) ≡ enough_where result }
-{
-    match (had, row) {
-        (
-            Row::Class {
-                oid,
-                name,
-                kind,
-                ..
-            },
-            Row::Class { fill, .. },
-        ) => same_row(
-            &Row::Class {
-                oid: *oid,
-                name: *name,
-                kind: *kind,
-                fill: *fill,
-            },
-            row,
-        ),
-        _ => changes_target(had, row),
-    }
-}
-
-// Whether nothing but a column's statistics target differs.
-fn changes_target(had: &Row, row: &Row) -> bool
-    ensures { result ≡ targets_differ had.now row.now }
-{
-    match (had, row) {
-        (
-            Row::Att {
-                rel,
-                num,
-                name,
-                col_type,
-                live,
-                ..
-            },
-            Row::Att { stat, .. },
-        ) => same_row(
-            &Row::Att {
-                rel: *rel,
-                num: *num,
-                name: *name,
-                col_type: *col_type,
-                stat: *stat,
-                live: *live,
-            },
-            row,
-        ),
-        _ => false,
-    }
-}
-
-// Whether the backend holds a mode that is enough on each relation that a row names, but on those that
-// the write makes.
-fn guards_row(locks: &GrantTable, b: u32, made: &[Oid], weak: bool, row: &Row) -> bool
-    ensures { result ≡ list_all (λ rel. list_any (same_oid rel) made.now || list_any (do_hold locks.now b rel) (enough_where weak)) (relations_in row.now) }
+// Whether the backend holds a mode that is enough on each relation of a row that is changed, but on
+// those that the write makes. A foreign key is validated under a lock of its own relation alone.
+fn guards_row(
+    locks: &GrantTable,
+    b: u32,
+    made: &[Oid],
+    item: &Item,
+    old: &Option<Row>,
+    row: &Row,
+) -> bool
+    ensures { result ≡ does_guard_row locks.now b made.now old.now item.now row.now }
 {
     match row {
         Row::Class { oid: rel, .. }
         | Row::Att { rel, .. }
         | Row::Def { rel, .. }
-        | Row::Trg { rel, .. } => guards(locks, b, made, weak, *rel),
+        | Row::Trg { rel, .. } => guards(locks, b, made, item, old, *rel),
         Row::Ind { index, table, .. } => {
-            guards(locks, b, made, weak, *index) && guards(locks, b, made, weak, *table)
+            guards(locks, b, made, item, old, *index) && guards(locks, b, made, item, old, *table)
         }
         Row::Con {
             rel,
             what: ConKind::Foreign { refrel, .. },
             ..
-        } => guards(locks, b, made, weak, *rel) && guards(locks, b, made, weak, *refrel),
-        Row::Con { rel, .. } => guards(locks, b, made, weak, *rel),
+        } => {
+            guards(locks, b, made, item, old, *rel)
+                && (is_validation(old, item) || guards(locks, b, made, item, old, *refrel))
+        }
+        Row::Con { rel, .. } => guards(locks, b, made, item, old, *rel),
     }
 }
 
 // Whether the backend holds a mode that is enough on the relation, or the write makes it.
-fn guards(locks: &GrantTable, b: u32, made: &[Oid], weak: bool, rel: Oid) -> bool
-    ensures { result ≡ (list_any (same_oid rel) made.now || list_any (do_hold locks.now b rel) (enough_where weak)) }
+fn guards(
+    locks: &GrantTable,
+    b: u32,
+    made: &[Oid],
+    item: &Item,
+    old: &Option<Row>,
+    rel: Oid,
+) -> bool
+    ensures { result ≡ (list_any (same_oid rel) made.now || list_any (do_hold locks.now b rel) (modes_enough old.now item.now rel)) }
 {
-    is_among(made, rel) || holds_enough(locks, b, weak, rel)
+    is_among(made, rel) || holds_enough(locks, b, weaker_mode(old, item, rel), rel)
 }
 
 // Whether the relation is one of these.
@@ -289,14 +238,159 @@ fn is_among(relations: &[Oid], rel: Oid) -> bool
     relations.iter().any(|other| rel.0 == other.0)
 }
 
-// Whether the backend holds a mode that is enough on the relation.
-fn holds_enough(locks: &GrantTable, b: u32, weak: bool, rel: Oid) -> bool
-    ensures { result ≡ list_any (do_hold locks.now b rel) (enough_where weak) }
+// Whether the backend holds AccessExclusive on the relation, or the weaker mode that is enough.
+fn holds_enough(locks: &GrantTable, b: u32, weaker: Option<Mode>, rel: Oid) -> bool
+    ensures { result ≡ list_any (do_hold locks.now b rel) (enough_with weaker) }
 {
-    if weak {
-        locks.holds(b, rel, Mode::ShareUpdateExclusive)
-            || locks.holds(b, rel, Mode::AccessExclusive)
+    match weaker {
+        Some(mode) => locks.holds(b, rel, mode) || locks.holds(b, rel, Mode::AccessExclusive),
+        None => locks.holds(b, rel, Mode::AccessExclusive),
+    }
+}
+
+// The mode weaker than AccessExclusive that is enough for a change on a relation, if there is one.
+fn weaker_mode(old: &Option<Row>, item: &Item, rel: Oid) -> Option<Mode>
+    ensures { result ≡ mode_weaker old.now item.now rel }
+{
+    match item {
+        Item::Add(row) => mode_to_add(row, rel),
+        Item::Put(row) => mode_to_replace(old, row),
+        Item::Remove(_) => mode_to_remove(old),
+        Item::Force(_) => None,
+    }
+}
+
+// The weaker mode that is enough to add a row.
+fn mode_to_add(row: &Row, rel: Oid) -> Option<Mode>
+    ensures { result ≡ mode_for_added row.now rel }
+{
+    match row {
+        Row::Ind { table, .. } => {
+            if table.0 == rel.0 {
+                Some(Mode::Share)
+            } else {
+                None
+            }
+        }
+        Row::Con {
+            what: ConKind::Foreign { .. },
+            ..
+        }
+        | Row::Trg { .. } => Some(Mode::ShareRowExclusive),
+        _ => None,
+    }
+}
+
+// The weaker mode that is enough to replace a row.
+fn mode_to_replace(old: &Option<Row>, row: &Row) -> Option<Mode>
+    ensures { result ≡ mode_for_replaced old.now row.now }
+{
+    match (old, row) {
+        (
+            Some(
+                Row::Class {
+                    oid,
+                    name,
+                    kind,
+                    ..
+                },
+            ),
+            Row::Class { fill, .. },
+        ) => update_where(same_row(
+            &Row::Class {
+                oid: *oid,
+                name: *name,
+                kind: *kind,
+                fill: *fill,
+            },
+            row,
+        )),
+        (
+            Some(
+                Row::Att {
+                    rel,
+                    num,
+                    name,
+                    col_type,
+                    live,
+                    ..
+                },
+            ),
+            Row::Att { stat, .. },
+        ) => update_where(same_row(
+            &Row::Att {
+                rel: *rel,
+                num: *num,
+                name: *name,
+                col_type: *col_type,
+                stat: *stat,
+                live: *live,
+            },
+            row,
+        )),
+        (Some(Row::Con { .. }), Row::Con { .. }) => update_where(validates(old, row)),
+        (Some(Row::Trg { .. }), Row::Trg { .. }) => Some(Mode::ShareRowExclusive),
+        _ => None,
+    }
+}
+
+// The weaker mode that is enough to take a row away.
+fn mode_to_remove(old: &Option<Row>) -> Option<Mode>
+    ensures { result ≡ mode_for_removed old.now }
+{
+    match old {
+        Some(Row::Trg { .. }) => Some(Mode::ShareRowExclusive),
+        _ => None,
+    }
+}
+
+// ShareUpdateExclusive, where a change passes a test.
+fn update_where(passes: bool) -> Option<Mode>
+    ensures { result ≡ update_if passes }
+{
+    if passes {
+        Some(Mode::ShareUpdateExclusive)
     } else {
-        locks.holds(b, rel, Mode::AccessExclusive)
+        None
+    }
+}
+
+// Whether a change leaves a constraint but for whether it is known to hold.
+fn is_validation(old: &Option<Row>, item: &Item) -> bool
+    ensures { result ≡ is_validated old.now item.now }
+{
+    match item {
+        Item::Put(row) => validates(old, row),
+        _ => false,
+    }
+}
+
+// Whether two rows of a constraint differ in nothing but whether it is known to hold.
+fn validates(old: &Option<Row>, row: &Row) -> bool
+    ensures { result ≡ does_validate old.now row.now }
+{
+    match (old, row) {
+        (
+            Some(
+                Row::Con {
+                    oid,
+                    rel,
+                    name,
+                    what,
+                    ..
+                },
+            ),
+            Row::Con { valid, .. },
+        ) => same_row(
+            &Row::Con {
+                oid: *oid,
+                rel: *rel,
+                name: *name,
+                valid: *valid,
+                what: *what,
+            },
+            row,
+        ),
+        _ => false,
     }
 }

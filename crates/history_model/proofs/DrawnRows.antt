@@ -19,14 +19,15 @@ use Rattle.row_visibility.specs.declared.version.Version.{Version}
 use Rattle.history_model.specs.Drawn.{next_oid}
 use Rattle.history_model.specs.Held.{held_by, held_of}
 use Rattle.history_model.specs.Legal.{AllowsEvent}
-use Rattle.history_model.specs.Orderly.{main_rel, MayComeNext, IsSound}
+use Rattle.history_model.specs.Orderly.{main_rel, IsOrderlyEvent, MayComeNext, IsSound}
 use Rattle.history_model.specs.Versions.{versions_of, versions_by, sees, rows_of, answer_of, added_row, old_row, ends, is_back}
 use Rattle.history_model.proofs.Prefixes.{EachEntry-more, each-keeps}
 use Rattle.history_model.proofs.Reading.{versions_of-more, held_of-more}
 use Rattle.history_model.proofs.Every.{every, every-weaker, every-filter, every-map, every-both}
 use Rattle.history_model.proofs.Guards.{is_changing, guards, IsGuarded, any_with}
+use Rattle.history_model.proofs.EnoughModes.{IsHeldFor}
 use Rattle.history_model.proofs.InOrder.{every_given}
-use Rattle.history_model.proofs.Ordered.{sound_ordered, locks_exclude, early_at, if_some, IsHeldFor, guarded_rows, main_guarded}
+use Rattle.history_model.proofs.Ordered.{sound_ordered, locks_exclude, early_at, if_some, guarded_rows, main_guarded}
 use Rattle.history_model.proofs.Reached.{next_rises}
 use Rattle.history_model.proofs.Touched.{entry_of, OfStamps, stamps-weaker, stamps-write, stamps-gone}
 
@@ -60,7 +61,7 @@ drawn_by_event history b c event sound comes drawn = of event refl
     added xid items is = every-weaker Guarded (λ item. IfSome (added_row item) (λ row. (main_rel row).0 < next))
         (λ item both. if_some (IsHeldFor in_write b c (old_row history b item) item) (λ row. (main_rel row).0 < next)
         (λ row guarded. held_drawn next in_write b c (main_rel row) (subst (AllByRecursion (λ g. g.rel.0 < next)) (held_of-more history (entry_of b c event) ∙ ap (λ x. held_by b c x (held_of history)) is) held) (main_guarded in_write b c (old_row history b item) item row guarded)) (added_row item) both.0) items
-        (guarded_rows history b c xid items (subst (AllowsEvent history b c) is comes.follows.event).guarded (early_at history (entry_of b c event) (sound_ordered history sound) comes.follows.life))
+        (guarded_rows history b c xid items (subst (AllowsEvent history b c) is comes.follows.event).guarded (subst (IsOrderlyEvent history b) is comes.orderly).keeps (early_at history (entry_of b c event) (sound_ordered history sound) comes.follows.life))
       where
         in_write : List Grant
         in_write = held_by b c (events.Write xid items) (held_of history)

@@ -1,27 +1,18 @@
 -- What a change under a weak mode leaves of a row.
-use Rattle.std.proofs.Common.{◌≡◌, ◌∙◌, ◌⊎◌, inl, inr, ℕ, Bool, true, false, Option, Some, None, List, ◌==◌, ◌||◌, ◌&&◌, refl, ap, negsuc, ℤ}
-use Rattle.std.specs.List.{AllByRecursion, list_any}
+use Rattle.std.proofs.Common.{◌≡◌, ◌∙◌, ℕ, Bool, true, false, Option, None, List, ◌==◌, ◌&&◌, refl, ap, negsuc, ℤ}
 use Rattle.std.specs.Str.{bytes_eq}
 use Rattle.std.specs.Ordering.{int_eq}
 use Rattle.std.specs.Option.{option_eq}
-use Rattle.std.proofs.lemmas.Bool.{eqb-true, and_parts, or_cases}
+use Rattle.std.proofs.lemmas.Bool.{eqb-true, and_parts}
 use Rattle.base_types.specs.declared.ids.Oid.{Oid}
 use Rattle.base_types.specs.declared.row.Row.{Row}
 use Rattle.base_types.specs.declared.kind.Kind.{Kind}
 use Rattle.base_types.specs.declared.col_type.ColType.{ColType}
-use Rattle.base_types.specs.declared.mode.Mode.{Mode}
-use Rattle.base_types.specs.declared.mode.Mode.TheVariants.{ShareUpdateExclusive, AccessExclusive}
 use Rattle.base_types.specs.declared.kind.Kind.TheVariants.{Table, Index}
 use Rattle.base_types.specs.declared.col_type.ColType.TheVariants as types
-use Rattle.base_types.specs.declared.row.ConKind.TheVariants as demands
 use Rattle.base_types.specs.declared.row.Row.TheVariants as rows
 use Rattle.base_types.specs.Words.{kind_word, type_word, live_word}
 use Rattle.base_types.specs.Scans.{same_oid}
-use Rattle.event_kinds.specs.declared.entry.Item.{Item}
-use Rattle.event_kinds.specs.declared.entry.Item.TheVariants as forms
-use Rattle.history_model.specs.Covered.{same_row}
-use Rattle.history_model.specs.Orderly.{main_rel}
-use Rattle.history_model.specs.Writes.{enough_where, modes_enough, relations_of}
 use Rattle.history_model.proofs.Asking.{bytes_same, oid_eq}
 
 -- a row but for what a weak mode may change: a relation's fillfactor, a column's statistics target
@@ -35,11 +26,6 @@ abbrev pub is_loose : Row → Bool
 is_loose (rows.Class oid own kind fill) = true
 is_loose (rows.Att rel num own col_type stat live) = true
 is_loose row = false
-
--- the row that a change replaces and the row that it adds differ by no more than a weak mode may change
-abbrev pub IsWeak : Option Row → Item → Type 0
-IsWeak (Some old) (forms.Put row) = (fixed old ≡ fixed row) × (is_loose old ≡ true) × (is_loose row ≡ true)
-IsWeak old item = ⊥
 
 kind_same : (a b : Kind) → bytes_eq (kind_word a) (kind_word b) ≡ true → a ≡ b
 kind_same Table Table is = refl
@@ -62,14 +48,14 @@ type_same types.Date types.Date is = refl
 type_same types.Timestamptz types.Timestamptz is = refl
 type_same a b is = absurd (cc)
 
-class_fixed : (a b : Oid) (own name : List ℕ) (k l : Kind) (fill fill' : Option ℕ) → (same_oid a b && bytes_eq own name && bytes_eq (kind_word k) (kind_word l) && option_eq (λ x y. x == y) fill fill') ≡ true → rows.Class a own k None ≡ rows.Class b name l None
+pub class_fixed : (a b : Oid) (own name : List ℕ) (k l : Kind) (fill fill' : Option ℕ) → (same_oid a b && bytes_eq own name && bytes_eq (kind_word k) (kind_word l) && option_eq (λ x y. x == y) fill fill') ≡ true → rows.Class a own k None ≡ rows.Class b name l None
 class_fixed a b own name k l fill fill' is =
     let p = and_parts (same_oid a b && bytes_eq own name && bytes_eq (kind_word k) (kind_word l)) (option_eq (λ x y. x == y) fill fill') is in
     let q = and_parts (same_oid a b && bytes_eq own name) (bytes_eq (kind_word k) (kind_word l)) p.0 in
     let r = and_parts (same_oid a b) (bytes_eq own name) q.0 in
     ap (λ o. rows.Class o own k None) (oid_eq a b r.0) ∙ ap (λ n. rows.Class b n k None) (bytes_same own name r.1) ∙ ap (λ x. rows.Class b name x None) (kind_same k l q.1)
 
-column_fixed : (a b : Oid) (n m : ℕ) (own name : List ℕ) (s t : ColType) (stat stat' : ℤ) (l l' : Bool)
+pub column_fixed : (a b : Oid) (n m : ℕ) (own name : List ℕ) (s t : ColType) (stat stat' : ℤ) (l l' : Bool)
     → (same_oid a b && (n == m) && bytes_eq own name && bytes_eq (type_word s) (type_word t) && int_eq stat stat' && bytes_eq (live_word l) (live_word l')) ≡ true → rows.Att a n own s (negsuc 0) l ≡ rows.Att b m name t (negsuc 0) l'
 column_fixed a b n m own name s t stat stat' l l' is =
     let p = and_parts (same_oid a b && (n == m) && bytes_eq own name && bytes_eq (type_word s) (type_word t) && int_eq stat stat') (bytes_eq (live_word l) (live_word l')) is in
@@ -79,34 +65,3 @@ column_fixed a b n m own name s t stat stat' l l' is =
     let v = and_parts (same_oid a b) (n == m) u.0 in
     ap (λ o. rows.Att o n own s (negsuc 0) l) (oid_eq a b v.0) ∙ ap (λ k. rows.Att b k own s (negsuc 0) l) (eqb-true n m v.1) ∙ ap (λ x. rows.Att b m x s (negsuc 0) l) (bytes_same own name u.1)
     ∙ ap (λ x. rows.Att b m name x (negsuc 0) l) (type_same s t r.1) ∙ ap (λ x. rows.Att b m name t (negsuc 0) x) (live_same l l' p.1)
-
-only : (t : Bool) → (t || false) ≡ true → t ≡ true
-only true h = refl
-only false h = h
-
-by_test : (p : Mode → Bool) (W : Type 0) (t : Bool) → (t ≡ true → W) → list_any p (enough_where t) ≡ true → (p AccessExclusive ≡ true) ⊎ (W × (p ShareUpdateExclusive ≡ true))
-by_test p W false weak some = inl (only (p AccessExclusive) some)
-by_test p W true weak some = of (or_cases (p ShareUpdateExclusive) (p AccessExclusive || false) some)
-  where
-    of : (p ShareUpdateExclusive ≡ true) ⊎ ((p AccessExclusive || false) ≡ true) → (p AccessExclusive ≡ true) ⊎ (W × (p ShareUpdateExclusive ≡ true))
-    of (inl is) = inr (weak refl, is)
-    of (inr is) = inl (only (p AccessExclusive) is)
-
--- one of the modes that are enough for a change is AccessExclusive, or it is ShareUpdateExclusive and the change is weak
-pub weak_or_strong : (p : Mode → Bool) (old : Option Row) (item : Item) → list_any p (modes_enough old item) ≡ true → (p AccessExclusive ≡ true) ⊎ (IsWeak old item × (p ShareUpdateExclusive ≡ true))
-weak_or_strong p (Some (rows.Class oid own kind old)) (forms.Put (rows.Class to name kind' fill)) some =
-    by_test p ((rows.Class oid own kind None ≡ rows.Class to name kind' None) × (true ≡ true) × (true ≡ true)) (same_row (rows.Class oid own kind fill) (rows.Class to name kind' fill)) (λ is. (class_fixed oid to own name kind kind' fill fill is, refl, refl)) some
-weak_or_strong p (Some (rows.Att rel num own col_type old live)) (forms.Put (rows.Att to num' name col_type' stat live')) some =
-    by_test p ((rows.Att rel num own col_type (negsuc 0) live ≡ rows.Att to num' name col_type' (negsuc 0) live') × (true ≡ true) × (true ≡ true)) (same_row (rows.Att rel num own col_type stat live) (rows.Att to num' name col_type' stat live'))
-    (λ is. (column_fixed rel to num num' own name col_type col_type' stat stat live live' is, refl, refl)) some
-weak_or_strong p old item some = inl (only (p AccessExclusive) some)
-
--- what holds of each relation that a row names holds of its own
-pub main_of : (Q : Oid → Type 0) (row : Row) → AllByRecursion Q (relations_of row) → Q (main_rel row)
-main_of Q (rows.Class oid own kind fill) all = all.0
-main_of Q (rows.Att rel num own col_type stat live) all = all.0
-main_of Q (rows.Def oid rel num word) all = all.0
-main_of Q (rows.Ind index table state nums) all = all.0
-main_of Q (rows.Con oid rel own valid (demands.Foreign num refrel refnum)) all = all.0
-main_of Q (rows.Con oid rel own valid (demands.Check text)) all = all.0
-main_of Q (rows.Trg oid rel own on) all = all.0

@@ -7,8 +7,7 @@ use Rattle.base_types.specs.Scans.{selects}
 use Rattle.event_kinds.specs.declared.entry.Entry.{Entry}
 use Rattle.history_model.specs.Versions.{rows_of, answer_of}
 use Rattle.history_model.proofs.Every.{every-weaker, every-filter, SomeOf, some-weaker, some-filter}
-use Rattle.history_model.proofs.InOrder.{IsIn, every_given, some_given}
-use Rattle.history_model.proofs.WeakChanges.{every_self}
+use Rattle.history_model.proofs.InOrder.{IsIn, every_self, every_given, some_given}
 
 -- a row that a scan gives is seen, and the scan asks for it
 pub given_seen : (history : List Entry) (b : ℕ) (d : Purpose) → AllByRecursion (λ row. IsIn row (rows_of history b) × (selects d row ≡ true)) (answer_of history b d)

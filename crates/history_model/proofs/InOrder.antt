@@ -14,6 +14,10 @@ use Rattle.history_model.proofs.Seen.{Pairwise}
 abbrev pub IsIn : {X : Type 0} → X → List X → Type 0
 IsIn x xs = SomeOf (λ y. x ≡ y) xs
 
+pub every_self : {X : Type 0} (xs : List X) → AllByRecursion (λ x. IsIn x xs) xs
+every_self [] = tt
+every_self (x ∷ xs) = (inl refl, every-weaker (λ y. IsIn y xs) (λ y. IsIn y (x ∷ xs)) (λ y there. inr there) xs (every_self xs))
+
 -- two rows have different numbers
 abbrev pub Differ : Row → Row → Type 0
 Differ row other = row_number row ≡ row_number other → ⊥

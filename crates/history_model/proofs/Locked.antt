@@ -1,8 +1,8 @@
 -- Under a lock that keeps out those who change a relation's rows, a backend's answers stay, and under any lock a relation that is seen is still seen.
-use Rattle.std.proofs.Common.{◌≡◌, ◌∙◌, inl, inr, ℕ, Bool, true, false, Option, None, List, [], ◌∷◌, ◌++◌, ◌==◌, ◌||◌, ◌&&◌, refl, sym, ap, subst, map, filter, fold}
+use Rattle.std.proofs.Common.{◌≡◌, ◌∙◌, inl, inr, ℕ, Bool, true, false, Option, Some, None, List, [], ◌∷◌, ◌++◌, ◌==◌, ◌||◌, ◌&&◌, refl, sym, ap, subst, map, filter, fold}
 use Rattle.std.specs.Prelude.{⊤}
 use Rattle.std.specs.List.{AllByRecursion, list_any, list_all}
-use Rattle.std.proofs.lemmas.Bool.{eqb-true, eq-eqb, both_ways, and_parts, and_from}
+use Rattle.std.proofs.lemmas.Bool.{eqb-true, eq-eqb, and_parts, and_from}
 use Rattle.base_types.specs.declared.ids.Oid.{Oid}
 use Rattle.base_types.specs.declared.kind.Kind.{Kind}
 use Rattle.base_types.specs.declared.mode.Mode.{Mode}
@@ -11,7 +11,7 @@ use Rattle.base_types.specs.declared.row.Row.{Row}
 use Rattle.base_types.specs.declared.row.Row.TheVariants as rows
 use Rattle.base_types.specs.declared.scan.Purpose.{Purpose}
 use Rattle.base_types.specs.declared.scan.Purpose.TheVariants as scans
-use Rattle.base_types.specs.Modes.{mode_number, conflicting_modes, conflicts}
+use Rattle.base_types.specs.Modes.{same_mode, mode_number, conflicting_modes, conflicts}
 use Rattle.base_types.specs.Scans.{same_oid, selects, row_number, put_in_order}
 use Rattle.event_kinds.specs.declared.entry.Entry.{Entry}
 use Rattle.event_kinds.specs.declared.entry.Event.{Event}
@@ -28,8 +28,8 @@ use Rattle.history_model.proofs.Reading.{held_of-more as held-more, rows_read-ow
 use Rattle.history_model.proofs.Every.{every-weaker, any-weaker, some-weaker, some-filter}
 use Rattle.history_model.proofs.Asking.{oid_eq}
 use Rattle.history_model.proofs.Touched.{entry_of}
-use Rattle.history_model.proofs.Guards.{is_changing, any_with}
-use Rattle.history_model.proofs.FixedRows.{fixed, is_loose}
+use Rattle.history_model.proofs.Guards.{any_with}
+use Rattle.history_model.proofs.FixedRows.{fixed}
 use Rattle.history_model.proofs.Exclude.{Agree, AllAgree}
 use Rattle.history_model.proofs.SparedGrants.{SparesGrants, grant_spared}
 use Rattle.history_model.proofs.Granted.{lock_parts}
@@ -38,13 +38,16 @@ use Rattle.history_model.proofs.InOrder.{IsIn, Differ}
 use Rattle.history_model.proofs.Ordered.{all_each, locks_exclude, one_version, one_seen}
 use Rattle.history_model.proofs.Past.{none_in_way}
 use Rattle.history_model.proofs.Answers.{other_answers, own_answers}
-use Rattle.history_model.proofs.WeakChanges.{AsksOf, AreModesOf, class_apart, class_numbers, asked_differ, unheld_visible, fixed_visible}
+use Rattle.history_model.proofs.HeldRows.{IsChangedUnder, relation_kept, modes_of, changed_under, changed_more, unheld_visible}
+use Rattle.history_model.proofs.MaskedScans.{asked_differ}
+use Rattle.history_model.proofs.RowMasks.{fixed_mask}
+use Rattle.history_model.proofs.WeakChanges.{class_apart, class_numbers, fixed_visible}
 use Rattle.history_model.proofs.GivenRows.{given_seen}
 use Rattle.history_model.proofs.Observed.{LeavesRead}
 
 -- the modes under which rows are changed
 abbrev pub changing_modes : List Mode
-changing_modes = ShareUpdateExclusive ∷ ShareRowExclusive ∷ AccessExclusive ∷ []
+changing_modes = ShareUpdateExclusive ∷ Share ∷ ShareRowExclusive ∷ AccessExclusive ∷ []
 
 -- a grant to the backend on the relation that conflicts with the mode
 abbrev pub bars : ℕ → Oid → Mode → Grant → Bool
@@ -74,13 +77,6 @@ pub held_bars_all : (held : List Grant) (b : ℕ) (rel : Oid) (mode : Mode) (mod
 held_bars_all held b rel mode modes has clash =
     every-weaker (λ writer. conflicts writer mode ≡ true) (IsBarred held b rel) (λ writer one. held_bars held b rel mode writer has one) modes (all_each (λ writer. conflicts writer mode) modes clash)
 
--- it bars all modes under which rows are changed where it conflicts with each
-pub held_bars_changing : (held : List Grant) (b : ℕ) (rel : Oid) (mode : Mode) → holds held b rel mode ≡ true → ((writer : Mode) → is_changing writer ≡ true → conflicts writer mode ≡ true) → AreBarred held b rel changing_modes
-held_bars_changing held b rel mode has clash = (one ShareUpdateExclusive refl, (one ShareRowExclusive refl, (one AccessExclusive refl, tt)))
-  where
-    one : (writer : Mode) → is_changing writer ≡ true → IsBarred held b rel writer
-    one writer is = held_bars held b rel mode writer has (clash writer is)
-
 all_conflict : (mode : Mode) → conflicts AccessExclusive mode ≡ true
 all_conflict AccessShare = refl
 all_conflict RowShare = refl
@@ -109,35 +105,36 @@ pub none_held : (held : List Grant) (b a : ℕ) (rel : Oid) (modes : List Mode) 
 none_held held b a rel [] agree other barred = refl
 none_held held b a rel (mode ∷ modes) agree other barred = ap (λ t. t || list_any (holds held a rel) modes) (barred_free held b a rel mode agree other barred.0) ∙ none_held held b a rel modes agree other barred.1
 
--- any row is changed under these modes alone
-pub changed_under : (d : Purpose) → AreModesOf changing_modes d
-changed_under d row asks AccessExclusive is = refl
-changed_under d row asks ShareUpdateExclusive is = refl
-changed_under d row asks mode is = absurd (both_ways _ (of (is_loose row)) is)
+-- rows that are kept by locks on a relation are changed under these modes alone
+pub changed_anyhow : (d : Purpose) (rel : Oid) → relation_kept d ≡ Some rel → IsChangedUnder changing_modes d rel
+changed_anyhow d rel named = changed_more (modes_of d) changing_modes d rel (among d) (changed_under d rel named)
   where
-    of : (t : Bool) → (t && false) ≡ false
-    of true = refl
-    of false = refl
+    among : (d : Purpose) → AllByRecursion (λ m. list_any (same_mode m) changing_modes ≡ true) (modes_of d)
+    among (scans.AttrDef rel) = (refl, tt)
+    among (scans.IndexRow rel) = (refl, tt)
+    among (scans.Index rel) = (refl, (refl, tt))
+    among (scans.Trigger rel) = (refl, (refl, tt))
+    among d = (refl, (refl, tt))
 
 -- what becomes visible leaves the answer of a scan that asks for rows of a relation, where its backend holds on it no mode under which they are changed
-pub unheld_leaves : (d : Purpose) (rel : Oid) (modes : List Mode) → AsksOf d rel → AreModesOf modes d → LeavesRead (λ given. given) d rel modes
-unheld_leaves d rel modes asks among history a c xid b sound comes other none = unheld_visible history a c xid b rel d modes sound comes other asks among none
+pub unheld_leaves : (d : Purpose) (rel : Oid) (modes : List Mode) → IsChangedUnder modes d rel → LeavesRead (λ given. given) d rel modes
+unheld_leaves d rel modes under history a c xid b sound comes other none = unheld_visible history a c xid b rel d modes sound comes other under none
 
-other_barred : (history : List Entry) (a c : ℕ) (event : Event) (b : ℕ) (rel : Oid) (d : Purpose) (modes : List Mode) → IsSound history → MayComeNext history (entry_of a c event) → (a == b) ≡ false → AsksOf d rel → AreModesOf modes d → AreBarred (held_of history) b rel modes
+other_barred : (history : List Entry) (a c : ℕ) (event : Event) (b : ℕ) (rel : Oid) (d : Purpose) (modes : List Mode) → IsSound history → MayComeNext history (entry_of a c event) → (a == b) ≡ false → IsChangedUnder modes d rel → AreBarred (held_of history) b rel modes
     → answer_of (history ++ entry_of a c event ∷ []) b d ≡ answer_of history b d
-other_barred history a c (events.Visible xid) b rel d modes sound comes other asks among barred =
-    unheld_visible history a c xid b rel d modes sound comes other asks among (none_held (held_of history) b a rel modes (locks_exclude history sound).agree other barred)
-other_barred history a c event b rel d modes sound comes other asks among barred = other_answers history (entry_of a c event) b d sound comes other tt
+other_barred history a c (events.Visible xid) b rel d modes sound comes other under barred =
+    unheld_visible history a c xid b rel d modes sound comes other under (none_held (held_of history) b a rel modes (locks_exclude history sound).agree other barred)
+other_barred history a c event b rel d modes sound comes other under barred = other_answers history (entry_of a c event) b d sound comes other tt
 
 -- any entry of another leaves the answer of a scan that asks for rows of a relation, where the backend keeps others from holding on it each mode under which they are changed
-pub barred_answers : (history : List Entry) (e : Entry) (b : ℕ) (rel : Oid) (d : Purpose) (modes : List Mode) → IsSound history → MayComeNext history e → (e.backend == b) ≡ false → AsksOf d rel → AreModesOf modes d → AreBarred (held_of history) b rel modes
+pub barred_answers : (history : List Entry) (e : Entry) (b : ℕ) (rel : Oid) (d : Purpose) (modes : List Mode) → IsSound history → MayComeNext history e → (e.backend == b) ≡ false → IsChangedUnder modes d rel → AreBarred (held_of history) b rel modes
     → answer_of (history ++ e ∷ []) b d ≡ answer_of history b d
-barred_answers history e b rel d modes sound comes other asks among barred = other_barred history e.backend e.command e.event b rel d modes sound comes other asks among barred
+barred_answers history e b rel d modes sound comes other under barred = other_barred history e.backend e.command e.event b rel d modes sound comes other under barred
 
 -- it does so where the backend holds on the relation a mode, clear or not, that conflicts with each mode under which rows are changed
-pub locked_answers : (history : List Entry) (e : Entry) (b : ℕ) (rel : Oid) (d : Purpose) → IsSound history → MayComeNext history e → (e.backend == b) ≡ false → AsksOf d rel → AreBarred (held_of history) b rel changing_modes
+pub locked_answers : (history : List Entry) (e : Entry) (b : ℕ) (rel : Oid) (d : Purpose) → IsSound history → MayComeNext history e → (e.backend == b) ≡ false → IsChangedUnder changing_modes d rel → AreBarred (held_of history) b rel changing_modes
     → answer_of (history ++ e ∷ []) b d ≡ answer_of history b d
-locked_answers history e b rel d sound comes other asks barred = barred_answers history e b rel d changing_modes sound comes other asks (changed_under d) barred
+locked_answers history e b rel d sound comes other under barred = barred_answers history e b rel d changing_modes sound comes other under barred
 
 -- an event that neither writes nor takes writes back
 abbrev pub IsNoChange : Event → Type 0
@@ -172,13 +169,13 @@ unchanged_answers history e b d sound comes own none =
 abbrev pub IsUndisturbed : ℕ → Oid → List Mode → List Entry → Entry → Type 0
 IsUndisturbed b rel modes before e = AreBarred (held_of before) b rel modes × ((e.backend == b) ≡ true → IsNoChange e.event)
 
-undisturbed_answers : (history : List Entry) (e : Entry) (b : ℕ) (rel : Oid) (d : Purpose) (modes : List Mode) → IsSound history → MayComeNext history e → AsksOf d rel → AreModesOf modes d → IsUndisturbed b rel modes history e
+undisturbed_answers : (history : List Entry) (e : Entry) (b : ℕ) (rel : Oid) (d : Purpose) (modes : List Mode) → IsSound history → MayComeNext history e → IsChangedUnder modes d rel → IsUndisturbed b rel modes history e
     → answer_of (history ++ e ∷ []) b d ≡ answer_of history b d
-undisturbed_answers history e b rel d modes sound comes asks among still = by_owner (e.backend == b) refl
+undisturbed_answers history e b rel d modes sound comes under still = by_owner (e.backend == b) refl
   where
     by_owner : (t : Bool) → (e.backend == b) ≡ t → answer_of (history ++ e ∷ []) b d ≡ answer_of history b d
     by_owner true own = unchanged_answers history e b d sound comes own (still.1 own)
-    by_owner false other = barred_answers history e b rel d modes sound comes other asks among still.0
+    by_owner false other = barred_answers history e b rel d modes sound comes other under still.0
 
 -- what each entry after a prefix keeps
 between : (Inv : List Entry → Type 0) (Q : List Entry → Entry → Type 0) → ((before : List Entry) (e : Entry) → IsSound before → MayComeNext before e → Q before e → Inv before → Inv (before ++ e ∷ []))
@@ -188,13 +185,13 @@ between Inv Q keeps history more sound start each =
     (EachEntry-prefix MayComeNext history more sound, start) (EachFrom-both MayComeNext Q history more (EachEntry-rest MayComeNext history more sound) each)).1
 
 -- between two places of a sound history, if before each entry between them the backend keeps others from holding the modes under which the rows are changed, and none is a change of its own, the answer is the same
-pub barred_between : (history more : List Entry) (b : ℕ) (rel : Oid) (d : Purpose) (modes : List Mode) → IsSound (history ++ more) → AsksOf d rel → AreModesOf modes d → EachFrom (IsUndisturbed b rel modes) history more → answer_of (history ++ more) b d ≡ answer_of history b d
-barred_between history more b rel d modes sound asks among still =
-    between (λ h. answer_of h b d ≡ answer_of history b d) (IsUndisturbed b rel modes) (λ before e well comes one same. undisturbed_answers before e b rel d modes well comes asks among one ∙ same) history more sound refl still
+pub barred_between : (history more : List Entry) (b : ℕ) (rel : Oid) (d : Purpose) (modes : List Mode) → IsSound (history ++ more) → IsChangedUnder modes d rel → EachFrom (IsUndisturbed b rel modes) history more → answer_of (history ++ more) b d ≡ answer_of history b d
+barred_between history more b rel d modes sound under still =
+    between (λ h. answer_of h b d ≡ answer_of history b d) (IsUndisturbed b rel modes) (λ before e well comes one same. undisturbed_answers before e b rel d modes well comes under one ∙ same) history more sound refl still
 
 -- and so for the modes under which any rows are changed
-pub locked_between : (history more : List Entry) (b : ℕ) (rel : Oid) (d : Purpose) → IsSound (history ++ more) → AsksOf d rel → EachFrom (IsUndisturbed b rel changing_modes) history more → answer_of (history ++ more) b d ≡ answer_of history b d
-locked_between history more b rel d sound asks still = barred_between history more b rel d changing_modes sound asks (changed_under d) still
+pub locked_between : (history more : List Entry) (b : ℕ) (rel : Oid) (d : Purpose) → IsSound (history ++ more) → IsChangedUnder changing_modes d rel → EachFrom (IsUndisturbed b rel changing_modes) history more → answer_of (history ++ more) b d ≡ answer_of history b d
+locked_between history more b rel d sound under still = barred_between history more b rel d changing_modes sound under still
 
 scan_unchanged : (d : Purpose) (event : Event) → is_scan_of d event ≡ true → IsNoChange event
 scan_unchanged d (events.Write xid items) it = absurd (cc)
@@ -208,9 +205,9 @@ rows_scanned history e b d t own it = rows_read-own history e b d own ∙ ap (λ
 pub scanned_answers : (history : List Entry) (e : Entry) (b : ℕ) (d : Purpose) → IsSound history → MayComeNext history e → (e.backend == b) ≡ true → is_scan_of d e.event ≡ true → answer_of (history ++ e ∷ []) b d ≡ rows_read (history ++ e ∷ []) b d
 scanned_answers history e b d sound comes own it = unchanged_answers history e b d sound comes own (scan_unchanged d e.event it) ∙ sym (rows_scanned history e b d true own it)
 
-undisturbed_read : (history : List Entry) (e : Entry) (b : ℕ) (rel : Oid) (d : Purpose) (modes : List Mode) → IsSound history → MayComeNext history e → AsksOf d rel → AreModesOf modes d → IsUndisturbed b rel modes history e → answer_of history b d ≡ rows_read history b d
+undisturbed_read : (history : List Entry) (e : Entry) (b : ℕ) (rel : Oid) (d : Purpose) (modes : List Mode) → IsSound history → MayComeNext history e → IsChangedUnder modes d rel → IsUndisturbed b rel modes history e → answer_of history b d ≡ rows_read history b d
     → answer_of (history ++ e ∷ []) b d ≡ rows_read (history ++ e ∷ []) b d
-undisturbed_read history e b rel d modes sound comes asks among still was = undisturbed_answers history e b rel d modes sound comes asks among still ∙ by_owner (e.backend == b) refl
+undisturbed_read history e b rel d modes sound comes under still was = undisturbed_answers history e b rel d modes sound comes under still ∙ by_owner (e.backend == b) refl
   where
     by_scan : (e.backend == b) ≡ true → (t : Bool) → is_scan_of d e.event ≡ t → answer_of history b d ≡ rows_read (history ++ e ∷ []) b d
     by_scan own true it = sym (rows_scanned history e b d true own it)
@@ -221,10 +218,10 @@ undisturbed_read history e b rel d modes sound comes asks among still was = undi
     by_owner false other = was ∙ sym (rows_read-other history e b d other)
 
 -- and so it goes on, whether the scan still serves or not, while before each entry the backend keeps others from holding the modes under which the rows are changed, and no entry is a change of its own
-pub read_between : (history more : List Entry) (b : ℕ) (rel : Oid) (d : Purpose) (modes : List Mode) → IsSound (history ++ more) → AsksOf d rel → AreModesOf modes d → EachFrom (IsUndisturbed b rel modes) history more → answer_of history b d ≡ rows_read history b d
+pub read_between : (history more : List Entry) (b : ℕ) (rel : Oid) (d : Purpose) (modes : List Mode) → IsSound (history ++ more) → IsChangedUnder modes d rel → EachFrom (IsUndisturbed b rel modes) history more → answer_of history b d ≡ rows_read history b d
     → answer_of (history ++ more) b d ≡ rows_read (history ++ more) b d
-read_between history more b rel d modes sound asks among still was =
-    between (λ h. answer_of h b d ≡ rows_read h b d) (IsUndisturbed b rel modes) (λ before e well comes one same. undisturbed_read before e b rel d modes well comes asks among one same) history more sound was still
+read_between history more b rel d modes sound under still was =
+    between (λ h. answer_of h b d ≡ rows_read h b d) (IsUndisturbed b rel modes) (λ before e well comes one same. undisturbed_read before e b rel d modes well comes under one same) history more sound was still
 
 quiet_spares : (p : Grant → Bool) (b : ℕ) (event : Event) → IsQuiet event → SparesGrants p b event
 quiet_spares p b (events.Release from) quiet = quiet
@@ -315,7 +312,7 @@ seen_alone history b rel name kind fill sound seen = ap (fold (put_in_order (sca
     there = some-filter (λ r. row ≡ r) (selects (scans.Class rel)) (rows_of history b) (some-weaker (λ r. row ≡ r) (λ r. (selects (scans.Class rel) r ≡ true) × (row ≡ r)) (λ r is. (subst (λ x. selects (scans.Class rel) x ≡ true) is (eq-eqb rel.0 rel.0 refl), is)) (rows_of history b) seen)
 
     apart : Pairwise Differ found
-    apart = asked_differ (scans.Class rel) rel (class_apart rel) (sees history b) (versions_of history) (one_seen history b (versions_of history) (one_version history sound))
+    apart = asked_differ (fixed_mask rel) (scans.Class rel) (class_apart rel) (sees history b) (versions_of history) (one_seen history b (versions_of history) (one_version history sound))
 
 -- and so one of which a scan shows the row first, as one that looks it up by its name
 pub found_first : (history : List Entry) (b : ℕ) (d : Purpose) (rel : Oid) (name : List ℕ) (kind : Kind) (fill : Option ℕ) (more : List Row) → IsSound history → answer_of history b d ≡ rows.Class rel name kind fill ∷ more → IsSeenAs history b rel name kind

@@ -1,7 +1,7 @@
 -- Of rows that concern a relation, masked as one likes: where each change of a masked row is made under one of some modes on the relation, a backend that holds none of these sees the masked rows that others see.
-use Rattle.std.proofs.Common.{◌≡◌, ◌≤◌, ◌∙◌, ◌⊎◌, inl, inr, ℕ, Bool, true, false, not, Option, Some, None, List, [], ◌∷◌, ◌++◌, ◌==◌, ◌||◌, ◌&&◌, refl, sym, ap, subst, map, filter, fold, arith}
+use Rattle.std.proofs.Common.{◌≡◌, ◌≤◌, ◌∙◌, ◌⊎◌, inl, inr, ℕ, Bool, true, false, not, Option, Some, None, List, [], ◌∷◌, ◌++◌, ◌==◌, ◌||◌, ◌&&◌, cond, refl, sym, ap, subst, map, filter, fold, arith}
 use Rattle.std.specs.Prelude.{nat_le, ⊤}
-use Rattle.std.specs.List.{AllByRecursion, list_any, flat_map}
+use Rattle.std.specs.List.{AllByRecursion, list_any, flat_map, find}
 use Rattle.std.specs.Option.{option_map_or, IfSome}
 use Rattle.std.proofs.lemmas.Bool.{eqb-true, eq-eqb, both_ways, and_parts, and_from, and_right, false_from_ne_true, not-true}
 use Rattle.base_types.specs.declared.ids.Oid.{Oid}
@@ -30,13 +30,16 @@ use Rattle.history_model.proofs.Lawful.{IsLawful}
 use Rattle.history_model.proofs.Reading.{running_transaction_of-own as running-own, running_transaction_of-other as running-other, versions_of-more as versions-more, held_of-more as held-more}
 use Rattle.history_model.proofs.Runs.{Runs, Runs-more, one_xid}
 use Rattle.history_model.proofs.Touched.{entry_of, OfStamps, stamps-weaker, is_of, Touch, Touched}
-use Rattle.history_model.proofs.Guards.{IsHeldIn, Guard, GuardsLawfully, MayChange, changes_on, guard_changes, one_changer, any_with}
+use Rattle.history_model.proofs.Guards.{key_eq, IsHeldIn, Guard, GuardsLawfully, MayChange, changes_on, guard_changes, one_changer, any_with}
 use Rattle.history_model.proofs.Seen.{counts_at, IsDown, every_command, seen-same, counts_at-same}
 use Rattle.history_model.proofs.OneVersion.{visible_as, gone_seen, before_command, before_down, GoneView, gone_view, distinct_split, differ_from, added_key}
 use Rattle.history_model.proofs.Lives.{Begun, begun_at}
 use Rattle.history_model.proofs.Ordered.{Ordered, Ordered-start, Ordered-more, if_some, guards_lawful, ended_named, early_at, lawful_of}
 use Rattle.history_model.proofs.TakenLocks.{TakesFrom, release_takes, unlock_takes, taken_counts}
-use Rattle.history_model.proofs.Steady.{no_command, find_some, not_ended}
+
+-- a test that no command passes
+abbrev pub no_command : ℕ → Bool
+no_command c = false
 
 -- rows that concern a relation, as they are masked, and the modes on it under which masked rows are changed
 pub record Masking : Type 1 where
@@ -186,6 +189,12 @@ write_back m x f history w stamp shown C (item ∷ items) vs adds from some =
 abbrev Lasts : Masking → Row → (Stamp → Bool) → List Entry → ℕ → List Item → Version → Type 0
 Lasts m x f history w items v = Shows m f x v × AllByRecursion (λ item. ends history w item v ≡ true → Adds m x item) items
 
+-- a change ends no version of another key
+pub not_ended : (history : List Entry) (w : ℕ) (v : Version) (item : Item) → AllByRecursion (λ key. key_of v.row ≡ key → ⊥) (changed_key item) → ends history w item v ≡ true → ⊥
+not_ended history w v (forms.Put new) differs ends' = differs.0 (key_eq (key_of v.row) (key_of new) (and_parts (same_key (key_of v.row) (key_of new)) (sees history w v) ends').0)
+not_ended history w v (forms.Remove key) differs ends' = differs.0 (key_eq (key_of v.row) key (and_parts (same_key (key_of v.row) key) (sees history w v) ends').0)
+not_ended history w v item differs ends' = absurd (cc)
+
 write_forth : (m : Masking) (x : Row) (f : Stamp → Bool) (history : List Entry) (w : ℕ) (stamp : Stamp) → f stamp ≡ true → (items : List Item) (vs : List Version) → are_distinct_keys (flat_map changed_key items) ≡ true
     → SomeOf (Lasts m x f history w items) vs → SomeOf (Shows m f x) (fold (change_by history w stamp) vs items)
 write_forth m x f history w stamp shown [] vs distinct some = some-weaker (Lasts m x f history w []) (Shows m f x) (λ v h. h.0) vs some
@@ -214,6 +223,22 @@ write_forth m x f history w stamp shown (item ∷ items) vs distinct some =
     of (inl old) = some-left (Lasts m x f history w items) (map change vs) (version_of stamp (added_row item)) (some-map (Lasts m x f history w items) change vs old)
     of (inr new) = some-right (Lasts m x f history w items) (map change vs) (version_of stamp (added_row item))
         (subst (λ o. SomeOf (Lasts m x f history w items) (version_of stamp o)) (sym new.1) (inl ((and_from (f stamp) true shown refl, new.2), never new.0 new.1)))
+
+-- a row that is found is that of a version which is seen
+pub find_some : (p : Row → Bool) (g : Version → Bool) (o : Row) (vs : List Version) → find p (map (λ w. w.row) (filter g vs)) ≡ Some o → SomeOf (λ v. (g v ≡ true) × (v.row ≡ o)) vs
+find_some p g o [] is = absurd (cc)
+find_some p g o (v ∷ vs) is = by_tests (g v) refl is (find_some p g o vs)
+  where
+    Found : Version → Type 0
+    Found u = (g u ≡ true) × (u.row ≡ o)
+
+    in_row : g v ≡ true → (t : Bool) → cond t (Some v.row) (find p (map (λ w. w.row) (filter g vs))) ≡ Some o → (find p (map (λ w. w.row) (filter g vs)) ≡ Some o → SomeOf Found vs) → SomeOf Found (v ∷ vs)
+    in_row sight true here rest = let same : v.row ≡ o = cc in inl (sight, same)
+    in_row sight false here rest = inr (rest here)
+
+    by_tests : (s : Bool) → g v ≡ s → find p (map (λ w. w.row) (cond s (v ∷ filter g vs) (filter g vs))) ≡ Some o → (find p (map (λ w. w.row) (filter g vs)) ≡ Some o → SomeOf Found vs) → SomeOf Found (v ∷ vs)
+    by_tests true sight here rest = in_row sight (p v.row) here rest
+    by_tests false sight here rest = inr (rest here)
 
 -- after an entry that makes nothing visible the stamps that were there count as before
 counted_kept : (m : Masking) (x : Row) (history : List Entry) (w c : ℕ) (event : Event) (a : ℕ) (p : ℕ → Bool) → IsLawful history (entry_of w c event) → Runs history → Touched history → ((y : ℕ) → makes_visible y event ≡ false)
@@ -569,7 +594,7 @@ steady_by m history w c event lawful guarding k masks comes begun steady a p x c
 Steady-more : (m : Masking) → Masks m → (history : List Entry) (e : Entry) → Ordered history → MayComeNext history e → Steady m history → Steady m (history ++ e ∷ [])
 Steady-more m masks history e k comes steady a p x cx down none =
     subst (λ vs. ShowSame m x (counts_at (history ++ e ∷ []) a p) vs (counts_at (history ++ e ∷ []) a no_command) vs) (sym (versions-more history e))
-    (steady_by m history e.backend e.command e.event (lawful_of history e k comes) (guards_lawful history e.backend e.command e.event comes.follows.event k early) k masks comes (begun_at history e comes.follows.life k.lives) steady a p x cx down
+    (steady_by m history e.backend e.command e.event (lawful_of history e k comes) (guards_lawful history e.backend e.command e.event comes.follows.event comes.orderly k early) k masks comes (begun_at history e comes.follows.life k.lives) steady a p x cx down
     (λ i passes strong. none i passes (subst (λ held. IsHeldIn m.strong held a i m.rel) (sym (held-more history e)) strong)))
   where
     early : AllByRecursion (λ g. g.backend ≡ e.backend → g.command ≤ e.command) (held_of history)

@@ -29,11 +29,10 @@ use Rattle.history_model.proofs.Guards.{IsHeldIn, Guard, MayChange, changes_on, 
 use Rattle.history_model.proofs.Seen.{counts_at, every_command, Pairwise, pair-weaker, pair-map, pair-filter}
 use Rattle.history_model.proofs.OneVersion.{visible_as}
 use Rattle.history_model.proofs.Ordered.{Ordered, Ordered-more, lawful_of, one_seen, sound_ordered}
-use Rattle.history_model.proofs.InOrder.{IsIn, Differ, IsByNumber, scan_same}
+use Rattle.history_model.proofs.InOrder.{IsIn, every_self, Differ, IsByNumber, scan_same}
 use Rattle.history_model.proofs.Answers.{counts-other}
-use Rattle.history_model.proofs.Steady.{no_command}
-use Rattle.history_model.proofs.MaskedRows.{Masking, Masks, Shows, ShowSame, Steady, show-trans, counted_same, sound_steady}
-use Rattle.history_model.proofs.WeakChanges.{not_held, every_self}
+use Rattle.history_model.proofs.MaskedRows.{no_command, Masking, Masks, Shows, ShowSame, Steady, show-trans, counted_same, sound_steady}
+use Rattle.history_model.proofs.HeldRows.{not_held}
 use Rattle.history_model.proofs.Observed.{LeavesRead}
 
 -- a scan by which rows that concern the relation are told apart by their numbers, and that asks for them as they are masked
@@ -119,7 +118,8 @@ asked_too m d apart vs f g shows = every-filter Found (selects d) (map (λ v. v.
         Wanted : Row → Type 0
         Wanted other = (selects d other ≡ true) × (m.mask v.row ≡ m.mask other)
 
-asked_differ : (m : Masking) (d : Purpose) → AsksMasked m d → (f : Version → Bool) (vs : List Version) → Pairwise (λ v w. key_of v.row ≡ key_of w.row → f v ≡ true → f w ≡ true → ⊥) vs → Pairwise Differ (asked d f vs)
+-- of rows that are seen and that the scan asks for no two have one number
+pub asked_differ : (m : Masking) (d : Purpose) → AsksMasked m d → (f : Version → Bool) (vs : List Version) → Pairwise (λ v w. key_of v.row ≡ key_of w.row → f v ≡ true → f w ≡ true → ⊥) vs → Pairwise Differ (asked d f vs)
 asked_differ m d apart f vs pairs =
     pair-filter Differ (selects d) (map (λ v. v.row) (filter f vs)) (pair-map (λ row other. selects d row ≡ true → selects d other ≡ true → Differ row other) (λ v. v.row) (filter f vs)
     (pair-filter (λ v w. selects d v.row ≡ true → selects d w.row ≡ true → Differ v.row w.row) f vs

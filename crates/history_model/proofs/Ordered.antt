@@ -4,11 +4,10 @@ use Rattle.std.specs.Prelude.{nat_le}
 use Rattle.std.specs.List.{AllByRecursion, list_any, list_all, flat_map, find, filter_map, cons_option}
 use Rattle.std.specs.Option.{option_map, option_map_or, IfSome}
 use Rattle.std.proofs.lemmas.List.Folds.{list_any-append, list_all-append}
-use Rattle.std.proofs.lemmas.Bool.{eqb-true, eq-eqb, both_ways, or_cases, or_parts, and_parts, and_from, le-leb, false_from_ne_true}
+use Rattle.std.proofs.lemmas.Bool.{eqb-true, eq-eqb, both_ways, or_cases, or_left, or_right, or_parts, and_parts, and_from, le-leb, false_from_ne_true}
 use Rattle.base_types.specs.declared.ids.Oid.{Oid}
 use Rattle.base_types.specs.declared.ids.Xid.{Xid}
 use Rattle.base_types.specs.declared.mode.Mode.{Mode}
-use Rattle.base_types.specs.declared.mode.Mode.TheVariants.{ShareUpdateExclusive, AccessExclusive}
 use Rattle.base_types.specs.declared.row.Row.{Row}
 use Rattle.base_types.specs.declared.row.Row.TheVariants as rows
 use Rattle.base_types.specs.declared.row_key.RowKey.{RowKey}
@@ -34,9 +33,9 @@ use Rattle.history_model.specs.Sent.{lists_of, messages_written, ends_transactio
 use Rattle.history_model.specs.Held.{granted_by, held_by, held_of}
 use Rattle.history_model.specs.Drawn.{made_by}
 use Rattle.history_model.specs.Covered.{scans_of, is_covered}
-use Rattle.history_model.specs.Writes.{has_row, relations_of, rows_named, modes_enough, is_guarded, IsWriteAllowed}
+use Rattle.history_model.specs.Writes.{has_row, relations_changed, is_validation, rows_named, modes_enough, is_guarded, IsWriteAllowed}
 use Rattle.history_model.specs.Legal.{FollowsVisible, MayRelease, AllowsEvent}
-use Rattle.history_model.specs.Orderly.{has_key, is_fresh, main_rel, keeps_relation, covers_named, IsOrderlyEvent, MayComeNext, IsSound}
+use Rattle.history_model.specs.Orderly.{has_key, is_fresh, main_rel, keeps_relation, covers_named, IsOrderlyWrite, IsOrderlyEvent, MayComeNext, IsSound}
 use Rattle.history_model.proofs.Prefixes.{each-keeps}
 use Rattle.history_model.proofs.Reading.{held_of-more as held-more}
 use Rattle.history_model.proofs.Every.{every-weaker, every, every-append, every-kept, every-both, any-left, any-right}
@@ -45,8 +44,8 @@ use Rattle.history_model.proofs.Asking.{oid_eq, scan_in}
 use Rattle.history_model.proofs.Runs.{Runs, Runs-start, Runs-more}
 use Rattle.history_model.proofs.Exclude.{AllAgree, LocksWell, LocksWell-more, LocksLawfully, granted_here, lock_command}
 use Rattle.history_model.proofs.Touched.{entry_of, OfStamps, Touched, Touched-more}
-use Rattle.history_model.proofs.Guards.{key_eq, key_refl, is_changing, is_exclusive, is_update, exclusive_changes, update_changes, guards_in, IsHeldIn, held_in-weaker, IsGuarded, IsGuardedItem, Guard, Guards, Guards-more, GuardsLawfully, one_guard}
-use Rattle.history_model.proofs.FixedRows.{IsWeak, weak_or_strong, main_of}
+use Rattle.history_model.proofs.Guards.{key_eq, key_refl, is_exclusive, guards_in, IsHeldIn, held_in-weaker, IsGuarded, IsGuardedItem, Guard, Guards, Guards-more, GuardsLawfully, one_guard}
+use Rattle.history_model.proofs.EnoughModes.{is_enough, exclusive_enough, IsNamed, IsHeldFor, held_kept, kept_guarded}
 use Rattle.history_model.proofs.Seen.{counts_at, every_command, seen-same, Apart, Pairwise, OneVersion}
 use Rattle.history_model.proofs.OneVersion.{SameRel, OneRel, OneRel-more, IsOther, KeepsRel, KeysLawfully, OneVersion-more}
 use Rattle.history_model.proofs.Lives.{Lives, Lives-start, Lives-more, Begun, begun_at, rises, command_of, command-own, command-other}
@@ -94,14 +93,6 @@ both_rows p f None (Some new) all = ((all_flat p f (new ∷ []) all).0, tt)
 both_rows p f (Some old) None all = (tt, (all_flat p f (old ∷ []) all).0)
 both_rows p f (Some old) (Some new) all = let held = all_flat p f (old ∷ new ∷ []) all in (held.1.0, held.0)
 
-strong_alone : (mode : Mode) → same_mode mode AccessExclusive ≡ true → is_exclusive mode ≡ true
-strong_alone AccessExclusive is = refl
-strong_alone mode is = cc
-
-update_alone : (mode : Mode) → same_mode mode ShareUpdateExclusive ≡ true → is_update mode ≡ true
-update_alone ShareUpdateExclusive is = refl
-update_alone mode is = cc
-
 -- a mode that is held is held by a grant of this command or below
 held_guards : (test : Mode → Bool) (enough : Mode) → ((mode : Mode) → same_mode mode enough ≡ true → test mode ≡ true) → (b c : ℕ) (key : Oid) (gs : List Grant) → AllByRecursion (λ g. g.backend ≡ b → g.command ≤ c) gs → holds gs b key enough ≡ true → IsHeldIn test gs b c key
 held_guards test enough alone b c key [] early is = absurd (cc)
@@ -140,15 +131,24 @@ made_guards b c key (item ∷ items) some = by_place (or_cases (list_any (same_o
     by_place (inl is) rest = any-left (guards_in is_exclusive b c key) (granted_by b c item) (flat_map (granted_by b c) items) (one item is)
     by_place (inr is) rest = any-right (guards_in is_exclusive b c key) (granted_by b c item) (flat_map (granted_by b c) items) (rest is)
 
--- on each relation that the row names AccessExclusive is held, or the change is weak and ShareUpdateExclusive is held
-abbrev pub IsHeldFor : List Grant → ℕ → ℕ → Option Row → Item → Row → Type 0
-IsHeldFor held b c old item row = AllByRecursion (λ rel. IsHeldIn is_exclusive held b c rel ⊎ (IsWeak old item × IsHeldIn is_update held b c rel)) (relations_of row)
+-- a mode that is held of some is held by such a grant
+some_guards : (b c : ℕ) (key : Oid) (gs : List Grant) → AllByRecursion (λ g. g.backend ≡ b → g.command ≤ c) gs → (modes : List Mode) → list_any (holds gs b key) modes ≡ true → IsHeldIn (λ mode. list_any (same_mode mode) modes) gs b c key
+some_guards b c key gs early [] some = absurd (cc)
+some_guards b c key gs early (mode ∷ modes) some = by_place (or_cases (holds gs b key mode) (list_any (holds gs b key) modes) some) (some_guards b c key gs early modes)
+  where
+    among : Mode → Bool
+    among m = list_any (same_mode m) (mode ∷ modes)
 
--- the test that a write is guarded: the rows that its changes name are
-pub guarded_rows : (before : List Entry) (b c : ℕ) (xid : Xid) (items : List Item) → list_all (is_guarded before b (flat_map made_by items)) items ≡ true → AllByRecursion (λ g. g.backend ≡ b → g.command ≤ c) (held_of before)
+    by_place : (holds gs b key mode ≡ true) ⊎ (list_any (holds gs b key) modes ≡ true) → (list_any (holds gs b key) modes ≡ true → IsHeldIn (λ m. list_any (same_mode m) modes) gs b c key) → IsHeldIn among gs b c key
+    by_place (inl here) rest = held_guards among mode (λ m same. or_left (same_mode m mode) (list_any (same_mode m) modes) same) b c key gs early here
+    by_place (inr there) rest = held_in-weaker (λ m. list_any (same_mode m) modes) among (λ m is. or_right (same_mode m mode) (list_any (same_mode m) modes) is) gs b c key (rest there)
+
+-- the test that a write is guarded: for each row that its changes name a mode is held that is enough
+pub guarded_rows : (before : List Entry) (b c : ℕ) (xid : Xid) (items : List Item) → list_all (is_guarded before b (flat_map made_by items)) items ≡ true → list_all (keeps_relation before b) items ≡ true → AllByRecursion (λ g. g.backend ≡ b → g.command ≤ c) (held_of before)
     → AllByRecursion (λ item. IfSome (added_row item) (IsHeldFor (held_by b c (events.Write xid items) (held_of before)) b c (old_row before b item) item) × IfSome (old_row before b item) (IsHeldFor (held_by b c (events.Write xid items) (held_of before)) b c (old_row before b item) item)) items
-guarded_rows before b c xid items guarded early =
-    every-weaker (λ item. is_guarded before b made item ≡ true) (λ item. IfSome (added_row item) (IsHeldFor held b c (old_row before b item) item) × IfSome (old_row before b item) (IsHeldFor held b c (old_row before b item) item)) of items (all_each (is_guarded before b made) items guarded)
+guarded_rows before b c xid items guarded keeps early =
+    every-weaker (λ item. (is_guarded before b made item ≡ true) × (keeps_relation before b item ≡ true)) (λ item. IfSome (added_row item) (IsHeldFor held b c (old_row before b item) item) × IfSome (old_row before b item) (IsHeldFor held b c (old_row before b item) item)) of items
+    (every-both (λ item. is_guarded before b made item ≡ true) (λ item. keeps_relation before b item ≡ true) items (all_each (is_guarded before b made) items guarded) (all_each (keeps_relation before b) items keeps))
   where
     made : List Oid
     made = flat_map made_by items
@@ -159,38 +159,61 @@ guarded_rows before b c xid items guarded early =
     old_held : (test : Mode → Bool) (rel : Oid) → IsHeldIn test (held_of before) b c rel → IsHeldIn test held b c rel
     old_held test rel is = any-left (guards_in test b c rel) (held_of before) (flat_map (granted_by b c) items) is
 
-    of : (item : Item) → is_guarded before b made item ≡ true → IfSome (added_row item) (IsHeldFor held b c (old_row before b item) item) × IfSome (old_row before b item) (IsHeldFor held b c (old_row before b item) item)
+    guard : (old : Option Row) (item : Item) (rel : Oid) → (list_any (same_oid rel) made || list_any (holds (held_of before) b rel) (modes_enough old item rel)) ≡ true → IsHeldIn (is_enough old item rel) held b c rel
+    guard old item rel here = by_side (or_cases (list_any (same_oid rel) made) (list_any (holds (held_of before) b rel) (modes_enough old item rel)) here)
+      where
+        by_side : (list_any (same_oid rel) made ≡ true) ⊎ (list_any (holds (held_of before) b rel) (modes_enough old item rel) ≡ true) → IsHeldIn (is_enough old item rel) held b c rel
+        by_side (inl new) = held_in-weaker is_exclusive (is_enough old item rel) (exclusive_enough old item rel) held b c rel (any-right (guards_in is_exclusive b c rel) (held_of before) (flat_map (granted_by b c) items) (made_guards b c rel items new))
+        by_side (inr some) = old_held (is_enough old item rel) rel (some_guards b c rel (held_of before) early (modes_enough old item rel) some)
+
+    on : (old : Option Row) (item : Item) (row : Row) → IsNamed old item row → list_all (λ rel. list_any (same_oid rel) made || list_any (holds (held_of before) b rel) (modes_enough old item rel)) (relations_changed (is_validation old item) row) ≡ true → IsHeldFor held b c old item row
+    on old item row named all = (named, every-weaker (λ rel. P rel ≡ true) (λ rel. IsHeldIn (is_enough old item rel) held b c rel) (guard old item) (relations_changed (is_validation old item) row) (all_each P (relations_changed (is_validation old item) row) all))
+      where
+        P : Oid → Bool
+        P rel = list_any (same_oid rel) made || list_any (holds (held_of before) b rel) (modes_enough old item rel)
+
+    -- the row that a change adds and the one that it replaces or takes away
+    added_named : (item : Item) → keeps_relation before b item ≡ true → IfSome (added_row item) (IsNamed (old_row before b item) item)
+    added_named (forms.Add row) kept = (refl, kept)
+    added_named (forms.Put row) kept = inl refl
+    added_named (forms.Remove key) kept = tt
+    added_named (forms.Force rel) kept = tt
+
+    old_named : (item : Item) → IfSome (old_row before b item) (IsNamed (old_row before b item) item)
+    old_named (forms.Add row) = tt
+    old_named (forms.Put row) = by (row_with before b (key_of row))
+      where
+        by : (o : Option Row) → IfSome o (IsNamed o (forms.Put row))
+        by None = tt
+        by (Some old) = inr refl
+    old_named (forms.Remove key) = by (row_with before b key)
+      where
+        by : (o : Option Row) → IfSome o (IsNamed o (forms.Remove key))
+        by None = tt
+        by (Some old) = refl
+    old_named (forms.Force rel) = tt
+
+    both_some : {A : Type 0} (P Q R : A → Type 0) → ((x : A) → P x → Q x → R x) → (o : Option A) → IfSome o P → IfSome o Q → IfSome o R
+    both_some P Q R join None p q = tt
+    both_some P Q R join (Some x) p q = join x p q
+
+    of : (item : Item) → (is_guarded before b made item ≡ true) × (keeps_relation before b item ≡ true) → IfSome (added_row item) (IsHeldFor held b c (old_row before b item) item) × IfSome (old_row before b item) (IsHeldFor held b c (old_row before b item) item)
     of item is =
-        let both = both_rows P relations_of old (added_row item) is in
-        (if_some (λ row. list_all P (relations_of row) ≡ true) (IsHeldFor held b c old item) on (added_row item) both.0, if_some (λ row. list_all P (relations_of row) ≡ true) (IsHeldFor held b c old item) on old both.1)
+        let both = both_rows P (relations_changed (is_validation old item)) old (added_row item) is.0 in
+        (both_some (IsNamed old item) All (IsHeldFor held b c old item) (on old item) (added_row item) (added_named item is.1) both.0, both_some (IsNamed old item) All (IsHeldFor held b c old item) (on old item) old (old_named item) both.1)
       where
         old : Option Row
         old = old_row before b item
 
         P : Oid → Bool
-        P rel = list_any (same_oid rel) made || list_any (holds (held_of before) b rel) (modes_enough old item)
+        P rel = list_any (same_oid rel) made || list_any (holds (held_of before) b rel) (modes_enough old item rel)
 
-        guard : (rel : Oid) → P rel ≡ true → IsHeldIn is_exclusive held b c rel ⊎ (IsWeak old item × IsHeldIn is_update held b c rel)
-        guard rel here = by_side (or_cases (list_any (same_oid rel) made) (list_any (holds (held_of before) b rel) (modes_enough old item)) here)
-          where
-            by_mode : (holds (held_of before) b rel AccessExclusive ≡ true) ⊎ (IsWeak old item × (holds (held_of before) b rel ShareUpdateExclusive ≡ true)) → IsHeldIn is_exclusive held b c rel ⊎ (IsWeak old item × IsHeldIn is_update held b c rel)
-            by_mode (inl strong) = inl (old_held is_exclusive rel (held_guards is_exclusive AccessExclusive strong_alone b c rel (held_of before) early strong))
-            by_mode (inr weak) = inr (weak.0, old_held is_update rel (held_guards is_update ShareUpdateExclusive update_alone b c rel (held_of before) early weak.1))
+        All : Row → Type 0
+        All row = list_all P (relations_changed (is_validation old item) row) ≡ true
 
-            by_side : (list_any (same_oid rel) made ≡ true) ⊎ (list_any (holds (held_of before) b rel) (modes_enough old item) ≡ true) → IsHeldIn is_exclusive held b c rel ⊎ (IsWeak old item × IsHeldIn is_update held b c rel)
-            by_side (inl new) = inl (any-right (guards_in is_exclusive b c rel) (held_of before) (flat_map (granted_by b c) items) (made_guards b c rel items new))
-            by_side (inr some) = by_mode (weak_or_strong (holds (held_of before) b rel) old item some)
-
-        on : (row : Row) → list_all P (relations_of row) ≡ true → IsHeldFor held b c old item row
-        on row all = every-weaker (λ rel. P rel ≡ true) (λ rel. IsHeldIn is_exclusive held b c rel ⊎ (IsWeak old item × IsHeldIn is_update held b c rel)) guard (relations_of row) (all_each P (relations_of row) all)
-
--- so a mode under which rows are changed is held on the row's own relation
+-- so a mode that no two backends may hold is held on the row's own relation
 pub main_guarded : (held : List Grant) (b c : ℕ) (old : Option Row) (item : Item) (row : Row) → IsHeldFor held b c old item row → IsGuarded held b c (main_rel row)
-main_guarded held b c old item row all = of (main_of (λ rel. IsHeldIn is_exclusive held b c rel ⊎ (IsWeak old item × IsHeldIn is_update held b c rel)) row all)
-  where
-    of : IsHeldIn is_exclusive held b c (main_rel row) ⊎ (IsWeak old item × IsHeldIn is_update held b c (main_rel row)) → IsGuarded held b c (main_rel row)
-    of (inl strong) = held_in-weaker is_exclusive is_changing exclusive_changes held b c (main_rel row) strong
-    of (inr weak) = held_in-weaker is_update is_changing update_changes held b c (main_rel row) weak.1
+main_guarded held b c old item row held_for = kept_guarded held b c row (held_kept held b c old item row held_for)
 
 -- the row that a change replaces is that of the one version which it ends
 found : (g : Version → Bool) (key : RowKey) (vs : List Version) → Pairwise (λ v w. key_of v.row ≡ key_of w.row → g v ≡ true → g w ≡ true → ⊥) vs
@@ -250,15 +273,15 @@ ended_named history b N item one named = of (ended_key item) named
         (λ v is both. let parts = and_parts (same_key (key_of v.row) key) (sees history b v) both in subst (λ o. IfSome o N) (is parts.1 parts.0) named') (versions_of history)
         (found (sees history b) key (versions_of history) (one_seen history b (versions_of history) one))
 
-guarded_items : (history : List Entry) (b c : ℕ) (xid : Xid) (items : List Item) → Ordered history → IsWriteAllowed history b c xid items → AllByRecursion (λ g. g.backend ≡ b → g.command ≤ c) (held_of history)
+guarded_items : (history : List Entry) (b c : ℕ) (xid : Xid) (items : List Item) → Ordered history → IsWriteAllowed history b c xid items → IsOrderlyWrite history b items → AllByRecursion (λ g. g.backend ≡ b → g.command ≤ c) (held_of history)
     → AllByRecursion (IsGuardedItem history b (IsGuarded (held_by b c (events.Write xid items) (held_of history)) b c)) items
-guarded_items history b c xid items k allowed early =
+guarded_items history b c xid items k allowed orderly early =
     every-weaker (λ item. IfSome (added_row item) (For item) × IfSome (old_row history b item) (For item)) (IsGuardedItem history b (IsGuarded held b c))
     (λ item h. (
       if_some (For item) On (main_guarded held b c (old_row history b item) item) (added_row item) h.0,
       ended_named history b On item k.one (if_some (For item) On (main_guarded held b c (old_row history b item) item) (old_row history b item) h.1),
     )) items
-    (guarded_rows history b c xid items allowed.guarded early)
+    (guarded_rows history b c xid items allowed.guarded orderly.keeps early)
   where
     held : List Grant
     held = held_by b c (events.Write xid items) (held_of history)
@@ -423,11 +446,11 @@ release_guards history b from true may not' = absurd (of (running_transaction_of
     of (Some t) is none = let same : t.first ≡ from = cc in both_ways _ none (eq-eqb t.first from same)
 release_guards history b from false may not' = may
 
-pub guards_lawful : (history : List Entry) (b c : ℕ) (event : Event) → AllowsEvent history b c event → Ordered history → AllByRecursion (λ g. g.backend ≡ b → g.command ≤ c) (held_of history) → GuardsLawfully history b c event
-guards_lawful history b c (events.Write xid items) allows k early = guarded_items history b c xid items k allows early
-guards_lawful history b c (events.Release from) allows k early = release_guards history b from (is_visible (running_transaction_of history b)) allows.1
-guards_lawful history b c (events.Unlock rel mode) allows k early = (lock_command history b c rel mode k.locks allows.0, allows.1)
-guards_lawful history b c event allows k early = tt
+pub guards_lawful : (history : List Entry) (b c : ℕ) (event : Event) → AllowsEvent history b c event → IsOrderlyEvent history b event → Ordered history → AllByRecursion (λ g. g.backend ≡ b → g.command ≤ c) (held_of history) → GuardsLawfully history b c event
+guards_lawful history b c (events.Write xid items) allows orderly k early = guarded_items history b c xid items k allows orderly early
+guards_lawful history b c (events.Release from) allows orderly k early = release_guards history b from (is_visible (running_transaction_of history b)) allows.1
+guards_lawful history b c (events.Unlock rel mode) allows orderly k early = (lock_command history b c rel mode k.locks allows.0, allows.1)
+guards_lawful history b c event allows orderly k early = tt
 
 hidden_by : (v : Bool) (event : Event) → FollowsVisible v event → (FollowsVisible true event → ⊥) → v ≡ false
 hidden_by false event follows not' = refl
@@ -445,7 +468,7 @@ lawful_event history b c (events.Write xid items) life visible allows orderly k 
   hidden_by (is_visible (running_transaction_of history b)) (events.Write xid items) visible (λ f. f),
   allows.xid_is,
   every-weaker (IsGuardedItem history b (IsGuarded (held_by b c (events.Write xid items) (held_of history)) b c)) (EndsOnce history b)
-      (λ item guarded. ends_once history b c xid items item (LocksWell-more history (entry_of b c (events.Write xid items)) allows.oids k.locks) k.guards guarded) items (guarded_items history b c xid items k allows early),
+      (λ item guarded. ends_once history b c xid items item (LocksWell-more history (entry_of b c (events.Write xid items)) allows.oids k.locks) k.guards guarded) items (guarded_items history b c xid items k allows orderly early),
 )
 lawful_event history b c (events.Visible xid) life visible allows orderly k early = (hidden_by (is_visible (running_transaction_of history b)) (events.Visible xid) visible (λ f. f), allows.0)
 lawful_event history b c (events.Gone from) life visible allows orderly k early = hidden_by (is_visible (running_transaction_of history b)) (events.Gone from) visible (λ f. f)
@@ -501,7 +524,7 @@ pub Ordered-more : (history : List Entry) (e : Entry) → Ordered history → Ma
 Ordered-more history e k comes =
     let early = early_at history e k comes.follows.life in
     let lawful = lawful_of history e k comes in
-    let guarding = guards_lawful history e.backend e.command e.event comes.follows.event k early in
+    let guarding = guards_lawful history e.backend e.command e.event comes.follows.event comes.orderly k early in
     let keyed = keys_lawful history e.backend e.command e.event comes.follows.event comes.orderly k.rels (begun_at history e comes.follows.life k.lives) in
     record {
       runs = Runs-more history e k.runs lawful;

@@ -1,5 +1,5 @@
 -- What the commands keep, though a legal history need not.
-use Rattle.std.specs.Prelude.{ℕ, Bool, true, false, List, ◌≡◌, ◌<◌, ⊤}
+use Rattle.std.specs.Prelude.{ℕ, Bool, true, false, List, ◌≡◌, ◌<◌, if◌then◌else◌, ⊤}
 use Rattle.std.specs.Option.{option_map_or}
 use Rattle.std.specs.List.{flat_map, list_any, list_all}
 use Rattle.base_types.specs.RowKeys.{key_of, same_key}
@@ -32,8 +32,14 @@ main_rel (rows.Ind index table state nums) = index
 main_rel (rows.Con oid rel name valid what) = rel
 main_rel (rows.Trg oid rel name on) = rel
 
--- a row that a change replaces stays one of its relation
+-- an index is a relation apart from its table
+abbrev pub is_apart : Row → Bool
+is_apart (rows.Ind index table state nums) = if same_oid table index then false else true
+is_apart row = true
+
+-- a row that a change adds is of a relation apart from others that it names, and one that it replaces stays one of its relation
 abbrev pub keeps_relation : List Entry → ℕ → Item → Bool
+keeps_relation before b (Add row) = is_apart row
 keeps_relation before b (Put row) = option_map_or (λ old. same_oid (main_rel old) (main_rel row)) (old_row before b (Put row)) true
 keeps_relation before b item = true
 

@@ -1,5 +1,5 @@
 -- Which writes a history allows.
-use Rattle.std.specs.Prelude.{ℕ, Bool, true, false, Option, Some, List, [], ◌∷◌, ◌≡◌, ◌==◌, ◌&&◌, ◌||◌, length}
+use Rattle.std.specs.Prelude.{ℕ, Bool, true, false, Option, Some, None, List, [], ◌∷◌, ◌≡◌, ◌==◌, ◌&&◌, ◌||◌, if◌then◌else◌, length}
 use Rattle.std.specs.Option.{option_map_or}
 use Rattle.std.specs.List.{flat_map, filter_map, list_any, list_all, range_with_len}
 use Rattle.base_types.specs.RowKeys.{key_of, are_distinct_keys}
@@ -8,7 +8,7 @@ use Rattle.base_types.specs.declared.row.ConKind.TheVariants as demands
 use Rattle.base_types.specs.declared.row.Row.TheVariants as rows
 use Rattle.base_types.specs.declared.scan.Purpose.TheVariants as scans
 use Rattle.lock_modes.specs.Grants.{holds}
-use Rattle.history_model.specs.Types.{Oid, Xid, Mode, ShareUpdateExclusive, AccessExclusive, Table, Index, Row, RowKey, Item, Add, Put, Remove, Force, Entry, Event, Write}
+use Rattle.history_model.specs.Types.{Oid, Xid, Mode, ShareUpdateExclusive, Share, ShareRowExclusive, AccessExclusive, Table, Index, Row, RowKey, Item, Add, Put, Remove, Force, Entry, Event, Write}
 use Rattle.history_model.specs.Transactions.{xid_for}
 use Rattle.history_model.specs.Versions.{ended_key, added_row, old_row, row_with, answer_of}
 use Rattle.history_model.specs.Held.{held_of}
@@ -59,21 +59,66 @@ relations_of (rows.Trg oid rel name on) = rel ∷ []
 abbrev pub rows_named : Item → Option Row → List Row
 rows_named item old = filter_map (λ row. row) (old ∷ added_row item ∷ [])
 
--- AccessExclusive is enough for any change, and ShareUpdateExclusive for one that passes a test
-abbrev pub enough_where : Bool → List Mode
-enough_where true = ShareUpdateExclusive ∷ AccessExclusive ∷ []
-enough_where false = AccessExclusive ∷ []
+-- nothing but whether it is known to hold differs between two rows of a constraint
+abbrev pub validates : Option Row → Row → Bool
+validates (Some (rows.Con oid rel own old what)) (rows.Con to of name valid what') = same_row (rows.Con oid rel own valid what) (rows.Con to of name valid what')
+validates old row = false
 
--- the modes that are enough for a change of this row: ShareUpdateExclusive too, where nothing but its fillfactor or its statistics target changes
-abbrev pub modes_enough : Option Row → Item → List Mode
-modes_enough (Some (rows.Class oid own kind old)) (Put (rows.Class to name kind' fill)) = enough_where (same_row (rows.Class oid own kind fill) (rows.Class to name kind' fill))
-modes_enough (Some (rows.Att rel num own col_type old live)) (Put (rows.Att to num' name col_type' stat live')) = enough_where (same_row (rows.Att rel num own col_type stat live) (rows.Att to num' name col_type' stat live'))
-modes_enough old item = AccessExclusive ∷ []
+-- a change leaves a constraint but for whether it is known to hold
+abbrev pub is_validation : Option Row → Item → Bool
+is_validation old (Put row) = validates old row
+is_validation old item = false
 
--- a change is guarded: on each relation that its rows name, but those that the write makes, the backend holds a mode that is enough for it
+-- the relations of a row that is changed: those that it names, but of a constraint that is validated its own alone
+abbrev pub relations_changed : Bool → Row → List Oid
+relations_changed validated (rows.Con oid rel name valid (demands.Foreign num refrel refnum)) = if validated then rel ∷ [] else rel ∷ refrel ∷ []
+relations_changed validated row = relations_of row
+
+-- ShareUpdateExclusive, where a change passes a test
+abbrev pub update_where : Bool → Option Mode
+update_where true = Some ShareUpdateExclusive
+update_where false = None
+
+-- the mode that is enough to add a row: ShareRowExclusive for a foreign key or a trigger, and on its table Share for an index
+abbrev pub mode_to_add : Row → Oid → Option Mode
+mode_to_add (rows.Ind index table state nums) rel = if same_oid table rel then Some Share else None
+mode_to_add (rows.Con oid of name valid (demands.Foreign num refrel refnum)) rel = Some ShareRowExclusive
+mode_to_add (rows.Trg oid of name on) rel = Some ShareRowExclusive
+mode_to_add row rel = None
+
+-- to replace one: ShareRowExclusive for a trigger, and ShareUpdateExclusive where nothing but a fillfactor, a statistics target or whether a constraint is known to hold changes
+abbrev pub mode_to_replace : Option Row → Row → Option Mode
+mode_to_replace (Some (rows.Class oid own kind old)) (rows.Class to name kind' fill) = update_where (same_row (rows.Class oid own kind fill) (rows.Class to name kind' fill))
+mode_to_replace (Some (rows.Att rel num own col_type old live)) (rows.Att to num' name col_type' stat live') = update_where (same_row (rows.Att rel num own col_type stat live) (rows.Att to num' name col_type' stat live'))
+mode_to_replace (Some (rows.Con oid rel own old what)) (rows.Con to of name valid what') = update_where (same_row (rows.Con oid rel own valid what) (rows.Con to of name valid what'))
+mode_to_replace (Some (rows.Trg oid rel own old)) (rows.Trg to of name on) = Some ShareRowExclusive
+mode_to_replace old row = None
+
+-- to take one away: ShareRowExclusive for a trigger
+abbrev pub mode_to_remove : Option Row → Option Mode
+mode_to_remove (Some (rows.Trg oid rel name on)) = Some ShareRowExclusive
+mode_to_remove old = None
+
+-- the mode weaker than AccessExclusive that is enough for a change on a relation, if there is one
+abbrev pub weaker_mode : Option Row → Item → Oid → Option Mode
+weaker_mode old (Add row) rel = mode_to_add row rel
+weaker_mode old (Put row) rel = mode_to_replace old row
+weaker_mode old (Remove key) rel = mode_to_remove old
+weaker_mode old (Force of) rel = None
+
+-- AccessExclusive is enough, and so is a weaker mode where there is one
+abbrev pub enough_with : Option Mode → List Mode
+enough_with None = AccessExclusive ∷ []
+enough_with (Some mode) = mode ∷ AccessExclusive ∷ []
+
+-- the modes that are enough for a change of this row on a relation
+abbrev pub modes_enough : Option Row → Item → Oid → List Mode
+modes_enough old item rel = enough_with (weaker_mode old item rel)
+
+-- a change is guarded: on each relation of its rows, but those that the write makes, the backend holds a mode that is enough for it
 abbrev pub is_guarded : List Entry → ℕ → List Oid → Item → Bool
 is_guarded before b made item =
-    list_all (λ rel. list_any (same_oid rel) made || list_any (holds (held_of before) b rel) (modes_enough (old_row before b item) item)) (flat_map relations_of (rows_named item (old_row before b item)))
+    list_all (λ rel. list_any (same_oid rel) made || list_any (holds (held_of before) b rel) (modes_enough (old_row before b item) item rel)) (flat_map (relations_changed (is_validation (old_row before b item) item)) (rows_named item (old_row before b item)))
 
 -- two rows of relations are of one kind
 abbrev pub same_kind : Row → Row → Bool

@@ -66,7 +66,7 @@ read_as_now scenario history b s command draft rest played is course here at non
     by_write (inl table) = subst (AreReadAsNow history b facts) (sym table.unfound) tt
     by_write (inr altered) = subst (AreReadAsNow history b facts) (sym altered.found_is) (
       sym (late_answers scenario history b s way.gave (plan_of s.opens command) (Write draft) rest (record { rel = altered.rel; kind = Table }) (scans.Class altered.rel)
-          played.sound played.plays is clear (its_order history b s command way) way.holds (sym way.plan ∙ at) altered.found_is altered.opened_is (inr (0, omega arith, refl))
+          played.sound played.plays is clear (its_order history b s command way) way.holds (sym way.plan ∙ at) altered.found_is altered.opened_is refl
           (first_usable (is_usable history b (scans.Class altered.rel)) (scans.Class altered.rel) _ (sym (ap (builds_owed facts) altered.opened_is) ∙ own_builds))),
       tt,
     )

@@ -10,8 +10,7 @@ use Rattle.history_model.specs.Versions.{answer_of}
 use Rattle.history_model.specs.Held.{held_of}
 use Rattle.history_model.specs.Orderly.{IsSound}
 use Rattle.history_model.specs.Read.{rows_read}
-use Rattle.history_model.proofs.WeakChanges.{asks_of}
-use Rattle.history_model.proofs.Locked.{changing_modes, changed_under, IsIdle, IsSeenAs, stays_undisturbed, held_bars_all, held_bars_exclusive, locked_between, read_between, found_between}
+use Rattle.history_model.proofs.Locked.{changing_modes, changed_anyhow, IsIdle, IsSeenAs, stays_undisturbed, held_bars_all, held_bars_exclusive, locked_between, read_between, found_between}
 use Rattle.cacheless.proofs.Plans.Given.{oid, xid, entry, new_table, wide_table}
 
 -- the table is locked, and its columns are read
@@ -31,12 +30,12 @@ idle = ((λ own. tt), ((λ own. tt), ((λ own. absurd (cc)), ((λ own. tt), tt))
 
 -- the columns that the first backend sees stay
 pub columns_stay : answer_of (locked ++ others) 1 (scans.Attribute (oid 16384)) ≡ answer_of locked 1 (scans.Attribute (oid 16384))
-columns_stay = locked_between locked others 1 (oid 16384) (scans.Attribute (oid 16384)) sound (asks_of (scans.Attribute (oid 16384)) (oid 16384) refl)
+columns_stay = locked_between locked others 1 (oid 16384) (scans.Attribute (oid 16384)) sound (changed_anyhow (scans.Attribute (oid 16384)) (oid 16384) refl)
     (stays_undisturbed locked others 1 (oid 16384) changing_modes (held_bars_all (held_of locked) 1 (oid 16384) ShareUpdateExclusive changing_modes refl refl) idle)
 
 -- they are what it read
 pub columns_read : answer_of (locked ++ others) 1 (scans.Attribute (oid 16384)) ≡ rows_read (locked ++ others) 1 (scans.Attribute (oid 16384))
-columns_read = read_between locked others 1 (oid 16384) (scans.Attribute (oid 16384)) changing_modes sound (asks_of (scans.Attribute (oid 16384)) (oid 16384) refl) (changed_under (scans.Attribute (oid 16384)))
+columns_read = read_between locked others 1 (oid 16384) (scans.Attribute (oid 16384)) changing_modes sound (changed_anyhow (scans.Attribute (oid 16384)) (oid 16384) refl)
     (stays_undisturbed locked others 1 (oid 16384) changing_modes (held_bars_all (held_of locked) 1 (oid 16384) ShareUpdateExclusive changing_modes refl refl) idle) refl
 
 -- and the table is still seen

@@ -22,6 +22,7 @@ use Rattle.ddl_effect.specs.Plans.{Plan, Done, Fails, Absent, NotBuilt, Do, Look
 use Rattle.ddl_effect.specs.Commands.{plan_of, found, looking_up, if_passes, if_no_column, first_twice, writing, opening, showing, showing_field, told_fields, keeping, peeking, closing, is_table, locking, new_table, altering, drop_table, renaming_table, rename_table, column_there, with_column, column_free, reading, changing, adding, add_column, dropping, drop_column, with_name, renaming, rename_column, targeting, set_statistics, filling, set_fillfactor, live_column, listing_columns, telling_column, finding_column}
 use Rattle.ddl_effect.specs.Opens.{latest_open, has_open}
 use Rattle.history_model.proofs.FixedRows.{fixed}
+use Rattle.history_model.proofs.HeldRows.{relation_kept}
 use Rattle.cacheless.specs.Types.{Oid, Mode, AccessExclusive, Kind, Field, Row, Purpose, Command, CommandError, OpenRelation, Draft, Opening, Told}
 use Rattle.cacheless.specs.ActsDone.{after_given, reached, made_first, made_in, opening_by, relation_by}
 use Rattle.history_model.proofs.ColumnsKept.{IsOfColumn, IsOfColumns}
@@ -66,7 +67,7 @@ abbrev pub FollowsOpen : ℕ → Oid → Kind → Plan → Type 0
 FollowsOpen most rel kind (Done told) = TellsOf rel kind told
 FollowsOpen most rel kind (Fails error) = ⊤
 FollowsOpen most rel kind (Do (Search scan) rest) = (0 < most) × IsOfColumn rel scan × (kind ≡ Table) × ((given : List Row) → FollowsOpen (most - 1) rel kind (rest given))
-FollowsOpen most rel kind (Do (Read scan) rest) = (0 < most) × Contains (build_scans kind rel) scan × ((given : List Row) → FollowsOpen (most - 1) rel kind (rest given))
+FollowsOpen most rel kind (Do (Read scan) rest) = (0 < most) × Contains (build_scans kind rel) scan × ((given : List Row) → FollowsOpen (most - 1) rel kind (rest given)) × (relation_kept scan ≡ Some rel)
 FollowsOpen most rel kind (Do (Write draft) rest) = (0 < most) × IsRowsDraft draft × (kind ≡ Table) × ((given : List Row) → rest given ≡ Done tells.Ok)
 FollowsOpen most rel kind plan = ⊥
 
@@ -186,14 +187,14 @@ open_adding most rel passes changes some = open_if_passes most rel Table passes 
 
 -- the alterations, once the descriptor is open
 open_drop_table : (rel : Oid) → FollowsOpen 3 rel Table (drop_table rel)
-open_drop_table rel = (omega arith, (1, omega arith, refl), λ given. (omega arith, record { changes = _; is = refl }, refl, λ wrote. refl))
+open_drop_table rel = (omega arith, (1, omega arith, refl), (λ given. (omega arith, record { changes = _; is = refl }, refl, λ wrote. refl)), refl)
 
 open_renaming_table : (most : ℕ) (rel : Oid) (to : List ℕ) → 0 < most → (given : List Row) → FollowsOpen most rel Table (renaming_table to given)
 open_renaming_table most rel to some [] = tt
 open_renaming_table most rel to some (row ∷ more) = (some, record { changes = _; is = refl }, refl, λ given. refl)
 
 open_rename_table : (to : List ℕ) (rel : Oid) → FollowsOpen 3 rel Table (rename_table to rel)
-open_rename_table to rel = (omega arith, (0, omega arith, refl), open_renaming_table 2 rel to (omega arith))
+open_rename_table to rel = (omega arith, (0, omega arith, refl), open_renaming_table 2 rel to (omega arith), refl)
 
 open_add_column : (column : List ℕ) (col_type : ColType) (rel : Oid) → FollowsOpen 3 rel Table (add_column column col_type rel)
 open_add_column column col_type rel = (
@@ -201,7 +202,7 @@ open_add_column column col_type rel = (
   (column, refl),
   refl,
   open_free 2 rel Table column (reading (scans.Attribute rel) (adding rel column col_type))
-      (omega arith, (1, omega arith, refl), λ given. open_adding 1 rel (nat_lt (length given) MOST_COLUMNS) (Insert (rows.Att rel (length given + 1) column col_type (negsuc 0) true) ∷ []) (omega arith)),
+      (omega arith, (1, omega arith, refl), (λ given. open_adding 1 rel (nat_lt (length given) MOST_COLUMNS) (Insert (rows.Att rel (length given + 1) column col_type (negsuc 0) true) ∷ []) (omega arith)), refl),
 )
 
 open_drop_column : (column : List ℕ) (rel : Oid) → FollowsOpen 3 rel Table (drop_column column rel)
@@ -210,7 +211,7 @@ open_drop_column column rel = (
   (column, refl),
   refl,
   open_there 2 rel Table column (λ row. reading (scans.AttrDef rel) (dropping row))
-      (λ row. (omega arith, (2, omega arith, refl), λ given. (omega arith, record { changes = _; is = refl }, refl, λ wrote. refl))),
+      (λ row. (omega arith, (2, omega arith, refl), (λ given. (omega arith, record { changes = _; is = refl }, refl, λ wrote. refl)), refl)),
 )
 
 open_rename_column : (column to : List ℕ) (rel : Oid) → FollowsOpen 3 rel Table (rename_column column to rel)
@@ -228,7 +229,7 @@ open_set_statistics column stat rel = open_if_passes 3 rel Table (not (int_lt st
 
 open_set_fillfactor : (fill : ℕ) (rel : Oid) → FollowsOpen 3 rel Table (set_fillfactor fill rel)
 open_set_fillfactor fill rel = open_if_passes 3 rel Table (nat_le 10 fill && nat_le fill 100) (errors.OutOfRange (pos fill)) (reading (scans.Class rel) (filling fill))
-    (omega arith, (0, omega arith, refl), open_filling 2 rel fill (omega arith))
+    (omega arith, (0, omega arith, refl), open_filling 2 rel fill (omega arith), refl)
 
 -- what is told of a relation that was open before is no act
 order_peeking : (name : List ℕ) (field : Option Field) (latest : Option OpenRelation) → FollowsOrder (peeking name field latest)
@@ -497,12 +498,12 @@ pub record ReadsOpen (relations opened : List Opening) (scan : Purpose) : Type 0
   pub kind : Kind
   pub found_is : relations ≡ record { rel = rel; kind = kind } ∷ []
   pub opened_is : opened ≡ record { rel = rel; kind = kind } ∷ []
-  pub of : Contains (build_scans kind rel) scan
+  pub of : relation_kept scan ≡ Some rel
 
 pub at_read : (relations opened : List Opening) (scan : Purpose) (rest : List Row → Plan) → HasCome relations opened (Do (Read scan) rest) → ReadsOpen relations opened scan
 at_read [] [] scan rest come = absurd come
 at_read (relation ∷ []) [] scan rest come = absurd come.1
-at_read (relation ∷ []) (one ∷ []) scan rest come = record { rel = relation.rel; kind = relation.kind; found_is = refl; opened_is = ap (λ o. o ∷ []) come.same; of = come.follows.1 }
+at_read (relation ∷ []) (one ∷ []) scan rest come = record { rel = relation.rel; kind = relation.kind; found_is = refl; opened_is = ap (λ o. o ∷ []) come.same; of = come.follows.3 }
 at_read relations opened scan rest come = absurd come
 
 -- a write is of a new table, where nothing is found and nothing is open

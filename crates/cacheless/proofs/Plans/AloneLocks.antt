@@ -21,7 +21,7 @@ use Rattle.history_model.specs.Versions.{answer_of}
 use Rattle.history_model.proofs.ColumnsKept.{IsOfColumns, by_number, columns_leave}
 use Rattle.history_model.proofs.Every.{every}
 use Rattle.history_model.proofs.FixedRows.{fixed}
-use Rattle.history_model.proofs.Locked.{changing_modes}
+use Rattle.history_model.proofs.Locked.{changing_modes, changed_anyhow}
 use Rattle.history_model.proofs.Prefixes.{EachEntry-weaker, EachEntry-prefix}
 use Rattle.cacheless.specs.Types.{Oid, Mode, Kind, Row, Purpose, OwnLock, Entry, Opening}
 use Rattle.cacheless.specs.ActsDone.{LockedRelation, locked_relation_by, reached, made_in, opening_by, relation_by, IsHeld, WayHolds}
@@ -37,7 +37,7 @@ use Rattle.cacheless.proofs.HeldLocks.{Follows, locks_of, locks_are_held, lock_i
 use Rattle.cacheless.proofs.Plans.LateActs.{relation_only, locked_are_found, late_alone}
 use Rattle.cacheless.proofs.ProtectedFields.{AreKeptOut, kept_out_read, kept_out_answers}
 use Rattle.cacheless.proofs.Plans.StillAfter.{IsOf}
-use Rattle.cacheless.proofs.Plans.StillLocked.{excludes_changing, scans_ask}
+use Rattle.cacheless.proofs.Plans.StillLocked.{excludes_changing}
 
 same_conflicts : (writer mode other : Mode) → same_mode other mode ≡ true → conflicts writer mode ≡ true → conflicts writer other ≡ true
 same_conflicts writer mode other same clash = ap (λ n. list_any (λ m. n == mode_number m) (conflicting_modes writer)) (eqb-true (mode_number other) (mode_number mode) same) ∙ clash
@@ -80,10 +80,10 @@ alone_keeps_out scenario history b s rel mode is clear has alone =
     (λ writer clash. ap (λ o. list_any (conflicts writer) (option_map_or (λ x. clear_modes x.locks rel) o [])) is ∙ clear_conflict writer rel mode s.locks clash clear has) changing_modes (excludes_changing mode alone)
 
 -- and what was read of the relation by a usable scan is the scan's answer
-pub alone_answers : (scenario : Scenario) (history : List Entry) (b : ℕ) (s : Session) (rel : Oid) (kind : Kind) (mode : Mode) (scan : Purpose) → IsSound history → Plays scenario history → session_of scenario history b ≡ Some s → map cleared s.locks ≡ s.locks
-    → has_lock s.locks rel mode ≡ true → conflicts mode mode ≡ true → IsOf rel kind scan → is_usable history b scan ≡ true → answer_of history b scan ≡ rows_read history b scan
-alone_answers scenario history b s rel kind mode scan sound plays is clear has alone of usable =
-    kept_out_answers scenario history b rel scan (scans_ask rel kind scan of) sound plays (alone_keeps_out scenario history b s rel mode is clear has alone) usable
+pub alone_answers : (scenario : Scenario) (history : List Entry) (b : ℕ) (s : Session) (rel : Oid) (mode : Mode) (scan : Purpose) → IsSound history → Plays scenario history → session_of scenario history b ≡ Some s → map cleared s.locks ≡ s.locks
+    → has_lock s.locks rel mode ≡ true → conflicts mode mode ≡ true → IsOf rel scan → is_usable history b scan ≡ true → answer_of history b scan ≡ rows_read history b scan
+alone_answers scenario history b s rel mode scan sound plays is clear has alone of usable =
+    kept_out_answers scenario history b rel scan (changed_anyhow scan rel of) sound plays (alone_keeps_out scenario history b s rel mode is clear has alone) usable
 
 all_conflict : (mode : Mode) → conflicts AccessExclusive mode ≡ true
 all_conflict AccessShare = refl
@@ -139,10 +139,10 @@ the_lock history b one P (o ∷ others) is held such =
 
 -- so what it read by a usable scan of that relation is the scan's answer, once its descriptor is open and the command's locks are clear
 pub late_answers : (scenario : Scenario) (history : List Entry) (b : ℕ) (s : Session) (gave : List (List Row)) (plan : Plan) (act : Act) (rest : List Row → Plan) (one : Opening) (scan : Purpose) → IsSound history → Plays scenario history → session_of scenario history b ≡ Some s → map cleared s.locks ≡ s.locks
-    → FollowsOrder plan → WayHolds history b gave plan → reached gave plan ≡ Do act rest → made_in relation_by gave plan ≡ one ∷ [] → made_in opening_by gave plan ≡ one ∷ [] → IsOf one.rel one.kind scan → is_usable history b scan ≡ true → answer_of history b scan ≡ rows_read history b scan
+    → FollowsOrder plan → WayHolds history b gave plan → reached gave plan ≡ Do act rest → made_in relation_by gave plan ≡ one ∷ [] → made_in opening_by gave plan ≡ one ∷ [] → IsOf one.rel scan → is_usable history b scan ≡ true → answer_of history b scan ≡ rows_read history b scan
 late_answers scenario history b s gave plan act rest one scan sound plays is clear follows way on found opens of usable =
     let lock = the_lock history b one (λ mode. conflicts mode mode ≡ true) (made_in locked_relation_by gave plan) (locked_are_found gave plan ∙ found) way.locked (late_alone gave plan act rest one follows on opens) in
-    alone_answers scenario history b s one.rel one.kind lock.mode scan sound plays is clear (sym (session_holds scenario history b s sound is one.rel lock.mode) ∙ lock.held) lock.such of usable
+    alone_answers scenario history b s one.rel lock.mode scan sound plays is clear (sym (session_holds scenario history b s sound is one.rel lock.mode) ∙ lock.held) lock.such of usable
 
 -- and where it searches for columns before that, what it goes by of their rows is the answer's
 pub found_columns : (scenario : Scenario) (history : List Entry) (b : ℕ) (s : Session) (gave : List (List Row)) (plan : Plan) (one : Opening) (scan : Purpose) → IsSound history → EachEntry WritesColumns history → Plays scenario history → session_of scenario history b ≡ Some s → map cleared s.locks ≡ s.locks

@@ -28,7 +28,7 @@ use Rattle.cacheless.proofs.FoundKept.{lookup_ends}
 use Rattle.cacheless.proofs.Plans.ActOrder.{HasCome, ReadsOpen, FollowsOrder, follows_order, has_come, at_lookup, SearchesOpen, SearchesFound, SearchesOid, at_search, at_read}
 use Rattle.cacheless.proofs.Plans.AfterActs.{IsUnfound, after_opening, after_search, after_reading, after_lookup, lookup_lost, lookup_first, no_lock, opening_alike}
 use Rattle.cacheless.proofs.Plans.AloneLocks.{late_answers, found_columns}
-use Rattle.cacheless.proofs.Plans.StillAfter.{still-push}
+use Rattle.cacheless.proofs.Plans.StillAfter.{of_column, still-push}
 use Rattle.cacheless.proofs.Plans.Ways.{acts, none_reached, reached-push, made_in-push}
 
 pub both_empty : {X : Type 0} (xs ys : List X) → xs ++ ys ≡ [] → (xs ≡ []) × (ys ≡ [])
@@ -156,7 +156,7 @@ act_gave scenario seen b s command (Search scan) rest given holds way at done = 
       where
         late : answer_of seen b scan ≡ rows_read seen b scan
         late = late_answers scenario seen b holds.session way.gave (plan_of s.opens command) (Search scan) rest (record { rel = column.rel; kind = Table }) scan holds.played.sound holds.played.plays holds.is
-            (subst (λ l. map cleared l ≡ l) (sym holds.holds) holds.clear) (its_order seen b s command way) way.holds (sym way.plan ∙ at) column.found_is column.opened_is (inl column.of)
+            (subst (λ l. map cleared l ≡ l) (sym holds.holds) holds.clear) (its_order seen b s command way) way.holds (sym way.plan ∙ at) column.found_is column.opened_is (of_column column.rel scan column.of)
             (kept_already _ scan done.owed)
     by_place (inr (inl columns)) = λ rows found. ap (effect_at rows found)
         (ap rest (sym gave) ∙ columns.by_fixed (rows_read seen b scan) ∙ ap rest (sym same) ∙ sym (columns.by_fixed (answer_of seen b scan)))
@@ -178,7 +178,7 @@ act_gave scenario seen b s command (Read scan) rest given holds way at done = re
 
     late : answer_of seen b scan ≡ rows_read seen b scan
     late = late_answers scenario seen b holds.session way.gave (plan_of s.opens command) (Read scan) rest (record { rel = reads.rel; kind = reads.kind }) scan holds.played.sound holds.played.plays holds.is
-        (subst (λ l. map cleared l ≡ l) (sym holds.holds) holds.clear) (its_order seen b s command way) way.holds (sym way.plan ∙ at) reads.found_is reads.opened_is (inr reads.of)
+        (subst (λ l. map cleared l ≡ l) (sym holds.holds) holds.clear) (its_order seen b s command way) way.holds (sym way.plan ∙ at) reads.found_is reads.opened_is reads.of
         (kept_already _ scan done.owed)
 act_gave scenario seen b s command (Lock rel mode) rest given holds way at done = absurd (no_lock _ _ rel mode rest (its_place seen b s command (Lock rel mode) rest way at))
 act_gave scenario seen b s command (Write draft) rest given holds way at done = absurd (let no : None ≡ Some given = done.gave in cc no)

@@ -1,8 +1,7 @@
 -- What acts gave is so still later, if the rows of the relation found stay.
-use Rattle.std.proofs.Common.{◌≡◌, ◌∙◌, ◌-◌, ◌⊎◌, inl, inr, ℕ, true, false, List, [], ◌∷◌, ◌++◌, Contains, refl, sym, ap, subst, map}
+use Rattle.std.proofs.Common.{◌≡◌, ◌∙◌, ◌-◌, ◌⊎◌, inl, inr, ℕ, true, false, Some, List, [], ◌∷◌, ◌++◌, refl, sym, ap, subst, map}
 use Rattle.std.specs.List.{AllByRecursion}
 use Rattle.base_types.specs.Modes.{conflicts}
-use Rattle.base_types.specs.Scans.{build_scans}
 use Rattle.base_types.specs.declared.row.Row.TheVariants as rows
 use Rattle.base_types.specs.declared.scan.Purpose.TheVariants as scans
 use Rattle.ddl_effect.specs.Plans.{Plan, Done, Fails, Absent, NotBuilt, Do, Lookup, Open, Search, Read, Lock, Write}
@@ -10,6 +9,7 @@ use Rattle.ddl_effect.specs.Commands.{found}
 use Rattle.ddl_effect.specs.Effects.{effect_at}
 use Rattle.history_model.proofs.Every.{every-append}
 use Rattle.history_model.proofs.FixedRows.{fixed}
+use Rattle.history_model.proofs.HeldRows.{relation_kept}
 use Rattle.cacheless.specs.Types.{Oid, Mode, Kind, Row, Purpose, Opening}
 use Rattle.cacheless.specs.ActsDone.{LockedRelation, locked_relation_by, after_given, reached, made_first, made_in, relation_by, BeginWith, ComeAlike, IsStill, IsFirstStill, AreStill}
 use Rattle.history_model.proofs.ColumnsKept.{IsOfColumn, IsOfColumns}
@@ -17,15 +17,19 @@ use Rattle.cacheless.proofs.Plans.EffectAlong.{plain_row}
 use Rattle.cacheless.proofs.Plans.Ways.{acts}
 use Rattle.cacheless.proofs.Plans.ActOrder.{OpensUnder, FollowsOpen, FollowsFound, FollowsOrder, ended_acts}
 
--- a scan for a column of a relation, or for its descriptor
-abbrev pub IsOf : Oid → Kind → Purpose → Type 0
-IsOf rel kind scan = IsOfColumn rel scan ⊎ Contains (build_scans kind rel) scan
+-- a scan of rows that locks on the relation keep
+abbrev pub IsOf : Oid → Purpose → Type 0
+IsOf rel scan = relation_kept scan ≡ Some rel
+
+-- one for a column is
+pub of_column : (rel : Oid) (scan : Purpose) → IsOfColumn rel scan → IsOf rel scan
+of_column rel scan (name, is) = ap relation_kept is
 
 -- a relation stays found, and so do its columns but for what a weak mode may change, and under a lock that no two backends may hold all its rows stay
 pub record RowsStay (now later : Purpose → List Row) (o : LockedRelation) : Type 0 where
   pub relation : BeginWith o.rel o.kind (now (scans.Class o.rel)) → BeginWith o.rel o.kind (later (scans.Class o.rel))
   pub columns : (scan : Purpose) → IsOfColumns o.rel scan → map fixed (later scan) ≡ map fixed (now scan)
-  pub rows_of : conflicts o.mode o.mode ≡ true → (scan : Purpose) → IsOf o.rel o.kind scan → later scan ≡ now scan
+  pub rows_of : conflicts o.mode o.mode ≡ true → (scan : Purpose) → IsOf o.rel scan → later scan ≡ now scan
 
 -- where the rows of a scan stay, the rest of a plan makes of them what it made
 alike_later : (now later : Purpose → List Row) (scan : Purpose) (rest : List Row → Plan) (given : List Row) → later scan ≡ now scan → ComeAlike (rest given) (rest (now scan)) → ComeAlike (rest given) (rest (later scan))
@@ -48,7 +52,7 @@ still_over later (given ∷ gave) (Absent name) over = (tt, still_over later gav
 still_over later (given ∷ gave) NotBuilt over = (tt, still_over later gave NotBuilt refl)
 still_over later (given ∷ gave) (Do act rest) over = absurd (cc over)
 
-still_open : (now later : Purpose → List Row) (most : ℕ) (rel : Oid) (kind : Kind) (gave : List (List Row)) (plan : Plan) → ((scan : Purpose) → IsOf rel kind scan → later scan ≡ now scan) → FollowsOpen most rel kind plan → AreStill now plan gave
+still_open : (now later : Purpose → List Row) (most : ℕ) (rel : Oid) (kind : Kind) (gave : List (List Row)) (plan : Plan) → ((scan : Purpose) → IsOf rel scan → later scan ≡ now scan) → FollowsOpen most rel kind plan → AreStill now plan gave
     → AreStill later plan gave
 still_open now later most rel kind [] plan stays follows still = tt
 still_open now later most rel kind (given ∷ gave) (Done told) stays follows still = still_over later (given ∷ gave) (Done told) refl
@@ -58,9 +62,9 @@ still_open now later most rel kind (given ∷ gave) NotBuilt stays follows still
 still_open now later most rel kind (given ∷ gave) (Do (Lookup name mode) rest) stays follows still = absurd follows
 still_open now later most rel kind (given ∷ gave) (Do (Open of as_kind) rest) stays follows still = absurd follows
 still_open now later most rel kind (given ∷ gave) (Do (Search scan) rest) stays follows still =
-    (alike_later now later scan rest given (stays scan (inl follows.1)) still.0, still_open now later (most - 1) rel kind gave (rest given) stays (follows.3 given) still.1)
+    (alike_later now later scan rest given (stays scan (of_column rel scan follows.1)) still.0, still_open now later (most - 1) rel kind gave (rest given) stays (follows.3 given) still.1)
 still_open now later most rel kind (given ∷ gave) (Do (Read scan) rest) stays follows still =
-    (alike_later now later scan rest given (stays scan (inr follows.1)) still.0, still_open now later (most - 1) rel kind gave (rest given) stays (follows.2 given) still.1)
+    (alike_later now later scan rest given (stays scan follows.3) still.0, still_open now later (most - 1) rel kind gave (rest given) stays (follows.2 given) still.1)
 still_open now later most rel kind (given ∷ gave) (Do (Lock of mode) rest) stays follows still = absurd follows
 still_open now later most rel kind (given ∷ gave) (Do (Write draft) rest) stays follows still = (tt, still_open now later most rel kind gave (Do (Write draft) rest) stays follows still.1)
 

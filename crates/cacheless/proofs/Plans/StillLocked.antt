@@ -2,10 +2,7 @@
 use Rattle.std.proofs.Common.{◌≡◌, ◌∙◌, inl, inr, ℕ, Bool, true, false, List, [], ◌∷◌, ◌++◌, ◌==◌, sym, ap, subst, refl, map}
 use Rattle.std.specs.List.{AllByRecursion, list_all}
 use Rattle.std.proofs.Math.Bool.{or-false}
-use Rattle.std.proofs.lemmas.List.Elements.{All-contains, All-from_recursion}
 use Rattle.base_types.specs.Modes.{conflicts}
-use Rattle.base_types.specs.Scans.{build_scans}
-use Rattle.base_types.specs.declared.kind.Kind.TheVariants.{Table, Index}
 use Rattle.base_types.specs.declared.mode.Mode.TheVariants.{ShareUpdateExclusive, ShareRowExclusive, Exclusive, AccessExclusive}
 use Rattle.base_types.specs.declared.scan.Purpose.TheVariants as scans
 use Rattle.event_kinds.specs.declared.entry.Event.TheVariants as events
@@ -19,19 +16,20 @@ use Rattle.history_model.proofs.Answers.{other_answers}
 use Rattle.history_model.proofs.Every.{every-weaker}
 use Rattle.history_model.proofs.FixedRows.{fixed}
 use Rattle.history_model.proofs.Granted.{lock_parts}
-use Rattle.history_model.proofs.Locked.{changing_modes, held_bars_all, held_bars_exclusive, none_held, locked_answers, IsNoChange, IsIdle, quiet_keeps, unchanged_answers, grant_kept, found_stays, found_first}
+use Rattle.history_model.proofs.HeldRows.{IsChangedUnder}
+use Rattle.history_model.proofs.Locked.{changing_modes, changed_anyhow, held_bars_all, held_bars_exclusive, none_held, locked_answers, IsNoChange, IsIdle, quiet_keeps, unchanged_answers, grant_kept, found_stays, found_first}
 use Rattle.history_model.proofs.Ordered.{locks_exclude}
 use Rattle.history_model.proofs.Prefixes.{EachEntry-more}
 use Rattle.history_model.proofs.Reading.{held_of-more as held-more}
 use Rattle.history_model.proofs.Touched.{entry_of}
-use Rattle.history_model.proofs.WeakChanges.{AsksOf, asks_of, column_apart, fixed_visible}
+use Rattle.history_model.proofs.WeakChanges.{column_apart, fixed_visible}
 use Rattle.history_model.proofs.ColumnsKept.{IsOfColumns}
 use Rattle.cacheless.specs.Types.{Oid, Mode, Kind, Row, Purpose, Entry, Event}
 use Rattle.cacheless.specs.ActsDone.{LockedRelation, locked_relation_by, made_in, IsHeld, WayHolds}
 use Rattle.cacheless.specs.TableWrites.{WritesColumns}
 use Rattle.cacheless.proofs.ColumnAnswers.{columns_stay}
 use Rattle.cacheless.proofs.Plans.ActOrder.{FollowsOrder}
-use Rattle.cacheless.proofs.Plans.StillAfter.{IsOf, RowsStay, still_after}
+use Rattle.cacheless.proofs.Plans.StillAfter.{RowsStay, still_after}
 
 -- an entry that may come next, after a sound history of which each write keeps the columns of tables, as it does itself, and takes no relation away
 pub record MayCome (history : List Entry) (e : Entry) : Type 0 where
@@ -47,17 +45,6 @@ excludes_changing ShareRowExclusive alone = refl
 excludes_changing Exclusive alone = refl
 excludes_changing AccessExclusive alone = refl
 excludes_changing mode alone = absurd (cc)
-
--- each scan for a descriptor asks for rows of its relation
-builds_ask : (kind : Kind) (rel : Oid) → AllByRecursion (λ d. AsksOf d rel) (build_scans kind rel)
-builds_ask Table rel =
-    (asks_of (scans.Class rel) rel refl, (asks_of (scans.Attribute rel) rel refl, (asks_of (scans.AttrDef rel) rel refl, (asks_of (scans.Constraint rel) rel refl, (asks_of (scans.Index rel) rel refl, (asks_of (scans.Trigger rel) rel refl, tt))))))
-builds_ask Index rel = (asks_of (scans.Class rel) rel refl, (asks_of (scans.IndexRow rel) rel refl, tt))
-
--- and so does one for a column
-pub scans_ask : (rel : Oid) (kind : Kind) (scan : Purpose) → IsOf rel kind scan → AsksOf scan rel
-scans_ask rel kind scan (inl (name, is)) = subst (λ d. AsksOf d rel) (sym is) (asks_of (scans.AttName rel name) rel refl)
-scans_ask rel kind scan (inr among) = All-contains (λ d. AsksOf d rel) (build_scans kind rel) scan (All-from_recursion (λ d. AsksOf d rel) (build_scans kind rel) (builds_ask kind rel)) among
 
 -- it is held still after one more entry that is no release of the backend's own
 pub held_stays : (history : List Entry) (e : Entry) (b : ℕ) (o : LockedRelation) → IsIdle b history e → IsHeld history b o → IsHeld (history ++ e ∷ []) b o
@@ -78,7 +65,7 @@ rows_stay history e b o may idle held = record {
       (found_first history b (scans.Class o.rel) o.rel begins.name o.kind begins.fill begins.more may.sound begins.are) in
       record { name = begins.name; fill = seen.0; more = []; are = seen.1 };
   columns = λ scan of. columns_by scan of (e.backend == b) refl;
-  rows_of = λ alone scan of. by_owner alone scan (scans_ask o.rel o.kind scan of) (e.backend == b) refl;
+  rows_of = λ alone scan of. by_owner alone scan (changed_anyhow scan o.rel of) (e.backend == b) refl;
 }
   where
     unchanged : (e.backend == b) ≡ true → IsNoChange e.event
@@ -89,7 +76,7 @@ rows_stay history e b o may idle held = record {
     columns_by scan of false other = columns_stay history (history ++ e ∷ []) b o.rel scan of may.sound may.columns (EachEntry-more MayComeNext history e may.sound may.comes) (EachEntry-more WritesColumns history e may.columns may.keeps)
         (columns_held history e.backend e.command e.event b o.rel o.mode may.sound may.comes other held)
 
-    by_owner : conflicts o.mode o.mode ≡ true → (scan : Purpose) → AsksOf scan o.rel → (t : Bool) → (e.backend == b) ≡ t → answer_of (history ++ e ∷ []) b scan ≡ answer_of history b scan
+    by_owner : conflicts o.mode o.mode ≡ true → (scan : Purpose) → IsChangedUnder changing_modes scan o.rel → (t : Bool) → (e.backend == b) ≡ t → answer_of (history ++ e ∷ []) b scan ≡ answer_of history b scan
     by_owner alone scan asks true own = unchanged_answers history e b scan may.sound may.comes own (unchanged own)
     by_owner alone scan asks false other = locked_answers history e b o.rel scan may.sound may.comes other asks (held_bars_all (held_of history) b o.rel o.mode changing_modes held (excludes_changing o.mode alone))
 

@@ -100,7 +100,7 @@ record Replaces (before : List Entry) (b : ℕ) (rel : Oid) (old new : Row) : Ty
   stays : IsOfTable rel new
   nameless : new_name (Some old) (Some new) ≡ []
   called : IsCalledApart before b new
-  enough : list_any (holds (held_of before) b rel) (modes_enough (Some old) (forms.Put new)) ≡ true
+  enough : list_any (holds (held_of before) b rel) (modes_enough (Some old) (forms.Put new) rel) ≡ true
 
 none_named : (before : List Entry) (b : ℕ) (rel : Oid) (old new : Row) → Replaces before b rel old new → new_name (old_row before b (forms.Put new)) (Some new) ≡ []
 none_named before b rel old new r = ap (λ o. new_name o (Some new)) r.was ∙ r.nameless
@@ -131,7 +131,7 @@ CallColumns before b rel f = (num : ℕ) (name : List ℕ) (col_type : ColType) 
 
 -- a column that is seen and given another row
 column_replaced : (before : List Entry) (b : ℕ) (rel : Oid) (row : Row) (f : Row → Row) → IsSound before → ColumnSeen before b rel row → LeaveColumns rel f → CallColumns before b rel f
-    → ((num : ℕ) (name : List ℕ) (col_type : ColType) (stat : ℤ) (live : Bool) → list_any (holds (held_of before) b rel) (modes_enough (Some (rows.Att rel num name col_type stat live)) (forms.Put (f (rows.Att rel num name col_type stat live)))) ≡ true)
+    → ((num : ℕ) (name : List ℕ) (col_type : ColType) (stat : ℤ) (live : Bool) → list_any (holds (held_of before) b rel) (modes_enough (Some (rows.Att rel num name col_type stat live)) (forms.Put (f (rows.Att rel num name col_type stat live))) rel) ≡ true)
     → Replaces before b rel row (f row)
 column_replaced before b rel row f sound column leaves calls enough = subst (λ r. Replaces before b rel r (f r)) (sym column.is) (record {
   was = seen_is_old before b (forms.Put (f was)) was sound (ap Some (leaves column.num column.name column.col_type column.stat column.live).0) column.seen;
@@ -151,7 +151,7 @@ renamed_fits : (before : List Entry) (b : ℕ) (relations : List Opening) (colum
 renamed_fits before b relations column to draft sound spelled writes has = subst (MayBeWritten before b relations) (sym writes.is) (replaced before b relations writes.rel writes.row (with_name to writes.row)
     (column_replaced before b writes.rel writes.row (with_name to) sound (column_seen before b writes.rel column writes.row writes.more writes.there) (λ num name col_type stat live. (refl, refl, refl))
     (λ num name col_type stat live seen. free_called before b writes.rel num to col_type stat live spelled writes.free)
-    (λ num name col_type stat live. strong_enough (holds (held_of before) b writes.rel) (Some (rows.Att writes.rel num name col_type stat live)) (forms.Put (rows.Att writes.rel num to col_type stat live)) has)))
+    (λ num name col_type stat live. strong_enough (holds (held_of before) b writes.rel) (Some (rows.Att writes.rel num name col_type stat live)) (forms.Put (rows.Att writes.rel num to col_type stat live)) writes.rel has)))
 
 -- and so what `set statistics` writes
 targeted_fits : (before : List Entry) (b : ℕ) (relations : List Opening) (column : List ℕ) (target : ℤ) (draft : Draft) → IsSound before → EachEntry WritesColumns before → (writes : SetsStatistics (answer_of before b) relations column target draft)
@@ -170,7 +170,7 @@ filled_fits before b relations fill draft sound writes has = subst (MayBeWritten
   stays = (refl, refl);
   nameless = ap (λ t. if t then [] else writes.begins.name ∷ []) (same_bytes writes.begins.name);
   called = class_called before b rel writes.begins.name Table (Some fill);
-  enough = weak_enough_fill (holds (held_of before) b rel) rel writes.begins.name Table writes.begins.fill (Some fill) has;
+  enough = weak_enough_fill (holds (held_of before) b rel) rel writes.begins.name Table writes.begins.fill (Some fill) rel has;
 }))
   where
     rel : Oid
@@ -228,7 +228,7 @@ dropped_fits before b relations column draft sound kept writes has = subst (MayB
     r : Replaces before b rel writes.row new
     r = column_replaced before b rel writes.row as_dropped sound (column_seen before b rel column writes.row writes.more writes.there) (λ num name col_type stat live. (refl, refl, refl))
         (λ num name col_type stat live seen. dropped_called before b rel num name col_type stat live sound kept seen)
-        (λ num name col_type stat live. strong_enough (holds (held_of before) b rel) (Some (rows.Att rel num name col_type stat live)) (forms.Put (as_dropped (rows.Att rel num name col_type stat live))) has)
+        (λ num name col_type stat live. strong_enough (holds (held_of before) b rel) (Some (rows.Att rel num name col_type stat live)) (forms.Put (as_dropped (rows.Att rel num name col_type stat live))) rel has)
 
     with_default : (oid own : Oid) (num : ℕ) (word : List ℕ) → IsGiven before b (scans.AttrDef rel) (rows.Def oid own num word) → MayBeWritten before b relations (rows_draft (Delete (keys.Def oid) ∷ Replace new ∷ []))
     with_default oid own num word given = by_items before b relations (Delete (keys.Def oid) ∷ Replace new ∷ []) (record {
@@ -292,7 +292,7 @@ table_removes before b relations draft sound writes has = subst (MayBeWritten be
 table_renames : (before : List Entry) (b : ℕ) (relations : List Opening) (to : List ℕ) (draft : Draft) → IsSound before → (writes : RenamesTable (answer_of before b) relations to draft) → holds (held_of before) b writes.rel AccessExclusive ≡ true → MayBeWritten before b relations draft
 table_renames before b relations to draft sound writes has = subst (MayBeWritten before b relations) (sym writes.is) (by_items before b relations (Replace new ∷ []) (record {
   fit = all_fit before b (forms.Put new ∷ []) refl
-      (put_fits before b rel _ own new was (refl, refl) (refl, refl) (strong_enough (holds (held_of before) b rel) (Some own) (forms.Put new) has) (written_tell before b (forms.Put new ∷ [])).0, tt);
+      (put_fits before b rel _ own new was (refl, refl) (refl, refl) (strong_enough (holds (held_of before) b rel) (Some own) (forms.Put new) rel has) (written_tell before b (forms.Put new ∷ [])).0, tt);
   keeps = record {
     columns = record { whole = refl; columns = refl; called = (class_called before b rel to Table fill, tt); apart = (tt, tt) };
     names = (tt, tt);

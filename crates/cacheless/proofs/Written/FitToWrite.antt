@@ -14,6 +14,7 @@ use Rattle.base_types.specs.declared.col_type.ColType.{ColType}
 use Rattle.base_types.specs.declared.kind.Kind.{Kind}
 use Rattle.base_types.specs.declared.kind.Kind.TheVariants.{Table}
 use Rattle.base_types.specs.declared.mode.Mode.TheVariants.{ShareUpdateExclusive}
+use Rattle.base_types.specs.declared.row.ConKind.TheVariants as demands
 use Rattle.base_types.specs.declared.row.Row.TheVariants as rows
 use Rattle.base_types.specs.declared.row_key.RowKey.TheVariants as keys
 use Rattle.event_kinds.specs.declared.entry.Item.TheVariants as forms
@@ -29,7 +30,7 @@ use Rattle.history_model.specs.Held.{held_of}
 use Rattle.history_model.specs.Orderly.{main_rel, has_key, is_fresh, keeps_relation, IsOrderlyWrite, IsSound}
 use Rattle.history_model.specs.Sent.{cats_by, rels_by, messages_written}
 use Rattle.history_model.specs.Versions.{ended_key, rows_of, old_row}
-use Rattle.history_model.specs.Writes.{changed_key, has_row, relations_of, rows_named, enough_where, modes_enough, is_guarded, same_kind, keeps_kind}
+use Rattle.history_model.specs.Writes.{changed_key, has_row, relations_of, relations_changed, is_validation, rows_named, update_where, weaker_mode, enough_with, modes_enough, is_guarded, same_kind, keeps_kind}
 use Rattle.history_model.proofs.Covering.{flat_all}
 use Rattle.history_model.proofs.Every.{every-weaker, any-right}
 use Rattle.history_model.proofs.InOrder.{IsIn}
@@ -107,10 +108,10 @@ IsOfTable rel (rows.Att of num name col_type stat live) = of ≡ rel
 IsOfTable rel row = ⊥
 
 -- it names its table alone
-pub names_table : (rel : Oid) (row : Row) → IsOfTable rel row → relations_of row ≡ rel ∷ []
-names_table rel (rows.Class oid name kind fill) of = ap (λ o. o ∷ []) of.0
-names_table rel (rows.Att own num name col_type stat live) of = ap (λ o. o ∷ []) of
-names_table rel row of = absurd of
+pub names_table : (rel : Oid) (validated : Bool) (row : Row) → IsOfTable rel row → relations_changed validated row ≡ rel ∷ []
+names_table rel validated (rows.Class oid name kind fill) of = ap (λ o. o ∷ []) of.0
+names_table rel validated (rows.Att own num name col_type stat live) of = ap (λ o. o ∷ []) of
+names_table rel validated row of = absurd of
 
 is_of_table : (rel : Oid) (row : Row) → IsOfTable rel row → main_rel row ≡ rel
 is_of_table rel (rows.Class oid name kind fill) of = of.0
@@ -143,33 +144,31 @@ sent_itself rel (rows.Att own num name col_type stat live) of =
     ((and_from (same_oid own own) _ (eq-eqb own.0 own.0 refl) (same_bytes name), refl), ((eq-eqb own.0 own.0 refl, refl), ((eq-eqb own.0 own.0 refl, refl), tt)))
 sent_itself rel row of = absurd of
 
-strong_of : (p : Mode → Bool) (t : Bool) → p AccessExclusive ≡ true → list_any p (enough_where t) ≡ true
-strong_of p true is = or_right (p ShareUpdateExclusive) (p AccessExclusive || false) (or_left (p AccessExclusive) false is)
-strong_of p false is = or_left (p AccessExclusive) false is
+strong_of : (p : Mode → Bool) (o : Option Mode) → p AccessExclusive ≡ true → list_any p (enough_with o) ≡ true
+strong_of p None is = or_left (p AccessExclusive) false is
+strong_of p (Some mode) is = or_right (p mode) (p AccessExclusive || false) (or_left (p AccessExclusive) false is)
 
 -- AccessExclusive is enough for any change
-pub strong_enough : (p : Mode → Bool) (old : Option Row) (item : Item) → p AccessExclusive ≡ true → list_any p (modes_enough old item) ≡ true
-strong_enough p (Some (rows.Class oid own kind old)) (forms.Put (rows.Class to name kind' fill)) is = strong_of p (same_row (rows.Class oid own kind fill) (rows.Class to name kind' fill)) is
-strong_enough p (Some (rows.Att rel num own col_type old live)) (forms.Put (rows.Att to num' name col_type' stat live')) is = strong_of p (same_row (rows.Att rel num own col_type stat live) (rows.Att to num' name col_type' stat live')) is
-strong_enough p old item is = or_left (p AccessExclusive) false is
+pub strong_enough : (p : Mode → Bool) (old : Option Row) (item : Item) (rel : Oid) → p AccessExclusive ≡ true → list_any p (modes_enough old item rel) ≡ true
+strong_enough p old item rel is = strong_of p (weaker_mode old item rel) is
 
 same_fill : (fill : Option ℕ) → option_eq (λ a b. a == b) fill fill ≡ true
 same_fill None = refl
 same_fill (Some n) = eq-eqb n n refl
 
-weak_of : (p : Mode → Bool) (t : Bool) → t ≡ true → p ShareUpdateExclusive ≡ true → list_any p (enough_where t) ≡ true
+weak_of : (p : Mode → Bool) (t : Bool) → t ≡ true → p ShareUpdateExclusive ≡ true → list_any p (enough_with (update_where t)) ≡ true
 weak_of p true same is = or_left (p ShareUpdateExclusive) (p AccessExclusive || false) is
 weak_of p false same is = absurd (cc)
 
 -- ShareUpdateExclusive is enough for a change of the fillfactor
-pub weak_enough_fill : (p : Mode → Bool) (oid : Oid) (name : List ℕ) (kind : Kind) (old new : Option ℕ) → p ShareUpdateExclusive ≡ true → list_any p (modes_enough (Some (rows.Class oid name kind old)) (forms.Put (rows.Class oid name kind new))) ≡ true
-weak_enough_fill p oid name kind old new is = weak_of p (same_row (rows.Class oid name kind new) (rows.Class oid name kind new))
+pub weak_enough_fill : (p : Mode → Bool) (oid : Oid) (name : List ℕ) (kind : Kind) (old new : Option ℕ) (rel : Oid) → p ShareUpdateExclusive ≡ true → list_any p (modes_enough (Some (rows.Class oid name kind old)) (forms.Put (rows.Class oid name kind new)) rel) ≡ true
+weak_enough_fill p oid name kind old new rel is = weak_of p (same_row (rows.Class oid name kind new) (rows.Class oid name kind new))
     (and_from (same_oid oid oid && bytes_eq name name && bytes_eq (kind_word kind) (kind_word kind)) (option_eq (λ a b. a == b) new new)
     (and_from (same_oid oid oid && bytes_eq name name) (bytes_eq (kind_word kind) (kind_word kind)) (and_from (same_oid oid oid) (bytes_eq name name) (eq-eqb oid.0 oid.0 refl) (same_bytes name)) (same_bytes (kind_word kind))) (same_fill new)) is
 
 -- and for one of a statistics target
 pub weak_enough_stat : (p : Mode → Bool) (rel : Oid) (num : ℕ) (name : List ℕ) (col_type : ColType) (old new : ℤ) (live : Bool) → p ShareUpdateExclusive ≡ true
-    → list_any p (modes_enough (Some (rows.Att rel num name col_type old live)) (forms.Put (rows.Att rel num name col_type new live))) ≡ true
+    → list_any p (modes_enough (Some (rows.Att rel num name col_type old live)) (forms.Put (rows.Att rel num name col_type new live)) rel) ≡ true
 weak_enough_stat p rel num name col_type old new live is = weak_of p (same_row (rows.Att rel num name col_type new live) (rows.Att rel num name col_type new live))
     (and_from (same_oid rel rel && (num == num) && bytes_eq name name && bytes_eq (type_word col_type) (type_word col_type) && int_eq new new) (bytes_eq (live_word live) (live_word live))
     (and_from (same_oid rel rel && (num == num) && bytes_eq name name && bytes_eq (type_word col_type) (type_word col_type)) (int_eq new new)
@@ -179,14 +178,14 @@ weak_enough_stat p rel num name col_type old new live is = weak_of p (same_row (
 
 -- a change of a table's row, or a column's, that leaves it one of the table fits
 pub put_fits : (before : List Entry) (b : ℕ) (rel : Oid) (messages : List Message) (old new : Row) → old_row before b (forms.Put new) ≡ Some old → IsOfTable rel old → IsOfTable rel new
-    → list_any (holds (held_of before) b rel) (modes_enough (Some old) (forms.Put new)) ≡ true → Tell messages (cats_by before b (forms.Put new) ++ rels_by before b (forms.Put new)) → Fits before b messages (forms.Put new)
+    → list_any (holds (held_of before) b rel) (modes_enough (Some old) (forms.Put new) rel) ≡ true → Tell messages (cats_by before b (forms.Put new) ++ rels_by before b (forms.Put new)) → Fits before b messages (forms.Put new)
 put_fits before b rel messages old new was of also enough tell = record {
   drawn = refl;
   made = refl;
   there = ap (λ o. option_map_or (λ row. true) o false) was;
   kinds = ap (λ o. option_map_or (λ row. same_kind row new) o true) was ∙ kind_kept rel old new of also;
-  guarded = subst (λ o. list_all (λ r. list_any (holds (held_of before) b r) (modes_enough o (forms.Put new))) (flat_map relations_of (rows_named (forms.Put new) o)) ≡ true) (sym was)
-      (flat_all guard relations_of (old ∷ new ∷ []) (on old of, (on new also, tt)));
+  guarded = subst (λ o. list_all (λ r. list_any (holds (held_of before) b r) (modes_enough o (forms.Put new) r)) (flat_map (relations_changed (is_validation o (forms.Put new))) (rows_named (forms.Put new) o)) ≡ true) (sym was)
+      (flat_all guard (relations_changed (is_validation (Some old) (forms.Put new))) (old ∷ new ∷ []) (on old of, (on new also, tt)));
   fresh = refl;
   keeps = ap (λ o. option_map_or (λ row. same_oid (main_rel row) (main_rel new)) o true) was ∙ (λ i. same_oid (is_of_table rel old of i) (is_of_table rel new also i)) ∙ eq-eqb rel.0 rel.0 refl;
   named = subst (λ o. list_all (is_covered messages) (flat_map scans_of (rows_named (forms.Put new) o)) ≡ true) (sym was)
@@ -197,16 +196,22 @@ put_fits before b rel messages old new was of also enough tell = record {
 }
   where
     guard : Oid → Bool
-    guard r = list_any (holds (held_of before) b r) (modes_enough (Some old) (forms.Put new))
+    guard r = list_any (holds (held_of before) b r) (modes_enough (Some old) (forms.Put new) r)
 
-    on : (row : Row) → IsOfTable rel row → list_all guard (relations_of row) ≡ true
-    on row is = ap (list_all guard) (names_table rel row is) ∙ and_from (guard rel) true enough refl
+    on : (row : Row) → IsOfTable rel row → list_all guard (relations_changed (is_validation (Some old) (forms.Put new)) row) ≡ true
+    on row is = ap (list_all guard) (names_table rel (is_validation (Some old) (forms.Put new)) row is) ∙ and_from (guard rel) true enough refl
 
     told : (scan : Purpose) → list_any (covers scan) (messages_of (Some old) (Some new)) ≡ true → is_covered messages scan ≡ true
     told scan is = tell (covers scan) (ap (λ o. list_any (covers scan) (messages_of o (Some new))) was ∙ is)
 
     same_relation : option_to_list (rel_for new) ≡ option_to_list (rel_for old)
     same_relation = ap option_to_list (tells_table rel new also ∙ sym (tells_table rel old of))
+
+-- unless a constraint is validated, all relations that a row names count
+all_named : (row : Row) → relations_changed false row ≡ relations_of row
+all_named (rows.Con oid rel name valid (demands.Foreign num refrel refnum)) = refl
+all_named (rows.Con oid rel name valid (demands.Check text)) = refl
+all_named row = refl
 
 -- the change that takes a row away
 abbrev pub taking : Row → Item
@@ -220,8 +225,8 @@ removed_fits before b messages row sound seen locked covered = record {
   made = refl;
   there = ap (λ o. option_map_or (λ row. true) o false) was;
   kinds = refl;
-  guarded = subst (λ o. list_all (λ r. list_any (holds (held_of before) b r) (modes_enough o (taking row))) (flat_map relations_of (rows_named (taking row) o)) ≡ true) (sym was)
-      (flat_all guard relations_of (row ∷ []) (all_pass guard (relations_of row) (every-weaker (λ r. holds (held_of before) b r AccessExclusive ≡ true) (λ r. guard r ≡ true) (λ r has. strong_enough (holds (held_of before) b r) (Some row) (taking row) has) (relations_of row) locked), tt));
+  guarded = subst (λ o. list_all (λ r. list_any (holds (held_of before) b r) (modes_enough o (taking row) r)) (flat_map (relations_changed (is_validation o (taking row))) (rows_named (taking row) o)) ≡ true) (sym was)
+      (flat_all guard (relations_changed false) (row ∷ []) (subst (λ rels. list_all guard rels ≡ true) (sym (all_named row)) (all_pass guard (relations_of row) (every-weaker (λ r. holds (held_of before) b r AccessExclusive ≡ true) (λ r. guard r ≡ true) (λ r has. strong_enough (holds (held_of before) b r) (Some row) (taking row) r has) (relations_of row) locked)), tt));
   fresh = refl;
   keeps = refl;
   named = subst (λ o. list_all (is_covered messages) (flat_map scans_of (rows_named (taking row) o)) ≡ true) (sym was) (flat_all (is_covered messages) scans_of (row ∷ []) (covered, tt));
@@ -231,7 +236,7 @@ removed_fits before b messages row sound seen locked covered = record {
     was = seen_is_old before b (taking row) row sound refl seen
 
     guard : Oid → Bool
-    guard r = list_any (holds (held_of before) b r) (modes_enough (Some row) (taking row))
+    guard r = list_any (holds (held_of before) b r) (modes_enough (Some row) (taking row) r)
 
 -- a column that is added fits, where no version has its number
 pub add_fits : (before : List Entry) (b : ℕ) (rel : Oid) (messages : List Message) (num : ℕ) (name : List ℕ) (col_type : ColType) (stat : ℤ) (live : Bool) → has_key before (keys.Att rel num) ≡ false → holds (held_of before) b rel AccessExclusive ≡ true

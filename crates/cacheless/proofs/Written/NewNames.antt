@@ -23,8 +23,7 @@ use Rattle.history_model.specs.Prefixes.{EachEntry}
 use Rattle.history_model.specs.Versions.{versions_of, sees, added_row, rows_of, answer_of}
 use Rattle.history_model.proofs.Every.{every-weaker, every, every-map, every-filter, SomeOf, from_some}
 use Rattle.history_model.proofs.GivenRows.{row_given}
-use Rattle.history_model.proofs.InOrder.{IsIn}
-use Rattle.history_model.proofs.WeakChanges.{every_self}
+use Rattle.history_model.proofs.InOrder.{IsIn, every_self}
 use Rattle.cacheless.specs.Types.{Oid, Row, Entry}
 use Rattle.cacheless.specs.TableWrites.{AreNamesakes, IsCalledWell, IsCalledApart, CallsApart, AreCalledApart, WritesColumns}
 use Rattle.cacheless.proofs.NamedColumns.{apart_from}
