@@ -2,12 +2,12 @@
 //! waits for it.
 //!
 //! A [`TurnTable`] keeps one value, with a history that only grows: each of its entries is of one seat
-//! ([`Turned`]). A thread has a [`Pass`], the right to one seat. [`TurnTable::open`] waits until it is its
-//! turn, in the order in which turns were asked for, and gives the value with the [`Turn`];
-//! [`TurnTable::close`] puts it back. Between its turns a thread needs the value only to see whether
-//! something new waits for it: it reads its word, which [`TurnTable::look`] does without a turn, without a
-//! lock, while another has the value. Whoever makes something wait raises the word of the seat before it
-//! closes its turn; [`Turn::tell`] does that for all seats.
+//! ([`Turned`]). A thread has a [`Pass`], the right to one seat. [`TurnTable::open`] draws a ticket, waits
+//! until that is served, and gives the value with the [`Turn`]; [`TurnTable::close`] puts it back. Between
+//! its turns a thread needs the value only to see whether something new waits for it: it reads its word,
+//! which [`TurnTable::look`] does without a turn and without a lock, while another has the value. Whoever
+//! makes something wait raises the word of the seat before it closes its turn; [`Turn::tell`] does that for
+//! all seats.
 //!
 //! The promise, between any two atomic steps of whatever threads: what a pass has seen is a beginning of
 //! the one history, and what follows has no entry of its seat. So the value as a turn opens holds all that
@@ -30,8 +30,7 @@
 //! ```
 //!
 //! It is a ticket lock over the words and the slot of an `atomic_table`. A thread whose turn hasn't come
-//! parks. Not claimed: that a turn comes, how long it takes, or any order of the threads but that of the
-//! history.
+//! parks. No contract says that a turn comes, how long that takes, or whose is next.
 #![tactic(auto)]
 
 mod pass;
