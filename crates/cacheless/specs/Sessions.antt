@@ -6,6 +6,7 @@ use Rattle.command_answers.specs.declared.error.CommandError.TheVariants as erro
 use Rattle.lock_modes.specs.Own.{cleared}
 use Rattle.ddl_effect.specs.Plans.{Write, Plan, Fails, Absent, Do}
 use Rattle.ddl_effect.specs.Commands.{commands_of}
+use Rattle.ddl_effect.specs.Opens.{opens_before}
 use Rattle.txn_blocks.specs.Blocks.{no_block}
 use Rattle.history_model.specs.Prefixes.{along_own}
 use Rattle.cacheless.specs.Types.{Command, CommandError, Scenario, Entry, Event}
@@ -48,7 +49,7 @@ noted (events.ClashRunning name xid) s = refused_with (errors.NameInUse name xid
 noted (events.Write xid items) s = written s.left s
 noted (events.Fetch count) s = resumed s.left s
 noted events.FetchReset s = resumed s.left s
-noted (events.Release from) s = record s { ended = true; opened = [] }
+noted (events.Release from) s = record s { ended = true; opened = map opening_of (opens_before from s.opens) }
 noted event s = s
 
 -- the event belongs to the end of a command

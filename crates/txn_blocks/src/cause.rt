@@ -5,6 +5,6 @@ pub enum BlockCause {
     Failed,
     /// 25P01: no block is open, and the command needs one.
     NoBlock,
-    /// 3B001: the block has no savepoint of that name. Savepoints aren't built yet, so it doesn't come.
+    /// 3B001: the block has no savepoint of that name.
     NoSavepoint,
 }
