@@ -5,7 +5,17 @@ use Rattle.std.specs.Str.{bytes_eq}
 use Rattle.base_types.specs.declared.command.Command.TheVariants as commands
 use Rattle.command_answers.specs.declared.error.CommandError.TheVariants as errors
 use Rattle.txn_blocks.specs.Types.{Command, CommandError}
-pub use Rattle.txn_blocks.specs.Types.{Block, Outside, Inside, Failed, Level}
+use Rattle.txn_blocks.specs.declared.level.Level.{Level as LevelOf}
+
+-- outside a block, in one, or in one that has failed
+pub data Block : Type 0 where
+  Outside : Block
+  Inside : Block
+  Failed : Block
+
+-- a level of a block: its first command, and the savepoint that began it, if one did
+abbrev pub Level : Type 0
+Level = LevelOf
 
 -- whether a session is in a block, and the block's levels, the outermost first
 pub record Blocks : Type 0 where

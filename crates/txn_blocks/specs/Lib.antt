@@ -1,4 +1,4 @@
 pub mod Types
 pub mod Blocks
-pub mod Causes
+pub mod States
 pub mod Transactions

@@ -2,7 +2,5 @@
 pub use Rattle.base_types.specs.declared.command.Command.{Command}
 pub use Rattle.command_answers.specs.declared.error.CommandError.{CommandError}
 pub use Rattle.txn_blocks.specs.declared.cause.BlockCause.{BlockCause}
-pub use Rattle.txn_blocks.specs.declared.level.Block.{Block}
-pub use Rattle.txn_blocks.specs.declared.level.Block.TheVariants.{Outside, Inside, Failed}
-pub use Rattle.txn_blocks.specs.declared.level.Level.{Level}
+pub use Rattle.txn_blocks.specs.declared.blocks.State.{State}
 pub use Rattle.txn_blocks.specs.declared.transaction.RunningTransaction.{RunningTransaction}

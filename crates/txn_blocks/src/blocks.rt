@@ -2,39 +2,47 @@ ghost use Rattle.std.specs.Prelude.{◌≡◌, ◌<◌, IfSome, length};
 ghost use Rattle.txn_blocks.specs.Blocks.{ends_failure as does_end_failure, needs_block as does_need_block};
 ghost use Rattle.txn_blocks.specs.Blocks.{is_savepoint as begins_level, place_of as latest_of};
 
-use crate::BlockCause;
-use crate::level::{Block, Level};
+use crate::{BlockCause, Level};
 use base_types::{Command, Name, NoMemory};
 use std::alloc::Global;
 use std::marker::Model;
 
+// Where a session is: outside a block, in one, or in one that has failed.
+#[derive(Clone, Copy)]
+enum State {
+    Outside,
+    Inside,
+    Failed,
+}
+
 /// The transaction blocks of one session.
 #[derive(Drop)]
 pub struct TxnBlocks {
-    block: Block,
+    state: State,
     levels: Vec<Level>,
 }
 
 impl Model for TxnBlocks {
     ghost use Rattle.txn_blocks.specs.Blocks.{Blocks};
+    ghost use Rattle.txn_blocks.specs.States.{block_in};
 
     ghost Value = { Blocks };
 
-    ghost view = { λ blocks. record { block = blocks.block; levels = blocks.levels.items } };
+    ghost view = { λ blocks. record { block = block_in blocks.state; levels = blocks.levels.items } };
 }
 
 impl TxnBlocks {
     ghost use Rattle.std.specs.Prelude.{None, Some, OnOk, OnErr, IfErr, if◌then◌else◌};
     ghost use Rattle.std.specs.Option.{option_map};
-    ghost use Rattle.txn_blocks.specs.Blocks.{no_block, is_open as is_block_open, is_failed as is_block_failed, refused_by, innermost, levels_around, levels_up_to, blocks_begun, blocks_well, blocks_badly};
-    ghost use Rattle.txn_blocks.specs.Causes.{cause_of};
+    ghost use Rattle.txn_blocks.specs.Blocks.{Inside, no_block, is_open as is_block_open, is_failed as is_block_failed, refused_by, innermost, levels_around, levels_up_to, blocks_begun, blocks_well, blocks_badly};
+    ghost use Rattle.txn_blocks.specs.States.{cause_of};
 
     /// No block is open.
     pub fn new(alloc: Global) -> TxnBlocks
         ensures { result ≡ no_block }
     {
         TxnBlocks {
-            block: Block::Outside,
+            state: State::Outside,
             levels: Vec::new(alloc),
         }
     }
@@ -47,10 +55,10 @@ impl TxnBlocks {
         ensures ok { OnOk result (refused_by self.now command.now ≡ None) }
         ensures err { IfErr result (λ cause. option_map cause_of (refused_by self.now command.now) ≡ Some cause) }
     {
-        match self.block {
-            Block::Failed if !ends_failure(command) => return Err(BlockCause::Failed),
-            Block::Outside if needs_block(command) => return Err(BlockCause::NoBlock),
-            Block::Outside | Block::Inside | Block::Failed => {}
+        match self.state {
+            State::Failed if !ends_failure(command) => return Err(BlockCause::Failed),
+            State::Outside if needs_block(command) => return Err(BlockCause::NoBlock),
+            State::Outside | State::Inside | State::Failed => {}
         }
         match command {
             Command::Release(name) | Command::RollbackTo(name)
@@ -69,14 +77,14 @@ impl TxnBlocks {
         if !block {
             return Ok(());
         }
-        if let Block::Outside = self.block {
+        if let State::Outside = self.state {
             let alloc = *self.levels.allocator();
             let outermost = Level {
                 first: c,
                 savepoint: None,
             };
             self.levels = vec![in alloc; outermost]?;
-            self.block = Block::Inside;
+            self.state = State::Inside;
         }
         Ok(())
     }
@@ -85,14 +93,14 @@ impl TxnBlocks {
     pub fn is_open(&self) -> bool
         ensures { result ≡ is_block_open self.now }
     {
-        !matches!(self.block, Block::Outside)
+        !matches!(self.state, State::Outside)
     }
 
     /// Whether a failed block is open (`IsAbortedTransactionBlockState`).
     pub fn is_failed(&self) -> bool
         ensures { result ≡ is_block_failed self.now }
     {
-        matches!(self.block, Block::Failed)
+        matches!(self.state, State::Failed)
     }
 
     /// The first command of the innermost level, where the command of number `c` runs; outside a
@@ -149,12 +157,12 @@ impl TxnBlocks {
     // The levels inside that of the latest savepoint of this name are gone, and the block goes on
     // (`AbortSubTransaction`).
     fn mend(&mut self, name: &Name)
-        ensures { self.new ≡ record { block = Block.Inside; levels = levels_up_to name.now self.old.levels } }
+        ensures { self.new ≡ record { block = Inside; levels = levels_up_to name.now self.old.levels } }
     {
         if let Some(at) = place_of(name, &self.levels) {
             self.levels.truncate(at + 1);
         }
-        self.block = Block::Inside;
+        self.state = State::Inside;
     }
 
     /// A command failed: so did the block that is open, if one is (`AbortCurrentTransaction`).
@@ -162,7 +170,7 @@ impl TxnBlocks {
         ensures { self.new ≡ blocks_badly self.old }
     {
         if self.is_open() {
-            self.block = Block::Failed;
+            self.state = State::Failed;
         }
     }
 
@@ -170,7 +178,7 @@ impl TxnBlocks {
     pub fn end(&mut self)
         ensures { self.new ≡ no_block }
     {
-        self.block = Block::Outside;
+        self.state = State::Outside;
         self.levels.clear();
     }
 }

@@ -35,5 +35,5 @@ mod transaction;
 
 pub use blocks::TxnBlocks;
 pub use cause::BlockCause;
-pub use level::{Block, Level};
+pub use level::Level;
 pub use transaction::RunningTransaction;
