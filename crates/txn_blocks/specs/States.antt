@@ -1,4 +1,4 @@
--- Where a session is, and the cause by which its blocks refuse a command.
+-- Where a session is, and the error for the cause by which its blocks refuse a command.
 use Rattle.command_answers.specs.declared.error.CommandError.TheVariants as errors
 use Rattle.txn_blocks.specs.Blocks.{Block, Outside, Inside, Failed}
 use Rattle.txn_blocks.specs.Types.{CommandError, BlockCause, State}
@@ -11,8 +11,8 @@ block_in states.Outside = Outside
 block_in states.Inside = Inside
 block_in states.Failed = Failed
 
--- the cause for which an error is shown; blocks refuse by no other error
-abbrev pub cause_of : CommandError → BlockCause
-cause_of errors.BlockFailed = causes.Failed
-cause_of errors.NoBlock = causes.NoBlock
-cause_of error = causes.NoSavepoint
+-- the error that is shown for a cause
+abbrev pub error_of : BlockCause → CommandError
+error_of causes.Failed = errors.BlockFailed
+error_of causes.NoBlock = errors.NoBlock
+error_of (causes.NoSavepoint name) = errors.NoSavepoint name

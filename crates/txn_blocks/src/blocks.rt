@@ -33,9 +33,8 @@ impl Model for TxnBlocks {
 
 impl TxnBlocks {
     ghost use Rattle.std.specs.Prelude.{None, Some, OnOk, OnErr, IfErr, if◌then◌else◌};
-    ghost use Rattle.std.specs.Option.{option_map};
     ghost use Rattle.txn_blocks.specs.Blocks.{Inside, no_block, is_open as is_block_open, is_failed as is_block_failed, refused_by, innermost, levels_around, levels_up_to, blocks_begun, blocks_well, blocks_badly};
-    ghost use Rattle.txn_blocks.specs.States.{cause_of};
+    ghost use Rattle.txn_blocks.specs.States.{error_of};
 
     /// No block is open.
     pub fn new(alloc: Global) -> TxnBlocks
@@ -53,7 +52,7 @@ impl TxnBlocks {
     /// the block doesn't have (`ReleaseSavepoint` and `RollbackToSavepoint`).
     pub fn admit(&self, command: &Command) -> Result<(), BlockCause>
         ensures ok { OnOk result (refused_by self.now command.now ≡ None) }
-        ensures err { IfErr result (λ cause. option_map cause_of (refused_by self.now command.now) ≡ Some cause) }
+        ensures err { IfErr result (λ cause. refused_by self.now command.now ≡ Some (error_of cause)) }
     {
         match self.state {
             State::Failed if !ends_failure(command) => return Err(BlockCause::Failed),
@@ -62,7 +61,9 @@ impl TxnBlocks {
         }
         match command {
             Command::Release(name) | Command::RollbackTo(name)
-                if place_of(name, &self.levels).is_none() => { Err(BlockCause::NoSavepoint) }
+                if place_of(name, &self.levels).is_none() => {
+                Err(BlockCause::NoSavepoint { name: *name })
+            }
             _ => Ok(()),
         }
     }
