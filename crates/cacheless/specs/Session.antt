@@ -86,6 +86,10 @@ abbrev pub held_in : Block → List OpenRelation → List Opening
 held_in Failed opens = []
 held_in block opens = map opening_of opens
 
+-- the descriptors that were held as the running command began
+abbrev pub held_before : Session → List Opening
+held_before s = held_in s.blocks.block s.opens
+
 -- the plan of a command that the blocks admit, or their error
 abbrev pub plan_admitted : List OpenRelation → Option CommandError → Command → Plan
 plan_admitted opens (Some error) command = Fails error

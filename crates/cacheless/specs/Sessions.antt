@@ -12,7 +12,7 @@ use Rattle.history_model.specs.Prefixes.{along_own}
 use Rattle.cacheless.specs.Types.{Command, CommandError, Scenario, Entry, Event}
 use Rattle.cacheless.specs.Facts.{Facts, facts_of}
 use Rattle.cacheless.specs.Locks.{locks_by}
-use Rattle.cacheless.specs.Session.{Session, Tally, first_of, none_open, opening_of, at_command}
+use Rattle.cacheless.specs.Session.{Session, Tally, first_of, none_open, opening_of, held_before, at_command}
 use Rattle.cacheless.specs.Owed.{owes_build_scan, owes_accept}
 use Rattle.cacheless.specs.Settled.{settled}
 
@@ -22,7 +22,7 @@ refused_with error s = record s { left = Fails error; refused = Some error }
 
 -- the write of the command is made, and the descriptors that it has opened are closed
 abbrev pub written : Plan → Session → Session
-written (Do (Write draft) rest) s = record s { left = rest []; opened = map opening_of s.opens; taken = None }
+written (Do (Write draft) rest) s = record s { left = rest []; opened = held_before s; taken = None }
 written plan s = s
 
 -- a lookup that ended without a relation goes on

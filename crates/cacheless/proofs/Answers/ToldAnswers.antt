@@ -1,9 +1,10 @@
 -- What a command has to answer by the history is what its backend tells by its last scans and its locks.
-use Rattle.std.proofs.Common.{◌≡◌, ◌≤◌, ◌∙◌, ℕ, true, false, Option, Some, None, List, [], ◌∷◌, refl, sym, ap, subst, map, length, ◌⊎◌, inl, inr}
+use Rattle.std.proofs.Common.{◌≡◌, ◌≤◌, ◌∙◌, ℕ, true, false, Option, Some, None, List, [], ◌∷◌, refl, sym, ap, subst, length, ◌⊎◌, inl, inr}
 use Rattle.std.proofs.lemmas.List.{append-nil, take_all}
 use Rattle.command_answers.specs.Answers.{answer_text}
 use Rattle.command_answers.specs.declared.answer.Answer.TheVariants as answers
 use Rattle.base_types.specs.declared.scan.Purpose.TheVariants as scans
+use Rattle.txn_blocks.specs.Blocks.{refused_by}
 use Rattle.ddl_effect.specs.Commands.{plan_of}
 use Rattle.ddl_effect.proofs.HasPlan.{built_alike}
 use Rattle.ddl_effect.specs.Effects.{effect_at}
@@ -20,11 +21,11 @@ use Rattle.cacheless.specs.Lines.{name_in, answer_well, answer_by, effect_judged
 use Rattle.cacheless.specs.OnCourse.{OnItsWay, HasWritten, is_over, Way, Begun, Wrote, Unbuilt, Over, FollowsPlan}
 use Rattle.cacheless.specs.Owed.{builds_owed, owed_of}
 use Rattle.cacheless.proofs.Allowed.Releases.{OwesNoScan, owes_no_scan}
-use Rattle.cacheless.specs.Session.{Session, none_open, opening_of, number_of, outcome_of, is_settled, Well, Badly}
+use Rattle.cacheless.specs.Session.{Session, none_open, held_before, number_of, outcome_of, is_settled, Well, Badly}
 use Rattle.cacheless.specs.Settled.{found_by, finished_as}
 use Rattle.cacheless.specs.Told.{tells_of_scans, told_well, told_left, told_read}
 use Rattle.cacheless.proofs.Plans.ActOrder.{TellsOpen, follows_order, goes_by_relation}
-use Rattle.cacheless.proofs.Plans.ToldHeld.{tells_first, ends_told}
+use Rattle.cacheless.proofs.Plans.ToldHeld.{tells_held, ends_told}
 use Rattle.cacheless.proofs.Plans.EffectAlong.{effect_along}
 use Rattle.cacheless.proofs.Allowed.SettledCourse.{HasSession}
 use Rattle.cacheless.proofs.Answers.ReadPlaces.{read_at_place}
@@ -41,26 +42,26 @@ pub record HasComeOut (scenario : Scenario) (seen : List Entry) (b : ℕ) (s : S
 
 -- by what it is on its way to, or has written
 pub data Stays (seen : List Entry) (b : ℕ) (s : Session) (command : Command) : Type 0 where
-  Unwritten : (way : OnItsWay seen b s command) → Stays seen b s command
+  Unwritten : (way : OnItsWay seen b s command) (admitted : refused_by s.blocks command ≡ None) → Stays seen b s command
   Written : (wrote : HasWritten seen b s command) → Stays seen b s command
 
 pub stays : (scenario : Scenario) (seen : List Entry) (b : ℕ) (s : Session) (command : Command) → HasComeOut scenario seen b s command → s.refused ≡ None → Stays seen b s command
 stays scenario seen b s command come none = by_way (come.follows.way none)
   where
     by_way : Way seen b s command → Stays seen b s command
-    by_way (Begun way) = Unwritten way
+    by_way (Begun way) = Unwritten way (come.follows.admitted none)
     by_way (Wrote w) = Written w
     by_way (Unbuilt w) = absurd (let both : true ≡ false = sym come.out ∙ ap (λ p. is_settled (outcome_of p)) w.plan in cc both)
     by_way (Over w) = absurd (let both : true ≡ false = sym w.over ∙ come.stands in cc both)
 
 -- what is told of a command that came out well, once it is on its way
-tells_open : (seen : List Entry) (b : ℕ) (s : Session) (command : Command) (told : Told) → OnItsWay seen b s command → s.left ≡ Done told → TellsOpen s.opened told
-tells_open seen b s command told way done = subst (λ l. TellsOpen l told) (sym way.opened)
-    (ends_told (map opening_of s.opens) way.gave (plan_of s.opens command) told (follows_order s.opens command (built_alike s.opens none_open command ∙ way.runs)) (tells_first s.opens command) (sym way.plan ∙ done))
+tells_open : (seen : List Entry) (b : ℕ) (s : Session) (command : Command) (told : Told) → OnItsWay seen b s command → refused_by s.blocks command ≡ None → s.left ≡ Done told → TellsOpen s.opened told
+tells_open seen b s command told way admitted done = subst (λ l. TellsOpen l told) (sym way.opened)
+    (ends_told (held_before s) way.gave (plan_of s.opens command) told (follows_order s.opens command (built_alike s.opens none_open command ∙ way.runs)) (tells_held s.blocks s.opens command admitted) (sym way.plan ∙ done))
 
 -- of a relation only what is open is told, and a field only where the relation has it
 pub stays_open : (seen : List Entry) (b : ℕ) (s : Session) (command : Command) (told : Told) → Stays seen b s command → s.left ≡ Done told → TellsOpen s.opened told
-stays_open seen b s command told (Unwritten way) done = tells_open seen b s command told way done
+stays_open seen b s command told (Unwritten way admitted) done = tells_open seen b s command told way admitted done
 stays_open seen b s command told (Written wrote) done = subst (TellsOpen s.opened) (ap told_of (sym wrote.plan ∙ done)) tt
 
 -- what is told of a command that came out well by the last scans of its backend
@@ -90,14 +91,14 @@ stays_told : (scenario : Scenario) (seen : List Entry) (b : ℕ) (s : Session) (
 stays_told scenario seen b s command come (Written wrote) =
     ap (λ t. answer_by scenario seen b (finished_as s) (effect_judged seen b (finished_as s) t command)) wrote.written
     ∙ sym (ap (told_left (rows_read seen b) (place_read seen b) s.locks s.blocks.block) wrote.plan)
-stays_told scenario seen b s command come (Unwritten way) =
+stays_told scenario seen b s command come (Unwritten way admitted) =
     ap (λ t. answer_by scenario seen b (finished_as s) (effect_judged seen b (finished_as s) t command)) way.unwritten
     ∙ ap (answer_by scenario seen b (finished_as s)) (
     ap (λ l. effect_at (answer_of seen b) l (plan_of s.opens command)) (way.found ∙ sym (append-nil (made_in found_by way.gave (plan_of s.opens command))))
     ∙ effect_along (answer_of seen b) (plan_of s.opens command) way.gave [] (goes_by_relation s.opens command (built_alike s.opens none_open command ∙ way.runs)) way.holds.still
     ∙ ap (effect_at (answer_of seen b) []) (sym way.plan)
     )
-    ∙ left_told scenario seen b s s.left come.out (λ told done. well_told scenario seen b s command told come done (tells_open seen b s command told way done))
+    ∙ left_told scenario seen b s s.left come.out (λ told done. well_told scenario seen b s command told come done (tells_open seen b s command told way admitted done))
 
 -- what a command has to answer that has come out, at the entry where it is judged, is what its backend tells by its last scans and its locks
 pub answer_told : (scenario : Scenario) (seen : List Entry) (b : ℕ) (s : Session) (command : Command) → HasComeOut scenario seen b s command → answer_judged scenario seen b (number_of s) (finished_as s) command s.refused ≡ told_read seen b s
