@@ -107,28 +107,35 @@ pub record FollowsPlan (seen : List Entry) (b : ℕ) (s : Session) (command : Co
   pub plain : (told : Told) → plan_of s.opens command ≡ Done told → DoesNoAct s told
   pub admitted : s.refused ≡ None → refused_by s.blocks command ≡ None
   pub held : s.ended ≡ false → StillHolds s
+  pub unwritten : (told : Told) → plan_of s.opens command ≡ Done told → has_written seen b (number_of s) ≡ false
 
 -- the locks of a session are clear, unless its accept of messages isn't over
 abbrev pub ClearUnlessOwed : Facts → Option Command → Session → Type 0
 ClearUnlessOwed facts command s = owes_accept facts command s ≡ false → map cleared s.locks ≡ s.locks
 
--- what a command tells that came out well rests on no scan
-pub record TellsAlone (s : Session) : Type 0 where
+-- a command that does no act came out well, and what it tells rests on no scan
+pub record TellsAlone (seen : List Entry) (b : ℕ) (s : Session) (command : Command) : Type 0 where
   pub told : Told
+  pub plan : plan_of s.opens command ≡ Done told
   pub left : s.left ≡ Done told
   pub alone : tells_of_scans told ≡ false
+  pub unwritten : has_written seen b (number_of s) ≡ false
+
+-- nothing of a command is taken back or released, or what it tells rests on no scan
+abbrev pub TellsStill : List Entry → ℕ → Session → Command → Type 0
+TellsStill seen b s command = (is_over (last_event_of seen b) s ≡ false) ⊎ TellsAlone seen b s command
 
 -- a session is on its course: the running command, if there is one, does what its plan says, and after its release it tells of no scan; no later one has written, and its locks are clear unless its accept of messages isn't over
 pub record IsOnCourse (scenario : Scenario) (seen : List Entry) (b : ℕ) (s : Session) : Type 0 where
   pub follows : (command : Command) → slice_get (commands_of scenario b) (length s.finished) ≡ Some command → FollowsPlan seen b s command
-  pub going : (command : Command) → slice_get (commands_of scenario b) (length s.finished) ≡ Some command → s.ended ≡ true → TellsAlone s
+  pub going : (command : Command) → slice_get (commands_of scenario b) (length s.finished) ≡ Some command → s.ended ≡ true → TellsAlone seen b s command
   pub later : (c : ℕ) → number_of s < c → has_written seen b c ≡ false
   pub clear : ClearUnlessOwed (facts_of seen b) (slice_get (commands_of scenario b) (length s.finished)) s
 
 -- the same before it has gone on without entries: where the running command has made its release, it is finished or tells of no scan
 pub record EntersCourse (scenario : Scenario) (seen : List Entry) (b : ℕ) (s : Session) : Type 0 where
   pub follows : (command : Command) → slice_get (commands_of scenario b) (length s.finished) ≡ Some command → FollowsPlan seen b s command
-  pub ends : (command : Command) → slice_get (commands_of scenario b) (length s.finished) ≡ Some command → s.ended ≡ true → (is_finished (facts_of seen b) command s ≡ true) ⊎ TellsAlone s
+  pub ends : (command : Command) → slice_get (commands_of scenario b) (length s.finished) ≡ Some command → s.ended ≡ true → (is_finished (facts_of seen b) command s ≡ true) ⊎ TellsAlone seen b s command
   pub later : (c : ℕ) → number_of s < c → has_written seen b c ≡ false
   pub clear : ClearUnlessOwed (facts_of seen b) (slice_get (commands_of scenario b) (length s.finished)) s
 

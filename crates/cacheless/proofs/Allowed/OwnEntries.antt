@@ -40,7 +40,7 @@ pub record OwnEntry (history : List Entry) (b : ℕ) (s : Session) (command : Co
   pub may : MayCome history (entry_of b (number_of s) event)
   pub plays : MayPlay (next_oid history) (facts_of history b) command s event
   pub follows : FollowsPlan history b s command
-  pub going : s.ended ≡ true → TellsAlone s
+  pub going : s.ended ≡ true → TellsAlone history b s command
 
 abbrev pub with_own : List Entry → ℕ → Session → Event → List Entry
 with_own history b s event = history ++ entry_of b (number_of s) event ∷ []
@@ -64,8 +64,8 @@ as_noted : (t s later : Session) → IsNoted t later → IsNoted (record t { tak
 as_noted t s later noted = let a = noted.after in record { after = record { left = a.left; refused = a.refused; opens = a.opens; opened = a.opened; found = a.found; sought = a.sought; finished = a.finished; blocks = a.blocks }; ended = noted.ended }
 
 -- an entry that shows an error
-error_follows : (seen : List Entry) (b : ℕ) (s later : Session) (command : Command) (error : CommandError) → ((told : Told) → plan_of s.opens command ≡ Done told → DoesNoAct s told) → (s.ended ≡ false → StillHolds s) → IsNoted (refused_with error s) later → FollowsPlan seen b later command
-error_follows seen b s later command error plain held noted = record {
+error_follows : (seen : List Entry) (b : ℕ) (s later : Session) (command : Command) (error : CommandError) → ((told : Told) → plan_of s.opens command ≡ Done told → DoesNoAct s told) → (s.ended ≡ false → StillHolds s) → ((told : Told) → plan_of s.opens command ≡ Done told → has_written seen b (number_of s) ≡ false) → IsNoted (refused_with error s) later → FollowsPlan seen b later command
+error_follows seen b s later command error plain held unwritten noted = record {
   refused = λ shown is. noted.after.left ∙ (let both : Some error ≡ Some shown = sym noted.after.refused ∙ is in cc both);
   way = λ none. absurd (let both : Some error ≡ None = sym noted.after.refused ∙ none in cc both);
   named = subst (NamedFits seen b) (sym noted.after.left) tt;
@@ -76,6 +76,7 @@ error_follows seen b s later command error plain held noted = record {
   };
   admitted = λ none. absurd (let both : Some error ≡ None = sym noted.after.refused ∙ none in cc both);
   held = λ going. let was = held (sym noted.ended ∙ going) in record { more = was.more; opened = noted.after.opened ∙ was.opened ∙ ap (λ l. l ++ was.more) (held_same s later noted.after.opens noted.after.blocks) };
+  unwritten = λ told none. ap (λ l. has_written seen b (length l + 1)) noted.after.finished ∙ unwritten told (plan_same s later command noted.after.opens ∙ none);
 }
 
 -- a command that failed to find a relation makes no scan
@@ -93,6 +94,7 @@ scan_follows history b s later command scan count own noted = record {
   plain = λ told none. plain-more s later told (before_end s later noted.after noted.ended) (own.follows.plain told (plan_same s later command noted.after.opens ∙ none));
   admitted = admitted-more s later command (before_end s later noted.after noted.ended) own.follows.admitted;
   held = holds-more s later (before_end s later noted.after noted.ended) own.follows.held;
+  unwritten = λ told none. ap (λ l. has_written new b (length l + 1)) noted.after.finished ∙ has_written-quiet history e b (number_of s) refl ∙ own.follows.unwritten told (plan_same s later command noted.after.opens ∙ none);
 }
   where
     e : Entry
@@ -105,8 +107,8 @@ scan_follows history b s later command scan count own noted = record {
     there = scan_there (facts_of history b) s scan s.left refl own.plays.1
 
 -- a command whose plan isn't done hasn't made its release
-pub not_released : (s : Session) (plan : Plan) → s.left ≡ plan → ((told : Told) → plan ≡ Done told → ⊥) → (s.ended ≡ true → TellsAlone s) → s.ended ≡ false
-not_released s plan at undone going = by_ended s.ended refl
+pub not_released : (history : List Entry) (b : ℕ) (s : Session) (command : Command) (plan : Plan) → s.left ≡ plan → ((told : Told) → plan ≡ Done told → ⊥) → (s.ended ≡ true → TellsAlone history b s command) → s.ended ≡ false
+not_released history b s command plan at undone going = by_ended s.ended refl
   where
     by_ended : (t : Bool) → s.ended ≡ t → s.ended ≡ false
     by_ended false is = is
@@ -131,6 +133,7 @@ brought_back history b s later command name event own unwritten unread at noted 
   plain = λ told none. absurd (let both : Do (Lookup name was.mode) was.rest ≡ Done told = sym was.looks ∙ was.first ∙ plan_same s later command after.opens ∙ none in cc both);
   admitted = λ none. ap (λ b. refused_by b command) after.blocks ∙ own.follows.admitted (sym after.refused ∙ none);
   held = λ on. record { more = []; opened = after.opened ∙ was.opened going ∙ held_same s later after.opens after.blocks ∙ sym (append-nil (held_before later)) };
+  unwritten = λ told none. ap (λ l. has_written new b (length l + 1)) after.finished ∙ has_written-quiet history e b (number_of s) unwritten ∙ was.unwritten;
 }
   where
     e : Entry
@@ -146,7 +149,7 @@ brought_back history b s later command name event own unwritten unread at noted 
     was = own.follows.sought name at
 
     going : s.ended ≡ false
-    going = not_released s (Absent name) at (λ told is. cc is) own.going
+    going = not_released history b s command (Absent name) at (λ told is. cc is) own.going
 
 -- a lock that is given back: the lookup that took it is the command's first act
 unlock_follows : (history : List Entry) (b : ℕ) (s later : Session) (command : Command) (rel : Oid) (mode : Mode) → OwnEntry history b s command (events.Unlock rel mode) → IsNoted (record s { taken = None }) later → FollowsPlan (with_own history b s (events.Unlock rel mode)) b later command
@@ -178,6 +181,7 @@ unlock_follows history b s later command rel mode own noted = by_plan s.left ref
       plain = λ told none. plain-more s later told (before_end s later after noted.ended) (own.follows.plain told (plan_same s later command after.opens ∙ none));
       admitted = admitted-more s later command (before_end s later after noted.ended) own.follows.admitted;
       held = holds-more s later (before_end s later after noted.ended) own.follows.held;
+      unwritten = λ told none. ap (λ l. has_written new b (length l + 1)) after.finished ∙ has_written-quiet history e b (number_of s) refl ∙ way.unwritten;
     }
       where
         way : OnItsWay history b s command
@@ -232,6 +236,7 @@ write_follows history b s later command xid items own noted = by_plan s.left ref
       plain = λ told none. absurd (none_reached way.gave (plan_of s.opens command) (Write draft) rest (ap acts (plan_same s later command is.after.opens ∙ none)) (sym way.plan ∙ at));
       admitted = λ none. ap (λ b. refused_by b command) is.after.blocks ∙ own.follows.admitted (sym is.after.refused ∙ none);
       held = λ going. record { more = []; opened = is.after.opened ∙ held_same s later is.after.opens is.after.blocks ∙ sym (append-nil (held_before later)) };
+      unwritten = λ told none. absurd (none_reached way.gave (plan_of s.opens command) (Write draft) rest (ap acts (plan_same s later command is.after.opens ∙ none)) (sym way.plan ∙ at));
     }
       where
         way : OnItsWay history b s command
@@ -273,6 +278,7 @@ over_follows history b s later command event own out unwritten unread over after
   plain = λ told none. plain-more s later told after (own.follows.plain told (plan_same s later command after.opens ∙ none));
   admitted = admitted-more s later command after own.follows.admitted;
   held = holds-more s later after own.follows.held;
+  unwritten = λ told none. ap (λ l. has_written new b (length l + 1)) after.finished ∙ has_written-quiet history e b (number_of s) unwritten ∙ own.follows.unwritten told (plan_same s later command after.opens ∙ none);
 }
   where
     e : Entry
@@ -289,10 +295,10 @@ own_follows history b s later command events.FetchReset own noted = fetch_follow
 own_follows history b s later command (events.Scan scan count) own noted = scan_follows history b s later command scan count own noted
 own_follows history b s later command (events.LockOk rel mode) own noted = quiet_follows history b s later command (events.LockOk rel mode) own tt refl (λ name. refl) (as_noted (record s { taken = Some rel }) s later noted)
 own_follows history b s later command (events.Unlock rel mode) own noted = unlock_follows history b s later command rel mode own noted
-own_follows history b s later command (events.LockHeld rel mode holder held) own noted = error_follows (with_own history b s (events.LockHeld rel mode holder held)) b s later command (errors.Locked rel holder held) own.follows.plain own.follows.held noted
+own_follows history b s later command (events.LockHeld rel mode holder held) own noted = error_follows (with_own history b s (events.LockHeld rel mode holder held)) b s later command (errors.Locked rel holder held) own.follows.plain own.follows.held (λ told none. has_written-quiet history (entry_of b (number_of s) (events.LockHeld rel mode holder held)) b (number_of s) refl ∙ own.follows.unwritten told none) noted
 own_follows history b s later command (events.Write xid items) own noted = write_follows history b s later command xid items own noted
-own_follows history b s later command (events.ClashRow name rel) own noted = error_follows (with_own history b s (events.ClashRow name rel)) b s later command (errors.RelationExists name) own.follows.plain own.follows.held noted
-own_follows history b s later command (events.ClashRunning name xid) own noted = error_follows (with_own history b s (events.ClashRunning name xid)) b s later command (errors.NameInUse name xid) own.follows.plain own.follows.held noted
+own_follows history b s later command (events.ClashRow name rel) own noted = error_follows (with_own history b s (events.ClashRow name rel)) b s later command (errors.RelationExists name) own.follows.plain own.follows.held (λ told none. has_written-quiet history (entry_of b (number_of s) (events.ClashRow name rel)) b (number_of s) refl ∙ own.follows.unwritten told none) noted
+own_follows history b s later command (events.ClashRunning name xid) own noted = error_follows (with_own history b s (events.ClashRunning name xid)) b s later command (errors.NameInUse name xid) own.follows.plain own.follows.held (λ told none. has_written-quiet history (entry_of b (number_of s) (events.ClashRunning name xid)) b (number_of s) refl ∙ own.follows.unwritten told none) noted
 own_follows history b s later command (events.Visible xid) own noted = quiet_follows history b s later command (events.Visible xid) own tt refl (λ name. refl) noted
 own_follows history b s later command (events.Publish count) own noted = quiet_follows history b s later command (events.Publish count) own tt refl (λ name. refl) noted
 own_follows history b s later command (events.Gone from) own noted =

@@ -1,5 +1,5 @@
 -- After the release at its end a command is finished, or tells of no scan.
-use Rattle.std.proofs.Common.{◌≡◌, ◌∙◌, ◌⊎◌, inl, inr, ℕ, Bool, true, false, not, cond, Option, None, Some, List, [], ◌∷◌, ◌++◌, ◌&&◌, refl, sym, ap, subst, map, is_none, nat_lt}
+use Rattle.std.proofs.Common.{◌≡◌, ◌∙◌, ◌⊎◌, inl, inr, ℕ, Bool, true, false, not, cond, Option, None, Some, List, [], ◌∷◌, ◌++◌, ◌&&◌, refl, sym, ap, subst, map, length, is_none, nat_lt, ◌+◌}
 use Rattle.std.specs.List.{cons_option}
 use Rattle.std.specs.Option.{option_map_or}
 use Rattle.std.proofs.lemmas.Grind.{flat_map-append}
@@ -15,18 +15,20 @@ use Rattle.history_model.specs.Drawn.{next_oid}
 use Rattle.history_model.specs.Transactions.{Running}
 use Rattle.ddl_effect.specs.Stages.{told_of}
 use Rattle.ddl_effect.specs.Plans.{Plan, told_rests_on, left_rests_on, Done, Fails, Absent, NotBuilt, Do, Write}
-use Rattle.history_model.specs.Writes.{is_empty}
+use Rattle.history_model.specs.Writes.{is_empty, has_written, is_write}
+use Rattle.history_model.proofs.Touched.{entry_of}
 use Rattle.cacheless.specs.Types.{Purpose, Command, OpenRelation, Opening, Told, Entry, Event}
 use Rattle.cacheless.specs.Ends.{End, Ends, Commits, TakesBack, end_of, next_of_end, end_left, end_well, end_of_block, end_badly}
 use Rattle.cacheless.specs.Facts.{Facts, facts_of, facts_by}
-use Rattle.cacheless.specs.OnCourse.{DoesNoAct, StillHolds, TellsAlone}
+use Rattle.cacheless.specs.OnCourse.{DoesNoAct, StillHolds, TellsAlone, FollowsPlan}
 use Rattle.cacheless.specs.Owed.{Owes, OwesLook, OwesScan, unusable, begins, owed_at_start, owed_after, builds_owed, act_owed, scans_owed, owed_of}
-use Rattle.cacheless.specs.Plays.{IsLock, IsWrite, IsClash, MayPlay, owed_at_end}
+use Rattle.cacheless.specs.Plays.{IsLock, IsUnlock, IsWrite, IsClash, MayPlay, owed_at_end}
 use Rattle.cacheless.specs.Session.{Session, Outcome, Unsettled, Well, Badly, opening_of, held_in, held_before, number_of, outcome_of, is_settled}
 use Rattle.cacheless.specs.Sessions.{written, resumed, noted}
 use Rattle.cacheless.specs.Settled.{is_finished}
 use Rattle.cacheless.specs.Told.{tells_of_scans}
 use Rattle.cacheless.proofs.Allowed.OwnEntries.{OwnEntry, IsNoted, with_own, ends_out}
+use Rattle.cacheless.proofs.Allowed.StaysOnCourse.{has_written-quiet}
 use Rattle.cacheless.proofs.Plans.SilentActs.{both_empty}
 
 pub written_ended : (plan : Plan) (s : Session) → (written plan s).ended ≡ s.ended
@@ -161,9 +163,9 @@ record OwesNothingLeft (facts : Facts) (s : Session) (from : ℕ) : Type 0 where
   answer : AnswerOwesNone facts s
 
 -- a command at its release, by what it comes to
-released_well : (facts : Facts) (command : Command) (s : Session) (from : ℕ) → ((told : Told) → plan_of s.opens command ≡ Done told → DoesNoAct s told) → StillHolds s → outcome_of s.left ≡ Well → owed_at_end facts command s ≡ [] → next_of_end facts (end_of facts command s) ≡ Some (events.Release from)
-    → OwesNothingLeft facts s from ⊎ TellsAlone s
-released_well facts command s from plain holds well none next = by_end (end_well facts command s) refl (sym (ap (λ o. owed_if (end_if o)) well) ∙ none) (sym (ap (λ o. next_of_end facts (end_if o)) well) ∙ next)
+released_well : (seen : List Entry) (b : ℕ) (facts : Facts) (command : Command) (s : Session) (from : ℕ) → FollowsPlan seen b s command → StillHolds s → outcome_of s.left ≡ Well → owed_at_end facts command s ≡ [] → next_of_end facts (end_of facts command s) ≡ Some (events.Release from)
+    → OwesNothingLeft facts s from ⊎ TellsAlone seen b s command
+released_well seen b facts command s from follows holds well none next = by_end (end_well facts command s) refl (sym (ap (λ o. owed_if (end_if o)) well) ∙ none) (sym (ap (λ o. next_of_end facts (end_if o)) well) ∙ next)
   where
     end_if : Outcome → End
     end_if o = elim o as (λ x. End) [ Well ↦ end_well facts command s | Badly ↦ end_badly s | Unsettled ↦ Ends ]
@@ -171,18 +173,28 @@ released_well facts command s from plain holds well none next = by_end (end_well
     owed_if : End → List Owes
     owed_if end = elim end as (λ x. List Owes) [ TakesBack from ↦ owed_after facts.last | other ↦ owed_of facts command s ]
 
-    by_end : (end : End) → end_well facts command s ≡ end → owed_if end ≡ [] → next_of_end facts end ≡ Some (events.Release from) → OwesNothingLeft facts s from ⊎ TellsAlone s
+    by_end : (end : End) → end_well facts command s ≡ end → owed_if end ≡ [] → next_of_end facts end ≡ Some (events.Release from) → OwesNothingLeft facts s from ⊎ TellsAlone seen b s command
     by_end Ends is nothing release = absurd (cc release)
     by_end (Commits first) is nothing release =
         let free = owes_no_scan facts command s well nothing in
         let held = (both_empty (builds_owed facts (held_before s)) (builds_owed facts holds.more) (sym (flat_map-append (λ (o : Opening). unusable facts (build_scans o.kind o.rel)) (held_before s) holds.more) ∙ sym (ap (builds_owed facts) holds.opened) ∙ free.0)).0 in
         inl (record { builds = some_builds facts from s.opens (ap (builds_owed facts) (sym (commits_held facts command s first is)) ∙ held); answer = free.1 })
-    by_end (TakesBack back) is nothing release = let alone = taken_back_ends facts command s back is in let none = plain alone.told alone.plan in
-        inr (record { told = alone.told; left = none.left well; alone = alone.alone })
+    by_end (TakesBack back) is nothing release = let alone = taken_back_ends facts command s back is in let none = follows.plain alone.told alone.plan in
+        inr (record { told = alone.told; plan = alone.plan; left = none.left well; alone = alone.alone; unwritten = follows.unwritten alone.told alone.plan })
+
+-- after an entry that is no write and leaves its plan, a command still tells of no scan
+pub alone_later : (history : List Entry) (b : ℕ) (s later : Session) (command : Command) (event : Event) → is_write event ≡ false → later.left ≡ s.left → later.opens ≡ s.opens → later.finished ≡ s.finished → TellsAlone history b s command → TellsAlone (with_own history b s event) b later command
+alone_later history b s later command event quiet left opens finished alone = record {
+  told = alone.told;
+  plan = ap (λ o. plan_of o command) opens ∙ alone.plan;
+  left = left ∙ alone.left;
+  alone = alone.alone;
+  unwritten = ap (λ l. has_written (with_own history b s event) b (length l + 1)) finished ∙ has_written-quiet history (entry_of b (number_of s) event) b (number_of s) quiet ∙ alone.unwritten;
+}
 
 -- after its release it is finished, or tells of no scan
 released : (history : List Entry) (b : ℕ) (s : Session) (command : Command) (from : ℕ) (facts : Facts) → OwnEntry history b s command (events.Release from) → facts ≡ facts_by history b (number_of s) (events.Release from) (facts_of history b) → (later : Session) → IsNoted (noted (events.Release from) s) later
-    → (is_finished facts command later ≡ true) ⊎ TellsAlone later
+    → (is_finished facts command later ≡ true) ⊎ TellsAlone (with_own history b s (events.Release from)) b later command
 released history b s command from facts own are later stands = by_outcome (outcome_of s.left) refl (ends_out (facts_of history b) command s (events.Release from) own.plays.1)
   where
     after : Facts
@@ -207,13 +219,13 @@ released history b s command from facts own are later stands = by_outcome (outco
     next : (s.ended ≡ false) × (next_of_end (facts_of history b) (end_of (facts_of history b) command s) ≡ Some (events.Release from))
     next = by_ended s.ended refl own.plays.1
 
-    by_outcome : (o : Outcome) → outcome_of s.left ≡ o → is_settled o ≡ true → (is_finished facts command later ≡ true) ⊎ TellsAlone later
+    by_outcome : (o : Outcome) → outcome_of s.left ≡ o → is_settled o ≡ true → (is_finished facts command later ≡ true) ⊎ TellsAlone (with_own history b s (events.Release from)) b later command
     by_outcome Unsettled is settles = absurd (cc settles)
     by_outcome Badly is settles = inl (finished (ap (λ o. elim o as (λ x. List Purpose) [ Badly ↦ [] | other ↦ builds_owed after later.opened ++ act_owed after later.left ]) (ap outcome_of stands.after.left ∙ is)))
-    by_outcome Well is settles = by_sides (released_well (facts_of history b) command s from own.follows.plain (own.follows.held next.0) is own.plays.0 next.1)
+    by_outcome Well is settles = by_sides (released_well history b (facts_of history b) command s from own.follows (own.follows.held next.0) is own.plays.0 next.1)
       where
-        by_sides : OwesNothingLeft (facts_of history b) s from ⊎ TellsAlone s → (is_finished facts command later ≡ true) ⊎ TellsAlone later
-        by_sides (inr alone) = inr (record { told = alone.told; left = stands.after.left ∙ alone.left; alone = alone.alone })
+        by_sides : OwesNothingLeft (facts_of history b) s from ⊎ TellsAlone history b s command → (is_finished facts command later ≡ true) ⊎ TellsAlone (with_own history b s (events.Release from)) b later command
+        by_sides (inr alone) = inr (alone_later history b s later command (events.Release from) refl stands.after.left stands.after.opens stands.after.finished alone)
         by_sides (inl nothing) = inl (finished (
             ap (λ o. elim o as (λ x. List Purpose) [ Badly ↦ [] | other ↦ builds_owed after later.opened ++ act_owed after later.left ]) (ap outcome_of stands.after.left ∙ is)
             ∙ ap (λ opened. builds_owed after opened ++ act_owed after later.left) stands.after.opened
@@ -227,9 +239,16 @@ released history b s command from facts own are later stands = by_outcome (outco
             answer_owed NotBuilt at w = absurd (cc w)
             answer_owed (Do act rest) at w = absurd (cc w)
 
--- a command that tells of no scan, after its release, makes no other entry than of an accept of messages
-alone_stays : (history : List Entry) (b : ℕ) (s : Session) (command : Command) (event : Event) → OwnEntry history b s command event → s.ended ≡ true → TellsAlone s → (noted event s).left ≡ s.left
-alone_stays history b s command event own over alone = by_event event own.plays
+-- a command that tells of no scan, after its release, makes no other entry than of an accept of messages, or a scan
+record LeavesAlone (s : Session) (event : Event) : Type 0 where
+  left : (noted event s).left ≡ s.left
+  opens : (noted event s).opens ≡ s.opens
+  finished : (noted event s).finished ≡ s.finished
+  ended : (noted event s).ended ≡ s.ended
+  quiet : is_write event ≡ false
+
+leaves_alone : (history : List Entry) (b : ℕ) (s : Session) (command : Command) (event : Event) → OwnEntry history b s command event → s.ended ≡ true → TellsAlone history b s command → LeavesAlone s event
+leaves_alone history b s command event own over alone = by_event event own.plays
   where
     facts : Facts
     facts = facts_of history b
@@ -237,38 +256,41 @@ alone_stays history b s command event own over alone = by_event event own.plays
     ended : (e : Event) → end_left facts command s ≡ Some e → ⊥
     ended e is = let both : None ≡ Some e = sym (ap (λ t. elim t as (λ x. Option Event) [ true ↦ None | false ↦ next_of_end facts (end_of facts command s) ]) over) ∙ is in cc both
 
-    by_event : (e : Event) → MayPlay (next_oid history) facts command s e → (noted e s).left ≡ s.left
-    by_event (events.Look some_wait) may = refl
-    by_event (events.Fetch count) may = ap (λ p. (resumed p s).left) alone.left
-    by_event events.FetchReset may = ap (λ p. (resumed p s).left) alone.left
-    by_event (events.Scan scan count) may = refl
-    by_event (events.LockOk rel mode) may = refl
-    by_event (events.LockHeld rel mode holder held) may = absurd (subst (λ p. IsLock facts p rel mode) alone.left may.1.1)
-    by_event (events.Unlock rel mode) may = refl
+    same : (e : Event) (now : Session) → noted e s ≡ now → now ≡ s → is_write e ≡ false → LeavesAlone s e
+    same e now is still quiet = let all : noted e s ≡ s = is ∙ still in record { left = ap (λ (x : Session). x.left) all; opens = ap (λ (x : Session). x.opens) all; finished = ap (λ (x : Session). x.finished) all; ended = ap (λ (x : Session). x.ended) all; quiet = quiet }
+
+    by_event : (e : Event) → MayPlay (next_oid history) facts command s e → LeavesAlone s e
+    by_event (events.Look some_wait) may = same (events.Look some_wait) s refl refl refl
+    by_event (events.Fetch count) may = same (events.Fetch count) s (ap (λ p. resumed p s) alone.left) refl refl
+    by_event events.FetchReset may = same events.FetchReset s (ap (λ p. resumed p s) alone.left) refl refl
+    by_event (events.Scan scan count) may = same (events.Scan scan count) s refl refl refl
+    by_event (events.LockOk rel mode) may = absurd (subst (λ p. IsLock facts p rel mode) alone.left may.2)
+    by_event (events.LockHeld rel mode holder held) may = absurd (subst (λ p. IsLock facts p rel mode) alone.left may.2)
+    by_event (events.Unlock rel mode) may = absurd (subst (λ p. IsUnlock facts s.taken p rel mode) alone.left may.1)
     by_event (events.Write xid items) may = absurd (subst (λ p. IsWrite (next_oid history) p items) alone.left may.1)
     by_event (events.ClashRow name rel) may = absurd (subst (λ p. IsClash facts (next_oid history) p name) alone.left may.1)
     by_event (events.ClashRunning name xid) may = absurd (subst (λ p. IsClash facts (next_oid history) p name) alone.left may.1)
-    by_event (events.Visible xid) may = refl
-    by_event (events.Publish count) may = refl
-    by_event (events.Gone from) may = refl
-    by_event (events.Release from) may = refl
-    by_event e may = refl
+    by_event (events.Visible xid) may = absurd (ended (events.Visible xid) may.1)
+    by_event (events.Publish count) may = absurd (ended (events.Publish count) may.1)
+    by_event (events.Gone from) may = absurd (ended (events.Gone from) may.1)
+    by_event (events.Release from) may = absurd (ended (events.Release from) may.1)
+    by_event e may = absurd may
+
+-- so it tells of none after its next entry
+pub alone_stays : (history : List Entry) (b : ℕ) (s later : Session) (command : Command) (event : Event) → OwnEntry history b s command event → IsNoted (noted event s) later → s.ended ≡ true → TellsAlone (with_own history b s event) b later command
+alone_stays history b s later command event own stands over = alone_later history b s later command event leaves.quiet (stands.after.left ∙ leaves.left) (stands.after.opens ∙ leaves.opens) (stands.after.finished ∙ leaves.finished) alone
+  where
+    alone : TellsAlone history b s command
+    alone = own.going over
+
+    leaves : LeavesAlone s event
+    leaves = leaves_alone history b s command event own over alone
 
 -- where an entry leaves a command released, it is finished or tells of no scan
 pub release_finishes : (history : List Entry) (b : ℕ) (s : Session) (command : Command) (event : Event) → OwnEntry history b s command event → facts_of (with_own history b s event) b ≡ facts_by history b (number_of s) event (facts_of history b)
-    → (later : Session) → IsNoted (noted event s) later → later.ended ≡ true → (is_finished (facts_of (with_own history b s event) b) command later ≡ true) ⊎ TellsAlone later
+    → (later : Session) → IsNoted (noted event s) later → later.ended ≡ true → (is_finished (facts_of (with_own history b s event) b) command later ≡ true) ⊎ TellsAlone (with_own history b s event) b later command
 release_finishes history b s command (events.Release from) own are later stands over = released history b s command from (facts_of (with_own history b s (events.Release from)) b) own are later stands
-release_finishes history b s command event own are later stands over = inr (record { told = alone.told; left = stands.after.left ∙ alone_stays history b s command event own ended alone ∙ alone.left; alone = alone.alone })
-  where
-    same : (e : Event) → ((from : ℕ) → e ≡ events.Release from → ⊥) → (noted e s).ended ≡ s.ended
-    same (events.Release from) other = absurd (other from refl)
-    same (events.Write xid items) other = written_ended s.left s
-    same (events.Fetch count) other = resumed_ended s.left s
-    same events.FetchReset other = resumed_ended s.left s
-    same e other = refl
-
-    ended : s.ended ≡ true
-    ended = sym (same event (λ from is. cc is)) ∙ sym stands.ended ∙ over
-
-    alone : TellsAlone s
-    alone = own.going ended
+release_finishes history b s command (events.Write xid items) own are later stands over = inr (alone_stays history b s later command (events.Write xid items) own stands (sym (written_ended s.left s) ∙ sym stands.ended ∙ over))
+release_finishes history b s command (events.Fetch count) own are later stands over = inr (alone_stays history b s later command (events.Fetch count) own stands (sym (resumed_ended s.left s) ∙ sym stands.ended ∙ over))
+release_finishes history b s command events.FetchReset own are later stands over = inr (alone_stays history b s later command events.FetchReset own stands (sym (resumed_ended s.left s) ∙ sym stands.ended ∙ over))
+release_finishes history b s command event own are later stands over = inr (alone_stays history b s later command event own stands (sym stands.ended ∙ over))

@@ -110,6 +110,7 @@ begins_plan seen b blocks opens finished locks last command unwritten = record {
   plain = λ told none. record { opened = λ going. refl; left = λ well. admitted_done opens command (refused_by blocks command) told none well };
   admitted = λ none. none;
   held = λ going. record { more = []; opened = sym (append-nil (held_in blocks.block opens)) };
+  unwritten = λ told none. unwritten;
 }
   where
     by_test : plan_admitted opens (refused_by blocks command) command ≡ plan_of opens command → (t : Bool) → runs command ≡ t → Way seen b (at_command blocks opens finished locks last (Some command)) command
@@ -202,12 +203,12 @@ settled_on_course scenario seen b (command ∷ rest) s has are course = by_end (
     counts : length now.finished ≡ length s.finished
     counts = ap length acts_done.finished
 
-    over : is_finished (facts_of seen b) command now ≡ false → s.ended ≡ true → TellsAlone now
+    over : is_finished (facts_of seen b) command now ≡ false → s.ended ≡ true → TellsAlone seen b now command
     over unfinished is = by_end (course.ends command at is)
       where
-        by_end : (is_finished (facts_of seen b) command s ≡ true) ⊎ TellsAlone s → TellsAlone now
+        by_end : (is_finished (facts_of seen b) command s ≡ true) ⊎ TellsAlone seen b s command → TellsAlone seen b now command
         by_end (inl finished) = absurd (let both : true ≡ false = sym (finished_stays (facts_of seen b) command s finished) ∙ unfinished in cc both)
-        by_end (inr alone) = record { told = alone.told; left = ap (λ (x : Session). x.left) (acted-out (facts_of seen b) command s (ap (λ p. is_settled (outcome_of p)) alone.left)) ∙ alone.left; alone = alone.alone }
+        by_end (inr alone) = subst (λ x. TellsAlone seen b x command) (sym (acted-out (facts_of seen b) command s (ap (λ p. is_settled (outcome_of p)) alone.left))) alone
 
     by_end : (t : Bool) → is_finished (facts_of seen b) command now ≡ t
         → (HasSession scenario seen b now.locks → rest ≡ drop (length (now.finished ++ finished_as now ∷ [])) (commands_of scenario b) → EntersCourse scenario seen b (next_session command (first_of rest) now)
@@ -220,7 +221,7 @@ settled_on_course scenario seen b (command ∷ rest) s has are course = by_end (
         next = rest_left (commands_of scenario b) (length s.finished) command rest are ∙ ap (λ n. drop n (commands_of scenario b)) (sym (length_push now.finished (finished_as now) ∙ ap (λ n. n + 1) counts))
     by_end false going more = record {
       follows = λ other here. subst (FollowsPlan seen b now) (let both : Some command ≡ Some other = sym at ∙ ap (slice_get (commands_of scenario b)) (sym counts) ∙ here in cc both) acts_done.follows;
-      going = λ other here is. over going (sym acts_done.ended ∙ is);
+      going = λ other here is. subst (TellsAlone seen b now) (let both : Some command ≡ Some other = sym at ∙ ap (slice_get (commands_of scenario b)) (sym counts) ∙ here in cc both) (over going (sym acts_done.ended ∙ is));
       later = λ c after. course.later c (omega (arith, after, counts));
       clear = subst (λ o. ClearUnlessOwed (facts_of seen b) o now) (sym at ∙ ap (slice_get (commands_of scenario b)) (sym counts)) acts_done.clear;
     }
@@ -242,7 +243,7 @@ act_enters scenario seen b s command act rest given has at free left done course
     clear : map cleared s.locks ≡ s.locks
     clear = subst (λ o. ClearUnlessOwed (facts_of seen b) o s) at course.clear (builds_done (facts_of seen b) command s here_done.builds free)
 
-    unsettled : (is_finished (facts_of seen b) command s ≡ true) ⊎ TellsAlone s → ⊥
+    unsettled : (is_finished (facts_of seen b) command s ≡ true) ⊎ TellsAlone seen b s command → ⊥
     unsettled (inl finished) = let both : true ≡ false = sym (settled_if finished) ∙ ap (λ p. is_settled (outcome_of p)) left in cc both
     unsettled (inr alone) = let both : Do act rest ≡ Done alone.told = sym left ∙ alone.left in cc both
 

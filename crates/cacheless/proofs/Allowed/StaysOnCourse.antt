@@ -170,6 +170,7 @@ follows-more history e b s later command may idle writes names over after same f
   plain = λ told none. plain-more s later told (before_end s later after same) (follows.plain told (plan_same s later command after.opens ∙ none));
   admitted = admitted-more s later command (before_end s later after same) follows.admitted;
   held = holds-more s later (before_end s later after same) follows.held;
+  unwritten = λ told none. ap (has_written (history ++ e ∷ []) b) (number_same s later after) ∙ writes (number_of s) ∙ follows.unwritten told (plan_same s later command after.opens ∙ none);
 }
 
 -- after a taking back only the release comes

@@ -14,11 +14,11 @@ use Rattle.ddl_effect.specs.Plans.{Plan, Done, Fails, Absent, NotBuilt, Do}
 use Rattle.history_model.specs.Lives.{last_event_of}
 use Rattle.history_model.specs.Read.{place_read, rows_read, is_usable}
 use Rattle.history_model.specs.Versions.{answer_of}
-use Rattle.cacheless.specs.Types.{Oid, Command, CommandError, Answer, Told, Scenario, Entry, Line}
+use Rattle.cacheless.specs.Types.{Oid, Command, CommandError, Answer, Told, Opening, Scenario, Entry, Line}
 use Rattle.cacheless.specs.ActsDone.{made_in}
 use Rattle.cacheless.specs.Facts.{facts_of}
 use Rattle.cacheless.specs.Lines.{name_in, answer_well, answer_by, effect_judged, answer_judged, line_of}
-use Rattle.cacheless.specs.OnCourse.{OnItsWay, HasWritten, is_over, Way, Begun, Wrote, Unbuilt, Over, FollowsPlan}
+use Rattle.cacheless.specs.OnCourse.{OnItsWay, HasWritten, is_over, Way, Begun, Wrote, Unbuilt, Over, FollowsPlan, TellsAlone, TellsStill}
 use Rattle.cacheless.specs.Owed.{builds_owed, owed_of}
 use Rattle.cacheless.proofs.Allowed.Releases.{OwesNoScan, owes_no_scan}
 use Rattle.cacheless.specs.Session.{Session, none_open, held_before, number_of, outcome_of, is_settled, Well, Badly}
@@ -36,7 +36,7 @@ pub record HasComeOut (scenario : Scenario) (seen : List Entry) (b : ℕ) (s : S
   pub has : HasSession scenario seen b s.locks
   pub follows : FollowsPlan seen b s command
   pub out : is_settled (outcome_of s.left) ≡ true
-  pub stands : is_over (last_event_of seen b) s ≡ false
+  pub stands : TellsStill seen b s command
   pub builds : outcome_of s.left ≡ Well → tells_of_scans (told_of s.left) ≡ true → builds_owed (facts_of seen b) s.opened ≡ []
   pub named : (oid : Oid) → s.left ≡ Done (tells.Regclass oid) → is_usable seen b (scans.RelOid oid) ≡ true
 
@@ -44,15 +44,26 @@ pub record HasComeOut (scenario : Scenario) (seen : List Entry) (b : ℕ) (s : S
 pub data Stays (seen : List Entry) (b : ℕ) (s : Session) (command : Command) : Type 0 where
   Unwritten : (way : OnItsWay seen b s command) (admitted : refused_by s.blocks command ≡ None) → Stays seen b s command
   Written : (wrote : HasWritten seen b s command) → Stays seen b s command
+  Plain : (alone : TellsAlone seen b s command) → Stays seen b s command
 
 pub stays : (scenario : Scenario) (seen : List Entry) (b : ℕ) (s : Session) (command : Command) → HasComeOut scenario seen b s command → s.refused ≡ None → Stays seen b s command
-stays scenario seen b s command come none = by_way (come.follows.way none)
+stays scenario seen b s command come none = by_side come.stands
   where
-    by_way : Way seen b s command → Stays seen b s command
-    by_way (Begun way) = Unwritten way (come.follows.admitted none)
-    by_way (Wrote w) = Written w
-    by_way (Unbuilt w) = absurd (let both : true ≡ false = sym come.out ∙ ap (λ p. is_settled (outcome_of p)) w.plan in cc both)
-    by_way (Over w) = absurd (let both : true ≡ false = sym w.over ∙ come.stands in cc both)
+    by_way : is_over (last_event_of seen b) s ≡ false → Way seen b s command → Stays seen b s command
+    by_way stands (Begun way) = Unwritten way (come.follows.admitted none)
+    by_way stands (Wrote w) = Written w
+    by_way stands (Unbuilt w) = absurd (let both : true ≡ false = sym come.out ∙ ap (λ p. is_settled (outcome_of p)) w.plan in cc both)
+    by_way stands (Over w) = absurd (let both : true ≡ false = sym w.over ∙ stands in cc both)
+
+    by_side : TellsStill seen b s command → Stays seen b s command
+    by_side (inl stands) = by_way stands (come.follows.way none)
+    by_side (inr alone) = Plain alone
+
+-- what rests on no scan tells of no relation
+alone_open : (opened : List Opening) (told : Told) → tells_of_scans told ≡ false → TellsOpen opened told
+alone_open opened tells.Ok alone = tt
+alone_open opened tells.Commit alone = tt
+alone_open opened told alone = absurd (cc alone)
 
 -- what is told of a command that came out well, once it is on its way
 tells_open : (seen : List Entry) (b : ℕ) (s : Session) (command : Command) (told : Told) → OnItsWay seen b s command → refused_by s.blocks command ≡ None → s.left ≡ Done told → TellsOpen s.opened told
@@ -62,6 +73,7 @@ tells_open seen b s command told way admitted done = subst (λ l. TellsOpen l to
 -- of a relation only what is open is told, and a field only where the relation has it
 pub stays_open : (seen : List Entry) (b : ℕ) (s : Session) (command : Command) (told : Told) → Stays seen b s command → s.left ≡ Done told → TellsOpen s.opened told
 stays_open seen b s command told (Unwritten way admitted) done = tells_open seen b s command told way admitted done
+stays_open seen b s command told (Plain alone) done = alone_open s.opened told (let same : alone.told ≡ told = (let both : Done alone.told ≡ Done told = sym alone.left ∙ done in cc both) in subst (λ t. tells_of_scans t ≡ false) same alone.alone)
 stays_open seen b s command told (Written wrote) done = subst (TellsOpen s.opened) (ap told_of (sym wrote.plan ∙ done)) tt
 
 -- what is told of a command that came out well by the last scans of its backend
@@ -91,6 +103,16 @@ stays_told : (scenario : Scenario) (seen : List Entry) (b : ℕ) (s : Session) (
 stays_told scenario seen b s command come (Written wrote) =
     ap (λ t. answer_by scenario seen b (finished_as s) (effect_judged seen b (finished_as s) t command)) wrote.written
     ∙ sym (ap (told_left (rows_read seen b) (place_read seen b) s.locks s.blocks.block) wrote.plan)
+stays_told scenario seen b s command come (Plain alone) =
+    ap (λ t. answer_by scenario seen b (finished_as s) (effect_judged seen b (finished_as s) t command)) alone.unwritten
+    ∙ ap (λ p. answer_by scenario seen b (finished_as s) (effect_at (answer_of seen b) s.found p)) alone.plan
+    ∙ by_told alone.told alone.alone
+    ∙ sym (ap (told_left (rows_read seen b) (place_read seen b) s.locks s.blocks.block) alone.left)
+  where
+    by_told : (told : Told) → tells_of_scans told ≡ false → answer_well scenario seen b (finished_as s) told ≡ well_read seen b s told
+    by_told tells.Ok plain = refl
+    by_told tells.Commit plain = refl
+    by_told told plain = absurd (cc plain)
 stays_told scenario seen b s command come (Unwritten way admitted) =
     ap (λ t. answer_by scenario seen b (finished_as s) (effect_judged seen b (finished_as s) t command)) way.unwritten
     ∙ ap (answer_by scenario seen b (finished_as s)) (
@@ -117,7 +139,7 @@ line_told scenario seen b s command come judged = ap (λ h. line_by h) (take_all
     line_by h = record { backend = b; command = number_of s; text = answer_text (answer_judged scenario h b (number_of s) (finished_as s) command s.refused) }
 
 -- a command that came out of itself and owes nothing or tells of no scan, or has failed, has come out so, where its last entry takes nothing back and is no release
-pub has_come_out : (scenario : Scenario) (seen : List Entry) (b : ℕ) (s : Session) (command : Command) → HasSession scenario seen b s.locks → FollowsPlan seen b s command → is_settled (outcome_of s.left) ≡ true → is_over (last_event_of seen b) s ≡ false
+pub has_come_out : (scenario : Scenario) (seen : List Entry) (b : ℕ) (s : Session) (command : Command) → HasSession scenario seen b s.locks → FollowsPlan seen b s command → is_settled (outcome_of s.left) ≡ true → TellsStill seen b s command
     → (outcome_of s.left ≡ Badly) ⊎ (tells_of_scans (told_of s.left) ≡ false) ⊎ (owed_of (facts_of seen b) command s ≡ []) → HasComeOut scenario seen b s command
 has_come_out scenario seen b s command has follows out stands owes = record {
   has = has;

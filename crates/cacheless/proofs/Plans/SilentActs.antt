@@ -260,6 +260,7 @@ act_follows scenario seen b s command act rest given holds at done follows = rec
   plain = λ told none. absurd (none_reached way.gave (plan_of s.opens command) act rest (ap acts none) (sym way.plan ∙ at));
   admitted = follows.admitted;
   held = λ going. let still = follows.held going in record { more = still.more ++ opened_by act; opened = ap (λ l. l ++ opened_by act) still.opened ∙ append_assoc (held_before s) still.more (opened_by act) };
+  unwritten = follows.unwritten;
 }
   where
     way : OnItsWay seen b s command
