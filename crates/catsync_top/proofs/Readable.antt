@@ -1,11 +1,10 @@
 -- The entries of an allowed history that their types allow are those that a reader of texts takes.
-use Rattle.std.proofs.Common.{ℕ, List, [], ◌∷◌, ◌++◌, All, get_or}
+use Rattle.std.proofs.Common.{List, [], ◌∷◌, ◌++◌, All}
 use Rattle.std.specs.List.{AllByRecursion}
 use Rattle.std.proofs.lemmas.List.Elements.{All-from_recursion, recursion_from_All}
 use Rattle.event_kinds.specs.declared.entry.Entry.{Entry}
 use Rattle.event_kinds.specs.declared.entry.Event.{Event}
 use Rattle.event_kinds.specs.declared.entry.Event.TheVariants as events
-use Rattle.event_kinds.specs.declared.entry.Item.{Item}
 use Rattle.event_kinds.specs.Texts.{changes_of}
 use Rattle.event_kinds.specs.Entries.{IsItem, IsEvent, IsHead, HasChange, IsEntry}
 use Rattle.out_text.specs.Typed.{IsTyped}

@@ -1,22 +1,24 @@
--- A list of one word.
-use Rattle.std.proofs.Common.{◌≡◌, ◌≤◌, ◌<◌, ◌∙◌, ℕ, Bool, List, [], ◌∷◌, map, length, get_or, sym, ap, arith, IsTrue, ◌↔◌}
+-- Lists of one word and of two.
+use Rattle.std.proofs.Common.{◌≡◌, ◌≤◌, ◌<◌, ◌∙◌, ℕ, Bool, true, List, [], ◌∷◌, map, length, get_or, sym, ap, arith}
 use Rattle.std.specs.Str.{bytes_eq}
 use Rattle.std.proofs.lemmas.Slice.Eq.{bytes_eq-Decides}
 
--- what a list of one word says
-pub one_word : {X : Type 0} (text : X → List ℕ) (words : List X) (word : X) → 1 ≤ length words → length words < 2 → word ≡ get_or words 0 word → map text words ≡ text word ∷ []
-one_word text [] word some few is = absurd (omega arith)
-one_word text (x ∷ []) word some few is = ap (λ w. text w ∷ []) (sym is)
-one_word text (x ∷ y ∷ words) word some few is = absurd (omega arith)
+-- a word that was compared
+same_word : (seen wanted given : List ℕ) (same : Bool) → seen ≡ given → same ≡ bytes_eq seen wanted → same ≡ true → given ≡ wanted
+same_word seen wanted given same read test is = sym read ∙ (bytes_eq-Decides seen wanted).0 (sym test ∙ is)
 
--- whether one word is the one that is wanted
-pub is_the_word : {X : Type 0} (text : X → List ℕ) (words : List X) (word : X) (seen wanted : List ℕ) (same : Bool) → 1 ≤ length words → length words < 2 → word ≡ get_or words 0 word → seen ≡ text word → same ≡ bytes_eq seen wanted
-    → IsTrue same ↔ (map text words ≡ wanted ∷ [])
-is_the_word text words word seen wanted same some few is read test =
-    let all : map text words ≡ seen ∷ [] = one_word text words word some few is ∙ ap (λ t. t ∷ []) (sym read) in (
-      (λ yes. all ∙ ap (λ t. t ∷ []) ((bytes_eq-Decides seen wanted).0 (sym test ∙ yes))),
-      (λ words_are. test ∙ (bytes_eq-Decides seen wanted).1 (heads (sym all ∙ words_are))),
-    )
-  where
-    heads : {a b : List ℕ} → a ∷ [] ≡ b ∷ [] → a ≡ b
-    heads e = cc
+-- the one word of a list is the one that is wanted
+pub one_asked : {X : Type 0} (text : X → List ℕ) (words : List X) (word : X) (seen wanted : List ℕ) (same : Bool) → 1 ≤ length words → length words < 2 → word ≡ get_or words 0 word → seen ≡ text word → same ≡ bytes_eq seen wanted → same ≡ true
+    → map text words ≡ wanted ∷ []
+one_asked text [] word seen wanted same some few is read test yes-same = absurd (omega (arith, some))
+one_asked text (x ∷ []) word seen wanted same some few is read test yes-same = ap (λ t. t ∷ []) (ap text (sym is) ∙ same_word seen wanted (text word) same read test yes-same)
+one_asked text (x ∷ y ∷ words) word seen wanted same some few is read test yes-same = absurd (omega (arith, few))
+
+-- so are the two words of one
+pub two_asked : {X : Type 0} (text : X → List ℕ) (words : List X) (first second : X) (seen wanted seen' wanted' : List ℕ) (same same' : Bool) → 2 ≤ length words → length words < 3 → first ≡ get_or words 0 first → second ≡ get_or words 1 second
+    → seen ≡ text first → same ≡ bytes_eq seen wanted → same ≡ true → seen' ≡ text second → same' ≡ bytes_eq seen' wanted' → same' ≡ true → map text words ≡ wanted ∷ wanted' ∷ []
+two_asked text [] first second seen wanted seen' wanted' same same' some few is is' read test yes-same read' test' yes-same' = absurd (omega (arith, some))
+two_asked text (x ∷ []) first second seen wanted seen' wanted' same same' some few is is' read test yes-same read' test' yes-same' = absurd (omega (arith, some))
+two_asked text (x ∷ y ∷ []) first second seen wanted seen' wanted' same same' some few is is' read test yes-same read' test' yes-same' =
+    ap (λ t. t ∷ text y ∷ []) (ap text (sym is) ∙ same_word seen wanted (text first) same read test yes-same) ∙ ap (λ t. wanted ∷ t ∷ []) (ap text (sym is') ∙ same_word seen' wanted' (text second) same' read' test' yes-same')
+two_asked text (x ∷ y ∷ z ∷ words) first second seen wanted seen' wanted' same same' some few is is' read test yes-same read' test' yes-same' = absurd (omega (arith, few))

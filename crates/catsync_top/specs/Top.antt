@@ -1,5 +1,5 @@
 -- What the program does with the bytes that it reads.
-use Rattle.std.specs.Prelude.{◌≡◌, ◌≤◌, ◌<◌, ◌+◌, ⊤, ℕ, IsSomeAnd, true, false, Option, Ok, Err, List, [], ◌∷◌, codes, length}
+use Rattle.std.specs.Prelude.{◌≡◌, ◌≤◌, ◌<◌, ◌+◌, ⊤, ℕ, IsSomeAnd, true, false, Option, Ok, Err, List, [], ◌∷◌, ◌++◌, codes, decimal, drop, length}
 use Rattle.std.specs.Io.KnownBytes.{Consumes, IsAtEnd}
 use Rattle.edge_io.specs.Causes.{Rose}
 use Rattle.edge_io.specs.declared.reading.TheConstants.{PIECE}
@@ -11,18 +11,46 @@ use Rattle.out_text.specs.Typed.{IsLine, SpellsOnly}
 use Rattle.by_backend.specs.Built.{is_built}
 use Rattle.walk_run.specs.Sessions.{AreSessions}
 use Rattle.script_text.specs.Grammar.{Reading, script_of}
-use Rattle.script_text.specs.declared.fault.Rest.TheVariants.{Refused}
+use Rattle.script_text.specs.declared.fault.Rest.{Rest}
+use Rattle.script_text.specs.declared.fault.Rest.TheVariants.{Refused, Given}
 use Rattle.script_text.specs.declared.fault.ScriptCause.{ScriptCause}
 use Rattle.cacheless.specs.Lines.{lines_of}
 use Rattle.cacheless.specs.Output.{IsOutput}
 use Rattle.backend_core.specs.declared.backend.Backend.{Backend}
-use Rattle.catsync_top.specs.declared.top.TheConstants.{MOST_INPUT}
+use Rattle.check_tool.specs.Verdicts.{IsOutputOf, DiffersAt}
+use Rattle.catsync_top.specs.declared.top.TheConstants.{MOST_INPUT, MOST_CHECKED}
+use Rattle.catsync_top.specs.declared.arguments.Word.{Word}
+use Rattle.catsync_top.specs.declared.arguments.Word.TheVariants as words
 use Rattle.catsync_top.specs.declared.status.Status.{Status}
 use Rattle.catsync_top.specs.declared.status.Status.TheVariants as statuses
 
--- the arguments are `walk` alone
-abbrev pub AreWalk : List (List ℕ) → Type 0
-AreWalk arguments = arguments ≡ codes "walk" ∷ []
+-- the arguments that ask for a word
+abbrev pub arguments_of : Word → List (List ℕ)
+arguments_of words.Walk = codes "walk" ∷ []
+arguments_of words.Check = codes "check" ∷ codes "walk" ∷ []
+
+-- these arguments ask for the word
+abbrev pub Ask : List (List ℕ) → Word → Type 0
+Ask arguments word = arguments ≡ arguments_of word
+
+-- they ask for no word
+abbrev pub AskNothing : List (List ℕ) → Type 0
+AskNothing arguments = (word : Word) → Ask arguments word → ⊥
+
+-- they ask for one
+pub record AskSomething (arguments : List (List ℕ)) : Type 0 where
+  pub word : Word
+  pub ask : Ask arguments word
+
+-- the most bytes that are read
+abbrev pub most_of : Word → ℕ
+most_of words.Walk = MOST_INPUT
+most_of words.Check = MOST_CHECKED
+
+-- whether something may follow the script: the output that is checked
+abbrev pub rest_of : Word → Rest
+rest_of words.Walk = Refused
+rest_of words.Check = Given
 
 -- the exit status of each status
 abbrev pub exit_code_of : Status → ℕ
@@ -33,18 +61,19 @@ exit_code_of statuses.TooLong = 3
 exit_code_of statuses.ReadFault = 4
 exit_code_of statuses.WriteFault = 5
 exit_code_of statuses.NoMemory = 6
+exit_code_of (statuses.Differs entry) = 7
 exit_code_of statuses.NotYet = 9
 
--- the input was read to its end, and is no longer than a script may be
-pub record IsInput (left rest : Option (List ℕ)) (input : List ℕ) : Type 0 where
+-- the input was read to its end, and is no longer than that of the word may be
+pub record IsInput (word : Word) (left rest : Option (List ℕ)) (input : List ℕ) : Type 0 where
   pub read : Consumes left rest input
   pub ended : IsAtEnd rest
-  pub short : length input ≤ MOST_INPUT
+  pub short : length input ≤ most_of word
 
 -- the input is a script that can be walked; an output of the program for that script was written, or a prefix of one; its history is sound, and the script's commands have forms that lines may have, so that each law of such histories is one of it; its entries and lines are such as a reader of texts takes, and that output spells them alone; and the sessions are the backends that were run, with their parts of the answers
 pub record Ran (left rest : Option (List ℕ)) (taken now : Option (List ℕ)) (Writes : Option (List ℕ) → Option (List ℕ) → List ℕ → Type 0) (sessions : List Backend) : Type 0 where
   pub input : List ℕ
-  pub whole : IsInput left rest input
+  pub whole : IsInput words.Walk left rest input
   pub reading : Reading
   pub spelled : script_of Refused input ≡ Ok reading
   pub built : is_built reading.script ≡ true
@@ -58,49 +87,79 @@ pub record Ran (left rest : Option (List ℕ)) (taken now : Option (List ℕ)) (
   pub are : AreSessions reading.script is.history (lines_of reading.script is.history) sessions
   pub written : Writes taken now output
 
--- that line of the input is the first that breaks a rule, and that rule is the first that it breaks
-pub record IsBad (left rest : Option (List ℕ)) (line : ℕ) (cause : ScriptCause) : Type 0 where
-  pub input : List ℕ
-  pub whole : IsInput left rest input
-  pub breaks : script_of Refused input ≡ Err (line, cause)
+-- the line by which `check walk` says that it found an output of so many entries
+abbrev pub checked_text : ℕ → List ℕ
+checked_text entries = codes "checked " ++ decimal entries ++ codes " entries\n"
 
--- more bytes were read than a script may have, and at most one piece too many
-pub record IsTooLong (left rest : Option (List ℕ)) : Type 0 where
+-- the input is a script that can be walked, and after it something that may be an output
+pub record IsChecked (left rest : Option (List ℕ)) : Type 0 where
   pub input : List ℕ
-  pub read : Consumes left rest input
-  pub long : MOST_INPUT < length input
-  pub bounded : length input ≤ MOST_INPUT + PIECE
-
--- the input is a script with a command that isn't built
-pub record IsNotYet (left rest : Option (List ℕ)) : Type 0 where
-  pub input : List ℕ
-  pub whole : IsInput left rest input
+  pub whole : IsInput words.Check left rest input
   pub reading : Reading
-  pub spelled : script_of Refused input ≡ Ok reading
-  pub unbuilt : is_built reading.script ≡ false
-
--- the bytes are a script that can be walked
-pub record CanBeWalked (input : List ℕ) : Type 0 where
-  pub short : length input ≤ MOST_INPUT
-  pub reading : Reading
-  pub spelled : script_of Refused input ≡ Ok reading
+  pub spelled : script_of Given input ≡ Ok reading
   pub built : is_built reading.script ≡ true
 
--- the arguments are `walk` alone, and the source tells that it has a script that can be walked
-abbrev pub CanRun : List (List ℕ) → Option (List ℕ) → Type 0
-CanRun arguments left = AreWalk arguments × IsSomeAnd left CanBeWalked
+-- what follows the script is an output of it, and the number of its entries was written, or a prefix of that line
+pub record HasFound (left rest : Option (List ℕ)) (taken now : Option (List ℕ)) (Writes : Option (List ℕ) → Option (List ℕ) → List ℕ → Type 0) : Type 0 where
+  pub is : IsChecked left rest
+  pub count : ℕ
+  pub output : IsOutputOf is.reading.script (drop is.reading.rest_at is.input) count
+  pub written : Writes taken now (checked_text count)
+
+-- what follows the script is no output of it, and a walk may make the entries before this one and not one more
+pub record HasDiffered (left rest : Option (List ℕ)) (entry : ℕ) : Type 0 where
+  pub is : IsChecked left rest
+  pub differs : DiffersAt is.reading.script (drop is.reading.rest_at is.input) entry
+
+-- that line of the input is the first that breaks a rule, and that rule is the first that it breaks
+pub record IsBad (word : Word) (left rest : Option (List ℕ)) (line : ℕ) (cause : ScriptCause) : Type 0 where
+  pub input : List ℕ
+  pub whole : IsInput word left rest input
+  pub breaks : script_of (rest_of word) input ≡ Err (line, cause)
+
+-- more bytes were read than the word's input may have, and at most one piece too many
+pub record IsTooLong (word : Word) (left rest : Option (List ℕ)) : Type 0 where
+  pub input : List ℕ
+  pub read : Consumes left rest input
+  pub long : most_of word < length input
+  pub bounded : length input ≤ most_of word + PIECE
+
+-- the input is a script with a command that isn't built
+pub record IsNotYet (word : Word) (left rest : Option (List ℕ)) : Type 0 where
+  pub input : List ℕ
+  pub whole : IsInput word left rest input
+  pub reading : Reading
+  pub spelled : script_of (rest_of word) input ≡ Ok reading
+  pub unbuilt : is_built reading.script ≡ false
+
+-- the bytes are, or begin with, a script that can be walked
+pub record CanBeTaken (word : Word) (input : List ℕ) : Type 0 where
+  pub short : length input ≤ most_of word
+  pub reading : Reading
+  pub spelled : script_of (rest_of word) input ≡ Ok reading
+  pub built : is_built reading.script ≡ true
+
+-- the source tells that it has a script that can be walked
+abbrev pub CanRun : Word → Option (List ℕ) → Type 0
+CanRun word left = IsSomeAnd left (CanBeTaken word)
 
 -- a count of faults didn't rise
 abbrev pub HadNoFault : ℕ → ℕ → Type 0
 HadNoFault before now = Rose before now → ⊥
 
--- the call did its work, or was refused memory
-abbrev pub IsDoneOrNoMemory : Status → Type 0
-IsDoneOrNoMemory statuses.Done = ⊤
-IsDoneOrNoMemory statuses.NoMemory = ⊤
-IsDoneOrNoMemory status = ⊥
+-- the call did its work, or was refused memory; a check may have found something else than an output
+abbrev pub HasEnded : Word → Status → Type 0
+HasEnded word statuses.Done = ⊤
+HasEnded word statuses.NoMemory = ⊤
+HasEnded words.Check (statuses.Differs entry) = ⊤
+HasEnded word status = ⊥
 
 -- what holds of the line and the rule that a refusal of a script names
 abbrev pub IfBadScript : Status → (ℕ → ScriptCause → Type 0) → Type 0
 IfBadScript (statuses.BadScript line cause) holds = holds line cause
 IfBadScript status holds = ⊤
+
+-- what holds of the entry that differs
+abbrev pub IfDiffers : Status → (ℕ → Type 0) → Type 0
+IfDiffers (statuses.Differs entry) holds = holds entry
+IfDiffers status holds = ⊤

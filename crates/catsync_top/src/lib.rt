@@ -17,9 +17,13 @@
 //! ```
 #![tactic(auto)]
 
+mod arguments;
+mod checking;
 mod status;
 mod top;
+mod walking;
 
+pub use arguments::Word;
 pub use script_text::MOST_BACKENDS;
 pub use status::Status;
-pub use top::{MOST_INPUT, catsync};
+pub use top::{MOST_CHECKED, MOST_INPUT, catsync};

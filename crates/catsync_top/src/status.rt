@@ -10,15 +10,15 @@ pub enum Status {
     /// All was written, and the input was read to its end.
     #[error("done")]
     Done,
-    /// The arguments aren't `walk` alone.
-    #[error("usage: catsync walk < SCRIPT > OUTPUT")]
+    /// The arguments are neither `walk` nor `check walk`.
+    #[error("usage: catsync walk < SCRIPT > OUTPUT, or catsync check walk < SCRIPT_AND_OUTPUT")]
     Usage,
     /// The input isn't a script: the first line that breaks a rule, from 1, and the first rule that
     /// it breaks.
     #[error("line {line}: {cause}")]
     BadScript { line: u32, cause: ScriptCause },
-    /// The input is longer than a script may be.
-    #[error("the script has more than 1048576 bytes")]
+    /// The input is longer than that of these arguments may be.
+    #[error("the input has more than 1048576 bytes, or 268435456 for check")]
     TooLong,
     /// The source failed.
     #[error("reading failed")]
@@ -29,6 +29,10 @@ pub enum Status {
     /// Out of memory.
     #[error("want of memory")]
     NoMemory,
+    /// The bytes after the script are none of its outputs. The first entry, from 1, that a walk may not make there;
+    /// the number after the last where a walk may make all.
+    #[error("entry {entry} differs")]
+    Differs { entry: u64 },
     /// The input is a script, with a command that isn't built yet.
     #[error("the script holds a command that isn't built yet")]
     NotYet,
@@ -47,6 +51,7 @@ impl Status {
             Status::ReadFault => 4,
             Status::WriteFault => 5,
             Status::NoMemory => 6,
+            Status::Differs { .. } => 7,
             Status::NotYet => 9,
         }
     }

@@ -1,37 +1,49 @@
-ghost use Rattle.std.specs.Prelude.{◌≡◌, ◌≢◌, ◌↔◌, ◌≤◌, [], map, length, IsTrue};
+ghost use Rattle.std.specs.Prelude.{◌≡◌, ◌≢◌, ◌≤◌, [], map, length};
 ghost use Rattle.std.specs.String.{string_bytes};
 ghost use Rattle.edge_io.specs.Causes.{Rose};
 ghost use Rattle.edge_io.specs.Taken.{Grows, GrowsByFront};
-ghost use Rattle.catsync_top.specs.Top.{AreWalk, Ran, IsBad, IsTooLong, IsNotYet, CanRun, HadNoFault, IfBadScript, IsDoneOrNoMemory};
+ghost use Rattle.catsync_top.specs.declared.arguments.Word.{Word};
+ghost use Rattle.catsync_top.specs.declared.arguments.Word.TheVariants as words;
+ghost use Rattle.catsync_top.specs.Top.{Ask, AskNothing, AskSomething, Ran, HasFound, HasDiffered, IsBad, IsTooLong, IsNotYet, CanRun, HadNoFault, IfBadScript, IfDiffers, HasEnded};
 
 use crate::Status;
+use crate::arguments::{Word, word_of};
+use crate::checking::check_output;
+use crate::walking::walk_script;
 use backend_core::Backend;
-use by_backend::is_built;
-use edge_io::{Gate, ReadRefusal, Sink, Source, read_all};
-use out_text::put_output;
-use script_text::{MOST_BACKENDS, Rest, ScriptFault, read_script};
+use edge_io::{Gate, Sink, Source};
+use script_text::MOST_BACKENDS;
 use std::alloc::Global;
-use walk_run::{World, walk};
 
-/// The most bytes of a script.
+/// The most bytes of a script that is walked.
 pub const MOST_INPUT: usize = 1_048_576;
 
+/// The most bytes of a script and an output that is checked.
+pub const MOST_CHECKED: usize = 268_435_456;
+
 /// Runs the program: its arguments, where it reads, where it writes, and a gate for each backend
-/// that a script can have, which `walk` doesn't ask. It takes memory from `alloc`, and none while
-/// it writes. `sessions` is empty before the call, and after `Done` and `WriteFault` it holds the
-/// backends that were run.
+/// that a script can have, which neither word asks. It takes memory from `alloc`, and none while
+/// it writes. `sessions` is empty before the call; after `Done` and `WriteFault` of `walk` it holds
+/// the backends that were run.
+///
+/// `walk` reads a script, and writes its history and answers. `check walk` reads a script and, after
+/// its `end` line, an output; it writes the number of the output's entries.
 ///
 /// The order is: arguments, reading, script, work, writing. What is said of the bytes holds as far
 /// as the source and the sink tell them.
 ///
-/// - `Usage`: exactly where the arguments aren't `walk` alone; nothing is read.
+/// - `Usage`: exactly where the arguments are neither `walk` nor `check walk`; nothing is read.
 /// - `ReadFault`, `WriteFault`: only where the source's or the sink's count of faults rose.
-/// - `TooLong`: exactly where the source gives more than [`MOST_INPUT`] bytes before its end.
+/// - `TooLong`: exactly where the source gives more bytes before its end than [`MOST_INPUT`] for
+///   `walk`, [`MOST_CHECKED`] for `check walk`.
 /// - `BadScript`: exactly where that line is the first that breaks a rule of scripts, and that rule
 ///   is the first that it breaks.
-/// - `NotYet`: exactly where the input is a script, with a command that isn't built yet.
+/// - `NotYet`: exactly where the input is a script, or begins with one, with a command that isn't
+///   built yet.
 /// - `NoMemory`: at any point before writing.
-/// - `Done`: the input was read to its end, and the whole output was written.
+/// - `Differs`: of `check walk`, exactly where what follows the script isn't an output of it.
+/// - `Done`: the input was read to its end, and the whole output was written; for `check walk`, what
+///   follows the script is an output of it.
 pub fn catsync<S: Source, K: Sink, G: Gate>(
     alloc: Global,
     arguments: &[String],
@@ -44,19 +56,23 @@ pub fn catsync<S: Source, K: Sink, G: Gate>(
     requires sessions { sessions.old.items ≡ [] }
 
     // Which arguments are accepted.
-    ensures usage { result ≡ Status.Usage → AreWalk (map string_bytes arguments.now) → ⊥ }
-    ensures accepted { result ≢ Status.Usage → AreWalk (map string_bytes arguments.now) }
+    ensures usage { result ≡ Status.Usage → AskNothing (map string_bytes arguments.now) }
+    ensures accepted { result ≢ Status.Usage → AskSomething (map string_bytes arguments.now) }
 
     // What was written, of what was read.
-    ensures done { result ≡ Status.Done → Ran (S.left source.old) (S.left source.new) (K.taken sink.old) (K.taken sink.new) Grows sessions.new.items }
-    ensures write_front { result ≡ Status.WriteFault → Ran (S.left source.old) (S.left source.new) (K.taken sink.old) (K.taken sink.new) GrowsByFront sessions.new.items }
+    ensures done { Ask (map string_bytes arguments.now) words.Walk → result ≡ Status.Done → Ran (S.left source.old) (S.left source.new) (K.taken sink.old) (K.taken sink.new) Grows sessions.new.items }
+    ensures write_front { Ask (map string_bytes arguments.now) words.Walk → result ≡ Status.WriteFault → Ran (S.left source.old) (S.left source.new) (K.taken sink.old) (K.taken sink.new) GrowsByFront sessions.new.items }
+    ensures found { Ask (map string_bytes arguments.now) words.Check → result ≡ Status.Done → HasFound (S.left source.old) (S.left source.new) (K.taken sink.old) (K.taken sink.new) Grows }
+    ensures found_front { Ask (map string_bytes arguments.now) words.Check → result ≡ Status.WriteFault → HasFound (S.left source.old) (S.left source.new) (K.taken sink.old) (K.taken sink.new) GrowsByFront }
     ensures nothing { result ≢ Status.Done → result ≢ Status.WriteFault → K.taken sink.new ≡ K.taken sink.old }
     ensures no_sessions { result ≢ Status.Done → result ≢ Status.WriteFault → sessions.new.items ≡ [] }
+    ensures none_checked { Ask (map string_bytes arguments.now) words.Check → sessions.new.items ≡ [] }
 
     // When each refusal comes.
-    ensures bad_script { IfBadScript result (IsBad (S.left source.old) (S.left source.new)) }
-    ensures too_long { result ≡ Status.TooLong → IsTooLong (S.left source.old) (S.left source.new) }
-    ensures not_yet { result ≡ Status.NotYet → IsNotYet (S.left source.old) (S.left source.new) }
+    ensures differs { IfDiffers result (λ entry. Ask (map string_bytes arguments.now) words.Check × HasDiffered (S.left source.old) (S.left source.new) entry) }
+    ensures bad_script { (word : Word) → Ask (map string_bytes arguments.now) word → IfBadScript result (IsBad word (S.left source.old) (S.left source.new)) }
+    ensures too_long { (word : Word) → Ask (map string_bytes arguments.now) word → result ≡ Status.TooLong → IsTooLong word (S.left source.old) (S.left source.new) }
+    ensures not_yet { (word : Word) → Ask (map string_bytes arguments.now) word → result ≡ Status.NotYet → IsNotYet word (S.left source.old) (S.left source.new) }
     ensures read_fault { result ≡ Status.ReadFault → Rose (S.faults source.old) (S.faults source.new) }
     ensures write_fault { result ≡ Status.WriteFault → Rose (K.faults sink.old) (K.faults sink.new) }
 
@@ -66,50 +82,15 @@ pub fn catsync<S: Source, K: Sink, G: Gate>(
     ensures unread { result ≡ Status.Usage → S.left source.new ≡ S.left source.old }
     ensures gates { gates.new ≡ gates.old }
 
-    // A script that can be walked is walked, where neither source nor sink fails.
-    ensures complete { CanRun (map string_bytes arguments.now) (S.left source.old) → HadNoFault (S.faults source.old) (S.faults source.new) → HadNoFault (K.faults sink.old) (K.faults sink.new) → IsDoneOrNoMemory result }
+    // A script that can be walked is walked, and what follows it is checked, where neither source nor sink fails.
+    ensures complete { (word : Word) → Ask (map string_bytes arguments.now) word → CanRun word (S.left source.old) → HadNoFault (S.faults source.old) (S.faults source.new) → HadNoFault (K.faults sink.old) (K.faults sink.new) → HasEnded word result }
 {
     let _ = gates;
-    if !is_walk(arguments) {
+    let Some(word) = word_of(arguments) else {
         return Status::Usage;
-    }
-    let input = match read_all(alloc, source, MOST_INPUT) {
-        Ok(input) => input,
-        Err(ReadRefusal::Failed) => return Status::ReadFault,
-        Err(ReadRefusal::NoMemory) => return Status::NoMemory,
     };
-    if input.len() > MOST_INPUT {
-        return Status::TooLong;
-    }
-    let read = match read_script(alloc, &input, Rest::Refused) {
-        Ok(read) => read,
-        Err(ScriptFault::Bad { line, cause }) => return Status::BadScript { line, cause },
-        Err(ScriptFault::NoMemory) => return Status::NoMemory,
-    };
-    if !is_built(&read.script) {
-        return Status::NotYet;
-    }
-    let Ok(world) = walk(alloc, &read.script) else {
-        return Status::NoMemory;
-    };
-    let World {
-        entries,
-        lines,
-        backends,
-    } = world;
-    *sessions = backends.into_vec();
-    match put_output(sink, entries.as_slice(), lines.as_slice()) {
-        Ok(()) => Status::Done,
-        Err(_) => Status::WriteFault,
-    }
-}
-
-// Whether the arguments are `walk` alone.
-fn is_walk(arguments: &[String]) -> bool
-    ensures { IsTrue result ↔ AreWalk (map string_bytes arguments.now) }
-{
-    match arguments {
-        [word] => word.as_str() == "walk",
-        _ => false,
+    match word {
+        Word::Walk => walk_script(alloc, source, sink, sessions),
+        Word::Check => check_output(alloc, source, sink),
     }
 }

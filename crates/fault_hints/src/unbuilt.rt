@@ -12,12 +12,12 @@ const MOST_SHOWN: usize = 60;
 const MOST_BYTES: usize = 4_000_000_000;
 
 /// Which command of a script isn't built yet: its line's number, from 1, and its words. `None` where
-/// all are, or where the text is no script. `Err` where out of memory.
+/// all are, or where the text doesn't begin with a script. `Err` where out of memory.
 pub fn unbuilt_command(alloc: Global, text: &[u8]) -> Result<Option<String>, NoMemory> {
     if text.len() > MOST_BYTES {
         return Ok(None);
     }
-    match read_script(alloc, text, Rest::Refused) {
+    match read_script(alloc, text, Rest::Given) {
         Ok(read) => match first_unbuilt(&read.script) {
             Some(number) => named(alloc, text, number),
             None => Ok(None),

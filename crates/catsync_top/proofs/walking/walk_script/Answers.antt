@@ -2,9 +2,10 @@ use Rattle.std.proofs.Common.{◌∙◌, refl, sym, subst, arith}
 use Rattle.std.specs.List.{All}
 use Rattle.edge_io.specs.Taken.{Grows, GrowsByFront}
 use Rattle.out_text.specs.Typed.{IsTyped, IsLine}
+use Rattle.catsync_top.specs.declared.arguments.Word.TheVariants as words
 use Rattle.catsync_top.proofs.NotBuilt.{found_unbuilt}
 use Rattle.catsync_top.proofs.Running.{has_run}
-use Rattle.catsync_top.proofs.top.catsync.Goals as goal
+use Rattle.catsync_top.proofs.walking.walk_script.Goals as goal
 
 pub walk-requires : goal.walk-requires
 walk-requires g c =
@@ -12,7 +13,7 @@ walk-requires g c =
 
 pub returns-then-not-is_built-clause-not_yet : goal.returns-then-not-is_built-clause-not_yet
 returns-then-not-is_built-clause-not_yet g c =
-    λ _. found_unbuilt _ _ _ _ _ _ c.in-Ok.ensures.bytes (grind arith) c.deref.ensures.value c.in-Ok-read_script.ensures c.is_built.ensures c.if-not-is_built.true
+    λ _. found_unbuilt words.Walk _ _ _ _ _ _ c.in-Ok.ensures.bytes (grind arith) c.deref.ensures.value c.in-Ok-read_script.ensures c.is_built.ensures c.if-not-is_built.true
 
 pub returns-in-Ok-put_output-clause-done : goal.returns-in-Ok-put_output-clause-done
 returns-in-Ok-put_output-clause-done g c =
