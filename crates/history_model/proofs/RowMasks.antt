@@ -1,10 +1,11 @@
 -- The masks under which rows of relations, of columns and of constraints are read: which modes a change of a masked row takes.
-use Rattle.std.proofs.Common.{◌≡◌, ◌∙◌, ◌⊎◌, inl, inr, ℕ, Bool, true, false, Option, Some, None, List, [], ◌∷◌, ◌==◌, ◌||◌, ◌&&◌, refl, sym, ap, subst}
+use Rattle.std.proofs.Common.{◌≡◌, ◌∙◌, ◌⊎◌, inl, inr, ℕ, Bool, true, false, Option, Some, None, List, [], ◌∷◌, ◌++◌, ◌==◌, ◌||◌, ◌&&◌, refl, sym, ap, subst}
 use Rattle.std.specs.List.{list_any}
 use Rattle.std.specs.Option.{IfSome}
 use Rattle.std.specs.Str.{bytes_eq}
 use Rattle.std.proofs.lemmas.Bool.{eqb-true, eq-eqb, both_ways, and_parts, or_cases, or_left, or_right}
 use Rattle.base_types.specs.declared.ids.Oid.{Oid}
+use Rattle.base_types.specs.declared.mode.Mode.{Mode}
 use Rattle.base_types.specs.declared.row.Row.{Row}
 use Rattle.base_types.specs.declared.row.ConKind.{ConKind}
 use Rattle.base_types.specs.declared.row_key.RowKey.{RowKey}
@@ -30,17 +31,19 @@ use Rattle.history_model.proofs.Guards.{is_changing, is_exclusive, IsHeldIn, hel
 use Rattle.history_model.proofs.EnoughModes.{is_enough, enough_passes, IsNamed, under_row, IsHeldFor}
 use Rattle.history_model.proofs.FixedRows.{fixed, is_loose, class_fixed, column_fixed}
 use Rattle.history_model.proofs.Ordered.{if_some, guarded_rows, early_at}
+use Rattle.history_model.proofs.Reading.{held_of-more as held-more}
+use Rattle.history_model.proofs.Markings.{HoldsBy, held_marks}
 use Rattle.history_model.proofs.MaskedRows.{Masking, KeepsMask, IsFor, Masks}
 
--- the relation is among those of a row that is changed, and if a weaker mode is enough for the change, it is one of the mask's
-abbrev pub IsStrongOn : Masking → Option Row → Item → Row → Type 0
-IsStrongOn m old item row = (list_any (same_oid m.rel) (relations_changed (is_validation old item) row) ≡ true) × IfSome (weaker_mode old item m.rel) (λ mode. m.strong mode ≡ true)
+-- the relation is among those of a row that is changed, and if a weaker mode is enough for the change, it is one of these
+abbrev pub IsStrongOn : Oid → (Mode → Bool) → Option Row → Item → Row → Type 0
+IsStrongOn rel strong old item row = (list_any (same_oid rel) (relations_changed (is_validation old item) row) ≡ true) × IfSome (weaker_mode old item rel) (λ mode. strong mode ≡ true)
 
 -- where each change of a row that concerns the relation is so, or leaves the masked row, masked rows are changed under the mask's modes alone
-pub masks_of : (m : Masking) → m.strong AccessExclusive ≡ true → ((old : Option Row) (item : Item) (row : Row) → IsNamed old item row → m.concerns (m.mask row) → KeepsMask m old item ⊎ IsStrongOn m old item row) → Masks m
-masks_of m exclusive change history w c xid items k comes =
-    every-weaker (λ item. IfSome (added_row item) (For item) × IfSome (old_row history w item) (For item)) (λ item. IfSome (added_row item) (IsFor m history w c xid items item) × IfSome (old_row history w item) (IsFor m history w c xid items item))
-    (λ item h. (if_some (For item) (IsFor m history w c xid items item) (on item) (added_row item) h.0, if_some (For item) (IsFor m history w c xid items item) (on item) (old_row history w item) h.1)) items
+pub masks_of : (m : Masking) (rel : Oid) (strong : Mode → Bool) → strong AccessExclusive ≡ true → ((old : Option Row) (item : Item) (row : Row) → IsNamed old item row → m.concerns (m.mask row) → KeepsMask m old item ⊎ IsStrongOn rel strong old item row) → Masks m (held_marks rel strong)
+masks_of m rel strong exclusive change history w c xid items k comes =
+    every-weaker (λ item. IfSome (added_row item) (For item) × IfSome (old_row history w item) (For item)) (λ item. IfSome (added_row item) (IsFor m (held_marks rel strong) history w c xid items item) × IfSome (old_row history w item) (IsFor m (held_marks rel strong) history w c xid items item))
+    (λ item h. (if_some (For item) (IsFor m (held_marks rel strong) history w c xid items item) (on item) (added_row item) h.0, if_some (For item) (IsFor m (held_marks rel strong) history w c xid items item) (on item) (old_row history w item) h.1)) items
     (guarded_rows history w c xid items comes.follows.event.guarded comes.orderly.keeps (early_at history (entry_of w c (events.Write xid items)) k comes.follows.life))
   where
     held : List Grant
@@ -49,17 +52,17 @@ masks_of m exclusive change history w c xid items k comes =
     For : Item → Row → Type 0
     For item = IsHeldFor held w c (old_row history w item) item
 
-    on : (item : Item) (row : Row) → For item row → IsFor m history w c xid items item row
+    on : (item : Item) (row : Row) → For item row → IsFor m (held_marks rel strong) history w c xid items item row
     on item row held_for concerned = of (change old item row held_for.0 concerned)
       where
         old : Option Row
         old = old_row history w item
 
-        of : KeepsMask m old item ⊎ IsStrongOn m old item row → IsHeldIn m.strong held w c m.rel ⊎ KeepsMask m old item
+        of : KeepsMask m old item ⊎ IsStrongOn rel strong old item row → HoldsBy rel strong (history ++ entry_of w c (events.Write xid items) ∷ []) w c ⊎ KeepsMask m old item
         of (inl keeps) = inr keeps
-        of (inr strong) = inl (any_with (same_oid m.rel) (λ o. IsHeldIn (is_enough old item o) held w c o) (IsHeldIn m.strong held w c m.rel)
-            (λ o same here. held_in-weaker (is_enough old item m.rel) m.strong (enough_passes m.strong old item m.rel exclusive strong.1) held w c m.rel (subst (λ r. IsHeldIn (is_enough old item r) held w c r) (sym (oid_eq m.rel o same)) here))
-            (relations_changed (is_validation old item) row) strong.0 held_for.1)
+        of (inr is) = inl (subst (λ gs. IsHeldIn strong gs w c rel) (sym (held-more history (entry_of w c (events.Write xid items)))) (any_with (same_oid rel) (λ o. IsHeldIn (is_enough old item o) held w c o) (IsHeldIn strong held w c rel)
+            (λ o same here. held_in-weaker (is_enough old item rel) strong (enough_passes strong old item rel exclusive is.1) held w c rel (subst (λ r. IsHeldIn (is_enough old item r) held w c r) (sym (oid_eq rel o same)) here))
+            (relations_changed (is_validation old item) row) is.0 held_for.1))
 
 same_self : (rel : Oid) (rels : List Oid) → list_any (same_oid rel) (rel ∷ rels) ≡ true
 same_self rel rels = or_left (same_oid rel rel) (list_any (same_oid rel) rels) (eq-eqb rel.0 rel.0 refl)
@@ -71,7 +74,7 @@ main-fixed (rows.Att rel num own col_type stat live) = refl
 main-fixed row = refl
 
 abbrev pub fixed_mask : Oid → Masking
-fixed_mask rel = record { mask = fixed; concerns = λ row. (main_rel row ≡ rel) × (is_loose row ≡ true); rel = rel; strong = is_exclusive; main = main-fixed }
+fixed_mask rel = record { mask = fixed; concerns = λ row. (main_rel row ≡ rel) × (is_loose row ≡ true); main = main-fixed }
 
 loose_fixed : (row : Row) → is_loose (fixed row) ≡ is_loose row
 loose_fixed (rows.Class oid own kind fill) = refl
@@ -132,13 +135,13 @@ kept_fixed rel (Some old) item keeps = absurd keeps
 kept_fixed rel None item keeps = absurd keeps
 
 -- AccessExclusive on the relation is needed for any other change
-pub fixed_masks : (rel : Oid) → Masks (fixed_mask rel)
-fixed_masks rel = masks_of (fixed_mask rel) refl (λ old item row named concerned.
+pub fixed_masks : (rel : Oid) → Masks (fixed_mask rel) (held_marks rel is_exclusive)
+fixed_masks rel = masks_of (fixed_mask rel) rel is_exclusive refl (λ old item row named concerned.
     let loose : is_loose row ≡ true = sym (loose_fixed row) ∙ concerned.1 in
     let own : main_rel row ≡ rel = sym (main-fixed row) ∙ concerned.0 in
     of old item row (subst (λ o. list_any (same_oid o) (relations_changed (is_validation old item) row) ≡ true) own (loose_changed (is_validation old item) row loose)) (fixed_strong old item rel row named loose))
   where
-    of : (old : Option Row) (item : Item) (row : Row) → list_any (same_oid rel) (relations_changed (is_validation old item) row) ≡ true → KeepsFixed old item ⊎ (weaker_mode old item rel ≡ None) → KeepsMask (fixed_mask rel) old item ⊎ IsStrongOn (fixed_mask rel) old item row
+    of : (old : Option Row) (item : Item) (row : Row) → list_any (same_oid rel) (relations_changed (is_validation old item) row) ≡ true → KeepsFixed old item ⊎ (weaker_mode old item rel ≡ None) → KeepsMask (fixed_mask rel) old item ⊎ IsStrongOn rel is_exclusive old item row
     of old item row among (inl keeps) = inl (kept_fixed rel old item keeps)
     of old item row among (inr none) = inr (among, subst (λ o. IfSome o (λ mode. is_exclusive mode ≡ true)) (sym none) tt)
 
@@ -188,11 +191,11 @@ selects_counted rel row = refl
 
 -- as they count for the relation: of a foreign key of another not whether it is known to hold
 abbrev pub counted_mask : Oid → Masking
-counted_mask rel = record { mask = counted_for (scans.Constraint rel); concerns = IsConstraintOf rel; rel = rel; strong = is_changing; main = main-counted rel }
+counted_mask rel = record { mask = counted_for (scans.Constraint rel); concerns = IsConstraintOf rel; main = main-counted rel }
 
 -- and of no constraint whether it is known to hold
 abbrev pub unvalidated_mask : Oid → Masking
-unvalidated_mask rel = record { mask = unvalidated; concerns = IsConstraintOf rel; rel = rel; strong = under_row; main = main-unvalidated }
+unvalidated_mask rel = record { mask = unvalidated; concerns = IsConstraintOf rel; main = main-unvalidated }
 
 -- a constraint that is changed by more than that it is validated: all relations that it names count
 constraint_changed : (rel : Oid) (row : Row) → IsConstraintOf rel row → list_any (same_oid rel) (relations_changed false row) ≡ true
@@ -216,15 +219,12 @@ abbrev IsEither : Row → Row → Row → Type 0
 IsEither a b row = (b ≡ row) ⊎ (Some a ≡ Some row)
 
 -- constraints are changed under the strong modes alone, ShareRowExclusive among them, if a validation leaves the masked row or takes one of them on a relation that then counts
-constraint_masks : (m : Masking) → m.strong AccessExclusive ≡ true → m.strong ShareRowExclusive ≡ true → ((row : Row) → m.concerns (m.mask row) → IsConstraintOf m.rel row)
-    → ((a b row : Row) → unvalidated a ≡ unvalidated b → IsEither a b row → IsConstraintOf m.rel row → (m.mask a ≡ m.mask b) ⊎ ((list_any (same_oid m.rel) (relations_changed true row) ≡ true) × (m.strong ShareUpdateExclusive ≡ true))) → Masks m
-constraint_masks m exclusive shared asks validating = masks_of m exclusive (λ old item row named concerned. of old item row named (asks row concerned))
+constraint_masks : (m : Masking) (rel : Oid) (strong : Mode → Bool) → strong AccessExclusive ≡ true → strong ShareRowExclusive ≡ true → ((row : Row) → m.concerns (m.mask row) → IsConstraintOf rel row)
+    → ((a b row : Row) → unvalidated a ≡ unvalidated b → IsEither a b row → IsConstraintOf rel row → (m.mask a ≡ m.mask b) ⊎ ((list_any (same_oid rel) (relations_changed true row) ≡ true) × (strong ShareUpdateExclusive ≡ true))) → Masks m (held_marks rel strong)
+constraint_masks m rel strong exclusive shared asks validating = masks_of m rel strong exclusive (λ old item row named concerned. of old item row named (asks row concerned))
   where
-    rel : Oid
-    rel = m.rel
-
     Added : Row → Type 0
-    Added new = IfSome (weaker_mode None (forms.Add new) rel) (λ mode. m.strong mode ≡ true)
+    Added new = IfSome (weaker_mode None (forms.Add new) rel) (λ mode. strong mode ≡ true)
 
     added : (new : Row) → IsConstraintOf rel new → Added new
     added (rows.Con oid of' name valid (demands.Foreign num refrel refnum)) is = shared
@@ -232,10 +232,10 @@ constraint_masks m exclusive shared asks validating = masks_of m exclusive (λ o
     added new is = absurd (cc)
 
     Goal : Row → Row → Row → Type 0
-    Goal a b row = (m.mask a ≡ m.mask b) ⊎ IsStrongOn m (Some a) (forms.Put b) row
+    Goal a b row = (m.mask a ≡ m.mask b) ⊎ IsStrongOn rel strong (Some a) (forms.Put b) row
 
     by_test : (a b row : Row) (t : Bool) → (t ≡ true → unvalidated a ≡ unvalidated b) → IsEither a b row → IsConstraintOf rel row
-        → (m.mask a ≡ m.mask b) ⊎ ((list_any (same_oid rel) (relations_changed t row) ≡ true) × IfSome (update_where t) (λ mode. m.strong mode ≡ true))
+        → (m.mask a ≡ m.mask b) ⊎ ((list_any (same_oid rel) (relations_changed t row) ≡ true) × IfSome (update_where t) (λ mode. strong mode ≡ true))
     by_test a b row true same either is = validating a b row (same refl) either is
     by_test a b row false same either is = inr (constraint_changed rel row is, tt)
 
@@ -255,11 +255,11 @@ constraint_masks m exclusive shared asks validating = masks_of m exclusive (λ o
     put (rows.Trg oid o own x) (rows.Trg to t name y) row either is asked = absurd (none asked)
     put a b row either is asked = inr (constraint_changed rel row is, tt)
 
-    taken : (a : Row) (key : RowKey) (row : Row) → a ≡ row → IsConstraintOf rel row → ⊥ ⊎ IsStrongOn m (Some a) (forms.Remove key) row
+    taken : (a : Row) (key : RowKey) (row : Row) → a ≡ row → IsConstraintOf rel row → ⊥ ⊎ IsStrongOn rel strong (Some a) (forms.Remove key) row
     taken (rows.Trg oid o own x) key row same is = absurd (let none : false ≡ true = subst (IsConstraintOf rel) (sym same) is in cc)
     taken a key row same is = inr (constraint_changed rel row is, tt)
 
-    of : (old : Option Row) (item : Item) (row : Row) → IsNamed old item row → IsConstraintOf rel row → KeepsMask m old item ⊎ IsStrongOn m old item row
+    of : (old : Option Row) (item : Item) (row : Row) → IsNamed old item row → IsConstraintOf rel row → KeepsMask m old item ⊎ IsStrongOn rel strong old item row
     of None (forms.Add new) row named is = inr (constraint_changed rel row is, added new (subst (IsConstraintOf rel) (sym named.0) is))
     of (Some old) (forms.Add new) row named is = inr (constraint_changed rel row is, added new (subst (IsConstraintOf rel) (sym named.0) is))
     of None (forms.Put new) row named is = inr (constraint_changed rel row is, tt)
@@ -269,8 +269,8 @@ constraint_masks m exclusive shared asks validating = masks_of m exclusive (λ o
     of old (forms.Force o) row named is = absurd named
 
 -- whether a constraint is known to hold a lock of ShareUpdateExclusive may change
-pub unvalidated_masks : (rel : Oid) → Masks (unvalidated_mask rel)
-unvalidated_masks rel = constraint_masks (unvalidated_mask rel) refl refl (λ row concerned. sym (selects_unvalidated rel row) ∙ concerned) (λ a b row same either is. inl same)
+pub unvalidated_masks : (rel : Oid) → Masks (unvalidated_mask rel) (held_marks rel under_row)
+unvalidated_masks rel = constraint_masks (unvalidated_mask rel) rel under_row refl refl (λ row concerned. sym (selects_unvalidated rel row) ∙ concerned) (λ a b row same either is. inl same)
 
 own_changed : (rel : Oid) (row : Row) → IsConstraintOf rel row → list_any (same_oid (main_rel row)) (relations_changed true row) ≡ true
 own_changed rel (rows.Con oid of name valid (demands.Foreign num refrel refnum)) is = same_self of []
@@ -288,8 +288,8 @@ counted_other rel (rows.Con oid of name valid (demands.Check text)) is other = a
 counted_other rel row is other = absurd (cc)
 
 -- for the relation that a foreign key refers to no lock of it is needed
-pub counted_masks : (rel : Oid) → Masks (counted_mask rel)
-counted_masks rel = constraint_masks (counted_mask rel) refl refl (λ row concerned. sym (selects_counted rel row) ∙ concerned) validating
+pub counted_masks : (rel : Oid) → Masks (counted_mask rel) (held_marks rel is_changing)
+counted_masks rel = constraint_masks (counted_mask rel) rel is_changing refl refl (λ row concerned. sym (selects_counted rel row) ∙ concerned) validating
   where
     K : Row → Row → Row → Type 0
     K a b row = (counted_for (scans.Constraint rel) a ≡ counted_for (scans.Constraint rel) b) ⊎ ((list_any (same_oid rel) (relations_changed true row) ≡ true) × (is_changing ShareUpdateExclusive ≡ true))

@@ -71,7 +71,7 @@ pub record Touch (history : List Entry) (s : Stamp) (row : Row) : Type 0 where
 abbrev pub Touched : List Entry → Type 0
 Touched history = AllByRecursion (OfStamps (Touch history)) (versions_of history)
 
-below_stays : (p : Written → Bool) (lists : List Written) (from c : ℕ) → ((w : Written) → p w ≡ true → is_of c w ≡ true) → nat_le from c ≡ false → list_any p lists ≡ true → list_any p (filter (λ w. nat_lt w.command from) lists) ≡ true
+pub below_stays : (p : Written → Bool) (lists : List Written) (from c : ℕ) → ((w : Written) → p w ≡ true → is_of c w ≡ true) → nat_le from c ≡ false → list_any p lists ≡ true → list_any p (filter (λ w. nat_lt w.command from) lists) ≡ true
 below_stays p lists from c of below has = any-filter p (λ w. nat_lt w.command from) (λ w is. ap (λ k. nat_lt k from) (eqb-true w.command c (of w is)) ∙ lt-ltb c from (leb-false from c below)) lists has
 
 -- the event takes back what was done in the command

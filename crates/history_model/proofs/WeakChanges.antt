@@ -33,8 +33,10 @@ use Rattle.history_model.proofs.Every.{every-filter}
 use Rattle.history_model.proofs.EnoughModes.{under_row}
 use Rattle.history_model.proofs.FixedRows.{fixed, is_loose}
 use Rattle.history_model.proofs.Guards.{is_changing, is_exclusive}
-use Rattle.history_model.proofs.HeldRows.{changed_under, unheld_visible}
-use Rattle.history_model.proofs.MaskedScans.{AsksMasked, masked_leaves}
+use Rattle.history_model.proofs.HeldRows.{not_held, changed_under, unheld_visible}
+use Rattle.history_model.proofs.MaskedRows.{Masking, Masks}
+use Rattle.history_model.proofs.Markings.{held_marks}
+use Rattle.history_model.proofs.MaskedScans.{AsksMasked, masked_visible}
 use Rattle.history_model.proofs.Observed.{LeavesRead}
 use Rattle.history_model.proofs.RowMasks.{fixed_mask, fixed_masks, unvalidated, unvalidated_mask, unvalidated_masks, selects_unvalidated, counted_mask, counted_masks, selects_counted}
 use Rattle.history_model.proofs.Touched.{entry_of}
@@ -107,13 +109,18 @@ column_apart rel = record {
   by_number = λ found. inl (λ row other. refl);
 }
 
+-- where a backend holds none of some modes on the relation, among which those are that mark changes of masked rows, what it makes visible leaves the masked answer
+pub masked_leaves : (m : Masking) (rel : Oid) (strong : Mode → Bool) → Masks m (held_marks rel strong) → (d : Purpose) → AsksMasked m d → (modes : List Mode) → ((mode : Mode) → strong mode ≡ true → list_any (same_mode mode) modes ≡ true) → LeavesRead (map m.mask) d rel modes
+masked_leaves m rel strong masks d apart modes among history a c xid b sound comes other none =
+    masked_visible m (held_marks rel strong) masks d apart history a c xid b sound comes other (λ i is. not_held strong modes (held_of history) a i rel among none is)
+
 exclusive_only : (mode : Mode) → is_exclusive mode ≡ true → list_any (same_mode mode) (AccessExclusive ∷ []) ≡ true
 exclusive_only AccessExclusive is = refl
 exclusive_only mode is = absurd (cc)
 
 -- what becomes visible leaves another's answer but for what a weak mode changes, where its backend doesn't hold AccessExclusive on the relation
 pub fixed_leaves : (rel : Oid) (d : Purpose) → AsksMasked (fixed_mask rel) d → LeavesRead (map fixed) d rel (AccessExclusive ∷ [])
-fixed_leaves rel d apart = masked_leaves (fixed_mask rel) (fixed_masks rel) d apart (AccessExclusive ∷ []) exclusive_only
+fixed_leaves rel d apart = masked_leaves (fixed_mask rel) rel is_exclusive (fixed_masks rel) d apart (AccessExclusive ∷ []) exclusive_only
 
 pub fixed_visible : (history : List Entry) (a c : ℕ) (xid : Xid) (b : ℕ) (rel : Oid) (d : Purpose) → AsksMasked (fixed_mask rel) d → IsSound history → MayComeNext history (entry_of a c (events.Visible xid)) → (a == b) ≡ false → holds (held_of history) a rel AccessExclusive ≡ false
     → map fixed (answer_of (history ++ entry_of a c (events.Visible xid) ∷ []) b d) ≡ map fixed (answer_of history b d)
@@ -165,11 +172,11 @@ row_only mode is = absurd (cc)
 
 -- what becomes visible leaves a relation's constraints as they count for it, where its backend holds on it none of the modes that are no weaker than those which exclude themselves
 pub counted_leaves : (rel : Oid) → LeavesRead (map (counted_for (scans.Constraint rel))) (scans.Constraint rel) rel (ShareUpdateExclusive ∷ ShareRowExclusive ∷ AccessExclusive ∷ [])
-counted_leaves rel = masked_leaves (counted_mask rel) (counted_masks rel) (scans.Constraint rel) (counted_apart rel) (ShareUpdateExclusive ∷ ShareRowExclusive ∷ AccessExclusive ∷ []) changing_only
+counted_leaves rel = masked_leaves (counted_mask rel) rel is_changing (counted_masks rel) (scans.Constraint rel) (counted_apart rel) (ShareUpdateExclusive ∷ ShareRowExclusive ∷ AccessExclusive ∷ []) changing_only
 
 -- and but for whether they are known to hold, where it holds neither ShareRowExclusive nor AccessExclusive
 pub unvalidated_leaves : (rel : Oid) → LeavesRead (map unvalidated) (scans.Constraint rel) rel (ShareRowExclusive ∷ AccessExclusive ∷ [])
-unvalidated_leaves rel = masked_leaves (unvalidated_mask rel) (unvalidated_masks rel) (scans.Constraint rel) (unvalidated_apart rel) (ShareRowExclusive ∷ AccessExclusive ∷ []) row_only
+unvalidated_leaves rel = masked_leaves (unvalidated_mask rel) rel under_row (unvalidated_masks rel) (scans.Constraint rel) (unvalidated_apart rel) (ShareRowExclusive ∷ AccessExclusive ∷ []) row_only
 
 items_masked : (mask : Row → Row) (f : Field) (rel : Oid) → ((row : Row) → item_of f rel (mask row) ≡ item_of f rel row) → (given : List Row) → filter_map (item_of f rel) (map mask given) ≡ filter_map (item_of f rel) given
 items_masked mask f rel same [] = refl
