@@ -4,9 +4,7 @@ use Rattle.std.specs.Prelude.{nat_le, ⊤}
 use Rattle.std.specs.List.{AllByRecursion, list_any, flat_map, find}
 use Rattle.std.specs.Option.{option_map_or, IfSome}
 use Rattle.std.proofs.lemmas.Bool.{eqb-true, eq-eqb, both_ways, and_parts, and_from, and_right, false_from_ne_true, not-true}
-use Rattle.base_types.specs.declared.ids.Oid.{Oid}
 use Rattle.base_types.specs.declared.ids.Xid.{Xid}
-use Rattle.base_types.specs.declared.mode.Mode.{Mode}
 use Rattle.base_types.specs.declared.row.Row.{Row}
 use Rattle.base_types.specs.RowKeys.{key_of, same_key, are_distinct_keys}
 use Rattle.event_kinds.specs.declared.entry.Entry.{Entry}
@@ -17,20 +15,19 @@ use Rattle.event_kinds.specs.declared.entry.Item.TheVariants as forms
 use Rattle.row_visibility.specs.declared.version.Version.{Version}
 use Rattle.row_visibility.specs.declared.version.Stamp.{Stamp}
 use Rattle.row_visibility.specs.Seen.{seen_by}
-use Rattle.lock_modes.specs.declared.grant.Grant.{Grant}
 use Rattle.history_model.specs.Transactions.{Running, running_transaction_of, running_by, has_xid, is_visible, runs_as, is_committed, makes_visible}
 use Rattle.history_model.specs.Versions.{versions_of, versions_by, change_by, end_by, ends, version_of, added_row, old_row, is_back, end_back, counts, sees}
 use Rattle.history_model.specs.Sent.{lists_of}
-use Rattle.history_model.specs.Held.{held_of, held_by, granted_by}
+use Rattle.history_model.specs.Held.{held_of}
 use Rattle.history_model.specs.Writes.{changed_key}
 use Rattle.history_model.specs.Orderly.{main_rel, MayComeNext, IsSound}
 use Rattle.history_model.proofs.Prefixes.{each-keeps}
-use Rattle.history_model.proofs.Every.{every-weaker, every, every-append, every-map, every-both, every-swap, any-left, SomeOf, some-weaker, some_with, some-left, some-right, some-sides, some-map, some-unmap, some-filter, some-unfilter, some_or}
+use Rattle.history_model.proofs.Every.{every-weaker, every, every-append, every-map, every-both, every-swap, SomeOf, some-weaker, some_with, some-left, some-right, some-sides, some-map, some-unmap, some-filter, some-unfilter, some_or}
 use Rattle.history_model.proofs.Lawful.{IsLawful}
-use Rattle.history_model.proofs.Reading.{running_transaction_of-own as running-own, running_transaction_of-other as running-other, versions_of-more as versions-more, held_of-more as held-more}
+use Rattle.history_model.proofs.Reading.{running_transaction_of-own as running-own, running_transaction_of-other as running-other, versions_of-more as versions-more}
 use Rattle.history_model.proofs.Runs.{Runs, Runs-more, one_xid}
 use Rattle.history_model.proofs.Touched.{entry_of, OfStamps, stamps-weaker, stamps-write, is_of, Touch, Touched}
-use Rattle.history_model.proofs.Guards.{key_eq, IsHeldIn, Guard, GuardsLawfully, MayChange, changes_on, guard_changes, one_changer, any_with}
+use Rattle.history_model.proofs.Guards.{key_eq, Guard, GuardsLawfully, MayChange, changes_on, guard_changes, one_changer, any_with}
 use Rattle.history_model.proofs.Seen.{counts_at, IsDown, every_command, seen-same, counts_at-same}
 use Rattle.history_model.proofs.OneVersion.{visible_as, gone_seen, before_command, before_down, GoneView, gone_view, distinct_split, differ_from, added_key}
 use Rattle.history_model.proofs.Lives.{Begun, begun_at}
@@ -113,7 +110,7 @@ counted_same m x f g vs all = (
     Same : Version → Type 0
     Same v = main_rel v.row ≡ main_rel x → OfStamps (λ s row. f s ≡ g s) v
 
-counted_all : (m : Masking) (x : Row) (f g : Stamp → Bool) (vs : List Version) → AllByRecursion (OfStamps (λ s row. f s ≡ g s)) vs → ShowSame m x f vs g vs
+pub counted_all : (m : Masking) (x : Row) (f g : Stamp → Bool) (vs : List Version) → AllByRecursion (OfStamps (λ s row. f s ≡ g s)) vs → ShowSame m x f vs g vs
 counted_all m x f g vs all = counted_same m x f g vs (every-weaker (OfStamps (λ s row. f s ≡ g s)) (λ v. main_rel v.row ≡ main_rel x → OfStamps (λ s row. f s ≡ g s) v) (λ v same is. same) vs all)
 
 abbrev ended_at : Stamp → Version → Version
@@ -301,11 +298,11 @@ write_unseen m history w c xid items lawful k a q x is =
         (every-both (OfStamps (Touch history)) (λ v. AllByRecursion (λ item. Once item v) items) vs k.touched (every-swap Once items vs lawful.2))
 
 -- a write of a backend leaves the masked rows that it sees, where each change of such a row leaves the masked row
-abbrev pub Leaves : Masking → List Entry → ℕ → Item → Row → Type 0
-Leaves m history w item row = m.concerns (m.mask row) → KeepsMask m (old_row history w item) item
+abbrev pub LeavesMask : Masking → List Entry → ℕ → Item → Row → Type 0
+LeavesMask m history w item row = m.concerns (m.mask row) → KeepsMask m (old_row history w item) item
 
 pub write_leaves : (m : Masking) (history : List Entry) (w c : ℕ) (xid : Xid) (items : List Item) → IsLawful history (entry_of w c (events.Write xid items)) → Ordered history → are_distinct_keys (flat_map changed_key items) ≡ true
-    → AllByRecursion (λ item. IfSome (added_row item) (Leaves m history w item) × IfSome (old_row history w item) (Leaves m history w item)) items → AllByRecursion (λ l. l.command ≤ c) (lists_of history w)
+    → AllByRecursion (λ item. IfSome (added_row item) (LeavesMask m history w item) × IfSome (old_row history w item) (LeavesMask m history w item)) items → AllByRecursion (λ l. l.command ≤ c) (lists_of history w)
     → (p : ℕ → Bool) (x : Row) → m.concerns x → IsDown p → p c ≡ true → counts_at (history ++ entry_of w c (events.Write xid items) ∷ []) w p (record { xid = xid; command = c }) ≡ true
     → ShowSame m x (counts_at (history ++ entry_of w c (events.Write xid items) ∷ []) w p) (versions_by history w c (events.Write xid items) (versions_of history)) (counts_at history w p) (versions_of history)
 write_leaves m history w c xid items lawful k keys leaves low p x cx down pc is =
@@ -327,7 +324,7 @@ write_leaves m history w c xid items lawful k keys leaves low p x cx down pc is 
     f q = counts_at after w q
 
     For : Item → Row → Type 0
-    For item = Leaves m history w item
+    For item = LeavesMask m history w item
 
     counted : (s : Stamp) (row : Row) → Touch history s row → f p s ≡ counts history w s
     counted s row touch = counts_at-same history w c (events.Write xid items) w p s row lawful k.runs refl touch ∙ below (runs_as history w s.xid.0) refl
@@ -471,7 +468,7 @@ steady_write m n history w c xid items lawful k keys guarded low a p q x cx down
     For : Item → Row → Type 0
     For item = IsFor m n history w c xid items item
 
-    kept_by : w ≡ a → p c ≡ true → q c ≡ false → (item : Item) (row : Row) → For item row → Leaves m history w item row
+    kept_by : w ≡ a → p c ≡ true → q c ≡ false → (item : Item) (row : Row) → For item row → LeavesMask m history w item row
     kept_by one pc qc item row for concerned = of (for concerned)
       where
         of : n.has after w c ⊎ KeepsMask m (old_row history w item) item → KeepsMask m (old_row history w item) item
@@ -483,8 +480,8 @@ steady_write m n history w c xid items lawful k keys guarded low a p q x cx down
     seen one true pc true qc = subst (λ o. ShowSame m x (counts_at after o p) written (counts_at after o q) written) one (write_full m history w c xid items lawful k low p q x down_p down_q pc qc)
     seen one true pc false qc = join
         (subst (λ o. ShowSame m x (counts_at after o p) written (counts_at history o p) vs) one (write_leaves m history w c xid items lawful k keys
-        (every-weaker (λ item. IfSome (added_row item) (For item) × IfSome (old_row history w item) (For item)) (λ item. IfSome (added_row item) (Leaves m history w item) × IfSome (old_row history w item) (Leaves m history w item))
-        (λ item h. (if_some (For item) (Leaves m history w item) (kept_by one pc qc item) (added_row item) h.0, if_some (For item) (Leaves m history w item) (kept_by one pc qc item) (old_row history w item) h.1)) items guarded)
+        (every-weaker (λ item. IfSome (added_row item) (For item) × IfSome (old_row history w item) (For item)) (λ item. IfSome (added_row item) (LeavesMask m history w item) × IfSome (old_row history w item) (LeavesMask m history w item))
+        (λ item h. (if_some (For item) (LeavesMask m history w item) (kept_by one pc qc item) (added_row item) h.0, if_some (For item) (LeavesMask m history w item) (kept_by one pc qc item) (old_row history w item) h.1)) items guarded)
         low p x cx down_p pc (subst (λ o. counts_at after o p stamp ≡ true) (sym one) (stamp_is p ∙ and_from (runs_as after a xid.0) (p c) (subst (λ o. runs_as after o xid.0 ≡ true) one runs) pc))))
         (hidden q (ap (λ t. runs_as after a xid.0 && t) qc ∙ and_right (runs_as after a xid.0) false refl))
 
@@ -653,7 +650,7 @@ steady_quiet m history w c event lawful k hidden a p q x was =
     kept : (r : ℕ → Bool) → ShowSame m x (counts_at after a r) vs (counts_at history a r) vs
     kept r = counted_kept m x history w c event a r lawful k.runs k.touched hidden
 
-passing_down : (own : Bool) (p : ℕ → Bool) (from : ℕ) → IsDown p → IsDown (passing own p from)
+pub passing_down : (own : Bool) (p : ℕ → Bool) (from : ℕ) → IsDown p → IsDown (passing own p from)
 passing_down true p from down = before_down p from down
 passing_down false p from down = down
 

@@ -5,12 +5,10 @@ use Rattle.std.specs.List.{AllByRecursion, list_any}
 use Rattle.std.specs.Option.{IfSome}
 use Rattle.std.proofs.lemmas.Bool.{eqb-true, eq-eqb, both_ways, false_from_ne_true}
 use Rattle.base_types.specs.declared.ids.Xid.{Xid}
-use Rattle.base_types.specs.declared.mode.Mode.{Mode}
 use Rattle.base_types.specs.declared.row.Row.{Row}
 use Rattle.base_types.specs.declared.scan.Purpose.{Purpose}
 use Rattle.base_types.specs.RowKeys.{key_of}
-use Rattle.base_types.specs.Modes.{same_mode}
-use Rattle.base_types.specs.Scans.{selects, row_number, scan_of}
+use Rattle.base_types.specs.Scans.{selects, row_number}
 use Rattle.event_kinds.specs.declared.entry.Entry.{Entry}
 use Rattle.event_kinds.specs.declared.entry.Event.TheVariants as events
 use Rattle.row_visibility.specs.declared.version.Version.{Version}
@@ -25,7 +23,7 @@ use Rattle.history_model.proofs.Every.{every-weaker, every-map, every-filter, ev
 use Rattle.history_model.proofs.Lawful.{IsLawful}
 use Rattle.history_model.proofs.Asking.{asked}
 use Rattle.history_model.proofs.Touched.{entry_of, OfStamps, Touch}
-use Rattle.history_model.proofs.Guards.{IsHeldIn, Guard, MayChange, changes_on, guard_changes, one_changer}
+use Rattle.history_model.proofs.Guards.{Guard, MayChange, changes_on, guard_changes, one_changer}
 use Rattle.history_model.proofs.Seen.{counts_at, every_command, Pairwise, pair-weaker, pair-map, pair-filter}
 use Rattle.history_model.proofs.OneVersion.{visible_as}
 use Rattle.history_model.proofs.Ordered.{Ordered, Ordered-more, lawful_of, one_seen, sound_ordered}
