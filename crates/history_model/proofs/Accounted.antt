@@ -16,13 +16,13 @@ use Rattle.history_model.specs.Coming.{IsComing, IsAccounted}
 use Rattle.history_model.specs.Legal.{AllowsEvent}
 use Rattle.history_model.specs.Read.{read_at, is_scan_of, place_read, rows_read, spares_by, usable_by, is_usable}
 use Rattle.history_model.specs.Orderly.{MayComeNext, IsSound}
-use Rattle.history_model.proofs.Prefixes.{each-keeps, along-keeps}
+use Rattle.history_model.proofs.Prefixes.{each-keeps, along-keeps, EachEntry-more}
 use Rattle.history_model.proofs.Reading.{life_of-own, life_of-other, position_of-own, position_of-other, is_usable-own, is_usable-other, read_at-own, read_at-other}
-use Rattle.history_model.proofs.Lawful.{CoversLawfully, IsLawful}
+use Rattle.history_model.proofs.Lawful.{IsLawful}
 use Rattle.history_model.proofs.Lives.{not_unstarted}
 use Rattle.history_model.proofs.Touched.{entry_of}
-use Rattle.history_model.proofs.Ordered.{Ordered, Ordered-start, Ordered-more, lawful_of, covers_of}
-use Rattle.history_model.proofs.Answers.{IsSparedByOther, IsSparedByOwn, answer-other, answer-own}
+use Rattle.history_model.proofs.Ordered.{Ordered, Ordered-start, Ordered-more, lawful_of}
+use Rattle.history_model.proofs.CountedAnswers.{IsUntoldByOther, IsUntoldByOwn, counted-other, counted-own}
 use Rattle.history_model.proofs.Coming.{Placed, Placed-more, Unsent, Unsent-more, coming-more, coming-fetch, coming-visible}
 use Rattle.history_model.proofs.Staying.{Stays, stays-other, stays-kept, stays-scan}
 
@@ -36,6 +36,7 @@ Accounted history = (b : ℕ) (d : Purpose) → is_usable history b d ≡ true �
 
 -- all that is carried along a sound history
 record Carried (history : List Entry) : Type 0 where
+  sound : IsSound history
   ordered : Ordered history
   placed : Placed history
   unsent : Unsent history
@@ -50,7 +51,7 @@ Unread-more history e unread b d is = by_owner (e.backend == b) refl
     by_owner false other = is_usable-other history e b d other ∙ unread b d (sym (life_of-other history e b other) ∙ is)
 
 -- another's entry spares the scan, or what covers it is on its way
-spared_or_coming : (history : List Entry) (a c : ℕ) (event : Event) (b : ℕ) (d : Purpose) → IsLawful history (entry_of a c event) → Unsent history → IsSparedByOther history a event d ⊎ IsComing (history ++ entry_of a c event ∷ []) b d
+spared_or_coming : (history : List Entry) (a c : ℕ) (event : Event) (b : ℕ) (d : Purpose) → IsLawful history (entry_of a c event) → Unsent history → IsUntoldByOther history a event d ⊎ IsComing (history ++ entry_of a c event ∷ []) b d
 spared_or_coming history a c (events.Visible xid) b d lawful unsent = by_test (is_covered (sent_of history a) d) refl
   where
     by_test : (t : Bool) → is_covered (sent_of history a) d ≡ t → (is_covered (sent_of history a) d ≡ false) ⊎ IsComing (history ++ entry_of a c (events.Visible xid) ∷ []) b d
@@ -58,20 +59,20 @@ spared_or_coming history a c (events.Visible xid) b d lawful unsent = by_test (i
     by_test false is = inl is
 spared_or_coming history a c event b d lawful unsent = inl tt
 
-after_other : (history : List Entry) (a c : ℕ) (event : Event) (b : ℕ) (d : Purpose) → (a == b) ≡ false → IsLawful history (entry_of a c event) → AllowsEvent history a c event → Carried history
+after_other : (history : List Entry) (a c : ℕ) (event : Event) (b : ℕ) (d : Purpose) → (a == b) ≡ false → IsLawful history (entry_of a c event) → MayComeNext history (entry_of a c event) → Carried history
     → IsComing history b d ⊎ Stays history b d → IsComing (history ++ entry_of a c event ∷ []) b d ⊎ Stays (history ++ entry_of a c event ∷ []) b d
-after_other history a c event b d other lawful allows k (inl coming) = inl (coming-more history (entry_of a c event) b d lawful allows k.placed (position_of-other history (entry_of a c event) b other) coming)
-after_other history a c event b d other lawful allows k (inr stays) = by_case (spared_or_coming history a c event b d lawful k.unsent)
+after_other history a c event b d other lawful comes k (inl coming) = inl (coming-more history (entry_of a c event) b d lawful comes.follows.event k.placed (position_of-other history (entry_of a c event) b other) coming)
+after_other history a c event b d other lawful comes k (inr stays) = by_case (spared_or_coming history a c event b d lawful k.unsent)
   where
-    by_case : IsSparedByOther history a event d ⊎ IsComing (history ++ entry_of a c event ∷ []) b d → IsComing (history ++ entry_of a c event ∷ []) b d ⊎ Stays (history ++ entry_of a c event ∷ []) b d
-    by_case (inl spared) = inr (stays-other history (entry_of a c event) b d other (answer-other history a c event b d other lawful k.ordered.runs k.ordered.touched spared) stays)
+    by_case : IsUntoldByOther history a event d ⊎ IsComing (history ++ entry_of a c event ∷ []) b d → IsComing (history ++ entry_of a c event ∷ []) b d ⊎ Stays (history ++ entry_of a c event ∷ []) b d
+    by_case (inl spared) = inr (stays-other history (entry_of a c event) b d other (counted-other history a c event b d other k.sound comes spared) stays)
     by_case (inr coming) = inl coming
 
 pub spared_is : (d : Purpose) (messages : List Message) → is_spared d messages ≡ true → is_covered messages d ≡ false
 spared_is d messages is = not-true (is_covered messages d) is
 
 -- an own entry that leaves the scan usable spares it
-pub own_spared : (history : List Entry) (b c : ℕ) (event : Event) (d : Purpose) → spares_by history b c d event ≡ true → IsSparedByOwn history b c event d
+pub own_spared : (history : List Entry) (b c : ℕ) (event : Event) (d : Purpose) → spares_by history b c d event ≡ true → IsUntoldByOwn history b event d
 own_spared history b c (events.Write xid items) d is = spared_is d (messages_written history b items) is
 own_spared history b c (events.Gone from) d is = spared_is d (sent_in (lists_from from (lists_of history b))) is
 own_spared history b c event d is = tt
@@ -90,24 +91,24 @@ own_coming history b c events.Start d lawful allows life k was is coming = absur
 own_coming history b c event d lawful allows life k was is coming = coming-more history (entry_of b c event) b d lawful allows k.placed (position_of-own history (entry_of b c event) b (eq-eqb b b refl)) coming
 
 -- the scan itself is spared
-pub scan_spared : (history : List Entry) (b c : ℕ) (event : Event) (d : Purpose) → is_scan_of d event ≡ true → IsSparedByOwn history b c event d
+pub scan_spared : (history : List Entry) (b c : ℕ) (event : Event) (d : Purpose) → is_scan_of d event ≡ true → IsUntoldByOwn history b event d
 scan_spared history b c (events.Write xid items) d it = absurd (cc)
 scan_spared history b c (events.Gone from) d it = absurd (cc)
 scan_spared history b c event d it = tt
 
-after_own : (history : List Entry) (b c : ℕ) (event : Event) (d : Purpose) → IsLawful history (entry_of b c event) → CoversLawfully history b event → AllowsEvent history b c event → FollowsLife (life_of history b) c event → Carried history → usable_by history b c d event (is_usable history b d) ≡ true
+after_own : (history : List Entry) (b c : ℕ) (event : Event) (d : Purpose) → IsLawful history (entry_of b c event) → MayComeNext history (entry_of b c event) → Carried history → usable_by history b c d event (is_usable history b d) ≡ true
     → IsComing (history ++ entry_of b c event ∷ []) b d ⊎ Stays (history ++ entry_of b c event ∷ []) b d
-after_own history b c event d lawful covering allows life k is = by_scan (is_scan_of d event) refl is
+after_own history b c event d lawful comes k is = by_scan (is_scan_of d event) refl is
   where
     own : (b == b) ≡ true
     own = eq-eqb b b refl
 
     kept : is_scan_of d event ≡ false → is_usable history b d ≡ true → spares_by history b c d event ≡ true → IsComing history b d ⊎ Stays history b d → IsComing (history ++ entry_of b c event ∷ []) b d ⊎ Stays (history ++ entry_of b c event ∷ []) b d
-    kept not_it was spared (inl coming) = inl (own_coming history b c event d lawful allows life k was spared coming)
-    kept not_it was spared (inr stays) = inr (stays-kept history (entry_of b c event) b d own not_it (answer-own history b c event d lawful covering k.ordered.runs k.ordered.touched (own_spared history b c event d spared)) stays)
+    kept not_it was spared (inl coming) = inl (own_coming history b c event d lawful comes.follows.event comes.follows.life k was spared coming)
+    kept not_it was spared (inr stays) = inr (stays-kept history (entry_of b c event) b d own not_it (counted-own history b c event d k.sound comes (own_spared history b c event d spared)) stays)
 
     by_scan : (t : Bool) → is_scan_of d event ≡ t → (t || (spares_by history b c d event && is_usable history b d)) ≡ true → IsComing (history ++ entry_of b c event ∷ []) b d ⊎ Stays (history ++ entry_of b c event ∷ []) b d
-    by_scan true it used = inr (stays-scan history (entry_of b c event) b d own it (answer-own history b c event d lawful covering k.ordered.runs k.ordered.touched (scan_spared history b c event d it)))
+    by_scan true it used = inr (stays-scan history (entry_of b c event) b d own it (counted-own history b c event d k.sound comes (scan_spared history b c event d it)))
     by_scan false not_it used = let parts = and_parts (spares_by history b c d event) (is_usable history b d) used in kept not_it parts.1 parts.0 (k.accounted b d parts.1)
 
 Accounted-more : (history : List Entry) (e : Entry) → MayComeNext history e → Carried history → Accounted (history ++ e ∷ [])
@@ -118,14 +119,15 @@ Accounted-more history e comes k b d is = by_owner (e.backend == b) refl
 
     by_owner : (t : Bool) → (e.backend == b) ≡ t → IsComing (history ++ e ∷ []) b d ⊎ Stays (history ++ e ∷ []) b d
     by_owner true own = subst (λ o. is_usable (history ++ e ∷ []) o d ≡ true → IsComing (history ++ e ∷ []) o d ⊎ Stays (history ++ e ∷ []) o d) (eqb-true e.backend b own)
-        (λ used. after_own history e.backend e.command e.event d lawful (covers_of history e k.ordered comes) comes.follows.event comes.follows.life k (sym (is_usable-own history e e.backend d (eq-eqb e.backend e.backend refl)) ∙ used)) is
-    by_owner false other = after_other history e.backend e.command e.event b d other lawful comes.follows.event k (k.accounted b d (sym (is_usable-other history e b d other) ∙ is))
+        (λ used. after_own history e.backend e.command e.event d lawful comes k (sym (is_usable-own history e e.backend d (eq-eqb e.backend e.backend refl)) ∙ used)) is
+    by_owner false other = after_other history e.backend e.command e.event b d other lawful comes k (k.accounted b d (sym (is_usable-other history e b d other) ∙ is))
 
 carried-start : Carried []
-carried-start = record { ordered = Ordered-start; placed = λ b. omega arith; unsent = λ a hidden. refl; unread = λ b d is. refl; accounted = λ b d is. absurd (cc) }
+carried-start = record { sound = tt; ordered = Ordered-start; placed = λ b. omega arith; unsent = λ a hidden. refl; unread = λ b d is. refl; accounted = λ b d is. absurd (cc) }
 
 carried-more : (history : List Entry) (e : Entry) → Carried history → MayComeNext history e → Carried (history ++ e ∷ [])
 carried-more history e k comes = record {
+  sound = EachEntry-more MayComeNext history e k.sound comes;
   ordered = Ordered-more history e k.ordered comes;
   placed = Placed-more history e comes.follows.event k.placed;
   unsent = Unsent-more history e comes.follows.event k.unsent;

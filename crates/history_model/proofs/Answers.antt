@@ -28,7 +28,7 @@ use Rattle.history_model.specs.Orderly.{MayComeNext, IsSound}
 use Rattle.history_model.proofs.Reading.{versions_of-more as versions-more, running_transaction_of-own as running-own, running_transaction_of-other as running-other, is_committed-more as committed-more}
 use Rattle.history_model.proofs.Every.{every-weaker, every, every-append, every-map, every-filter, every-swap, any-filter, any-flat, any-split}
 use Rattle.history_model.proofs.Asking.{asked, asked_first, asked-more, first_same, asked-same}
-use Rattle.history_model.proofs.Lawful.{EndsOnce, CoversRow, CoversItem, CoversLawfully, IsLawful}
+use Rattle.history_model.proofs.Lawful.{EndsOnce, CoversRow, CoversItem, CoversLawfully, IsLawful, asks_own, IsPlain}
 use Rattle.history_model.proofs.Runs.{Runs, xid-begun, xid-of_write}
 use Rattle.history_model.proofs.Touched.{entry_of, OfStamps, stamps-weaker, is_of, of_write, covers_at, Touch, Touched}
 use Rattle.history_model.proofs.Seen.{seen-same, runs-after}
@@ -131,17 +131,17 @@ counts-own history a c event b s row lawful r hidden touch =
     of (inr same) = ap (λ t. is_committed history s.xid.0 || t) same
 
 -- what a write of the command covers is covered by all that is sent
-sent-covered : (d : Purpose) (c : ℕ) (lists : List Written) → list_any (covers_at c d) lists ≡ true → is_covered (sent_in lists) d ≡ true
+pub sent-covered : (d : Purpose) (c : ℕ) (lists : List Written) → list_any (covers_at c d) lists ≡ true → is_covered (sent_in lists) d ≡ true
 sent-covered d c lists has = any-split (covers d) (λ w. w.cats) (λ w. w.rels) lists (any-flat (covers d) of_write (covers_at c d) (λ w here. (and_parts (is_of c w) (is_covered (of_write w) d) here).1) lists has)
 
 -- a stamp of a running transaction, on a row that a scan asks for, is covered
-stamp-covered : (history : List Entry) (a : ℕ) (d : Purpose) (s : Stamp) (row : Row) → Touch history s row → runs_as history a s.xid.0 ≡ true → selects d row ≡ true → is_covered (sent_of history a) d ≡ true
+stamp-covered : (history : List Entry) (a : ℕ) (d : Purpose) (s : Stamp) (row : Row) → Touch history s row → runs_as history a s.xid.0 ≡ true → asks_own d row ≡ true → is_covered (sent_of history a) d ≡ true
 stamp-covered history a d s row touch runs is = sent-covered d s.command (lists_of history a) (touch.covered a runs d is)
 
 -- what becomes visible leaves the answers that none of its messages covers
-visible-other : (history : List Entry) (a c : ℕ) (xid : Xid) (b : ℕ) (d : Purpose) → (a == b) ≡ false → IsLawful history (entry_of a c (events.Visible xid)) → Touched history
+visible-other : (history : List Entry) (a c : ℕ) (xid : Xid) (b : ℕ) (d : Purpose) → IsPlain d → (a == b) ≡ false → IsLawful history (entry_of a c (events.Visible xid)) → Touched history
     → is_covered (sent_of history a) d ≡ false → answer_of (history ++ entry_of a c (events.Visible xid) ∷ []) b d ≡ answer_of history b d
-visible-other history a c xid b d other lawful touched none =
+visible-other history a c xid b d plain other lawful touched none =
     answer-kept history (history ++ entry_of a c (events.Visible xid) ∷ []) b d (versions-more history (entry_of a c (events.Visible xid)))
     (every-weaker (OfStamps (Touch history)) (OfStamps (λ s row. selects d row ≡ true → counts (history ++ entry_of a c (events.Visible xid) ∷ []) b s ≡ counts history b s))
     (stamps-weaker (Touch history) (λ s row. selects d row ≡ true → counts (history ++ entry_of a c (events.Visible xid) ∷ []) b s ≡ counts history b s) same) (versions_of history) touched)
@@ -150,7 +150,7 @@ visible-other history a c xid b d other lawful touched none =
     same s row touch is = by_xid (xid.0 == s.xid.0) refl
       where
         by_xid : (t : Bool) → (xid.0 == s.xid.0) ≡ t → counts (history ++ entry_of a c (events.Visible xid) ∷ []) b s ≡ counts history b s
-        by_xid true one = absurd (both_ways _ none (stamp-covered history a d s row touch (subst (λ x. runs_as history a x ≡ true) (eqb-true xid.0 s.xid.0 one) lawful.1) is))
+        by_xid true one = absurd (both_ways _ none (stamp-covered history a d s row touch (subst (λ x. runs_as history a x ≡ true) (eqb-true xid.0 s.xid.0 one) lawful.1) (plain row is)))
         by_xid false differs = counts-other history a c (events.Visible xid) b s other differs
 
 -- what another writes and hasn't made visible doesn't count
@@ -225,9 +225,9 @@ write-other history a c xid changes b d other lawful r =
     leaves = record { ended = end_one; added = λ item items l. add_one items (added_row item) }
 
 -- an own write leaves the answers that its messages don't cover
-write-own : (history : List Entry) (b c : ℕ) (xid : Xid) (changes : List Item) (d : Purpose) → IsLawful history (entry_of b c (events.Write xid changes)) → CoversLawfully history b (events.Write xid changes) → Runs history → Touched history
+write-own : (history : List Entry) (b c : ℕ) (xid : Xid) (changes : List Item) (d : Purpose) → IsPlain d → IsLawful history (entry_of b c (events.Write xid changes)) → CoversLawfully history b (events.Write xid changes) → Runs history → Touched history
     → is_covered (messages_written history b changes) d ≡ false → answer_of (history ++ entry_of b c (events.Write xid changes) ∷ []) b d ≡ answer_of history b d
-write-own history b c xid changes d lawful covering r touched none =
+write-own history b c xid changes d plain lawful covering r touched none =
     ap (λ vs. fold (put_in_order d) [] (asked d (sees after b) vs)) (versions-more history (entry_of b c (events.Write xid changes)))
     ∙ ap (fold (put_in_order d) []) (asked-write d (sees after b) history b stamp Q (CoversItem history b messages) leaves changes (versions_of history) covering
     (every-swap (λ item v. ends history b item v ≡ true → CoversRow messages v.row) changes (versions_of history) (every-weaker (CoversItem history b messages) (λ item. AllByRecursion (λ v. ends history b item v ≡ true → CoversRow messages v.row) (versions_of history)) (λ item l. l.1) changes covering))
@@ -247,7 +247,7 @@ write-own history b c xid changes d lawful covering r touched none =
     Q items v = AllByRecursion (λ item. ends history b item v ≡ true → CoversRow messages v.row) items
 
     unasked : (row : Row) → CoversRow messages row → selects d row ≡ true → ⊥
-    unasked row covers_row is = both_ways _ none (covers_row d is)
+    unasked row covers_row is = both_ways _ none (covers_row d (plain row is))
 
     end_one : (item : Item) (items : List Item) (v : Version) → Q (item ∷ items) v → Q items (end_by (ends history b item) stamp v) × Alike d (sees after b) (sees after b) (end_by (ends history b item) stamp v) v
     end_one item items v q = by_test (ends history b item v) refl
@@ -338,9 +338,9 @@ gone-other history a c from b d other lawful r =
 abbrev pub taken_back : List Entry → ℕ → ℕ → List Message
 taken_back history b from = sent_in (lists_from from (lists_of history b))
 
-gone-own : (history : List Entry) (b c from : ℕ) (d : Purpose) → IsLawful history (entry_of b c (events.Gone from)) → Touched history
+gone-own : (history : List Entry) (b c from : ℕ) (d : Purpose) → IsPlain d → IsLawful history (entry_of b c (events.Gone from)) → Touched history
     → is_covered (taken_back history b from) d ≡ false → answer_of (history ++ entry_of b c (events.Gone from) ∷ []) b d ≡ answer_of history b d
-gone-own history b c from d lawful touched none =
+gone-own history b c from d plain lawful touched none =
     ap (λ vs. fold (put_in_order d) [] (asked d (sees after b) vs)) (versions-more history (entry_of b c (events.Gone from)))
     ∙ ap (fold (put_in_order d) []) (asked-same d (sees after b) (sees history b) left (every (λ v. selects d v.row ≡ true → sees after b v ≡ sees history b v) (λ v is. sees-same history after b v (same v)) left)
     ∙ asked-gone d (sees history b) (is_back history b from) (versions_of history) (every-weaker (OfStamps (Touch history)) (OfStamps (λ s row. is_back history b from s ≡ true → selects d row ≡ true → ⊥))
@@ -368,27 +368,27 @@ gone-own history b c from d lawful touched none =
     untouched s row touch back is =
         let parts = and_parts (runs_as history b s.xid.0) (nat_le from s.command) back in
         both_ways _ none (sent-covered d s.command (lists_from from (lists_of history b))
-        (any-filter (covers_at s.command d) (λ w. nat_le from w.command) (λ w here. ap (nat_le from) (eqb-true w.command s.command (and_parts (is_of s.command w) (is_covered (of_write w) d) here).0) ∙ parts.1) (lists_of history b) (touch.covered b parts.0 d is)))
+        (any-filter (covers_at s.command d) (λ w. nat_le from w.command) (λ w here. ap (nat_le from) (eqb-true w.command s.command (and_parts (is_of s.command w) (is_covered (of_write w) d) here).0) ∙ parts.1) (lists_of history b) (touch.covered b parts.0 d (plain row is))))
 
--- the event of another spares the scan: where it makes a transaction visible, none of that one's messages covers it
+-- the event of another spares the scan: where it makes a transaction visible, none of that one's messages covers it, and it isn't one of constraints
 abbrev pub IsSparedByOther : List Entry → ℕ → Event → Purpose → Type 0
-IsSparedByOther history a (events.Visible xid) d = is_covered (sent_of history a) d ≡ false
+IsSparedByOther history a (events.Visible xid) d = (is_covered (sent_of history a) d ≡ false) × IsPlain d
 IsSparedByOther history a event d = ⊤
 
 -- what another's entry leaves
 pub answer-other : (history : List Entry) (a c : ℕ) (event : Event) (b : ℕ) (d : Purpose) → (a == b) ≡ false → IsLawful history (entry_of a c event) → Runs history → Touched history
     → IsSparedByOther history a event d → answer_of (history ++ entry_of a c event ∷ []) b d ≡ answer_of history b d
-answer-other history a c (events.Visible xid) b d other lawful r touched spared = visible-other history a c xid b d other lawful touched spared
+answer-other history a c (events.Visible xid) b d other lawful r touched spared = visible-other history a c xid b d spared.1 other lawful touched spared.0
 answer-other history a c (events.Write xid changes) b d other lawful r touched spared = write-other history a c xid changes b d other lawful r
 answer-other history a c (events.Gone from) b d other lawful r touched spared = gone-other history a c from b d other lawful r
 answer-other history a c event b d other lawful r touched spared =
     answer-kept history (history ++ entry_of a c event ∷ []) b d (versions-more history (entry_of a c event)) (every-weaker (OfStamps (Touch history)) (OfStamps (λ s row. selects d row ≡ true → counts (history ++ entry_of a c event ∷ []) b s ≡ counts history b s))
     (stamps-weaker (Touch history) (λ s row. selects d row ≡ true → counts (history ++ entry_of a c event ∷ []) b s ≡ counts history b s) (λ s row touch is. counts-other history a c event b s other refl)) (versions_of history) touched)
 
--- an event of the backend's own spares the scan: none of the messages that it registers or takes back covers it
+-- an event of the backend's own spares the scan: none of the messages that it registers or takes back covers it, and where it does either, it isn't one of constraints
 abbrev pub IsSparedByOwn : List Entry → ℕ → ℕ → Event → Purpose → Type 0
-IsSparedByOwn history b c (events.Write xid changes) d = is_covered (messages_written history b changes) d ≡ false
-IsSparedByOwn history b c (events.Gone from) d = is_covered (taken_back history b from) d ≡ false
+IsSparedByOwn history b c (events.Write xid changes) d = (is_covered (messages_written history b changes) d ≡ false) × IsPlain d
+IsSparedByOwn history b c (events.Gone from) d = (is_covered (taken_back history b from) d ≡ false) × IsPlain d
 IsSparedByOwn history b c event d = ⊤
 
 -- what the backend makes visible itself it saw before
@@ -419,21 +419,14 @@ visible-own history b c xid d lawful touched =
 -- what an own entry leaves
 pub answer-own : (history : List Entry) (b c : ℕ) (event : Event) (d : Purpose) → IsLawful history (entry_of b c event) → CoversLawfully history b event → Runs history → Touched history
     → IsSparedByOwn history b c event d → answer_of (history ++ entry_of b c event ∷ []) b d ≡ answer_of history b d
-answer-own history b c (events.Write xid changes) d lawful covering r touched spared = write-own history b c xid changes d lawful covering r touched spared
-answer-own history b c (events.Gone from) d lawful covering r touched spared = gone-own history b c from d lawful touched spared
+answer-own history b c (events.Write xid changes) d lawful covering r touched spared = write-own history b c xid changes d spared.1 lawful covering r touched spared.0
+answer-own history b c (events.Gone from) d lawful covering r touched spared = gone-own history b c from d spared.1 lawful touched spared.0
 answer-own history b c (events.Visible xid) d lawful covering r touched spared = visible-own history b c xid d lawful touched
 answer-own history b c event d lawful covering r touched spared =
     answer-kept history (history ++ entry_of b c event ∷ []) b d (versions-more history (entry_of b c event)) (every-weaker (OfStamps (Touch history)) (OfStamps (λ s row. selects d row ≡ true → counts (history ++ entry_of b c event ∷ []) b s ≡ counts history b s))
     (stamps-weaker (Touch history) (λ s row. selects d row ≡ true → counts (history ++ entry_of b c event ∷ []) b s ≡ counts history b s) (λ s row touch is. counts-own history b c event b s row lawful r refl touch)) (versions_of history) touched)
 
 -- Of each entry that a sound history may go on with.
-
--- what becomes visible leaves another's answer that none of its messages covers
-pub covered_answers : (history : List Entry) (a c : ℕ) (xid : Xid) (b : ℕ) (d : Purpose) → IsSound history → MayComeNext history (entry_of a c (events.Visible xid)) → (a == b) ≡ false
-    → is_covered (sent_of history a) d ≡ false → answer_of (history ++ entry_of a c (events.Visible xid) ∷ []) b d ≡ answer_of history b d
-covered_answers history a c xid b d sound comes other none =
-    let k = sound_ordered history sound in
-    visible-other history a c xid b d other (lawful_of history (entry_of a c (events.Visible xid)) k comes) k.touched none
 
 -- any entry of another leaves an answer that it spares
 pub other_answers : (history : List Entry) (e : Entry) (b : ℕ) (d : Purpose) → IsSound history → MayComeNext history e → (e.backend == b) ≡ false

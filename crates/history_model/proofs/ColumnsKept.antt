@@ -16,6 +16,7 @@ use Rattle.event_kinds.specs.declared.entry.Entry.{Entry}
 use Rattle.event_kinds.specs.declared.entry.Event.TheVariants as events
 use Rattle.lock_modes.specs.Grants.{holds}
 use Rattle.history_model.specs.Versions.{rows_of, answer_of}
+use Rattle.history_model.specs.Covered.{counted_for}
 use Rattle.history_model.specs.Held.{held_of}
 use Rattle.history_model.specs.Orderly.{MayComeNext, IsSound}
 use Rattle.history_model.proofs.Prefixes.{EachEntry-more}
@@ -24,7 +25,7 @@ use Rattle.history_model.proofs.Touched.{entry_of}
 use Rattle.history_model.proofs.FixedRows.{fixed}
 use Rattle.history_model.proofs.Seen.{Pairwise, pair-weaker, pair-filter}
 use Rattle.history_model.proofs.InOrder.{IsIn, Differ, scan_same}
-use Rattle.history_model.proofs.WeakChanges.{column_apart, number_fixed, fixed_visible}
+use Rattle.history_model.proofs.WeakChanges.{plain_goes, column_apart, number_fixed, fixed_visible}
 use Rattle.history_model.proofs.GivenRows.{given_seen, row_given}
 use Rattle.history_model.proofs.DistinctKeys.{HaveTwoKeys, given_keys}
 use Rattle.history_model.proofs.Observed.{LeavesRead}
@@ -122,9 +123,13 @@ numbered_stay history later b rel scan of sound sound' same =
 
 -- what becomes visible leaves it, where its backend doesn't hold AccessExclusive on the relation
 pub columns_leave : (rel : Oid) (scan : Purpose) → IsOfColumns rel scan → LeavesRead (by_number rel) scan rel (AccessExclusive ∷ [])
-columns_leave rel scan of history a c xid b sound comes other none =
-    numbered_stay history (history ++ e ∷ []) b rel scan of sound (EachEntry-more MayComeNext history e sound comes)
-    (fixed_visible history a c xid b rel (scans.Attribute rel) (column_apart rel) sound comes other (sym (or-false (holds (held_of history) a rel AccessExclusive)) ∙ none))
+columns_leave rel scan of = (
+  plain_goes (by_number rel) scan (plain of),
+  λ history a c xid b sound comes other none.
+      numbered_stay history (history ++ entry_of a c (events.Visible xid) ∷ []) b rel scan of sound (EachEntry-more MayComeNext history (entry_of a c (events.Visible xid)) sound comes)
+      (fixed_visible history a c xid b rel (scans.Attribute rel) (column_apart rel) sound comes other (sym (or-false (holds (held_of history) a rel AccessExclusive)) ∙ none)),
+)
   where
-    e : Entry
-    e = entry_of a c (events.Visible xid)
+    plain : IsOfColumns rel scan → (row : Row) → counted_for scan row ≡ row
+    plain (inl (name, is)) row = ap (λ d. counted_for d row) is
+    plain (inr is) row = ap (λ d. counted_for d row) is

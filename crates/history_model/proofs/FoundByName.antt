@@ -23,7 +23,7 @@ use Rattle.history_model.proofs.Every.{every-weaker, SomeOf, from_some}
 use Rattle.history_model.proofs.Touched.{entry_of}
 use Rattle.history_model.proofs.FixedRows.{fixed}
 use Rattle.history_model.proofs.InOrder.{IsIn}
-use Rattle.history_model.proofs.WeakChanges.{class_apart, fixed_visible}
+use Rattle.history_model.proofs.WeakChanges.{plain_goes, class_apart, fixed_visible}
 use Rattle.history_model.proofs.GivenRows.{given_seen}
 use Rattle.history_model.proofs.Observed.{IsReadAs, IsDirty, LeavesRead, observed_as}
 use Rattle.history_model.proofs.Locked.{IsSeenAs, class_of, seen_alone}
@@ -84,11 +84,14 @@ named_by_class history b name rel =
 
 -- what becomes visible leaves them, where its backend doesn't hold AccessExclusive on the relation
 pub named_leaves : (name : List ℕ) (rel : Oid) → LeavesRead (named_rows rel) (scans.RelName name) rel (AccessExclusive ∷ [])
-named_leaves name rel history a c xid b sound comes other none =
-    named_by_class (history ++ entry_of a c (events.Visible xid) ∷ []) b name rel
-    ∙ ap (filter (selects (scans.RelName name)))
-    (fixed_visible history a c xid b rel (scans.Class rel) (class_apart rel) sound comes other (sym (or-false (holds (held_of history) a rel AccessExclusive)) ∙ none))
-    ∙ sym (named_by_class history b name rel)
+named_leaves name rel = (
+  plain_goes (named_rows rel) (scans.RelName name) (λ row. refl),
+  λ history a c xid b sound comes other none.
+      named_by_class (history ++ entry_of a c (events.Visible xid) ∷ []) b name rel
+      ∙ ap (filter (selects (scans.RelName name)))
+      (fixed_visible history a c xid b rel (scans.Class rel) (class_apart rel) sound comes other (sym (or-false (holds (held_of history) a rel AccessExclusive)) ∙ none))
+      ∙ sym (named_by_class history b name rel),
+)
 
 -- so they are those that a scan of the name gave which still serves, or a change under AccessExclusive may be unknown
 pub named_observed : (name : List ℕ) (rel : Oid) (history : List Entry) (b : ℕ) → IsSound history → is_usable history b (scans.RelName name) ≡ true

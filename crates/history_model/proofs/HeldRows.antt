@@ -24,6 +24,7 @@ use Rattle.lock_modes.specs.declared.grant.Grant.{Grant}
 use Rattle.lock_modes.specs.Grants.{is_lock, holds}
 use Rattle.history_model.specs.Transactions.{runs_as}
 use Rattle.history_model.specs.Versions.{versions_of, added_row, old_row, ends, counts, answer_of}
+use Rattle.history_model.specs.Covered.{counted_for}
 use Rattle.history_model.specs.Held.{held_of, held_by}
 use Rattle.history_model.specs.Legal.{AllowsEvent}
 use Rattle.history_model.specs.Orderly.{IsOrderlyEvent, MayComeNext, IsSound}
@@ -140,6 +141,11 @@ relation_kept (scans.Constraint rel) = None
 relation_kept (scans.Index rel) = Some rel
 relation_kept (scans.Trigger rel) = Some rel
 relation_kept (scans.IndexRow rel) = Some rel
+
+-- each row counts for such a scan as it is
+pub kept_plain : (d : Purpose) (rel : Oid) → relation_kept d ≡ Some rel → (row : Row) → counted_for d row ≡ row
+kept_plain (scans.Constraint of) rel named row = absurd (cc)
+kept_plain d rel named row = refl
 
 update_among : (mode : Mode) → under_update mode ≡ true → list_any (same_mode mode) (ShareUpdateExclusive ∷ AccessExclusive ∷ []) ≡ true
 update_among ShareUpdateExclusive is = refl

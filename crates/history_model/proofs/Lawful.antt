@@ -1,11 +1,13 @@
 -- What the laws need of each entry; that the histories which the commands make have it is shown beside them.
-use Rattle.std.proofs.Common.{◌≡◌, ◌⊎◌, ℕ, true, false, None, List, []}
+use Rattle.std.proofs.Common.{◌≡◌, ◌⊎◌, ℕ, Bool, true, false, None, List, []}
 use Rattle.std.specs.Prelude.{⊤}
 use Rattle.std.specs.List.{AllByRecursion}
 use Rattle.std.specs.Option.{IfSome}
 use Rattle.base_types.specs.declared.row.Row.{Row}
 use Rattle.base_types.specs.declared.scan.Purpose.{Purpose}
-use Rattle.base_types.specs.Scans.{selects}
+use Rattle.base_types.specs.declared.row.Row.TheVariants as rows
+use Rattle.base_types.specs.declared.scan.Purpose.TheVariants as scans
+use Rattle.base_types.specs.Scans.{same_oid, selects}
 use Rattle.event_kinds.specs.declared.entry.Entry.{Entry}
 use Rattle.event_kinds.specs.declared.entry.Event.{Event}
 use Rattle.event_kinds.specs.declared.entry.Event.TheVariants as events
@@ -20,9 +22,18 @@ use Rattle.history_model.specs.Covered.{is_covered}
 abbrev pub EndsOnce : List Entry → ℕ → Item → Type 0
 EndsOnce before b item = AllByRecursion (λ v. ends before b item v ≡ true → IfSome v.ended (λ s. (other : ℕ) → runs_as before other s.xid.0 ≡ false)) (versions_of before)
 
--- a message covers each scan that asks for the row
+-- a scan asks for a row, but for a foreign key not by the relation that it refers to
+abbrev pub asks_own : Purpose → Row → Bool
+asks_own (scans.Constraint rel) (rows.Con oid of name valid what) = same_oid of rel
+asks_own d row = selects d row
+
+-- it does so for each row that it asks for
+abbrev pub IsPlain : Purpose → Type 0
+IsPlain d = (row : Row) → selects d row ≡ true → asks_own d row ≡ true
+
+-- a message covers each scan that asks for the row, but for a foreign key that by the relation that it refers to
 abbrev pub CoversRow : List Message → Row → Type 0
-CoversRow messages row = (d : Purpose) → selects d row ≡ true → is_covered messages d ≡ true
+CoversRow messages row = (d : Purpose) → asks_own d row ≡ true → is_covered messages d ≡ true
 
 -- so it is with the row that an item adds, and with those of the versions that it ends
 abbrev pub CoversItem : List Entry → ℕ → List Message → Item → Type 0

@@ -20,6 +20,7 @@ use Rattle.lock_modes.specs.declared.grant.Grant.{Grant}
 use Rattle.lock_modes.specs.Grants.{is_lock, holds}
 use Rattle.history_model.specs.Prefixes.{EachFrom}
 use Rattle.history_model.specs.Versions.{versions_of, sees, rows_of, answer_of}
+use Rattle.history_model.specs.Covered.{counted_for}
 use Rattle.history_model.specs.Held.{held_by, held_of}
 use Rattle.history_model.specs.Read.{is_scan_of, rows_read}
 use Rattle.history_model.specs.Orderly.{MayComeNext, IsSound}
@@ -41,7 +42,7 @@ use Rattle.history_model.proofs.Answers.{other_answers, own_answers}
 use Rattle.history_model.proofs.HeldRows.{IsChangedUnder, relation_kept, modes_of, changed_under, changed_more, unheld_visible}
 use Rattle.history_model.proofs.MaskedScans.{asked_differ}
 use Rattle.history_model.proofs.RowMasks.{fixed_mask}
-use Rattle.history_model.proofs.WeakChanges.{class_apart, class_numbers, fixed_visible}
+use Rattle.history_model.proofs.WeakChanges.{plain_goes, class_apart, class_numbers, fixed_visible}
 use Rattle.history_model.proofs.GivenRows.{given_seen}
 use Rattle.history_model.proofs.Observed.{LeavesRead}
 
@@ -117,8 +118,8 @@ changed_anyhow d rel named = changed_more (modes_of d) changing_modes d rel (amo
     among d = (refl, (refl, tt))
 
 -- what becomes visible leaves the answer of a scan that asks for rows of a relation, where its backend holds on it no mode under which they are changed
-pub unheld_leaves : (d : Purpose) (rel : Oid) (modes : List Mode) → IsChangedUnder modes d rel → LeavesRead (λ given. given) d rel modes
-unheld_leaves d rel modes under history a c xid b sound comes other none = unheld_visible history a c xid b rel d modes sound comes other under none
+pub unheld_leaves : (d : Purpose) (rel : Oid) (modes : List Mode) → ((row : Row) → counted_for d row ≡ row) → IsChangedUnder modes d rel → LeavesRead (λ given. given) d rel modes
+unheld_leaves d rel modes plain under = (plain_goes (λ given. given) d plain, λ history a c xid b sound comes other none. unheld_visible history a c xid b rel d modes sound comes other under none)
 
 other_barred : (history : List Entry) (a c : ℕ) (event : Event) (b : ℕ) (rel : Oid) (d : Purpose) (modes : List Mode) → IsSound history → MayComeNext history (entry_of a c event) → (a == b) ≡ false → IsChangedUnder modes d rel → AreBarred (held_of history) b rel modes
     → answer_of (history ++ entry_of a c event ∷ []) b d ≡ answer_of history b d

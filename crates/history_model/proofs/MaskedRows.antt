@@ -1,12 +1,10 @@
--- Of rows that concern a relation, masked as one likes: where each change of a masked row is made under one of some modes on the relation, a backend that holds none of these sees the masked rows that others see.
+-- Of rows that concern a relation, masked as one likes: where each command that changes a masked row is marked, a backend sees the same masked rows whether its work of commands that aren't marked counts or not.
 use Rattle.std.proofs.Common.{◌≡◌, ◌≤◌, ◌∙◌, ◌⊎◌, inl, inr, ℕ, Bool, true, false, not, Option, Some, None, List, [], ◌∷◌, ◌++◌, ◌==◌, ◌||◌, ◌&&◌, cond, refl, sym, ap, subst, map, filter, fold, arith}
 use Rattle.std.specs.Prelude.{nat_le, ⊤}
 use Rattle.std.specs.List.{AllByRecursion, list_any, flat_map, find}
 use Rattle.std.specs.Option.{option_map_or, IfSome}
 use Rattle.std.proofs.lemmas.Bool.{eqb-true, eq-eqb, both_ways, and_parts, and_from, and_right, false_from_ne_true, not-true}
-use Rattle.base_types.specs.declared.ids.Oid.{Oid}
 use Rattle.base_types.specs.declared.ids.Xid.{Xid}
-use Rattle.base_types.specs.declared.mode.Mode.{Mode}
 use Rattle.base_types.specs.declared.row.Row.{Row}
 use Rattle.base_types.specs.RowKeys.{key_of, same_key, are_distinct_keys}
 use Rattle.event_kinds.specs.declared.entry.Entry.{Entry}
@@ -17,20 +15,19 @@ use Rattle.event_kinds.specs.declared.entry.Item.TheVariants as forms
 use Rattle.row_visibility.specs.declared.version.Version.{Version}
 use Rattle.row_visibility.specs.declared.version.Stamp.{Stamp}
 use Rattle.row_visibility.specs.Seen.{seen_by}
-use Rattle.lock_modes.specs.declared.grant.Grant.{Grant}
 use Rattle.history_model.specs.Transactions.{Running, running_transaction_of, running_by, has_xid, is_visible, runs_as, is_committed, makes_visible}
 use Rattle.history_model.specs.Versions.{versions_of, versions_by, change_by, end_by, ends, version_of, added_row, old_row, is_back, end_back, counts, sees}
 use Rattle.history_model.specs.Sent.{lists_of}
-use Rattle.history_model.specs.Held.{held_of, held_by, granted_by}
+use Rattle.history_model.specs.Held.{held_of}
 use Rattle.history_model.specs.Writes.{changed_key}
 use Rattle.history_model.specs.Orderly.{main_rel, MayComeNext, IsSound}
 use Rattle.history_model.proofs.Prefixes.{each-keeps}
-use Rattle.history_model.proofs.Every.{every-weaker, every, every-append, every-map, every-both, every-swap, any-left, SomeOf, some-weaker, some_with, some-left, some-right, some-sides, some-map, some-unmap, some-filter, some-unfilter, some_or}
+use Rattle.history_model.proofs.Every.{every-weaker, every, every-append, every-map, every-both, every-swap, SomeOf, some-weaker, some_with, some-left, some-right, some-sides, some-map, some-unmap, some-filter, some-unfilter, some_or}
 use Rattle.history_model.proofs.Lawful.{IsLawful}
-use Rattle.history_model.proofs.Reading.{running_transaction_of-own as running-own, running_transaction_of-other as running-other, versions_of-more as versions-more, held_of-more as held-more}
+use Rattle.history_model.proofs.Reading.{running_transaction_of-own as running-own, running_transaction_of-other as running-other, versions_of-more as versions-more}
 use Rattle.history_model.proofs.Runs.{Runs, Runs-more, one_xid}
-use Rattle.history_model.proofs.Touched.{entry_of, OfStamps, stamps-weaker, is_of, Touch, Touched}
-use Rattle.history_model.proofs.Guards.{key_eq, IsHeldIn, Guard, GuardsLawfully, MayChange, changes_on, guard_changes, one_changer, any_with}
+use Rattle.history_model.proofs.Touched.{entry_of, OfStamps, stamps-weaker, stamps-write, is_of, Touch, Touched}
+use Rattle.history_model.proofs.Guards.{key_eq, Guard, GuardsLawfully, MayChange, changes_on, guard_changes, one_changer, any_with}
 use Rattle.history_model.proofs.Seen.{counts_at, IsDown, every_command, seen-same, counts_at-same}
 use Rattle.history_model.proofs.OneVersion.{visible_as, gone_seen, before_command, before_down, GoneView, gone_view, distinct_split, differ_from, added_key}
 use Rattle.history_model.proofs.Lives.{Begun, begun_at}
@@ -41,12 +38,10 @@ use Rattle.history_model.proofs.TakenLocks.{TakesFrom, release_takes, unlock_tak
 abbrev pub no_command : ℕ → Bool
 no_command c = false
 
--- rows that concern a relation, as they are masked, and the modes on it under which masked rows are changed
+-- rows that concern a relation, as they are masked
 pub record Masking : Type 1 where
   pub mask : Row → Row
   pub concerns : Row → Type 0
-  pub rel : Oid
-  pub strong : Mode → Bool
   pub main : (row : Row) → main_rel (mask row) ≡ main_rel row
 
 -- a change leaves the masked row
@@ -54,14 +49,26 @@ abbrev pub KeepsMask : Masking → Option Row → Item → Type 0
 KeepsMask m (Some old) (forms.Put row) = m.mask old ≡ m.mask row
 KeepsMask m old item = ⊥
 
--- of a row that a change names: if it concerns the relation, one of the modes is held on it, or the change leaves the masked row
-abbrev pub IsFor : Masking → List Entry → ℕ → ℕ → Xid → List Item → Item → Row → Type 0
-IsFor m history w c xid items item row = m.concerns (m.mask row) → IsHeldIn m.strong (held_by w c (events.Write xid items) (held_of history)) w c m.rel ⊎ KeepsMask m (old_row history w item) item
+-- what a backend did in a command isn't taken away by an event of its own
+abbrev pub SparesCommand : ℕ → Event → ℕ → Type 0
+SparesCommand c (events.Gone from) i = nat_le from i ≡ false
+SparesCommand c (events.Release from) i = nat_le from i ≡ false
+SparesCommand c (events.Unlock rel mode) i = nat_le c i ≡ false
+SparesCommand c event i = ⊤
+
+-- what marks the commands in which masked rows may be changed, as locks that are held: it stays until the command is taken back or its locks are released
+pub record Marking : Type 1 where
+  pub has : List Entry → ℕ → ℕ → Type 0
+  pub kept : (history : List Entry) (e : Entry) (a i : ℕ) → Ordered history → MayComeNext history e → ((e.backend == a) ≡ true → SparesCommand e.command e.event i) → has history a i → has (history ++ e ∷ []) a i
+
+-- of a row that a change names: if it concerns the relation, the command is marked, or the change leaves the masked row
+abbrev pub IsFor : Masking → Marking → List Entry → ℕ → ℕ → Xid → List Item → Item → Row → Type 0
+IsFor m n history w c xid items item row = m.concerns (m.mask row) → n.has (history ++ entry_of w c (events.Write xid items) ∷ []) w c ⊎ KeepsMask m (old_row history w item) item
 
 -- so it is with each write
-abbrev pub Masks : Masking → Type 0
-Masks m = (history : List Entry) (w c : ℕ) (xid : Xid) (items : List Item) → Ordered history → MayComeNext history (entry_of w c (events.Write xid items))
-    → AllByRecursion (λ item. IfSome (added_row item) (IsFor m history w c xid items item) × IfSome (old_row history w item) (IsFor m history w c xid items item)) items
+abbrev pub Masks : Masking → Marking → Type 0
+Masks m n = (history : List Entry) (w c : ℕ) (xid : Xid) (items : List Item) → Ordered history → MayComeNext history (entry_of w c (events.Write xid items))
+    → AllByRecursion (λ item. IfSome (added_row item) (IsFor m n history w c xid items item) × IfSome (old_row history w item) (IsFor m n history w c xid items item)) items
 
 -- the version is seen, and its masked row is this one
 abbrev pub Shows : Masking → (Stamp → Bool) → Row → Version → Type 0
@@ -71,14 +78,18 @@ Shows m f x v = (seen_by f v ≡ true) × (m.mask v.row ≡ x)
 abbrev pub ShowSame : Masking → Row → (Stamp → Bool) → List Version → (Stamp → Bool) → List Version → Type 0
 ShowSame m x f vs g ws = (SomeOf (Shows m f x) vs → SomeOf (Shows m g x) ws) × (SomeOf (Shows m g x) ws → SomeOf (Shows m f x) vs)
 
--- at no command that passes the test one of the modes was held on the relation
-abbrev pub HasNone : Masking → List Grant → ℕ → (ℕ → Bool) → Type 0
-HasNone m held a p = (c : ℕ) → p c ≡ true → IsHeldIn m.strong held a c m.rel → ⊥
+-- one test passes no more commands than another
+abbrev pub IsLess : (ℕ → Bool) → (ℕ → Bool) → Type 0
+IsLess q p = (c : ℕ) → q c ≡ true → p c ≡ true
 
--- a backend that holds none of the modes on the relation sees, however much of its own work counts, the masked rows that it sees where none of it counts
-abbrev pub Steady : Masking → List Entry → Type 0
-Steady m history = (a : ℕ) (p : ℕ → Bool) (x : Row) → m.concerns x → IsDown p → HasNone m (held_of history) a p
-    → ShowSame m x (counts_at history a p) (versions_of history) (counts_at history a no_command) (versions_of history)
+-- no command that passes one test and not the other is marked
+abbrev pub HasNone : Marking → List Entry → ℕ → (ℕ → Bool) → (ℕ → Bool) → Type 0
+HasNone n history a p q = (c : ℕ) → p c ≡ true → q c ≡ false → n.has history a c → ⊥
+
+-- a backend sees the same masked rows, whether its work of commands that aren't marked counts or not
+abbrev pub Steady : Masking → Marking → List Entry → Type 0
+Steady m n history = (a : ℕ) (p q : ℕ → Bool) (x : Row) → m.concerns x → IsDown p → IsDown q → IsLess q p → HasNone n history a p q
+    → ShowSame m x (counts_at history a p) (versions_of history) (counts_at history a q) (versions_of history)
 
 pub show-trans : (m : Masking) (x : Row) (f g h : Stamp → Bool) (vs ws us : List Version) → ShowSame m x f vs g ws → ShowSame m x g ws h us → ShowSame m x f vs h us
 show-trans m x f g h vs ws us one two = ((λ s. two.0 (one.0 s)), λ s. one.1 (two.1 s))
@@ -99,7 +110,7 @@ counted_same m x f g vs all = (
     Same : Version → Type 0
     Same v = main_rel v.row ≡ main_rel x → OfStamps (λ s row. f s ≡ g s) v
 
-counted_all : (m : Masking) (x : Row) (f g : Stamp → Bool) (vs : List Version) → AllByRecursion (OfStamps (λ s row. f s ≡ g s)) vs → ShowSame m x f vs g vs
+pub counted_all : (m : Masking) (x : Row) (f g : Stamp → Bool) (vs : List Version) → AllByRecursion (OfStamps (λ s row. f s ≡ g s)) vs → ShowSame m x f vs g vs
 counted_all m x f g vs all = counted_same m x f g vs (every-weaker (OfStamps (λ s row. f s ≡ g s)) (λ v. main_rel v.row ≡ main_rel x → OfStamps (λ s row. f s ≡ g s) v) (λ v same is. same) vs all)
 
 abbrev ended_at : Stamp → Version → Version
@@ -248,21 +259,14 @@ counted_kept m x history w c event a p lawful r touched hidden =
     (every-weaker (OfStamps (Touch history)) (OfStamps (λ s row. counts_at (history ++ entry_of w c event ∷ []) a p s ≡ counts_at history a p s))
     (stamps-weaker (Touch history) (λ s row. counts_at (history ++ entry_of w c event ∷ []) a p s ≡ counts_at history a p s) (λ s row touch. counts_at-same history w c event a p s row lawful r (hidden s.xid.0) touch)) (versions_of history) touched)
 
-steady_write : (m : Masking) (history : List Entry) (w c : ℕ) (xid : Xid) (items : List Item) → IsLawful history (entry_of w c (events.Write xid items)) → Ordered history → are_distinct_keys (flat_map changed_key items) ≡ true
-    → AllByRecursion (λ item. IfSome (added_row item) (IsFor m history w c xid items item) × IfSome (old_row history w item) (IsFor m history w c xid items item)) items → AllByRecursion (λ l. l.command ≤ c) (lists_of history w) → Steady m history
-    → (a : ℕ) (p : ℕ → Bool) (x : Row) → m.concerns x → IsDown p → HasNone m (held_by w c (events.Write xid items) (held_of history)) a p
-    → ShowSame m x (counts_at (history ++ entry_of w c (events.Write xid items) ∷ []) a p) (versions_by history w c (events.Write xid items) (versions_of history)) (counts_at (history ++ entry_of w c (events.Write xid items) ∷ []) a no_command) (versions_by history w c (events.Write xid items) (versions_of history))
-steady_write m history w c xid items lawful k keys guarded low steady a p x cx down none =
-    show-trans m x (f p) (counts_at history a p) (f no_command) written vs written (by_counts (f p stamp) refl)
-    (show-trans m x (counts_at history a p) (counts_at history a no_command) (f no_command) vs vs written
-    (steady a p x cx down (λ k pk strong. none k pk (any-left _ (held_of history) (flat_map (granted_by w c) items) strong)))
-    (show-sym m x (f no_command) (counts_at history a no_command) written vs (hidden no_command (off no_command refl))))
+-- a write that isn't seen
+write_unseen : (m : Masking) (history : List Entry) (w c : ℕ) (xid : Xid) (items : List Item) → IsLawful history (entry_of w c (events.Write xid items)) → Ordered history → (a : ℕ) (q : ℕ → Bool) (x : Row) → counts_at (history ++ entry_of w c (events.Write xid items) ∷ []) a q (record { xid = xid; command = c }) ≡ false
+    → ShowSame m x (counts_at (history ++ entry_of w c (events.Write xid items) ∷ []) a q) (versions_by history w c (events.Write xid items) (versions_of history)) (counts_at history a q) (versions_of history)
+write_unseen m history w c xid items lawful k a q x is =
+    show-trans m x (f q) (f q) (counts_at history a q) written vs vs (write_hidden m x (f q) history w stamp is items vs (uncounted q)) (counted_kept m x history w c (events.Write xid items) a q lawful k.runs k.touched (λ y. refl))
   where
-    e : Entry
-    e = entry_of w c (events.Write xid items)
-
     after : List Entry
-    after = history ++ e ∷ []
+    after = history ++ entry_of w c (events.Write xid items) ∷ []
 
     stamp : Stamp
     stamp = record { xid = xid; command = c }
@@ -275,28 +279,6 @@ steady_write m history w c xid items lawful k keys guarded low steady a p x cx d
 
     f : (ℕ → Bool) → Stamp → Bool
     f q = counts_at after a q
-
-    well : Runs after
-    well = Runs-more history e k.runs lawful
-
-    runs : runs_as after w xid.0 ≡ true
-    runs = ap (has_xid xid.0) (running-own history e w (eq-eqb w w refl)) ∙ eq-eqb xid.0 xid.0 refl
-
-    unseen : is_visible (running_transaction_of after w) ≡ false
-    unseen = ap is_visible (running-own history e w (eq-eqb w w refl)) ∙ begun_unseen (running_transaction_of history w) lawful.0
-      where
-        begun_unseen : (o : Option Running) → is_visible o ≡ false → is_visible (running_by c (events.Write xid items) o) ≡ false
-        begun_unseen None is = refl
-        begun_unseen (Some t) is = is
-
-    uncommitted : is_committed after xid.0 ≡ false
-    uncommitted = well.hidden w xid.0 runs unseen
-
-    off : (q : ℕ → Bool) → q c ≡ false → f q stamp ≡ false
-    off q is = ap (λ t. t || (runs_as after a xid.0 && q c)) uncommitted ∙ and_right (runs_as after a xid.0) (q c) is
-
-    same : (q : ℕ → Bool) → ShowSame m x (f q) vs (counts_at history a q) vs
-    same q = counted_kept m x history w c (events.Write xid items) a q lawful k.runs k.touched (λ y. refl)
 
     no_end : (q : ℕ → Bool) (v : Version) (o : Option Stamp) → IfSome o (λ s. Touch history s v.row) → (counts history w v.by && not (option_map_or (counts history w) o false)) ≡ true → IfSome o (λ s. (someone : ℕ) → runs_as history someone s.xid.0 ≡ false) → IfSome o (λ s. f q s ≡ false)
     no_end q v None touch seen none' = tt
@@ -315,80 +297,197 @@ steady_write m history w c xid items lawful k keys guarded low steady a p x cx d
         (λ v h. every-weaker (λ item. Once item v) (λ item. ends history w item v ≡ true → IfSome v.ended (λ s. f q s ≡ false)) (λ item once is. no_end q v v.ended h.0.1 (and_parts _ (sees history w v) is).1 (once is)) items h.1) vs
         (every-both (OfStamps (Touch history)) (λ v. AllByRecursion (λ item. Once item v) items) vs k.touched (every-swap Once items vs lawful.2))
 
-    hidden : (q : ℕ → Bool) → f q stamp ≡ false → ShowSame m x (f q) written (counts_at history a q) vs
-    hidden q is = show-trans m x (f q) (f q) (counts_at history a q) written vs vs (write_hidden m x (f q) history w stamp is items vs (uncounted q)) (same q)
+-- a write of a backend leaves the masked rows that it sees, where each change of such a row leaves the masked row
+abbrev pub LeavesMask : Masking → List Entry → ℕ → Item → Row → Type 0
+LeavesMask m history w item row = m.concerns (m.mask row) → KeepsMask m (old_row history w item) item
 
-    -- where it is seen: by its backend
-    own : f p stamp ≡ true → w ≡ a → p c ≡ true → ShowSame m x (f p) written (counts_at history a p) vs
-    own is one pc = show-trans m x (f p) (f p) (counts_at history a p) written vs vs (back, forth) (same p)
+pub write_leaves : (m : Masking) (history : List Entry) (w c : ℕ) (xid : Xid) (items : List Item) → IsLawful history (entry_of w c (events.Write xid items)) → Ordered history → are_distinct_keys (flat_map changed_key items) ≡ true
+    → AllByRecursion (λ item. IfSome (added_row item) (LeavesMask m history w item) × IfSome (old_row history w item) (LeavesMask m history w item)) items → AllByRecursion (λ l. l.command ≤ c) (lists_of history w)
+    → (p : ℕ → Bool) (x : Row) → m.concerns x → IsDown p → p c ≡ true → counts_at (history ++ entry_of w c (events.Write xid items) ∷ []) w p (record { xid = xid; command = c }) ≡ true
+    → ShowSame m x (counts_at (history ++ entry_of w c (events.Write xid items) ∷ []) w p) (versions_by history w c (events.Write xid items) (versions_of history)) (counts_at history w p) (versions_of history)
+write_leaves m history w c xid items lawful k keys leaves low p x cx down pc is =
+    show-trans m x (f p) (f p) (counts_at history w p) written vs vs (back, forth) (counted_kept m x history w c (events.Write xid items) w p lawful k.runs k.touched (λ y. refl))
+  where
+    after : List Entry
+    after = history ++ entry_of w c (events.Write xid items) ∷ []
+
+    stamp : Stamp
+    stamp = record { xid = xid; command = c }
+
+    vs : List Version
+    vs = versions_of history
+
+    written : List Version
+    written = versions_by history w c (events.Write xid items) (versions_of history)
+
+    f : (ℕ → Bool) → Stamp → Bool
+    f q = counts_at after w q
+
+    For : Item → Row → Type 0
+    For item = LeavesMask m history w item
+
+    counted : (s : Stamp) (row : Row) → Touch history s row → f p s ≡ counts history w s
+    counted s row touch = counts_at-same history w c (events.Write xid items) w p s row lawful k.runs refl touch ∙ below (runs_as history w s.xid.0) refl
       where
-        held : List Grant
-        held = held_by w c (events.Write xid items) (held_of history)
+        below : (t : Bool) → runs_as history w s.xid.0 ≡ t → (is_committed history s.xid.0 || (t && p s.command)) ≡ (is_committed history s.xid.0 || t)
+        below false is' = refl
+        below true is' =
+            let small : s.command ≤ c = any_with (is_of s.command) (λ l. l.command ≤ c) (s.command ≤ c) (λ l here short. omega (arith, eqb-true l.command s.command here, short)) (lists_of history w) (touch.written w is') low in
+            ap (λ t. is_committed history s.xid.0 || t) (down s.command c small pc)
 
-        For : Item → Row → Type 0
-        For item = IsFor m history w c xid items item
+    full : (v : Version) → OfStamps (Touch history) v → seen_by (f p) v ≡ sees history w v
+    full v touch = seen-same (f p) (counts history w) v (stamps-weaker (Touch history) (λ s row. f p s ≡ counts history w s) counted v touch)
 
-        weak : (item : Item) (row : Row) → For item row → m.concerns (m.mask row) → KeepsMask m (old_row history w item) item
-        weak item row held_for concerned = of (held_for concerned)
-          where
-            of : IsHeldIn m.strong held w c m.rel ⊎ KeepsMask m (old_row history w item) item → KeepsMask m (old_row history w item) item
-            of (inl strong) = absurd (none c pc (subst (λ o. IsHeldIn m.strong held o c m.rel) one strong))
-            of (inr it) = it
+    account : (item : Item) (o : Option Row) → old_row history w item ≡ o → Adds m x item → KeepsMask m o item → SomeOf (Shows m (f p) x) vs
+    account (forms.Put new) (Some old) is' adds it =
+        let same_new : new ≡ adds.0 = cc in
+        some_with (λ v. (sees history w v ≡ true) × (v.row ≡ old)) (OfStamps (Touch history)) (Shows m (f p) x) (λ v h touch. (full v touch ∙ h.0, ap m.mask h.1 ∙ it ∙ ap m.mask same_new ∙ adds.2)) vs k.touched
+        (find_some (λ row. same_key (key_of row) (key_of new)) (sees history w) old vs is')
+    account item (Some old) is' adds it = absurd it
+    account item None is' adds it = absurd it
 
-        counted : (s : Stamp) (row : Row) → Touch history s row → f p s ≡ counts history w s
-        counted s row touch = counts_at-same history w c (events.Write xid items) a p s row lawful k.runs refl touch ∙ subst (λ o. counts_at history o p s ≡ counts history w s) one (below (runs_as history w s.xid.0) refl)
-          where
-            below : (t : Bool) → runs_as history w s.xid.0 ≡ t → (is_committed history s.xid.0 || (t && p s.command)) ≡ (is_committed history s.xid.0 || t)
-            below false is' = refl
-            below true is' =
-                let small : s.command ≤ c = any_with (is_of s.command) (λ l. l.command ≤ c) (s.command ≤ c) (λ l here short. omega (arith, eqb-true l.command s.command here, short)) (lists_of history w) (touch.written w is') low in
-                ap (λ t. is_committed history s.xid.0 || t) (down s.command c small pc)
+    back : SomeOf (Shows m (f p) x) written → SomeOf (Shows m (f p) x) vs
+    back = write_back m x (f p) history w stamp is (SomeOf (Shows m (f p) x) vs) items vs
+        (every-weaker (λ item. IfSome (added_row item) (For item) × IfSome (old_row history w item) (For item)) (λ item. Adds m x item → SomeOf (Shows m (f p) x) vs)
+        (λ item h adds. account item (old_row history w item) refl adds ((subst (λ o. IfSome o (For item)) adds.1 h.0) (subst m.concerns (sym adds.2) cx))) items leaves) (λ some. some)
 
-        full : (v : Version) → OfStamps (Touch history) v → seen_by (f p) v ≡ sees history w v
-        full v touch = seen-same (f p) (counts history w) v (stamps-weaker (Touch history) (λ s row. f p s ≡ counts history w s) counted v touch)
+    Named : Item → Row → Type 0
+    Named item row = (old_row history w item ≡ Some row) × For item row
 
-        account : (item : Item) (o : Option Row) → old_row history w item ≡ o → Adds m x item → KeepsMask m o item → SomeOf (Shows m (f p) x) vs
-        account (forms.Put new) (Some old) is' adds it =
-            let same_new : new ≡ adds.0 = cc in
-            some_with (λ v. (sees history w v ≡ true) × (v.row ≡ old)) (OfStamps (Touch history)) (Shows m (f p) x) (λ v h touch. (full v touch ∙ h.0, ap m.mask h.1 ∙ it ∙ ap m.mask same_new ∙ adds.2)) vs k.touched
-            (find_some (λ row. same_key (key_of row) (key_of new)) (sees history w) old vs is')
-        account item (Some old) is' adds it = absurd it
-        account item None is' adds it = absurd it
+    named : (item : Item) (o : Option Row) → old_row history w item ≡ o → IfSome o (For item) → IfSome o (Named item)
+    named item None is' held_for = tt
+    named item (Some row) is' held_for = (is', held_for)
 
-        back : SomeOf (Shows m (f p) x) written → SomeOf (Shows m (f p) x) vs
-        back = write_back m x (f p) history w stamp is (SomeOf (Shows m (f p) x) vs) items vs
-            (every-weaker (λ item. IfSome (added_row item) (For item) × IfSome (old_row history w item) (For item)) (λ item. Adds m x item → SomeOf (Shows m (f p) x) vs)
-            (λ item h adds. account item (old_row history w item) refl adds (weak item adds.0 (subst (λ o. IfSome o (For item)) adds.1 h.0) (subst m.concerns (sym adds.2) cx))) items guarded) (λ some. some)
+    adds_it : (item : Item) (v : Version) → Shows m (f p) x v → Named item v.row → Adds m x item
+    adds_it item v sh n = of item (subst (λ o. KeepsMask m o item) n.0 (n.1 (subst m.concerns (sym sh.1) cx)))
+      where
+        of : (i : Item) → KeepsMask m (Some v.row) i → Adds m x i
+        of (forms.Put new) it = (new, refl, sym it ∙ sh.1)
+        of i it = absurd it
 
-        Named : Item → Row → Type 0
-        Named item row = (old_row history w item ≡ Some row) × For item row
+    all_named : AllByRecursion (λ v. AllByRecursion (λ item. ends history w item v ≡ true → Named item v.row) items) vs
+    all_named = every-swap (λ item v. ends history w item v ≡ true → Named item v.row) items vs
+        (every-weaker (λ item. IfSome (added_row item) (For item) × IfSome (old_row history w item) (For item)) (λ item. AllByRecursion (λ v. ends history w item v ≡ true → Named item v.row) vs)
+        (λ item h. ended_named history w (Named item) item k.one (named item (old_row history w item) refl h.1)) items leaves)
 
-        named : (item : Item) (o : Option Row) → old_row history w item ≡ o → IfSome o (For item) → IfSome o (Named item)
-        named item None is' held_for = tt
-        named item (Some row) is' held_for = (is', held_for)
+    forth : SomeOf (Shows m (f p) x) vs → SomeOf (Shows m (f p) x) written
+    forth some = write_forth m x (f p) history w stamp is items vs keys
+        (some_with (Shows m (f p) x) (λ v. AllByRecursion (λ item. ends history w item v ≡ true → Named item v.row) items) (Lasts m x (f p) history w items)
+        (λ v sh names. (sh, every-weaker (λ item. ends history w item v ≡ true → Named item v.row) (λ item. ends history w item v ≡ true → Adds m x item) (λ item n ends'. adds_it item v sh (n ends')) items names)) vs all_named some)
 
-        adds_it : (item : Item) (v : Version) → Shows m (f p) x v → Named item v.row → Adds m x item
-        adds_it item v sh n = of item (subst (λ o. KeepsMask m o item) n.0 (weak item v.row n.1 (subst m.concerns (sym sh.1) cx)))
-          where
-            of : (i : Item) → KeepsMask m (Some v.row) i → Adds m x i
-            of (forms.Put new) it = (new, refl, sym it ∙ sh.1)
-            of i it = absurd it
+-- where all that its backend did counts either way
+write_full : (m : Masking) (history : List Entry) (w c : ℕ) (xid : Xid) (items : List Item) → IsLawful history (entry_of w c (events.Write xid items)) → Ordered history → AllByRecursion (λ l. l.command ≤ c) (lists_of history w)
+    → (p q : ℕ → Bool) (x : Row) → IsDown p → IsDown q → p c ≡ true → q c ≡ true → ShowSame m x (counts_at (history ++ entry_of w c (events.Write xid items) ∷ []) w p) (versions_by history w c (events.Write xid items) (versions_of history)) (counts_at (history ++ entry_of w c (events.Write xid items) ∷ []) w q) (versions_by history w c (events.Write xid items) (versions_of history))
+write_full m history w c xid items lawful k low p q x down_p down_q pc qc =
+    counted_all m x (f p) (f q) written (stamps-write (λ s row. f p s ≡ f q s) (λ row. ⊤) history w stamp (λ row n. same_new) items vs (every (λ item. IfSome (added_row item) (λ row. ⊤) × AllByRecursion (λ v. ends history w item v ≡ true → ⊤) vs) (λ item. (any_row (added_row item), every (λ v. ends history w item v ≡ true → ⊤) (λ v is. tt) vs)) items)
+    (every-weaker (OfStamps (Touch history)) (OfStamps (λ s row. f p s ≡ f q s)) (stamps-weaker (Touch history) (λ s row. f p s ≡ f q s) same_old) vs k.touched))
+  where
+    after : List Entry
+    after = history ++ entry_of w c (events.Write xid items) ∷ []
 
-        all_named : AllByRecursion (λ v. AllByRecursion (λ item. ends history w item v ≡ true → Named item v.row) items) vs
-        all_named = every-swap (λ item v. ends history w item v ≡ true → Named item v.row) items vs
-            (every-weaker (λ item. IfSome (added_row item) (For item) × IfSome (old_row history w item) (For item)) (λ item. AllByRecursion (λ v. ends history w item v ≡ true → Named item v.row) vs)
-            (λ item h. ended_named history w (Named item) item k.one (named item (old_row history w item) refl h.1)) items guarded)
+    stamp : Stamp
+    stamp = record { xid = xid; command = c }
 
-        forth : SomeOf (Shows m (f p) x) vs → SomeOf (Shows m (f p) x) written
-        forth some = write_forth m x (f p) history w stamp is items vs keys
-            (some_with (Shows m (f p) x) (λ v. AllByRecursion (λ item. ends history w item v ≡ true → Named item v.row) items) (Lasts m x (f p) history w items)
-            (λ v sh names. (sh, every-weaker (λ item. ends history w item v ≡ true → Named item v.row) (λ item. ends history w item v ≡ true → Adds m x item) (λ item n ends'. adds_it item v sh (n ends')) items names)) vs all_named some)
+    vs : List Version
+    vs = versions_of history
 
-    by_counts : (t : Bool) → f p stamp ≡ t → ShowSame m x (f p) written (counts_at history a p) vs
-    by_counts false is = hidden p is
-    by_counts true is =
-        let parts = and_parts (runs_as after a xid.0) (p c) (sym (ap (λ t. t || (runs_as after a xid.0 && p c)) uncommitted) ∙ is) in
-        own is (well.one w a xid.0 runs parts.0) parts.1
+    written : List Version
+    written = versions_by history w c (events.Write xid items) (versions_of history)
+
+    f : (ℕ → Bool) → Stamp → Bool
+    f q = counts_at after w q
+
+    any_row : (o : Option Row) → IfSome o (λ row. ⊤)
+    any_row None = tt
+    any_row (Some row) = tt
+
+    same_new : f p stamp ≡ f q stamp
+    same_new = ap (λ t. is_committed after xid.0 || (runs_as after w xid.0 && t)) (pc ∙ sym qc)
+
+    at_old : (r : ℕ → Bool) → IsDown r → r c ≡ true → (s : Stamp) (row : Row) → Touch history s row → f r s ≡ counts history w s
+    at_old r down rc s row touch = counts_at-same history w c (events.Write xid items) w r s row lawful k.runs refl touch ∙ below (runs_as history w s.xid.0) refl
+      where
+        below : (t : Bool) → runs_as history w s.xid.0 ≡ t → (is_committed history s.xid.0 || (t && r s.command)) ≡ (is_committed history s.xid.0 || t)
+        below false is' = refl
+        below true is' =
+            let small : s.command ≤ c = any_with (is_of s.command) (λ l. l.command ≤ c) (s.command ≤ c) (λ l here short. omega (arith, eqb-true l.command s.command here, short)) (lists_of history w) (touch.written w is') low in
+            ap (λ t. is_committed history s.xid.0 || t) (down s.command c small rc)
+
+    same_old : (s : Stamp) (row : Row) → Touch history s row → f p s ≡ f q s
+    same_old s row touch = at_old p down_p pc s row touch ∙ sym (at_old q down_q qc s row touch)
+
+steady_write : (m : Masking) (n : Marking) (history : List Entry) (w c : ℕ) (xid : Xid) (items : List Item) → IsLawful history (entry_of w c (events.Write xid items)) → Ordered history → are_distinct_keys (flat_map changed_key items) ≡ true
+    → AllByRecursion (λ item. IfSome (added_row item) (IsFor m n history w c xid items item) × IfSome (old_row history w item) (IsFor m n history w c xid items item)) items → AllByRecursion (λ l. l.command ≤ c) (lists_of history w)
+    → (a : ℕ) (p q : ℕ → Bool) (x : Row) → m.concerns x → IsDown p → IsDown q → IsLess q p → HasNone n (history ++ entry_of w c (events.Write xid items) ∷ []) a p q → ShowSame m x (counts_at history a p) (versions_of history) (counts_at history a q) (versions_of history)
+    → ShowSame m x (counts_at (history ++ entry_of w c (events.Write xid items) ∷ []) a p) (versions_by history w c (events.Write xid items) (versions_of history)) (counts_at (history ++ entry_of w c (events.Write xid items) ∷ []) a q) (versions_by history w c (events.Write xid items) (versions_of history))
+steady_write m n history w c xid items lawful k keys guarded low a p q x cx down_p down_q less none was = by_run (runs_as after a xid.0) refl
+  where
+    after : List Entry
+    after = history ++ entry_of w c (events.Write xid items) ∷ []
+
+    stamp : Stamp
+    stamp = record { xid = xid; command = c }
+
+    vs : List Version
+    vs = versions_of history
+
+    written : List Version
+    written = versions_by history w c (events.Write xid items) (versions_of history)
+
+    f : (ℕ → Bool) → Stamp → Bool
+    f r = counts_at after a r
+
+    well : Runs after
+    well = Runs-more history (entry_of w c (events.Write xid items)) k.runs lawful
+
+    runs : runs_as after w xid.0 ≡ true
+    runs = ap (has_xid xid.0) (running-own history (entry_of w c (events.Write xid items)) w (eq-eqb w w refl)) ∙ eq-eqb xid.0 xid.0 refl
+
+    unseen : is_visible (running_transaction_of after w) ≡ false
+    unseen = ap is_visible (running-own history (entry_of w c (events.Write xid items)) w (eq-eqb w w refl)) ∙ begun_unseen (running_transaction_of history w) lawful.0
+      where
+        begun_unseen : (o : Option Running) → is_visible o ≡ false → is_visible (running_by c (events.Write xid items) o) ≡ false
+        begun_unseen None is = refl
+        begun_unseen (Some t) is = is
+
+    uncommitted : is_committed after xid.0 ≡ false
+    uncommitted = well.hidden w xid.0 runs unseen
+
+    stamp_is : (r : ℕ → Bool) → f r stamp ≡ (runs_as after a xid.0 && r c)
+    stamp_is r = ap (λ t. t || (runs_as after a xid.0 && r c)) uncommitted
+
+    hidden : (r : ℕ → Bool) → (runs_as after a xid.0 && r c) ≡ false → ShowSame m x (f r) written (counts_at history a r) vs
+    hidden r is = write_unseen m history w c xid items lawful k a r x (stamp_is r ∙ is)
+
+    join : ShowSame m x (f p) written (counts_at history a p) vs → ShowSame m x (f q) written (counts_at history a q) vs → ShowSame m x (f p) written (f q) written
+    join one two = show-trans m x (f p) (counts_at history a p) (f q) written vs written one (show-trans m x (counts_at history a p) (counts_at history a q) (f q) vs vs written was (show-sym m x (f q) (counts_at history a q) written vs two))
+
+    not_less : p c ≡ false → q c ≡ false
+    not_less is = false_from_ne_true (q c) (λ passes. both_ways _ is (less c passes))
+
+    For : Item → Row → Type 0
+    For item = IsFor m n history w c xid items item
+
+    kept_by : w ≡ a → p c ≡ true → q c ≡ false → (item : Item) (row : Row) → For item row → LeavesMask m history w item row
+    kept_by one pc qc item row for concerned = of (for concerned)
+      where
+        of : n.has after w c ⊎ KeepsMask m (old_row history w item) item → KeepsMask m (old_row history w item) item
+        of (inl marked) = absurd (none c pc qc (subst (λ o. n.has after o c) one marked))
+        of (inr it) = it
+
+    seen : w ≡ a → (t : Bool) → p c ≡ t → (u : Bool) → q c ≡ u → ShowSame m x (f p) written (f q) written
+    seen one false pc u qc = join (hidden p (ap (λ t. runs_as after a xid.0 && t) pc ∙ and_right (runs_as after a xid.0) false refl)) (hidden q (ap (λ t. runs_as after a xid.0 && t) (not_less pc) ∙ and_right (runs_as after a xid.0) false refl))
+    seen one true pc true qc = subst (λ o. ShowSame m x (counts_at after o p) written (counts_at after o q) written) one (write_full m history w c xid items lawful k low p q x down_p down_q pc qc)
+    seen one true pc false qc = join
+        (subst (λ o. ShowSame m x (counts_at after o p) written (counts_at history o p) vs) one (write_leaves m history w c xid items lawful k keys
+        (every-weaker (λ item. IfSome (added_row item) (For item) × IfSome (old_row history w item) (For item)) (λ item. IfSome (added_row item) (LeavesMask m history w item) × IfSome (old_row history w item) (LeavesMask m history w item))
+        (λ item h. (if_some (For item) (LeavesMask m history w item) (kept_by one pc qc item) (added_row item) h.0, if_some (For item) (LeavesMask m history w item) (kept_by one pc qc item) (old_row history w item) h.1)) items guarded)
+        low p x cx down_p pc (subst (λ o. counts_at after o p stamp ≡ true) (sym one) (stamp_is p ∙ and_from (runs_as after a xid.0) (p c) (subst (λ o. runs_as after o xid.0 ≡ true) one runs) pc))))
+        (hidden q (ap (λ t. runs_as after a xid.0 && t) qc ∙ and_right (runs_as after a xid.0) false refl))
+
+    by_run : (t : Bool) → runs_as after a xid.0 ≡ t → ShowSame m x (f p) written (f q) written
+    by_run false is = join (hidden p (ap (λ t. t && p c) is)) (hidden q (ap (λ t. t && q c) is))
+    by_run true is = seen (well.one w a xid.0 runs is) (p c) refl (q c) refl
 
 -- what is taken back
 gone_shows : (m : Masking) (x : Row) (g h : Stamp → Bool) (back : Stamp → Bool) (vs : List Version) → AllByRecursion (OfStamps (λ s row. back s ≡ false → g s ≡ h s)) vs → ((s : Stamp) → back s ≡ true → h s ≡ false)
@@ -425,19 +524,16 @@ gone_shows m x g h back vs all none = (back_to, forth)
     forth : SomeOf (Shows m h x) vs → SomeOf (Shows m g x) (map (end_back back) (filter keep vs))
     forth some = some-map (Shows m g x) (end_back back) (filter keep vs) (some-filter (λ v. Shows m g x (end_back back v)) keep vs (some_with (Shows m h x) (OfStamps T) Kept stays_seen vs all some))
 
-steady_gone : (m : Masking) (history : List Entry) (w c from : ℕ) → IsLawful history (entry_of w c (events.Gone from)) → Ordered history → Steady m history → (a : ℕ) (p : ℕ → Bool) (x : Row) → m.concerns x → IsDown p → HasNone m (held_of history) a p
-    → ShowSame m x (counts_at (history ++ entry_of w c (events.Gone from) ∷ []) a p) (versions_by history w c (events.Gone from) (versions_of history)) (counts_at (history ++ entry_of w c (events.Gone from) ∷ []) a no_command) (versions_by history w c (events.Gone from) (versions_of history))
-steady_gone m history w c from lawful k steady a p x cx down none =
-    show-trans m x (f p) (counts_at history a seen.passes) (f no_command) left vs left (shows p seen)
-    (show-trans m x (counts_at history a seen.passes) (counts_at history a no_command) (f no_command) vs vs left
-    (steady a seen.passes x cx seen.down (λ i passes strong. none i (seen.less i passes) strong))
-    (show-trans m x (counts_at history a no_command) (counts_at history a nothing.passes) (f no_command) vs vs left
-    (counted_all m x (counts_at history a no_command) (counts_at history a nothing.passes) vs (every (OfStamps (λ s row. counts_at history a no_command s ≡ counts_at history a nothing.passes s)) (λ v. (passes_none v.by, of_ended v.ended)) vs))
-    (show-sym m x (f no_command) (counts_at history a nothing.passes) left vs (shows no_command nothing))))
-  where
-    after : List Entry
-    after = history ++ entry_of w c (events.Gone from) ∷ []
+-- a test of commands, where a backend's own are taken back from a number on
+abbrev pub passing : Bool → (ℕ → Bool) → ℕ → ℕ → Bool
+passing own p from i = elim own [ true ↦ before_command p from i | false ↦ p i ]
 
+pub gone_leaves : (m : Masking) (history : List Entry) (w c from : ℕ) → IsLawful history (entry_of w c (events.Gone from)) → Ordered history → (a : ℕ) (p : ℕ → Bool) (x : Row) → IsDown p
+    → ShowSame m x (counts_at (history ++ entry_of w c (events.Gone from) ∷ []) a p) (versions_by history w c (events.Gone from) (versions_of history)) (counts_at history a (passing (w == a) p from)) (versions_of history)
+gone_leaves m history w c from lawful k a p x down = subst (λ r. ShowSame m x (f p) left (counts_at history a r) vs) seen.is
+    (gone_shows m x (f p) (counts_at history a seen.passes) (is_back history w from) vs
+    (every-weaker (OfStamps (Touch history)) (OfStamps (λ s row. is_back history w from s ≡ false → f p s ≡ counts_at history a seen.passes s)) (stamps-weaker (Touch history) (λ s row. is_back history w from s ≡ false → f p s ≡ counts_at history a seen.passes s) seen.same) vs k.touched) seen.none)
+  where
     vs : List Version
     vs = versions_of history
 
@@ -445,28 +541,14 @@ steady_gone m history w c from lawful k steady a p x cx down none =
     left = versions_by history w c (events.Gone from) (versions_of history)
 
     f : (ℕ → Bool) → Stamp → Bool
-    f q = counts_at after a q
+    f q = counts_at (history ++ entry_of w c (events.Gone from) ∷ []) a q
 
     seen : GoneView history w c from a p
     seen = gone_view history w c from a p lawful k.runs down
 
-    nothing : GoneView history w c from a no_command
-    nothing = gone_view history w c from a no_command lawful k.runs (λ i j low is. is)
-
-    shows : (q : ℕ → Bool) (view : GoneView history w c from a q) → ShowSame m x (f q) left (counts_at history a view.passes) vs
-    shows q view = gone_shows m x (f q) (counts_at history a view.passes) (is_back history w from) vs
-        (every-weaker (OfStamps (Touch history)) (OfStamps (λ s row. is_back history w from s ≡ false → f q s ≡ counts_at history a view.passes s)) (stamps-weaker (Touch history) (λ s row. is_back history w from s ≡ false → f q s ≡ counts_at history a view.passes s) view.same) vs k.touched) view.none
-
-    passes_none : (s : Stamp) → counts_at history a no_command s ≡ counts_at history a nothing.passes s
-    passes_none s = ap (λ t. is_committed history s.xid.0 || (runs_as history a s.xid.0 && t)) (sym (false_from_ne_true (nothing.passes s.command) (λ is. let e : false ≡ true = nothing.less s.command is in cc)))
-
-    of_ended : (o : Option Stamp) → IfSome o (λ s. counts_at history a no_command s ≡ counts_at history a nothing.passes s)
-    of_ended None = tt
-    of_ended (Some s) = passes_none s
-
-steady_visible : (m : Masking) (history : List Entry) (w c : ℕ) (xid : Xid) → IsLawful history (entry_of w c (events.Visible xid)) → Ordered history → Steady m history → (a : ℕ) (p : ℕ → Bool) (x : Row) → m.concerns x → IsDown p → HasNone m (held_of history) a p
-    → ShowSame m x (counts_at (history ++ entry_of w c (events.Visible xid) ∷ []) a p) (versions_of history) (counts_at (history ++ entry_of w c (events.Visible xid) ∷ []) a no_command) (versions_of history)
-steady_visible m history w c xid lawful k steady a p x cx down none = by_owner (w == a) refl
+steady_visible : (m : Masking) (history : List Entry) (w c : ℕ) (xid : Xid) → IsLawful history (entry_of w c (events.Visible xid)) → Ordered history → (a : ℕ) (p q : ℕ → Bool) (x : Row) → ShowSame m x (counts_at history a p) (versions_of history) (counts_at history a q) (versions_of history)
+    → ShowSame m x (counts_at (history ++ entry_of w c (events.Visible xid) ∷ []) a p) (versions_of history) (counts_at (history ++ entry_of w c (events.Visible xid) ∷ []) a q) (versions_of history)
+steady_visible m history w c xid lawful k a p q x was = by_owner (w == a) refl
   where
     after : List Entry
     after = history ++ entry_of w c (events.Visible xid) ∷ []
@@ -475,134 +557,162 @@ steady_visible m history w c xid lawful k steady a p x cx down none = by_owner (
     vs = versions_of history
 
     f : (ℕ → Bool) → Stamp → Bool
-    f q = counts_at after a q
+    f r = counts_at after a r
 
     -- its own: no test counts any more
-    own : w ≡ a → ShowSame m x (f p) vs (f no_command) vs
-    own one = counted_all m x (f p) (f no_command) vs (every-weaker (OfStamps (Touch history)) (OfStamps (λ s row. f p s ≡ f no_command s)) (stamps-weaker (Touch history) (λ s row. f p s ≡ f no_command s) (λ s row touch. as_w p s row touch ∙ sym (as_w no_command s row touch))) vs k.touched)
+    own : w ≡ a → ShowSame m x (f p) vs (f q) vs
+    own one = counted_all m x (f p) (f q) vs (every-weaker (OfStamps (Touch history)) (OfStamps (λ s row. f p s ≡ f q s)) (stamps-weaker (Touch history) (λ s row. f p s ≡ f q s) (λ s row touch. as_w p s row touch ∙ sym (as_w q s row touch))) vs k.touched)
       where
         not_own : (s : Stamp) → (xid.0 == s.xid.0) ≡ false → runs_as history a s.xid.0 ≡ false
         not_own s differs = false_from_ne_true (runs_as history a s.xid.0) (λ runs. both_ways _ differs (eq-eqb xid.0 s.xid.0 (one_xid xid.0 s.xid.0 (running_transaction_of history w) lawful.1 (subst (λ o. runs_as history o s.xid.0 ≡ true) (sym one) runs))))
 
-        as_w : (q : ℕ → Bool) (s : Stamp) (row : Row) → Touch history s row → f q s ≡ counts_at history w every_command s
-        as_w q s row touch = visible_as history w c xid a q lawful k.runs s row touch (not_own s)
+        as_w : (r : ℕ → Bool) (s : Stamp) (row : Row) → Touch history s row → f r s ≡ counts_at history w every_command s
+        as_w r s row touch = visible_as history w c xid a r lawful k.runs s row touch (not_own s)
 
     -- another's: on the relation one of the two has changed nothing
-    idle : (w == a) ≡ false → list_any (changes_on a (main_rel x)) (held_of history) ≡ false → ShowSame m x (f p) vs (f no_command) vs
-    idle other free = counted_same m x (f p) (f no_command) vs (every-weaker (OfStamps (Guard history)) (λ v. main_rel v.row ≡ main_rel x → OfStamps (λ s row. f p s ≡ f no_command s) v)
+    idle : (w == a) ≡ false → list_any (changes_on a (main_rel x)) (held_of history) ≡ false → ShowSame m x (f p) vs (f q) vs
+    idle other free = counted_same m x (f p) (f q) vs (every-weaker (OfStamps (Guard history)) (λ v. main_rel v.row ≡ main_rel x → OfStamps (λ s row. f p s ≡ f q s) v)
         (λ v guards' same. of_stamps v guards' same) vs k.guards)
       where
         not_run : (s : Stamp) (row : Row) → main_rel row ≡ main_rel x → Guard history s row → runs_as after a s.xid.0 ≡ false
         not_run s row same guard = ap (has_xid s.xid.0) (running-other history (entry_of w c (events.Visible xid)) a other)
             ∙ false_from_ne_true (runs_as history a s.xid.0) (λ runs. both_ways _ free (subst (λ rel. MayChange (held_of history) a rel) same (guard_changes (held_of history) a s.command (main_rel row) (guard a runs))))
 
-        alike : (s : Stamp) (row : Row) → main_rel row ≡ main_rel x → Guard history s row → f p s ≡ f no_command s
-        alike s row same guard = ap (λ t. is_committed after s.xid.0 || (t && p s.command)) (not_run s row same guard) ∙ sym (ap (λ t. is_committed after s.xid.0 || (t && false)) (not_run s row same guard))
+        alike : (s : Stamp) (row : Row) → main_rel row ≡ main_rel x → Guard history s row → f p s ≡ f q s
+        alike s row same guard = ap (λ t. is_committed after s.xid.0 || (t && p s.command)) (not_run s row same guard) ∙ sym (ap (λ t. is_committed after s.xid.0 || (t && q s.command)) (not_run s row same guard))
 
-        of_stamps : (v : Version) → OfStamps (Guard history) v → main_rel v.row ≡ main_rel x → OfStamps (λ s row. f p s ≡ f no_command s) v
-        of_stamps v guards' same = (alike v.by v.row same guards'.0, if_some (λ s. Guard history s v.row) (λ s. f p s ≡ f no_command s) (λ s guard. alike s v.row same guard) v.ended guards'.1)
+        of_stamps : (v : Version) → OfStamps (Guard history) v → main_rel v.row ≡ main_rel x → OfStamps (λ s row. f p s ≡ f q s) v
+        of_stamps v guards' same = (alike v.by v.row same guards'.0, if_some (λ s. Guard history s v.row) (λ s. f p s ≡ f q s) (λ s guard. alike s v.row same guard) v.ended guards'.1)
 
-    busy : (w == a) ≡ false → MayChange (held_of history) a (main_rel x) → ShowSame m x (f p) vs (f no_command) vs
+    busy : (w == a) ≡ false → MayChange (held_of history) a (main_rel x) → ShowSame m x (f p) vs (f q) vs
     busy other may =
-        show-trans m x (f p) (counts_at history a p) (f no_command) vs vs vs (kept p)
-        (show-trans m x (counts_at history a p) (counts_at history a no_command) (f no_command) vs vs vs (steady a p x cx down none) (show-sym m x (f no_command) (counts_at history a no_command) vs vs (kept no_command)))
+        show-trans m x (f p) (counts_at history a p) (f q) vs vs vs (kept p)
+        (show-trans m x (counts_at history a p) (counts_at history a q) (f q) vs vs vs was (show-sym m x (f q) (counts_at history a q) vs vs (kept q)))
       where
         unmarked : (s : Stamp) (row : Row) → main_rel row ≡ main_rel x → Guard history s row → (xid.0 == s.xid.0) ≡ false
         unmarked s row same guard = false_from_ne_true (xid.0 == s.xid.0) (λ is.
             let theirs : MayChange (held_of history) w (main_rel x) = subst (λ rel. MayChange (held_of history) w rel) same (guard_changes (held_of history) w s.command (main_rel row) (guard w (subst (λ y. runs_as history w y ≡ true) (eqb-true xid.0 s.xid.0 is) lawful.1))) in
             both_ways _ other (eq-eqb w a (one_changer (held_of history) w a (main_rel x) k.locks.agree theirs may)))
 
-        kept : (q : ℕ → Bool) → ShowSame m x (f q) vs (counts_at history a q) vs
-        kept q = counted_same m x (f q) (counts_at history a q) vs (every-weaker (λ v. OfStamps (Touch history) v × OfStamps (Guard history) v) (λ v. main_rel v.row ≡ main_rel x → OfStamps (λ s row. f q s ≡ counts_at history a q s) v)
+        kept : (r : ℕ → Bool) → ShowSame m x (f r) vs (counts_at history a r) vs
+        kept r = counted_same m x (f r) (counts_at history a r) vs (every-weaker (λ v. OfStamps (Touch history) v × OfStamps (Guard history) v) (λ v. main_rel v.row ≡ main_rel x → OfStamps (λ s row. f r s ≡ counts_at history a r s) v)
             (λ v h same. (alike v.by v.row same h.0.0 h.1.0, of_ended v.row same v.ended h.0.1 h.1.1)) vs (every-both (OfStamps (Touch history)) (OfStamps (Guard history)) vs k.touched k.guards))
           where
-            alike : (s : Stamp) (row : Row) → main_rel row ≡ main_rel x → Touch history s row → Guard history s row → f q s ≡ counts_at history a q s
-            alike s row same touch guard = counts_at-same history w c (events.Visible xid) a q s row lawful k.runs (unmarked s row same guard) touch
+            alike : (s : Stamp) (row : Row) → main_rel row ≡ main_rel x → Touch history s row → Guard history s row → f r s ≡ counts_at history a r s
+            alike s row same touch guard = counts_at-same history w c (events.Visible xid) a r s row lawful k.runs (unmarked s row same guard) touch
 
-            of_ended : (row : Row) → main_rel row ≡ main_rel x → (o : Option Stamp) → IfSome o (λ s. Touch history s row) → IfSome o (λ s. Guard history s row) → IfSome o (λ s. f q s ≡ counts_at history a q s)
+            of_ended : (row : Row) → main_rel row ≡ main_rel x → (o : Option Stamp) → IfSome o (λ s. Touch history s row) → IfSome o (λ s. Guard history s row) → IfSome o (λ s. f r s ≡ counts_at history a r s)
             of_ended row same None touch guard = tt
             of_ended row same (Some s) touch guard = alike s row same touch guard
 
-    by_held : (w == a) ≡ false → (t : Bool) → list_any (changes_on a (main_rel x)) (held_of history) ≡ t → ShowSame m x (f p) vs (f no_command) vs
+    by_held : (w == a) ≡ false → (t : Bool) → list_any (changes_on a (main_rel x)) (held_of history) ≡ t → ShowSame m x (f p) vs (f q) vs
     by_held other true may = busy other may
     by_held other false free = idle other free
 
-    by_owner : (t : Bool) → (w == a) ≡ t → ShowSame m x (f p) vs (f no_command) vs
+    by_owner : (t : Bool) → (w == a) ≡ t → ShowSame m x (f p) vs (f q) vs
     by_owner true is = own (eqb-true w a is)
     by_owner false other = by_held other (list_any (changes_on a (main_rel x)) (held_of history)) refl
 
 -- an entry that takes locks
-steady_taken : (m : Masking) (from : ℕ) (history : List Entry) (w c : ℕ) (event : Event) → TakesFrom from history w c event → IsLawful history (entry_of w c event) → Ordered history → Steady m history
-    → (a : ℕ) (p : ℕ → Bool) (x : Row) → m.concerns x → IsDown p → HasNone m (held_by w c event (held_of history)) a p
-    → ShowSame m x (counts_at (history ++ entry_of w c event ∷ []) a p) (versions_of history) (counts_at (history ++ entry_of w c event ∷ []) a no_command) (versions_of history)
-steady_taken m from history w c event takes lawful k steady a p x cx down none =
-    show-trans m x (f p) (counts_at history a p) (f no_command) vs vs vs (kept p)
-    (show-trans m x (counts_at history a p) (counts_at history a no_command) (f no_command) vs vs vs (by_owner (w == a) refl) (show-sym m x (f no_command) (counts_at history a no_command) vs vs (kept no_command)))
+taken_leaves : (m : Masking) (from : ℕ) (history : List Entry) (w c : ℕ) (event : Event) → TakesFrom from history w c event → IsLawful history (entry_of w c event) → Ordered history → (a : ℕ) (p : ℕ → Bool) (x : Row)
+    → ShowSame m x (counts_at (history ++ entry_of w c event ∷ []) a p) (versions_of history) (counts_at history a (passing (w == a) p from)) (versions_of history)
+taken_leaves m from history w c event takes lawful k a p x = show-trans m x (counts_at after a p) (counts_at history a p) (counts_at history a (passing (w == a) p from)) vs vs vs
+    (counted_kept m x history w c event a p lawful k.runs k.touched takes.hidden) (by_owner (w == a) refl)
   where
+    after : List Entry
+    after = history ++ entry_of w c event ∷ []
+
     vs : List Version
     vs = versions_of history
 
-    f : (ℕ → Bool) → Stamp → Bool
-    f q = counts_at (history ++ entry_of w c event ∷ []) a q
-
-    kept : (q : ℕ → Bool) → ShowSame m x (f q) vs (counts_at history a q) vs
-    kept q = counted_kept m x history w c event a q lawful k.runs k.touched takes.hidden
-
-    other_held : (w == a) ≡ false → ShowSame m x (counts_at history a p) vs (counts_at history a no_command) vs
-    other_held other = steady a p x cx down (λ i passes strong. none i passes (takes.held m.strong a i m.rel (λ own. absurd (both_ways _ other (eq-eqb w a (sym (eqb-true a w own))))) strong))
+    Same : (ℕ → Bool) → Type 0
+    Same r = ShowSame m x (counts_at history a p) vs (counts_at history a r) vs
 
     -- its own: what stands is of commands below
-    own_held : w ≡ a → ShowSame m x (counts_at history a p) vs (counts_at history a no_command) vs
-    own_held one =
-        show-trans m x (counts_at history a p) (counts_at history a q) (counts_at history a no_command) vs vs vs
-        (counted_all m x (counts_at history a p) (counts_at history a q) vs (every-weaker (OfStamps (Touch history)) (OfStamps (λ s row. counts_at history a p s ≡ counts_at history a q s))
-        (stamps-weaker (Touch history) (λ s row. counts_at history a p s ≡ counts_at history a q s) (taken_counts from history w c event takes a one p)) vs k.touched))
-        (steady a q x cx (before_down p from down) (λ i passes strong.
-        let parts = and_parts (p i) (not (nat_le from i)) passes in
-        none i parts.0 (takes.held m.strong a i m.rel (λ own. not-true (nat_le from i) parts.1) strong)))
-      where
-        q : ℕ → Bool
-        q = before_command p from
-
-    by_owner : (t : Bool) → (w == a) ≡ t → ShowSame m x (counts_at history a p) vs (counts_at history a no_command) vs
-    by_owner true is = own_held (eqb-true w a is)
-    by_owner false other = other_held other
+    by_owner : (t : Bool) → (w == a) ≡ t → Same (passing t p from)
+    by_owner true is = counted_all m x (counts_at history a p) (counts_at history a (before_command p from)) vs (every-weaker (OfStamps (Touch history)) (OfStamps (λ s row. counts_at history a p s ≡ counts_at history a (before_command p from) s))
+        (stamps-weaker (Touch history) (λ s row. counts_at history a p s ≡ counts_at history a (before_command p from) s) (taken_counts from history w c event takes a (eqb-true w a is) p)) vs k.touched)
+    by_owner false other = ((λ s. s), λ s. s)
 
 -- an entry that changes no row and makes nothing visible
-steady_quiet : (m : Masking) (history : List Entry) (w c : ℕ) (event : Event) → IsLawful history (entry_of w c event) → Ordered history → Steady m history → ((y : ℕ) → makes_visible y event ≡ false) → (a : ℕ) (p : ℕ → Bool) (x : Row) → m.concerns x → IsDown p → HasNone m (held_of history) a p
-    → ShowSame m x (counts_at (history ++ entry_of w c event ∷ []) a p) (versions_of history) (counts_at (history ++ entry_of w c event ∷ []) a no_command) (versions_of history)
-steady_quiet m history w c event lawful k steady hidden a p x cx down none =
-    show-trans m x (counts_at (history ++ entry_of w c event ∷ []) a p) (counts_at history a p) (counts_at (history ++ entry_of w c event ∷ []) a no_command) (versions_of history) (versions_of history) (versions_of history) (kept p)
-    (show-trans m x (counts_at history a p) (counts_at history a no_command) (counts_at (history ++ entry_of w c event ∷ []) a no_command) (versions_of history) (versions_of history) (versions_of history) (steady a p x cx down none)
-    (show-sym m x (counts_at (history ++ entry_of w c event ∷ []) a no_command) (counts_at history a no_command) (versions_of history) (versions_of history) (kept no_command)))
+steady_quiet : (m : Masking) (history : List Entry) (w c : ℕ) (event : Event) → IsLawful history (entry_of w c event) → Ordered history → ((y : ℕ) → makes_visible y event ≡ false) → (a : ℕ) (p q : ℕ → Bool) (x : Row) → ShowSame m x (counts_at history a p) (versions_of history) (counts_at history a q) (versions_of history)
+    → ShowSame m x (counts_at (history ++ entry_of w c event ∷ []) a p) (versions_of history) (counts_at (history ++ entry_of w c event ∷ []) a q) (versions_of history)
+steady_quiet m history w c event lawful k hidden a p q x was =
+    show-trans m x (counts_at after a p) (counts_at history a p) (counts_at after a q) vs vs vs (kept p)
+    (show-trans m x (counts_at history a p) (counts_at history a q) (counts_at after a q) vs vs vs was (show-sym m x (counts_at after a q) (counts_at history a q) vs vs (kept q)))
   where
-    kept : (q : ℕ → Bool) → ShowSame m x (counts_at (history ++ entry_of w c event ∷ []) a q) (versions_of history) (counts_at history a q) (versions_of history)
-    kept q = counted_kept m x history w c event a q lawful k.runs k.touched hidden
+    after : List Entry
+    after = history ++ entry_of w c event ∷ []
 
-steady_by : (m : Masking) (history : List Entry) (w c : ℕ) (event : Event) → IsLawful history (entry_of w c event) → GuardsLawfully history w c event → Ordered history → Masks m → MayComeNext history (entry_of w c event) → Begun c (running_transaction_of history w) (lists_of history w) → Steady m history
-    → (a : ℕ) (p : ℕ → Bool) (x : Row) → m.concerns x → IsDown p → HasNone m (held_by w c event (held_of history)) a p
-    → ShowSame m x (counts_at (history ++ entry_of w c event ∷ []) a p) (versions_by history w c event (versions_of history)) (counts_at (history ++ entry_of w c event ∷ []) a no_command) (versions_by history w c event (versions_of history))
-steady_by m history w c (events.Write xid items) lawful guarding k masks comes begun steady a p x cx down none = steady_write m history w c xid items lawful k comes.follows.event.keys (masks history w c xid items k comes) begun.low steady a p x cx down none
-steady_by m history w c (events.Gone from) lawful guarding k masks comes begun steady a p x cx down none = steady_gone m history w c from lawful k steady a p x cx down none
-steady_by m history w c (events.Visible xid) lawful guarding k masks comes begun steady a p x cx down none = steady_visible m history w c xid lawful k steady a p x cx down none
-steady_by m history w c (events.Release from) lawful guarding k masks comes begun steady a p x cx down none = steady_taken m from history w c (events.Release from) (release_takes history w c from lawful guarding k) lawful k steady a p x cx down none
-steady_by m history w c (events.Unlock rel mode) lawful guarding k masks comes begun steady a p x cx down none = steady_taken m c history w c (events.Unlock rel mode) (unlock_takes history w c rel mode guarding) lawful k steady a p x cx down none
-steady_by m history w c (events.LockOk rel mode) lawful guarding k masks comes begun steady a p x cx down none = steady_quiet m history w c (events.LockOk rel mode) lawful k steady (λ y. refl) a p x cx down (λ i passes strong. none i passes (any-left _ (held_of history) _ strong))
-steady_by m history w c event lawful guarding k masks comes begun steady a p x cx down none = steady_quiet m history w c event lawful k steady (λ y. refl) a p x cx down none
+    vs : List Version
+    vs = versions_of history
+
+    kept : (r : ℕ → Bool) → ShowSame m x (counts_at after a r) vs (counts_at history a r) vs
+    kept r = counted_kept m x history w c event a r lawful k.runs k.touched hidden
+
+pub passing_down : (own : Bool) (p : ℕ → Bool) (from : ℕ) → IsDown p → IsDown (passing own p from)
+passing_down true p from down = before_down p from down
+passing_down false p from down = down
+
+passing_less : (own : Bool) (p q : ℕ → Bool) (from : ℕ) → IsLess q p → IsLess (passing own q from) (passing own p from)
+passing_less true p q from less i is = let parts = and_parts (q i) (not (nat_le from i)) is in and_from (p i) (not (nat_le from i)) (less i parts.0) parts.1
+passing_less false p q from less i is = less i is
+
+-- what passes before, passes after and isn't taken away
+passing_parts : (own : Bool) (p q : ℕ → Bool) (from i : ℕ) → passing own p from i ≡ true → passing own q from i ≡ false → (p i ≡ true) × (q i ≡ false) × (own ≡ true → nat_le from i ≡ false)
+passing_parts true p q from i is not' =
+    let parts = and_parts (p i) (not (nat_le from i)) is in
+    (parts.0, false_from_ne_true (q i) (λ passes. both_ways _ not' (and_from (q i) (not (nat_le from i)) passes parts.1)), λ own. not-true (nat_le from i) parts.1)
+passing_parts false p q from i is not' = (is, not', λ own. absurd (cc))
 
 -- after one more entry that may come
-Steady-more : (m : Masking) → Masks m → (history : List Entry) (e : Entry) → Ordered history → MayComeNext history e → Steady m history → Steady m (history ++ e ∷ [])
-Steady-more m masks history e k comes steady a p x cx down none =
-    subst (λ vs. ShowSame m x (counts_at (history ++ e ∷ []) a p) vs (counts_at (history ++ e ∷ []) a no_command) vs) (sym (versions-more history e))
-    (steady_by m history e.backend e.command e.event (lawful_of history e k comes) (guards_lawful history e.backend e.command e.event comes.follows.event comes.orderly k early) k masks comes (begun_at history e comes.follows.life k.lives) steady a p x cx down
-    (λ i passes strong. none i passes (subst (λ held. IsHeldIn m.strong held a i m.rel) (sym (held-more history e)) strong)))
+Steady-more : (m : Masking) (n : Marking) → Masks m n → (history : List Entry) (e : Entry) → Ordered history → MayComeNext history e → Steady m n history → Steady m n (history ++ e ∷ [])
+Steady-more m n masks history e k comes steady a p q x cx down_p down_q less none =
+    subst (λ vs. ShowSame m x (counts_at (history ++ e ∷ []) a p) vs (counts_at (history ++ e ∷ []) a q) vs) (sym (versions-more history e))
+    (of e.event (lawful_of history e k comes) (guards_lawful history e.backend e.command e.event comes.follows.event comes.orderly k (early_at history e k comes.follows.life)) comes none)
   where
-    early : AllByRecursion (λ g. g.backend ≡ e.backend → g.command ≤ e.command) (held_of history)
-    early = early_at history e k comes.follows.life
+    w : ℕ
+    w = e.backend
 
-Steady-start : (m : Masking) → Steady m []
-Steady-start m a p x cx down none = ((λ s. s), λ s. s)
+    c : ℕ
+    c = e.command
+
+    begun : Begun c (running_transaction_of history w) (lists_of history w)
+    begun = begun_at history e comes.follows.life k.lives
+
+    Was : (ℕ → Bool) → (ℕ → Bool) → Type 0
+    Was r t = ShowSame m x (counts_at history a r) (versions_of history) (counts_at history a t) (versions_of history)
+
+    plain : (event : Event) → MayComeNext history (entry_of w c event) → HasNone n (history ++ entry_of w c event ∷ []) a p q → ((i : ℕ) → (w == a) ≡ true → SparesCommand c event i) → Was p q
+    plain event may none' spares = steady a p q x cx down_p down_q less (λ i pi qi had. none' i pi qi (n.kept history (entry_of w c event) a i k may (spares i) had))
+
+    cut : (event : Event) (from : ℕ) → MayComeNext history (entry_of w c event) → HasNone n (history ++ entry_of w c event ∷ []) a p q → ((i : ℕ) → nat_le from i ≡ false → SparesCommand c event i) → Was (passing (w == a) p from) (passing (w == a) q from)
+    cut event from may none' spares = steady a (passing (w == a) p from) (passing (w == a) q from) x cx (passing_down (w == a) p from down_p) (passing_down (w == a) q from down_q) (passing_less (w == a) p q from less)
+        (λ i pi qi had. let parts = passing_parts (w == a) p q from i pi qi in none' i parts.0 parts.1 (n.kept history (entry_of w c event) a i k may (λ own. spares i (parts.2 own)) had))
+
+    join : (event : Event) (ws : List Version) (from : ℕ) → ShowSame m x (counts_at (history ++ entry_of w c event ∷ []) a p) ws (counts_at history a (passing (w == a) p from)) (versions_of history) → ShowSame m x (counts_at (history ++ entry_of w c event ∷ []) a q) ws (counts_at history a (passing (w == a) q from)) (versions_of history)
+        → Was (passing (w == a) p from) (passing (w == a) q from) → ShowSame m x (counts_at (history ++ entry_of w c event ∷ []) a p) ws (counts_at (history ++ entry_of w c event ∷ []) a q) ws
+    join event ws from one two was = show-trans m x (counts_at (history ++ entry_of w c event ∷ []) a p) (counts_at history a (passing (w == a) p from)) (counts_at (history ++ entry_of w c event ∷ []) a q) ws (versions_of history) ws one
+        (show-trans m x (counts_at history a (passing (w == a) p from)) (counts_at history a (passing (w == a) q from)) (counts_at (history ++ entry_of w c event ∷ []) a q) (versions_of history) (versions_of history) ws was
+        (show-sym m x (counts_at (history ++ entry_of w c event ∷ []) a q) (counts_at history a (passing (w == a) q from)) ws (versions_of history) two))
+
+    of : (event : Event) → IsLawful history (entry_of w c event) → GuardsLawfully history w c event → MayComeNext history (entry_of w c event) → HasNone n (history ++ entry_of w c event ∷ []) a p q
+        → ShowSame m x (counts_at (history ++ entry_of w c event ∷ []) a p) (versions_by history w c event (versions_of history)) (counts_at (history ++ entry_of w c event ∷ []) a q) (versions_by history w c event (versions_of history))
+    of (events.Write xid items) lawful guarding may none' =
+        steady_write m n history w c xid items lawful k may.follows.event.keys (masks history w c xid items k may) begun.low a p q x cx down_p down_q less none' (plain (events.Write xid items) may none' (λ i own. tt))
+    of (events.Gone from) lawful guarding may none' = join (events.Gone from) (versions_by history w c (events.Gone from) (versions_of history)) from (gone_leaves m history w c from lawful k a p x down_p) (gone_leaves m history w c from lawful k a q x down_q) (cut (events.Gone from) from may none' (λ i below. below))
+    of (events.Visible xid) lawful guarding may none' = steady_visible m history w c xid lawful k a p q x (plain (events.Visible xid) may none' (λ i own. tt))
+    of (events.Release from) lawful guarding may none' =
+        let takes = release_takes history w c from lawful guarding k in
+        join (events.Release from) (versions_of history) from (taken_leaves m from history w c (events.Release from) takes lawful k a p x) (taken_leaves m from history w c (events.Release from) takes lawful k a q x) (cut (events.Release from) from may none' (λ i below. below))
+    of (events.Unlock rel mode) lawful guarding may none' =
+        let takes = unlock_takes history w c rel mode guarding in
+        join (events.Unlock rel mode) (versions_of history) c (taken_leaves m c history w c (events.Unlock rel mode) takes lawful k a p x) (taken_leaves m c history w c (events.Unlock rel mode) takes lawful k a q x) (cut (events.Unlock rel mode) c may none' (λ i below. below))
+    of event lawful guarding may none' = steady_quiet m history w c event lawful k (λ y. refl) a p q x (plain event may none' (λ i own. tt))
+
+Steady-start : (m : Masking) (n : Marking) → Steady m n []
+Steady-start m n a p q x cx down_p down_q less none = ((λ s. s), λ s. s)
 
 -- it holds of each sound history
-pub sound_steady : (m : Masking) → Masks m → (history : List Entry) → IsSound history → Steady m history
-sound_steady m masks history sound = (each-keeps MayComeNext (λ h. Ordered h × Steady m h) (Ordered-start, Steady-start m) (λ before e both comes. (Ordered-more before e both.0 comes, Steady-more m masks before e both.0 comes both.1)) history sound).1
+pub sound_steady : (m : Masking) (n : Marking) → Masks m n → (history : List Entry) → IsSound history → Steady m n history
+sound_steady m n masks history sound = (each-keeps MayComeNext (λ h. Ordered h × Steady m n h) (Ordered-start, Steady-start m n) (λ before e both comes. (Ordered-more before e both.0 comes, Steady-more m n masks before e both.0 comes both.1)) history sound).1

@@ -1,23 +1,21 @@
--- What becomes visible leaves a scan's masked rows, where its backend holds on the relation none of the modes under which masked rows are changed.
+-- What becomes visible leaves a scan's masked rows, where none of the commands that wrote it is marked; and where a backend sees the same masked rows, a scan gives them.
 use Rattle.std.proofs.Common.{◌≡◌, ◌∙◌, ℕ, Bool, true, false, Option, Some, None, List, [], ◌∷◌, ◌++◌, ◌==◌, ◌||◌, ◌&&◌, refl, sym, ap, subst, map, filter}
 use Rattle.std.specs.Prelude.{⊤}
 use Rattle.std.specs.List.{AllByRecursion, list_any}
 use Rattle.std.specs.Option.{IfSome}
 use Rattle.std.proofs.lemmas.Bool.{eqb-true, eq-eqb, both_ways, false_from_ne_true}
 use Rattle.base_types.specs.declared.ids.Xid.{Xid}
-use Rattle.base_types.specs.declared.mode.Mode.{Mode}
 use Rattle.base_types.specs.declared.row.Row.{Row}
 use Rattle.base_types.specs.declared.scan.Purpose.{Purpose}
 use Rattle.base_types.specs.RowKeys.{key_of}
-use Rattle.base_types.specs.Modes.{same_mode}
-use Rattle.base_types.specs.Scans.{selects, row_number, scan_of}
+use Rattle.base_types.specs.Scans.{selects, row_number}
 use Rattle.event_kinds.specs.declared.entry.Entry.{Entry}
 use Rattle.event_kinds.specs.declared.entry.Event.TheVariants as events
 use Rattle.row_visibility.specs.declared.version.Version.{Version}
 use Rattle.row_visibility.specs.declared.version.Stamp.{Stamp}
 use Rattle.row_visibility.specs.Seen.{seen_by}
 use Rattle.history_model.specs.Transactions.{runs_as, is_committed}
-use Rattle.history_model.specs.Versions.{versions_of, counts, sees, answer_of}
+use Rattle.history_model.specs.Versions.{versions_of, counts, sees, rows_of, answer_of}
 use Rattle.history_model.specs.Held.{held_of}
 use Rattle.history_model.specs.Orderly.{main_rel, MayComeNext, IsSound}
 use Rattle.history_model.proofs.Reading.{versions_of-more as versions-more}
@@ -25,15 +23,13 @@ use Rattle.history_model.proofs.Every.{every-weaker, every-map, every-filter, ev
 use Rattle.history_model.proofs.Lawful.{IsLawful}
 use Rattle.history_model.proofs.Asking.{asked}
 use Rattle.history_model.proofs.Touched.{entry_of, OfStamps, Touch}
-use Rattle.history_model.proofs.Guards.{IsHeldIn, Guard, MayChange, changes_on, guard_changes, one_changer}
+use Rattle.history_model.proofs.Guards.{Guard, MayChange, changes_on, guard_changes, one_changer}
 use Rattle.history_model.proofs.Seen.{counts_at, every_command, Pairwise, pair-weaker, pair-map, pair-filter}
 use Rattle.history_model.proofs.OneVersion.{visible_as}
 use Rattle.history_model.proofs.Ordered.{Ordered, Ordered-more, lawful_of, one_seen, sound_ordered}
 use Rattle.history_model.proofs.InOrder.{IsIn, every_self, Differ, IsByNumber, scan_same}
 use Rattle.history_model.proofs.Answers.{counts-other}
-use Rattle.history_model.proofs.MaskedRows.{no_command, Masking, Masks, Shows, ShowSame, Steady, show-trans, counted_same, sound_steady}
-use Rattle.history_model.proofs.HeldRows.{not_held}
-use Rattle.history_model.proofs.Observed.{LeavesRead}
+use Rattle.history_model.proofs.MaskedRows.{no_command, Masking, Marking, Masks, Shows, ShowSame, Steady, show-trans, counted_same, sound_steady}
 
 -- a scan by which rows that concern the relation are told apart by their numbers, and that asks for them as they are masked
 pub record AsksMasked (m : Masking) (d : Purpose) : Type 0 where
@@ -44,9 +40,9 @@ pub record AsksMasked (m : Masking) (d : Purpose) : Type 0 where
   pub by_number : (found : List Row) → IsByNumber d (filter (selects d) found)
 
 -- another sees the same masked rows
-part_kept : (m : Masking) (history : List Entry) (a c : ℕ) (xid : Xid) (b : ℕ) (x : Row) → Ordered history → Steady m history → m.concerns x → IsLawful history (entry_of a c (events.Visible xid)) → (a == b) ≡ false → ((i : ℕ) → IsHeldIn m.strong (held_of history) a i m.rel → ⊥)
+part_kept : (m : Masking) (n : Marking) (history : List Entry) (a c : ℕ) (xid : Xid) (b : ℕ) (x : Row) → Ordered history → Steady m n history → m.concerns x → IsLawful history (entry_of a c (events.Visible xid)) → (a == b) ≡ false → ((i : ℕ) → n.has history a i → ⊥)
     → ShowSame m x (counts (history ++ entry_of a c (events.Visible xid) ∷ []) b) (versions_of history) (counts history b) (versions_of history)
-part_kept m history a c xid b x k steady cx lawful other none = by_held (list_any (changes_on a (main_rel x)) (held_of history)) refl
+part_kept m n history a c xid b x k steady cx lawful other none = by_held (list_any (changes_on a (main_rel x)) (held_of history)) refl
   where
     after : List Entry
     after = history ++ entry_of a c (events.Visible xid) ∷ []
@@ -76,7 +72,7 @@ part_kept m history a c xid b x k steady cx lawful other none = by_held (list_an
     busy may =
         show-trans m x (counts after b) (counts_at history a every_command) (counts history b) vs vs vs (same_stamps (counts after b) (counts_at history a every_command) later)
         (show-trans m x (counts_at history a every_command) (counts_at history a no_command) (counts history b) vs vs vs
-        (steady a every_command x cx (λ i j low is. refl) (λ i passes strong. none i strong))
+        (steady a every_command no_command x cx (λ i j low is. refl) (λ i j low is. is) (λ i is. absurd (cc)) (λ i passes not' marked. none i marked))
         (same_stamps (counts_at history a no_command) (counts history b) earlier))
       where
         not_run : (s : Stamp) (row : Row) → main_rel row ≡ main_rel x → Guard history s row → runs_as history b s.xid.0 ≡ false
@@ -101,18 +97,18 @@ part_kept m history a c xid b x k steady cx lawful other none = by_held (list_an
     by_held false free = idle free
 
 -- what is asked of one view is asked of another that shows the same masked rows
-asked_too : (m : Masking) (d : Purpose) → AsksMasked m d → (vs : List Version) (f g : Stamp → Bool) → ((x : Row) → m.concerns x → SomeOf (Shows m f x) vs → SomeOf (Shows m g x) vs)
-    → AllByRecursion (λ row. SomeOf (λ other. m.mask row ≡ m.mask other) (asked d (seen_by g) vs)) (asked d (seen_by f) vs)
-asked_too m d apart vs f g shows = every-filter Found (selects d) (map (λ v. v.row) (filter (seen_by f) vs)) (every-map (λ row. selects d row ≡ true → Found row) (λ v. v.row) (filter (seen_by f) vs)
+asked_too : (m : Masking) (d : Purpose) → AsksMasked m d → (vs ws : List Version) (f g : Stamp → Bool) → ((x : Row) → m.concerns x → SomeOf (Shows m f x) vs → SomeOf (Shows m g x) ws)
+    → AllByRecursion (λ row. SomeOf (λ other. m.mask row ≡ m.mask other) (asked d (seen_by g) ws)) (asked d (seen_by f) vs)
+asked_too m d apart vs ws f g shows = every-filter Found (selects d) (map (λ v. v.row) (filter (seen_by f) vs)) (every-map (λ row. selects d row ≡ true → Found row) (λ v. v.row) (filter (seen_by f) vs)
     (every-filter (λ v. selects d v.row ≡ true → Found v.row) (seen_by f) vs (every-weaker (λ v. IsIn v vs) (λ v. seen_by f v ≡ true → selects d v.row ≡ true → Found v.row) of vs (every_self vs))))
   where
     Found : Row → Type 0
-    Found row = SomeOf (λ other. m.mask row ≡ m.mask other) (asked d (seen_by g) vs)
+    Found row = SomeOf (λ other. m.mask row ≡ m.mask other) (asked d (seen_by g) ws)
 
     of : (v : Version) → IsIn v vs → seen_by f v ≡ true → selects d v.row ≡ true → Found v.row
     of v there seen asks =
-        some-filter (λ other. m.mask v.row ≡ m.mask other) (selects d) (map (λ u. u.row) (filter (seen_by g) vs)) (some-map Wanted (λ u. u.row) (filter (seen_by g) vs) (some-filter (λ u. Wanted u.row) (seen_by g) vs
-        (some-weaker (Shows m g (m.mask v.row)) (λ u. (seen_by g u ≡ true) × Wanted u.row) (λ u sh. (sh.0, (sym (apart.fixes u.row) ∙ ap (selects d) sh.1 ∙ apart.fixes v.row ∙ asks, sym sh.1))) vs
+        some-filter (λ other. m.mask v.row ≡ m.mask other) (selects d) (map (λ u. u.row) (filter (seen_by g) ws)) (some-map Wanted (λ u. u.row) (filter (seen_by g) ws) (some-filter (λ u. Wanted u.row) (seen_by g) ws
+        (some-weaker (Shows m g (m.mask v.row)) (λ u. (seen_by g u ≡ true) × Wanted u.row) (λ u sh. (sh.0, (sym (apart.fixes u.row) ∙ ap (selects d) sh.1 ∙ apart.fixes v.row ∙ asks, sym sh.1))) ws
         (shows (m.mask v.row) (apart.concerns v.row asks) (some-weaker (λ u. v ≡ u) (Shows m f (m.mask v.row)) (λ u same. subst (Shows m f (m.mask v.row)) same (seen, refl)) vs there)))))
       where
         Wanted : Row → Type 0
@@ -130,44 +126,26 @@ asked_differ m d apart f vs pairs =
     nothing [] = tt
     nothing (x ∷ xs) = (tt, nothing xs)
 
--- what becomes visible leaves the masked answer
-pub masked_visible : (m : Masking) → Masks m → (d : Purpose) → AsksMasked m d → (history : List Entry) (a c : ℕ) (xid : Xid) (b : ℕ) → IsSound history → MayComeNext history (entry_of a c (events.Visible xid)) → (a == b) ≡ false → ((i : ℕ) → IsHeldIn m.strong (held_of history) a i m.rel → ⊥)
-    → map m.mask (answer_of (history ++ entry_of a c (events.Visible xid) ∷ []) b d) ≡ map m.mask (answer_of history b d)
-masked_visible m masks d apart history a c xid b sound comes other none = ap (λ vs. map m.mask (scan_of d (map (λ v. v.row) (filter (sees after b) vs)))) stay ∙ given
+-- where a backend sees the same masked rows after one more entry, a scan gives them
+pub masked_answer : (m : Masking) (d : Purpose) → AsksMasked m d → (history : List Entry) (e : Entry) (b : ℕ) → IsSound history → MayComeNext history e → ((x : Row) → m.concerns x → ShowSame m x (counts (history ++ e ∷ []) b) (versions_of (history ++ e ∷ [])) (counts history b) (versions_of history))
+    → map m.mask (answer_of (history ++ e ∷ []) b d) ≡ map m.mask (answer_of history b d)
+masked_answer m d apart history e b sound comes shows =
+    scan_same d m.mask apart.numbers (rows_of after b) (rows_of history b) (apart.by_number (rows_of after b)) (apart.by_number (rows_of history b))
+    (asked_differ m d apart (sees after b) (versions_of after) (one_seen after b (versions_of after) (Ordered-more history e k comes).one)) (asked_differ m d apart (sees history b) (versions_of history) (one_seen history b (versions_of history) k.one))
+    (asked_too m d apart (versions_of after) (versions_of history) (counts after b) (counts history b) (λ x cx. (shows x cx).0)) (asked_too m d apart (versions_of history) (versions_of after) (counts history b) (counts after b) (λ x cx. (shows x cx).1))
   where
-    e : Entry
-    e = entry_of a c (events.Visible xid)
-
     after : List Entry
     after = history ++ e ∷ []
 
     k : Ordered history
     k = sound_ordered history sound
 
-    vs : List Version
-    vs = versions_of history
-
-    stay : versions_of after ≡ vs
-    stay = versions-more history e
-
-    now : List Row
-    now = map (λ v. v.row) (filter (sees after b) vs)
-
-    before : List Row
-    before = map (λ v. v.row) (filter (sees history b) vs)
-
-    shows : (x : Row) → m.concerns x → ShowSame m x (counts after b) vs (counts history b) vs
-    shows x cx = part_kept m history a c xid b x k (sound_steady m masks history sound) cx (lawful_of history e k comes) other none
-
-    one_after : Pairwise (λ v w. key_of v.row ≡ key_of w.row → sees after b v ≡ true → sees after b w ≡ true → ⊥) vs
-    one_after = subst (Pairwise (λ v w. key_of v.row ≡ key_of w.row → sees after b v ≡ true → sees after b w ≡ true → ⊥)) stay (one_seen after b (versions_of after) (Ordered-more history e k comes).one)
-
-    given : map m.mask (scan_of d now) ≡ map m.mask (scan_of d before)
-    given = scan_same d m.mask apart.numbers now before (apart.by_number now) (apart.by_number before)
-        (asked_differ m d apart (sees after b) vs one_after) (asked_differ m d apart (sees history b) vs (one_seen history b vs k.one))
-        (asked_too m d apart vs (counts after b) (counts history b) (λ x cx. (shows x cx).0)) (asked_too m d apart vs (counts history b) (counts after b) (λ x cx. (shows x cx).1))
-
--- so it is where the backend holds none of some modes, among which these are
-pub masked_leaves : (m : Masking) → Masks m → (d : Purpose) → AsksMasked m d → (modes : List Mode) → ((mode : Mode) → m.strong mode ≡ true → list_any (same_mode mode) modes ≡ true) → LeavesRead (map m.mask) d m.rel modes
-masked_leaves m masks d apart modes among history a c xid b sound comes other none =
-    masked_visible m masks d apart history a c xid b sound comes other (λ i strong. not_held m.strong modes (held_of history) a i m.rel among none strong)
+-- what becomes visible leaves the masked answer
+pub masked_visible : (m : Masking) (n : Marking) → Masks m n → (d : Purpose) → AsksMasked m d → (history : List Entry) (a c : ℕ) (xid : Xid) (b : ℕ) → IsSound history → MayComeNext history (entry_of a c (events.Visible xid)) → (a == b) ≡ false → ((i : ℕ) → n.has history a i → ⊥)
+    → map m.mask (answer_of (history ++ entry_of a c (events.Visible xid) ∷ []) b d) ≡ map m.mask (answer_of history b d)
+masked_visible m n masks d apart history a c xid b sound comes other none = masked_answer m d apart history e b sound comes
+    (λ x cx. subst (λ vs. ShowSame m x (counts (history ++ e ∷ []) b) vs (counts history b) (versions_of history)) (sym (versions-more history e))
+    (part_kept m n history a c xid b x (sound_ordered history sound) (sound_steady m n masks history sound) cx (lawful_of history e (sound_ordered history sound) comes) other none))
+  where
+    e : Entry
+    e = entry_of a c (events.Visible xid)

@@ -38,8 +38,8 @@ use Rattle.history_model.proofs.Guards.{any_with}
 use Rattle.history_model.proofs.SparedGrants.{grant_spared}
 use Rattle.history_model.proofs.Granted.{lock_parts}
 use Rattle.history_model.proofs.Reached.{reached-rises}
-use Rattle.history_model.proofs.Ordered.{Ordered, lawful_of, covers_of, sound_ordered}
-use Rattle.history_model.proofs.Answers.{IsSparedByOwn, answer-other, answer-own}
+use Rattle.history_model.proofs.Ordered.{lawful_of, sound_ordered}
+use Rattle.history_model.proofs.CountedAnswers.{IsUntoldByOwn, counted, counted-other, counted-own}
 use Rattle.history_model.specs.Coming.{unpublished_in, unpublished_of}
 use Rattle.history_model.proofs.Coming.{published_by, log-append, unpublished-more, unpublished-visible, Placed}
 use Rattle.history_model.proofs.Accounted.{spared_is, own_spared, scan_spared, no_start, sound_placed, sound_unsent, sound_unread}
@@ -63,10 +63,14 @@ IsDirty history b rel modes scan = IsWriting history b rel modes scan ⊎ IsBehi
 abbrev pub IsReadAs : {X : Type 0} → (List Row → X) → Purpose → List Entry → ℕ → Type 0
 IsReadAs read d history b = read (answer_of history b d) ≡ read (rows_read history b d)
 
--- what becomes visible by a backend that holds none of the modes on the relation leaves what is made of the scan's answer for all others
+-- what is made of a scan's rows goes by them as they count for it
+abbrev pub GoesByCounted : {X : Type 0} → (List Row → X) → Purpose → Type 0
+GoesByCounted read d = (given others : List Row) → counted d given ≡ counted d others → read given ≡ read others
+
+-- so does what is made of the rows, and what becomes visible by a backend that holds none of the modes on the relation leaves what is made of the scan's answer for all others
 abbrev pub LeavesRead : {X : Type 0} → (List Row → X) → Purpose → Oid → List Mode → Type 0
-LeavesRead read d rel modes = (history : List Entry) (a c : ℕ) (xid : Xid) (b : ℕ) → IsSound history → MayComeNext history (entry_of a c (events.Visible xid)) → (a == b) ≡ false → list_any (holds (held_of history) a rel) modes ≡ false
-    → read (answer_of (history ++ entry_of a c (events.Visible xid) ∷ []) b d) ≡ read (answer_of history b d)
+LeavesRead read d rel modes = GoesByCounted read d × ((history : List Entry) (a c : ℕ) (xid : Xid) (b : ℕ) → IsSound history → MayComeNext history (entry_of a c (events.Visible xid)) → (a == b) ≡ false → list_any (holds (held_of history) a rel) modes ≡ false
+    → read (answer_of (history ++ entry_of a c (events.Visible xid) ∷ []) b d) ≡ read (answer_of history b d))
 
 -- what the backend last read of the field is its text
 abbrev pub IsRead : List Entry → ℕ → Field → Oid → Type 0
@@ -291,7 +295,7 @@ read_other read d rel modes leaves history a c (events.Visible xid) b other soun
     writes mode held = and_from (is_visible (running_transaction_of after a)) (holds (held_of after) a rel mode) (ap is_visible (running-own history e a (eq-eqb a a refl))) (subst (λ gs. holds gs a rel mode ≡ true) (sym (held-more history e)) held)
 
     by_holds : is_covered (sent_of history a) d ≡ true → (t : Bool) → list_any (holds (held_of history) a rel) modes ≡ t → IsReadAs read d after b ⊎ IsDirty after b rel modes d
-    by_holds covered false none = inl (stays' (leaves history a c xid b sound comes other none))
+    by_holds covered false none = inl (stays' (leaves.1 history a c xid b sound comes other none))
     by_holds covered true held = inr (inl (record {
       writer = a;
       other = other;
@@ -300,11 +304,10 @@ read_other read d rel modes leaves history a c (events.Visible xid) b other soun
     }))
 
     by_cover : (t : Bool) → is_covered (sent_of history a) d ≡ t → IsReadAs read d after b ⊎ IsDirty after b rel modes d
-    by_cover false none = let k = sound_ordered history sound in inl (stays' (ap read (answer-other history a c (events.Visible xid) b d other lawful k.runs k.touched none)))
+    by_cover false none = inl (stays' (leaves.0 (answer_of after b d) (answer_of history b d) (counted-other history a c (events.Visible xid) b d other sound comes none)))
     by_cover true covered = by_holds covered (list_any (holds (held_of history) a rel) modes) refl
 read_other read d rel modes leaves history a c event b other sound comes lawful was =
-    let k = sound_ordered history sound in
-    inl (ap read (answer-other history a c event b d other lawful k.runs k.touched tt) ∙ was ∙ ap read (sym (rows_read-other history (entry_of a c event) b d other)))
+    inl (leaves.0 (answer_of (history ++ entry_of a c event ∷ []) b d) (answer_of history b d) (counted-other history a c event b d other sound comes tt) ∙ was ∙ ap read (sym (rows_read-other history (entry_of a c event) b d other)))
 
 -- and of a change that may be unknown
 dirty_other : (history : List Entry) (e : Entry) (b : ℕ) (rel : Oid) (modes : List Mode) (d : Purpose) → (e.backend == b) ≡ false → IsSound history → MayComeNext history e → IsLawful history e → IsDirty history b rel modes d → IsDirty (history ++ e ∷ []) b rel modes d
@@ -337,9 +340,9 @@ dirty_own history b c event rel modes d sound life was spared (inr behind) = inr
 abbrev Observed : {X : Type 0} → (List Row → X) → Purpose → Oid → List Mode → List Entry → Type 0
 Observed read d rel modes history = (b : ℕ) → is_usable history b d ≡ true → IsReadAs read d history b ⊎ IsDirty history b rel modes d
 
-observed_own : {X : Type 0} (read : List Row → X) (d : Purpose) (rel : Oid) (modes : List Mode) (history : List Entry) (b c : ℕ) (event : Event) → IsSound history → MayComeNext history (entry_of b c event) → Observed read d rel modes history
+observed_own : {X : Type 0} (read : List Row → X) (d : Purpose) (rel : Oid) (modes : List Mode) → GoesByCounted read d → (history : List Entry) (b c : ℕ) (event : Event) → IsSound history → MayComeNext history (entry_of b c event) → Observed read d rel modes history
     → usable_by history b c d event (is_usable history b d) ≡ true → IsReadAs read d (history ++ entry_of b c event ∷ []) b ⊎ IsDirty (history ++ entry_of b c event ∷ []) b rel modes d
-observed_own read d rel modes history b c event sound comes observed' is = by_scan (is_scan_of d event) refl is
+observed_own read d rel modes goes history b c event sound comes observed' is = by_scan (is_scan_of d event) refl is
   where
     e : Entry
     e = entry_of b c event
@@ -347,21 +350,18 @@ observed_own read d rel modes history b c event sound comes observed' is = by_sc
     after : List Entry
     after = history ++ e ∷ []
 
-    k : Ordered history
-    k = sound_ordered history sound
-
-    kept : IsSparedByOwn history b c event d → answer_of after b d ≡ answer_of history b d
-    kept spared = answer-own history b c event d (lawful_of history e k comes) (covers_of history e k comes) k.runs k.touched spared
+    kept : IsUntoldByOwn history b event d → read (answer_of after b d) ≡ read (answer_of history b d)
+    kept spared = goes (answer_of after b d) (answer_of history b d) (counted-own history b c event d sound comes spared)
 
     rows_are : (t : Bool) → is_scan_of d event ≡ t → rows_read after b d ≡ elim t as (λ x. List Row) [ true ↦ answer_of history b d | false ↦ rows_read history b d ]
     rows_are t it = rows_read-own history e b d (eq-eqb b b refl) ∙ ap (λ u. elim u [ true ↦ answer_of history b d | false ↦ rows_read history b d ]) it
 
     on : is_scan_of d event ≡ false → is_usable history b d ≡ true → spares_by history b c d event ≡ true → IsReadAs read d history b ⊎ IsDirty history b rel modes d → IsReadAs read d after b ⊎ IsDirty after b rel modes d
-    on not_it used spared (inl was) = inl (ap read (kept (own_spared history b c event d spared)) ∙ was ∙ ap read (sym (rows_are false not_it)))
+    on not_it used spared (inl was) = inl (kept (own_spared history b c event d spared) ∙ was ∙ ap read (sym (rows_are false not_it)))
     on not_it used spared (inr dirty) = inr (dirty_own history b c event rel modes d sound comes.follows.life used spared dirty)
 
     by_scan : (t : Bool) → is_scan_of d event ≡ t → (t || (spares_by history b c d event && is_usable history b d)) ≡ true → IsReadAs read d after b ⊎ IsDirty after b rel modes d
-    by_scan true it used = inl (ap read (kept (scan_spared history b c event d it)) ∙ ap read (sym (rows_are true it)))
+    by_scan true it used = inl (kept (scan_spared history b c event d it) ∙ ap read (sym (rows_are true it)))
     by_scan false not_it used = let parts = and_parts (spares_by history b c d event) (is_usable history b d) used in on not_it parts.1 parts.0 (observed' b parts.1)
 
 Observed-more : {X : Type 0} (read : List Row → X) (d : Purpose) (rel : Oid) (modes : List Mode) → LeavesRead read d rel modes → (history : List Entry) (e : Entry) → IsSound history → MayComeNext history e → Observed read d rel modes history
@@ -380,7 +380,7 @@ Observed-more read d rel modes leaves history e sound comes observed' b is = by_
 
     by_owner : (t : Bool) → (e.backend == b) ≡ t → IsReadAs read d after b ⊎ IsDirty after b rel modes d
     by_owner true own = subst (λ o. is_usable after o d ≡ true → IsReadAs read d after o ⊎ IsDirty after o rel modes d) (eqb-true e.backend b own)
-        (λ used. observed_own read d rel modes history e.backend e.command e.event sound comes observed' (sym (is_usable-own history e e.backend d (eq-eqb e.backend e.backend refl)) ∙ used)) is
+        (λ used. observed_own read d rel modes leaves.0 history e.backend e.command e.event sound comes observed' (sym (is_usable-own history e e.backend d (eq-eqb e.backend e.backend refl)) ∙ used)) is
     by_owner false other = theirs other (observed' b (sym (is_usable-other history e b d other) ∙ is))
 
 -- of a sound history: where only those who hold one of the modes on the relation change for others what is made of a scan's answer, it is made of what a backend has read by such a scan that still serves, or a change under one of the modes may be unknown to it

@@ -201,6 +201,7 @@ before_down p from down i j low is =
 -- how far a backend saw before that which sees what it sees after writes were taken back
 pub record GoneView (history : List Entry) (a c from b : ℕ) (p : ℕ → Bool) : Type 0 where
   pub passes : ℕ → Bool
+  pub is : passes ≡ (λ k. elim (a == b) [ true ↦ before_command p from k | false ↦ p k ])
   pub down : IsDown passes
   pub less : (k : ℕ) → passes k ≡ true → p k ≡ true
   pub none : (s : Stamp) → is_back history a from s ≡ true → counts_at history b passes s ≡ false
@@ -259,8 +260,8 @@ gone_view history a c from b p lawful r down = by_owner (a == b) refl
     own_same one s row touch is = same s row touch ∙ capped s (is_committed history s.xid.0) (runs_as history b s.xid.0) (nat_le from s.command) (subst (λ o. (runs_as history o s.xid.0 && nat_le from s.command) ≡ false) one is)
 
     by_owner : (t : Bool) → (a == b) ≡ t → GoneView history a c from b p
-    by_owner true is = let one = eqb-true a b is in record { passes = q; down = before_down p from down; less = λ k passes'. (and_parts (p k) (not (nat_le from k)) passes').0; none = own_back one; same = own_same one }
-    by_owner false other = record { passes = p; down = down; less = λ k passes'. passes'; none = foreign' other; same = λ s row touch is. same s row touch }
+    by_owner true is = let one = eqb-true a b is in record { passes = q; is = ap (λ t k. elim t [ true ↦ before_command p from k | false ↦ p k ]) (sym is); down = before_down p from down; less = λ k passes'. (and_parts (p k) (not (nat_le from k)) passes').0; none = own_back one; same = own_same one }
+    by_owner false other = record { passes = p; is = ap (λ t k. elim t [ true ↦ before_command p from k | false ↦ p k ]) (sym other); down = down; less = λ k passes'. passes'; none = foreign' other; same = λ s row touch is. same s row touch }
 
 apart-gone : (history : List Entry) (a c from : ℕ) → IsLawful history (entry_of a c (events.Gone from)) → Runs history → (v w : Version) → Stamped history v → Stamped history w → Apart history v w
     → not (is_back history a from v.by) ≡ true → not (is_back history a from w.by) ≡ true

@@ -9,11 +9,15 @@ use Rattle.base_types.specs.declared.ids.Oid.{Oid}
 use Rattle.base_types.specs.declared.ids.Xid.{Xid}
 use Rattle.base_types.specs.declared.mode.Mode.{Mode}
 use Rattle.base_types.specs.declared.row.Row.{Row}
+use Rattle.base_types.specs.declared.row.ConKind.{ConKind}
+use Rattle.base_types.specs.declared.row.ConKind.TheVariants as demands
 use Rattle.base_types.specs.declared.row.Row.TheVariants as rows
+use Rattle.base_types.specs.declared.scan.Purpose.{Purpose}
+use Rattle.base_types.specs.declared.scan.Purpose.TheVariants as scans
 use Rattle.base_types.specs.declared.row_key.RowKey.{RowKey}
 use Rattle.base_types.specs.RowKeys.{key_of, same_key}
 use Rattle.base_types.specs.Modes.{same_mode}
-use Rattle.base_types.specs.Scans.{same_oid}
+use Rattle.base_types.specs.Scans.{same_oid, refers_to, selects}
 use Rattle.row_visibility.specs.declared.version.Version.{Version}
 use Rattle.row_visibility.specs.declared.version.Stamp.{Stamp}
 use Rattle.row_visibility.specs.Seen.{seen_by}
@@ -32,14 +36,14 @@ use Rattle.inval_messages.specs.Lists.{Written, has_write_from}
 use Rattle.history_model.specs.Sent.{lists_of, messages_written, ends_transaction as ends_at}
 use Rattle.history_model.specs.Held.{granted_by, held_by, held_of}
 use Rattle.history_model.specs.Drawn.{made_by}
-use Rattle.history_model.specs.Covered.{scans_of, is_covered}
+use Rattle.history_model.specs.Covered.{is_covered}
 use Rattle.history_model.specs.Writes.{has_row, relations_changed, is_validation, rows_named, modes_enough, is_guarded, IsWriteAllowed}
 use Rattle.history_model.specs.Legal.{FollowsVisible, MayRelease, AllowsEvent}
-use Rattle.history_model.specs.Orderly.{has_key, is_fresh, main_rel, keeps_relation, covers_named, IsOrderlyWrite, IsOrderlyEvent, MayComeNext, IsSound}
+use Rattle.history_model.specs.Orderly.{has_key, is_fresh, main_rel, keeps_relation, scans_told, covers_told, IsOrderlyWrite, IsOrderlyEvent, MayComeNext, IsSound}
 use Rattle.history_model.proofs.Prefixes.{each-keeps}
 use Rattle.history_model.proofs.Reading.{held_of-more as held-more}
 use Rattle.history_model.proofs.Every.{every-weaker, every, every-append, every-kept, every-both, any-left, any-right}
-use Rattle.history_model.proofs.Lawful.{EndsOnce, CoversRow, CoversItem, CoversLawfully, IsLawfulEvent, IsLawful}
+use Rattle.history_model.proofs.Lawful.{EndsOnce, asks_own, CoversRow, CoversItem, CoversLawfully, IsLawfulEvent, IsLawful}
 use Rattle.history_model.proofs.Asking.{oid_eq, scan_in}
 use Rattle.history_model.proofs.Runs.{Runs, Runs-start, Runs-more}
 use Rattle.history_model.proofs.Exclude.{AllAgree, LocksWell, LocksWell-more, LocksLawfully, granted_here, lock_command}
@@ -85,6 +89,10 @@ all_kept p f (x ∷ xs) all = by_option (f x) all (all_kept p f xs)
 pub if_some : {X : Type 0} (P Q : X → Type 0) → ((x : X) → P x → Q x) → (o : Option X) → IfSome o P → IfSome o Q
 if_some P Q weaker None held = tt
 if_some P Q weaker (Some x) held = weaker x held
+
+pub both_some : {X : Type 0} (P Q R : X → Type 0) → ((x : X) → P x → Q x → R x) → (o : Option X) → IfSome o P → IfSome o Q → IfSome o R
+both_some P Q R join None p q = tt
+both_some P Q R join (Some x) p q = join x p q
 
 -- the rows that a change names
 pub both_rows : {Y : Type 0} (p : Y → Bool) (f : Row → List Y) (old new : Option Row) → list_all p (flat_map f (filter_map (λ r. r) (old ∷ new ∷ []))) ≡ true → IfSome new (λ row. list_all p (f row) ≡ true) × IfSome old (λ row. list_all p (f row) ≡ true)
@@ -192,10 +200,6 @@ guarded_rows before b c xid items guarded keeps early =
         by None = tt
         by (Some old) = refl
     old_named (forms.Force rel) = tt
-
-    both_some : {A : Type 0} (P Q R : A → Type 0) → ((x : A) → P x → Q x → R x) → (o : Option A) → IfSome o P → IfSome o Q → IfSome o R
-    both_some P Q R join None p q = tt
-    both_some P Q R join (Some x) p q = join x p q
 
     of : (item : Item) → (is_guarded before b made item ≡ true) × (keeps_relation before b item ≡ true) → IfSome (added_row item) (IsHeldFor held b c (old_row before b item) item) × IfSome (old_row before b item) (IsHeldFor held b c (old_row before b item) item)
     of item is =
@@ -315,27 +319,50 @@ ends_once history b c xid items item locks guards' guarded =
         counts_not false true none = absurd (cc)
         counts_not false false none = refl
 
+asks_it : (d : Purpose) (row : Row) → asks_own d row ≡ true → selects d row ≡ true
+asks_it (scans.Constraint rel) (rows.Con oid of name valid what) is = or_left (same_oid of rel) (refers_to what rel) is
+asks_it (scans.Constraint rel) row is = is
+asks_it d row is = is
+
+-- what each scan passes of which a message must tell, each passes that asks for the row
+pub told_in : (P : Purpose → Bool) (validated : Bool) (row : Row) → list_all P (scans_told validated row) ≡ true → (d : Purpose) → asks_own d row ≡ true → P d ≡ true
+told_in P validated (rows.Con oid of name valid what) all (scans.Constraint rel) is = subst (λ o. P (scans.Constraint o) ≡ true) (oid_eq of rel is) (first validated what all)
+  where
+    first : (v : Bool) (w : ConKind) → list_all P (scans_told v (rows.Con oid of name valid w)) ≡ true → P (scans.Constraint of) ≡ true
+    first true (demands.Foreign num refrel refnum) told = (and_parts (P (scans.Constraint of)) true told).0
+    first false (demands.Foreign num refrel refnum) told = (and_parts (P (scans.Constraint of)) (P (scans.Constraint refrel) && true) told).0
+    first v (demands.Check text) told = (and_parts (P (scans.Constraint of)) true told).0
+told_in P validated (rows.Con oid of name valid what) all d is = absurd (cc)
+told_in P validated (rows.Class oid own kind fill) all d is = scan_in P d (rows.Class oid own kind fill) (asks_it d (rows.Class oid own kind fill) is) all
+told_in P validated (rows.Att of num own col_type stat live) all d is = scan_in P d (rows.Att of num own col_type stat live) (asks_it d (rows.Att of num own col_type stat live) is) all
+told_in P validated (rows.Def oid of num word) all d is = scan_in P d (rows.Def oid of num word) (asks_it d (rows.Def oid of num word) is) all
+told_in P validated (rows.Ind index table state nums) all d is = scan_in P d (rows.Ind index table state nums) (asks_it d (rows.Ind index table state nums) is) all
+told_in P validated (rows.Trg oid of own on) all d is = scan_in P d (rows.Trg oid of own on) (asks_it d (rows.Trg oid of own on) is) all
+
 -- the messages of an orderly write cover what gives the rows that it adds and ends
-covers_items : (history : List Entry) (b : ℕ) (items : List Item) → OneVersion history → covers_named history b items ≡ true → AllByRecursion (CoversItem history b (messages_written history b items)) items
+covers_items : (history : List Entry) (b : ℕ) (items : List Item) → OneVersion history → covers_told history b items ≡ true → AllByRecursion (CoversItem history b (messages_written history b items)) items
 covers_items history b items one named =
-    every-weaker (λ item. list_all (is_covered messages) (flat_map scans_of (rows_named item (old_row history b item))) ≡ true) (CoversItem history b messages) of items (all_flat (is_covered messages) (λ item. flat_map scans_of (rows_named item (old_row history b item))) items named)
+    every-weaker (λ item. list_all (is_covered messages) (flat_map (told item) (rows_named item (old_row history b item))) ≡ true) (CoversItem history b messages) of items (all_flat (is_covered messages) (λ item. flat_map (told item) (rows_named item (old_row history b item))) items named)
   where
     messages : List Message
     messages = messages_written history b items
 
-    All : Row → Type 0
-    All row = list_all (is_covered messages) (scans_of row) ≡ true
+    told : Item → Row → List Purpose
+    told item = scans_told (is_validation (old_row history b item) item)
 
-    on : (row : Row) → All row → CoversRow messages row
-    on row all d asks = scan_in (is_covered messages) d row asks all
-
-    of : (item : Item) → list_all (is_covered messages) (flat_map scans_of (rows_named item (old_row history b item))) ≡ true → CoversItem history b messages item
+    of : (item : Item) → list_all (is_covered messages) (flat_map (told item) (rows_named item (old_row history b item))) ≡ true → CoversItem history b messages item
     of item all =
-        let both = both_rows (is_covered messages) scans_of (old_row history b item) (added_row item) all in
+        let both = both_rows (is_covered messages) (told item) (old_row history b item) (added_row item) all in
         (if_some All (CoversRow messages) on (added_row item) both.0, ended_named history b (CoversRow messages) item one (if_some All (CoversRow messages) on (old_row history b item) both.1))
+      where
+        All : Row → Type 0
+        All row = list_all (is_covered messages) (told item row) ≡ true
+
+        on : (row : Row) → All row → CoversRow messages row
+        on row covered = told_in (is_covered messages) (is_validation (old_row history b item) item) row covered
 
 covers_lawful : (history : List Entry) (b : ℕ) (event : Event) → IsOrderlyEvent history b event → OneVersion history → CoversLawfully history b event
-covers_lawful history b (events.Write xid items) orderly one = covers_items history b items one orderly.named
+covers_lawful history b (events.Write xid items) orderly one = covers_items history b items one orderly.told
 covers_lawful history b event orderly one = tt
 
 -- a row that is added has a key of its own

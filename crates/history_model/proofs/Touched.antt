@@ -6,7 +6,6 @@ use Rattle.std.specs.Option.{option_map_or, IfSome}
 use Rattle.std.proofs.lemmas.Bool.{eqb-true, eq-eqb, or_left, and_parts, and_from, not-true, leb-false, lt-ltb}
 use Rattle.base_types.specs.declared.row.Row.{Row}
 use Rattle.base_types.specs.declared.scan.Purpose.{Purpose}
-use Rattle.base_types.specs.Scans.{selects}
 use Rattle.event_kinds.specs.declared.entry.Entry.{Entry}
 use Rattle.event_kinds.specs.declared.entry.Event.{Event}
 use Rattle.event_kinds.specs.declared.entry.Event.TheVariants as events
@@ -21,7 +20,7 @@ use Rattle.history_model.specs.Sent.{written_by, messages_written, lists_of, lis
 use Rattle.history_model.specs.Covered.{is_covered}
 use Rattle.history_model.proofs.Reading.{running_transaction_of-own as running-own, versions_of-more as versions-more, lists_of-own as lists-own, lists_of-other as lists-other}
 use Rattle.history_model.proofs.Every.{every-weaker, every, every-append, every-map, every-filter, every-both, every-swap, any-filter, any-left, any-right}
-use Rattle.history_model.proofs.Lawful.{CoversRow, CoversLawfully, IsLawful}
+use Rattle.history_model.proofs.Lawful.{CoversRow, CoversLawfully, IsLawful, asks_own}
 use Rattle.history_model.proofs.Runs.{last_xid-rises, Draws, runs-before, Runs, Runs-more}
 
 -- both stamps of a version, with its row
@@ -60,7 +59,7 @@ covers_at c d w = is_of c w && is_covered (of_write w) d
 
 -- the write of a command covers each scan that asks for the row
 abbrev pub HasCovered : List Written → ℕ → Row → Type 0
-HasCovered lists c row = (d : Purpose) → selects d row ≡ true → list_any (covers_at c d) lists ≡ true
+HasCovered lists c row = (d : Purpose) → asks_own d row ≡ true → list_any (covers_at c d) lists ≡ true
 
 -- a stamp: its Xid is drawn, and while it runs the lists have the write, which covers the row
 pub record Touch (history : List Entry) (s : Stamp) (row : Row) : Type 0 where
@@ -71,7 +70,7 @@ pub record Touch (history : List Entry) (s : Stamp) (row : Row) : Type 0 where
 abbrev pub Touched : List Entry → Type 0
 Touched history = AllByRecursion (OfStamps (Touch history)) (versions_of history)
 
-below_stays : (p : Written → Bool) (lists : List Written) (from c : ℕ) → ((w : Written) → p w ≡ true → is_of c w ≡ true) → nat_le from c ≡ false → list_any p lists ≡ true → list_any p (filter (λ w. nat_lt w.command from) lists) ≡ true
+pub below_stays : (p : Written → Bool) (lists : List Written) (from c : ℕ) → ((w : Written) → p w ≡ true → is_of c w ≡ true) → nat_le from c ≡ false → list_any p lists ≡ true → list_any p (filter (λ w. nat_lt w.command from) lists) ≡ true
 below_stays p lists from c of below has = any-filter p (λ w. nat_lt w.command from) (λ w is. ap (λ k. nat_lt k from) (eqb-true w.command c (of w is)) ∙ lt-ltb c from (leb-false from c below)) lists has
 
 -- the event takes back what was done in the command

@@ -42,7 +42,7 @@ comes_2 = record { follows = record { life = refl; visible = tt; gone = tt; even
 comes_3 : MayComeNext (entry_of 1 0 Start ∷ entry_of 2 0 Start ∷ []) (entry_of 1 1 (Write (xid 1) (tables 16384)))
 comes_3 = record {
   follows = record { life = omega arith; visible = tt; gone = tt; event = record { xid_is = refl; oids = refl; keys = refl; there = refl; kinds = refl; only = refl; free = refl; guarded = refl; covered = refl } };
-  orderly = record { fresh = refl; keeps = refl; named = refl };
+  orderly = record { fresh = refl; keeps = refl; told = refl };
 }
 
 comes_4 : MayComeNext created (entry_of 1 2 (LockOk (oid 16384) AccessShare))

@@ -33,10 +33,13 @@ use Rattle.history_model.proofs.Every.{every-filter}
 use Rattle.history_model.proofs.EnoughModes.{under_row}
 use Rattle.history_model.proofs.FixedRows.{fixed, is_loose}
 use Rattle.history_model.proofs.Guards.{is_changing, is_exclusive}
-use Rattle.history_model.proofs.HeldRows.{changed_under, unheld_visible}
-use Rattle.history_model.proofs.MaskedScans.{AsksMasked, masked_leaves}
-use Rattle.history_model.proofs.Observed.{LeavesRead}
-use Rattle.history_model.proofs.RowMasks.{fixed_mask, fixed_masks, unvalidated, unvalidated_mask, unvalidated_masks, selects_unvalidated, counted_mask, counted_masks, selects_counted}
+use Rattle.history_model.proofs.HeldRows.{not_held, changed_under, unheld_visible}
+use Rattle.history_model.proofs.MaskedRows.{Masking, Masks}
+use Rattle.history_model.proofs.Markings.{held_marks}
+use Rattle.history_model.proofs.MaskedScans.{AsksMasked, masked_visible}
+use Rattle.history_model.proofs.CountedAnswers.{counted}
+use Rattle.history_model.proofs.Observed.{GoesByCounted, LeavesRead, Leaves}
+use Rattle.history_model.proofs.RowMasks.{fixed_mask, fixed_masks, unvalidated, unvalidated_mask, unvalidated_masks, unvalidated_apart, counted_mask, counted_masks, counted_apart}
 use Rattle.history_model.proofs.Touched.{entry_of}
 
 class_fixes : (rel : Oid) (row : Row) → selects (scans.Class rel) (fixed row) ≡ selects (scans.Class rel) row
@@ -107,50 +110,34 @@ column_apart rel = record {
   by_number = λ found. inl (λ row other. refl);
 }
 
+-- where a backend holds none of some modes on the relation, among which those are that mark changes of masked rows, what it makes visible leaves the masked answer
+pub masked_leaves : (m : Masking) (rel : Oid) (strong : Mode → Bool) → Masks m (held_marks rel strong) → (d : Purpose) → AsksMasked m d → GoesByCounted (map m.mask) d → (modes : List Mode) → ((mode : Mode) → strong mode ≡ true → list_any (same_mode mode) modes ≡ true) → LeavesRead (map m.mask) d rel modes
+masked_leaves m rel strong masks d apart goes modes among = (
+  goes,
+  λ history a c xid b sound comes other none.
+      masked_visible m (held_marks rel strong) masks d apart history a c xid b sound comes other (λ i is. not_held strong modes (held_of history) a i rel among none is),
+)
+
+same_map : (f : Row → Row) → ((row : Row) → f row ≡ row) → (given : List Row) → map f given ≡ given
+same_map f same [] = refl
+same_map f same (row ∷ given) = ap (λ r. r ∷ map f given) (same row) ∙ ap (λ l. row ∷ l) (same_map f same given)
+
+-- where each row counts as it is, whatever is made of the rows goes by them so
+pub plain_goes : {X : Type 0} (read : List Row → X) (d : Purpose) → ((row : Row) → counted_for d row ≡ row) → GoesByCounted read d
+plain_goes read d same given others alike = ap read (sym (same_map (counted_for d) same given) ∙ alike ∙ same_map (counted_for d) same others)
+
 exclusive_only : (mode : Mode) → is_exclusive mode ≡ true → list_any (same_mode mode) (AccessExclusive ∷ []) ≡ true
 exclusive_only AccessExclusive is = refl
 exclusive_only mode is = absurd (cc)
 
 -- what becomes visible leaves another's answer but for what a weak mode changes, where its backend doesn't hold AccessExclusive on the relation
-pub fixed_leaves : (rel : Oid) (d : Purpose) → AsksMasked (fixed_mask rel) d → LeavesRead (map fixed) d rel (AccessExclusive ∷ [])
-fixed_leaves rel d apart = masked_leaves (fixed_mask rel) (fixed_masks rel) d apart (AccessExclusive ∷ []) exclusive_only
+pub fixed_leaves : (rel : Oid) (d : Purpose) → AsksMasked (fixed_mask rel) d → ((row : Row) → counted_for d row ≡ row) → LeavesRead (map fixed) d rel (AccessExclusive ∷ [])
+fixed_leaves rel d apart plain = masked_leaves (fixed_mask rel) rel is_exclusive (fixed_masks rel) d apart (plain_goes (map fixed) d plain) (AccessExclusive ∷ []) exclusive_only
 
 pub fixed_visible : (history : List Entry) (a c : ℕ) (xid : Xid) (b : ℕ) (rel : Oid) (d : Purpose) → AsksMasked (fixed_mask rel) d → IsSound history → MayComeNext history (entry_of a c (events.Visible xid)) → (a == b) ≡ false → holds (held_of history) a rel AccessExclusive ≡ false
     → map fixed (answer_of (history ++ entry_of a c (events.Visible xid) ∷ []) b d) ≡ map fixed (answer_of history b d)
-fixed_visible history a c xid b rel d apart sound comes other none = fixed_leaves rel d apart history a c xid b sound comes other (or-false (holds (held_of history) a rel AccessExclusive) ∙ none)
-
-constraint_keyed : (rel : Oid) (row other : Row) → selects (scans.Constraint rel) row ≡ true → selects (scans.Constraint rel) other ≡ true → row_number row ≡ row_number other → key_of row ≡ key_of other
-constraint_keyed rel (rows.Con oid of own valid what) (rows.Con oid' of' own' valid' what') is also same = ap keys.Con (ap {B = Oid} (λ n. record { 0 = n }) same)
-constraint_keyed rel (rows.Con oid of own valid what) other is also same = absurd (cc)
-constraint_keyed rel row other is also same = absurd (cc)
-
-number_unvalidated : (row : Row) → row_number (unvalidated row) ≡ row_number row
-number_unvalidated (rows.Con oid of own valid what) = refl
-number_unvalidated row = refl
-
-number_counted : (rel : Oid) (row : Row) → row_number (counted_for (scans.Constraint rel) row) ≡ row_number row
-number_counted rel (rows.Con oid of own valid (demands.Foreign num refrel refnum)) = refl
-number_counted rel (rows.Con oid of own valid (demands.Check text)) = refl
-number_counted rel row = refl
-
--- the constraints of a relation, as they count for it, and but for whether they are known to hold
-pub counted_apart : (rel : Oid) → AsksMasked (counted_mask rel) (scans.Constraint rel)
-counted_apart rel = record {
-  concerns = λ row is. selects_counted rel row ∙ is;
-  fixes = selects_counted rel;
-  numbers = number_counted rel;
-  keyed = constraint_keyed rel;
-  by_number = λ found. inl (λ row other. refl);
-}
-
-pub unvalidated_apart : (rel : Oid) → AsksMasked (unvalidated_mask rel) (scans.Constraint rel)
-unvalidated_apart rel = record {
-  concerns = λ row is. selects_unvalidated rel row ∙ is;
-  fixes = selects_unvalidated rel;
-  numbers = number_unvalidated;
-  keyed = constraint_keyed rel;
-  by_number = λ found. inl (λ row other. refl);
-}
+fixed_visible history a c xid b rel d apart sound comes other none = masked_visible (fixed_mask rel) (held_marks rel is_exclusive) (fixed_masks rel) d apart history a c xid b sound comes other
+    (λ i is. not_held is_exclusive (AccessExclusive ∷ []) (held_of history) a i rel exclusive_only (or-false (holds (held_of history) a rel AccessExclusive) ∙ none) is)
 
 changing_only : (mode : Mode) → is_changing mode ≡ true → list_any (same_mode mode) (ShareUpdateExclusive ∷ ShareRowExclusive ∷ AccessExclusive ∷ []) ≡ true
 changing_only ShareUpdateExclusive is = refl
@@ -165,11 +152,20 @@ row_only mode is = absurd (cc)
 
 -- what becomes visible leaves a relation's constraints as they count for it, where its backend holds on it none of the modes that are no weaker than those which exclude themselves
 pub counted_leaves : (rel : Oid) → LeavesRead (map (counted_for (scans.Constraint rel))) (scans.Constraint rel) rel (ShareUpdateExclusive ∷ ShareRowExclusive ∷ AccessExclusive ∷ [])
-counted_leaves rel = masked_leaves (counted_mask rel) (counted_masks rel) (scans.Constraint rel) (counted_apart rel) (ShareUpdateExclusive ∷ ShareRowExclusive ∷ AccessExclusive ∷ []) changing_only
+counted_leaves rel = masked_leaves (counted_mask rel) rel is_changing (counted_masks rel) (scans.Constraint rel) (counted_apart rel) (λ given others alike. alike) (ShareUpdateExclusive ∷ ShareRowExclusive ∷ AccessExclusive ∷ []) changing_only
+
+unvalidated_counted : (rel : Oid) (row : Row) → unvalidated (counted_for (scans.Constraint rel) row) ≡ unvalidated row
+unvalidated_counted rel (rows.Con oid of own valid (demands.Foreign num refrel refnum)) = refl
+unvalidated_counted rel (rows.Con oid of own valid (demands.Check text)) = refl
+unvalidated_counted rel row = refl
+
+unvalidated_by : (rel : Oid) (given : List Row) → map unvalidated (counted (scans.Constraint rel) given) ≡ map unvalidated given
+unvalidated_by rel [] = refl
+unvalidated_by rel (row ∷ given) = ap (λ r. r ∷ map unvalidated (counted (scans.Constraint rel) given)) (unvalidated_counted rel row) ∙ ap (λ l. unvalidated row ∷ l) (unvalidated_by rel given)
 
 -- and but for whether they are known to hold, where it holds neither ShareRowExclusive nor AccessExclusive
 pub unvalidated_leaves : (rel : Oid) → LeavesRead (map unvalidated) (scans.Constraint rel) rel (ShareRowExclusive ∷ AccessExclusive ∷ [])
-unvalidated_leaves rel = masked_leaves (unvalidated_mask rel) (unvalidated_masks rel) (scans.Constraint rel) (unvalidated_apart rel) (ShareRowExclusive ∷ AccessExclusive ∷ []) row_only
+unvalidated_leaves rel = masked_leaves (unvalidated_mask rel) rel under_row (unvalidated_masks rel) (scans.Constraint rel) (unvalidated_apart rel) (λ given others alike. sym (unvalidated_by rel given) ∙ ap (map unvalidated) alike ∙ unvalidated_by rel others) (ShareRowExclusive ∷ AccessExclusive ∷ []) row_only
 
 items_masked : (mask : Row → Row) (f : Field) (rel : Oid) → ((row : Row) → item_of f rel (mask row) ≡ item_of f rel row) → (given : List Row) → filter_map (item_of f rel) (map mask given) ≡ filter_map (item_of f rel) given
 items_masked mask f rel same [] = refl
@@ -192,6 +188,11 @@ columns_fixed rel row = refl
 referenced_unvalidated : (rel : Oid) (row : Row) → item_of fields.Referenced rel (unvalidated row) ≡ item_of fields.Referenced rel row
 referenced_unvalidated rel (rows.Con oid of own valid what) = refl
 referenced_unvalidated rel row = refl
+
+referenced_counted : (rel : Oid) (row : Row) → item_of fields.Referenced rel (counted_for (scans.Constraint rel) row) ≡ item_of fields.Referenced rel row
+referenced_counted rel (rows.Con oid of own valid (demands.Foreign num refrel refnum)) = refl
+referenced_counted rel (rows.Con oid of own valid (demands.Check text)) = refl
+referenced_counted rel row = refl
 
 constraints_counted : (rel : Oid) (row : Row) → item_of fields.Constraints rel (counted_for (scans.Constraint rel) row) ≡ item_of fields.Constraints rel row
 constraints_counted rel (rows.Con oid of own valid (demands.Foreign num refrel refnum)) = by_own (same_oid of rel) valid
@@ -220,16 +221,26 @@ weak_visible history a c xid b kind f rel sound comes other = of kind f
     masked mask g same alike = text_masked mask g rel same (answer_of after b (read_by g rel)) (answer_of history b (read_by g rel)) alike
 
     of : (k : Kind) (g : Field) → Goal k g
-    of Table fields.Name has none = masked fixed fields.Name (name_fixed rel) (fixed_leaves rel (scans.Class rel) (class_apart rel) history a c xid b sound comes other none)
-    of Table fields.Columns has none = masked fixed fields.Columns (columns_fixed rel) (fixed_leaves rel (scans.Attribute rel) (column_apart rel) history a c xid b sound comes other none)
+    of Table fields.Name has none = masked fixed fields.Name (name_fixed rel) ((fixed_leaves rel (scans.Class rel) (class_apart rel) (λ row. refl)).1 history a c xid b sound comes other none)
+    of Table fields.Columns has none = masked fixed fields.Columns (columns_fixed rel) ((fixed_leaves rel (scans.Attribute rel) (column_apart rel) (λ row. refl)).1 history a c xid b sound comes other none)
     of Table fields.Defaults has none = ap (field_text fields.Defaults rel) (unheld_visible history a c xid b rel (scans.AttrDef rel) (AccessExclusive ∷ []) sound comes other (changed_under (scans.AttrDef rel) rel refl) none)
     of Table fields.Statistics has none = ap (field_text fields.Statistics rel) (unheld_visible history a c xid b rel (scans.Attribute rel) (ShareUpdateExclusive ∷ AccessExclusive ∷ []) sound comes other (changed_under (scans.Attribute rel) rel refl) none)
     of Table fields.Fillfactor has none = ap (field_text fields.Fillfactor rel) (unheld_visible history a c xid b rel (scans.Class rel) (ShareUpdateExclusive ∷ AccessExclusive ∷ []) sound comes other (changed_under (scans.Class rel) rel refl) none)
-    of Table fields.Constraints has none = masked (counted_for (scans.Constraint rel)) fields.Constraints (constraints_counted rel) (counted_leaves rel history a c xid b sound comes other none)
-    of Table fields.Referenced has none = masked unvalidated fields.Referenced (referenced_unvalidated rel) (unvalidated_leaves rel history a c xid b sound comes other none)
+    of Table fields.Constraints has none = masked (counted_for (scans.Constraint rel)) fields.Constraints (constraints_counted rel) ((counted_leaves rel).1 history a c xid b sound comes other none)
+    of Table fields.Referenced has none = masked unvalidated fields.Referenced (referenced_unvalidated rel) ((unvalidated_leaves rel).1 history a c xid b sound comes other none)
     of Table fields.Indexes has none = ap (field_text fields.Indexes rel) (unheld_visible history a c xid b rel (scans.Index rel) (writers_of Table fields.Indexes) sound comes other (changed_under (scans.Index rel) rel refl) none)
     of Table fields.Triggers has none = ap (field_text fields.Triggers rel) (unheld_visible history a c xid b rel (scans.Trigger rel) (ShareRowExclusive ∷ AccessExclusive ∷ []) sound comes other (changed_under (scans.Trigger rel) rel refl) none)
     of Index fields.Name has none = ap (field_text fields.Name rel) (unheld_visible history a c xid b rel (scans.Class rel) (ShareUpdateExclusive ∷ AccessExclusive ∷ []) sound comes other (changed_under (scans.Class rel) rel refl) none)
     of Index fields.Of has none = ap (field_text fields.Of rel) (unheld_visible history a c xid b rel (scans.IndexRow rel) (AccessExclusive ∷ []) sound comes other (changed_under (scans.IndexRow rel) rel refl) none)
     of Index fields.Valid has none = ap (field_text fields.Valid rel) (unheld_visible history a c xid b rel (scans.IndexRow rel) (AccessExclusive ∷ []) sound comes other (changed_under (scans.IndexRow rel) rel refl) none)
     of k g has none = absurd (cc)
+
+-- and the text goes by the rows as they count
+text_goes : (kind : Kind) (f : Field) (rel : Oid) → has_field kind f ≡ true → GoesByCounted (field_text f rel) (read_by f rel)
+text_goes kind fields.Constraints rel has given others alike = text_masked (counted_for (scans.Constraint rel)) fields.Constraints rel (constraints_counted rel) given others alike
+text_goes kind fields.Referenced rel has given others alike = text_masked (counted_for (scans.Constraint rel)) fields.Referenced rel (referenced_counted rel) given others alike
+text_goes kind f rel has given others alike = plain_goes (field_text f rel) (read_by f rel) (λ row. refl) given others alike
+
+-- so it is left, as are all fields
+pub field_leaves : (kind : Kind) (f : Field) (rel : Oid) → has_field kind f ≡ true → Leaves f rel (writers_of kind f)
+field_leaves kind f rel has = (text_goes kind f rel has, λ history a c xid b sound comes other none. weak_visible history a c xid b kind f rel sound comes other has none)

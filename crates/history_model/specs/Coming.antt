@@ -1,5 +1,5 @@
 -- What is still on its way to a backend, and what a scan that it has made is worth.
-use Rattle.std.specs.Prelude.{◌≡◌, ◌≤◌, ◌⊎◌, ℕ, true, false, Option, List, [], ◌++◌, length, take, drop}
+use Rattle.std.specs.Prelude.{◌≡◌, ◌≤◌, ◌⊎◌, ℕ, true, false, Option, List, [], ◌++◌, length, map, take, drop}
 use Rattle.std.specs.List.{flat_map}
 use Rattle.inval_messages.specs.Lists.{Written}
 use Rattle.history_model.specs.Types.{Row, Purpose, Message, Entry}
@@ -7,7 +7,7 @@ use Rattle.history_model.specs.Transactions.{Running, running_transaction_of, is
 use Rattle.history_model.specs.Versions.{answer_of}
 use Rattle.history_model.specs.Sent.{lists_of, left_in}
 use Rattle.history_model.specs.Log.{log_of, position_of}
-use Rattle.history_model.specs.Covered.{is_covered}
+use Rattle.history_model.specs.Covered.{is_covered, counted_for}
 
 -- what of a visible transaction's messages isn't published yet
 abbrev pub unpublished_in : List Written → Option Running → List Message
@@ -25,10 +25,10 @@ all_unpublished history = flat_map (λ e. unpublished_of history e.backend) hist
 abbrev pub coming_to : List Entry → ℕ → List Message
 coming_to history b = all_unpublished history ++ drop (position_of history b) (log_of history)
 
--- what a scan gave, in the entry of this number, is its answer at each place from there on
+-- what a scan gave, in the entry of this number, is its answer at each place from there on, as the rows count for it
 pub record StaysRead (history : List Entry) (b : ℕ) (scan : Purpose) (at : ℕ) (given : List Row) : Type 0 where
   pub within : at ≤ length history
-  pub stays : (q : ℕ) → at ≤ q → q ≤ length history → answer_of (take q history) b scan ≡ given
+  pub stays : (q : ℕ) → at ≤ q → q ≤ length history → map (counted_for scan) (answer_of (take q history) b scan) ≡ map (counted_for scan) given
 
 -- a message that covers the scan is on its way
 abbrev pub IsComing : List Entry → ℕ → Purpose → Type 0

@@ -1,17 +1,19 @@
 -- What the commands keep, though a legal history need not.
-use Rattle.std.specs.Prelude.{ℕ, Bool, true, false, List, ◌≡◌, ◌<◌, if◌then◌else◌, ⊤}
+use Rattle.std.specs.Prelude.{ℕ, Bool, true, false, List, [], ◌∷◌, ◌≡◌, ◌<◌, if◌then◌else◌, ⊤}
 use Rattle.std.specs.Option.{option_map_or}
 use Rattle.std.specs.List.{flat_map, list_any, list_all}
 use Rattle.base_types.specs.RowKeys.{key_of, same_key}
 use Rattle.base_types.specs.Scans.{same_oid}
+use Rattle.base_types.specs.declared.row.ConKind.TheVariants as demands
 use Rattle.base_types.specs.declared.row.Row.TheVariants as rows
-use Rattle.history_model.specs.Types.{Oid, Row, RowKey, Item, Add, Put, Entry, Event, LockOk, LockHeld, Write}
+use Rattle.base_types.specs.declared.scan.Purpose.TheVariants as scans
+use Rattle.history_model.specs.Types.{Oid, Row, RowKey, Purpose, Item, Add, Put, Entry, Event, LockOk, LockHeld, Write}
 use Rattle.history_model.specs.Prefixes.{EachEntry}
 use Rattle.history_model.specs.Versions.{versions_of, old_row}
 use Rattle.history_model.specs.Drawn.{next_oid}
 use Rattle.history_model.specs.Sent.{messages_written}
 use Rattle.history_model.specs.Covered.{scans_of, is_covered}
-use Rattle.history_model.specs.Writes.{rows_named}
+use Rattle.history_model.specs.Writes.{rows_named, is_validation}
 use Rattle.history_model.specs.Legal.{MayFollow}
 
 -- a version has the key
@@ -43,15 +45,20 @@ keeps_relation before b (Add row) = is_apart row
 keeps_relation before b (Put row) = option_map_or (λ old. same_oid (main_rel old) (main_rel row)) (old_row before b (Put row)) true
 keeps_relation before b item = true
 
--- a message of the write covers each scan that gives a row which a change names
-abbrev pub covers_named : List Entry → ℕ → List Item → Bool
-covers_named before b items = list_all (is_covered (messages_written before b items)) (flat_map (λ item. flat_map scans_of (rows_named item (old_row before b item))) items)
+-- the scans that give a row which is changed, and that a message must cover: where a foreign key is validated, not that of the relation that it refers to
+abbrev pub scans_told : Bool → Row → List Purpose
+scans_told validated (rows.Con oid rel name valid (demands.Foreign num refrel refnum)) = if validated then scans.Constraint rel ∷ [] else scans.Constraint rel ∷ scans.Constraint refrel ∷ []
+scans_told validated row = scans_of row
 
--- the rows that a write adds have new keys, those that it replaces stay rows of their relations, and its messages cover all scans that give one of them
+-- a message of the write covers each such scan of a row which a change names
+abbrev pub covers_told : List Entry → ℕ → List Item → Bool
+covers_told before b items = list_all (is_covered (messages_written before b items)) (flat_map (λ item. flat_map (scans_told (is_validation (old_row before b item) item)) (rows_named item (old_row before b item))) items)
+
+-- the rows that a write adds have new keys, those that it replaces stay rows of their relations, and its messages cover all scans that give one of them, but where a foreign key is validated that of the relation that it refers to
 pub record IsOrderlyWrite (before : List Entry) (b : ℕ) (items : List Item) : Type 0 where
   pub fresh : list_all (is_fresh before) items ≡ true
   pub keeps : list_all (keeps_relation before b) items ≡ true
-  pub named : covers_named before b items ≡ true
+  pub told : covers_told before b items ≡ true
 
 -- a lock is asked for on no relation whose oid is still to be drawn, and a write is orderly
 abbrev pub IsOrderlyEvent : List Entry → ℕ → Event → Type 0

@@ -1,0 +1,192 @@
+-- What an entry leaves of the answers of scans as their rows count: a message covers each that it changes. For the relation that a foreign key refers to it doesn't count whether the key is known to hold.
+use Rattle.std.proofs.Common.{◌≡◌, ◌≤◌, ◌∙◌, ◌⊎◌, inl, inr, ℕ, Bool, true, false, not, Option, Some, None, List, [], ◌∷◌, ◌++◌, ◌==◌, ◌||◌, ◌&&◌, refl, sym, ap, subst, map}
+use Rattle.std.specs.Prelude.{nat_le, ⊤}
+use Rattle.std.specs.Option.{IfSome}
+use Rattle.std.proofs.lemmas.Bool.{eqb-true, eq-eqb, both_ways, and_parts, or_right}
+use Rattle.base_types.specs.declared.ids.Oid.{Oid}
+use Rattle.base_types.specs.declared.ids.Xid.{Xid}
+use Rattle.base_types.specs.declared.row.Row.{Row}
+use Rattle.base_types.specs.declared.scan.Purpose.{Purpose}
+use Rattle.base_types.specs.declared.scan.Purpose.TheVariants as scans
+use Rattle.event_kinds.specs.declared.entry.Entry.{Entry}
+use Rattle.event_kinds.specs.declared.entry.Event.{Event}
+use Rattle.event_kinds.specs.declared.entry.Event.TheVariants as events
+use Rattle.event_kinds.specs.declared.entry.Item.{Item}
+use Rattle.inval_messages.specs.Lists.{lists_from}
+use Rattle.row_visibility.specs.declared.version.Stamp.{Stamp}
+use Rattle.row_visibility.specs.declared.version.Version.{Version}
+use Rattle.history_model.specs.Transactions.{runs_as, is_committed, has_xid}
+use Rattle.history_model.specs.Versions.{versions_of, versions_by, added_row, old_row, counts, answer_of}
+use Rattle.history_model.specs.Sent.{messages_written, lists_of, sent_of}
+use Rattle.history_model.specs.Covered.{is_covered, counted_for}
+use Rattle.history_model.specs.Orderly.{MayComeNext, IsSound}
+use Rattle.history_model.proofs.Every.{every, every-weaker, any-filter}
+use Rattle.history_model.proofs.Lawful.{IsPlain}
+use Rattle.history_model.proofs.Lives.{begun_at}
+use Rattle.history_model.proofs.Markings.{TellsIn, told_marks}
+use Rattle.history_model.proofs.MaskedRows.{Masking, ShowSame, LeavesMask, KeepsMask, passing, passing_down, show-trans, show-sym, counted_all, write_leaves, gone_leaves, sound_steady}
+use Rattle.history_model.proofs.MaskedScans.{masked_answer, masked_visible}
+use Rattle.history_model.proofs.Ordered.{Ordered, if_some, lawful_of, sound_ordered}
+use Rattle.history_model.proofs.Reading.{running_transaction_of-own as running-own, versions_of-more as versions-more}
+use Rattle.history_model.proofs.RowMasks.{counted_mask, counted_apart, ToldOf, told_changes, told_masks}
+use Rattle.history_model.proofs.Seen.{counts_at, every_command}
+use Rattle.history_model.proofs.Touched.{entry_of, OfStamps, is_of, of_write, covers_at}
+use Rattle.history_model.proofs.Answers.{sent-covered, taken_back, other_answers, own_answers}
+
+-- another's event has no message that covers the scan, where it makes a transaction visible
+abbrev pub IsUntoldByOther : List Entry → ℕ → Event → Purpose → Type 0
+IsUntoldByOther history a (events.Visible xid) d = is_covered (sent_of history a) d ≡ false
+IsUntoldByOther history a event d = ⊤
+
+-- an own event neither registers nor takes back a message that covers it
+abbrev pub IsUntoldByOwn : List Entry → ℕ → Event → Purpose → Type 0
+IsUntoldByOwn history b (events.Write xid items) d = is_covered (messages_written history b items) d ≡ false
+IsUntoldByOwn history b (events.Gone from) d = is_covered (taken_back history b from) d ≡ false
+IsUntoldByOwn history b event d = ⊤
+
+-- the rows of a scan's answer as they count for it
+abbrev pub counted : Purpose → List Row → List Row
+counted d given = map (counted_for d) given
+
+abbrev IsOfConstraints : Purpose → Type 0
+IsOfConstraints d = (rel : Oid) × (d ≡ scans.Constraint rel)
+
+plain_or : (d : Purpose) → IsPlain d ⊎ IsOfConstraints d
+plain_or (scans.Constraint rel) = inr (rel, refl)
+plain_or d = inl (λ row is. is)
+
+-- all that a backend did counts for it
+all_counts : (m : Masking) (history : List Entry) (b : ℕ) (x : Row) (vs : List Version) → ShowSame m x (counts history b) vs (counts_at history b every_command) vs
+all_counts m history b x vs = counted_all m x (counts history b) (counts_at history b every_command) vs (every (OfStamps (λ s row. counts history b s ≡ counts_at history b every_command s)) (λ v. (same v.by, of v.ended)) vs)
+  where
+    and_true : (t : Bool) → t ≡ (t && true)
+    and_true true = refl
+    and_true false = refl
+
+    same : (s : Stamp) → counts history b s ≡ counts_at history b every_command s
+    same s = ap (λ t. is_committed history s.xid.0 || t) (and_true (runs_as history b s.xid.0))
+
+    of : (o : Option Stamp) → IfSome o (λ s. counts history b s ≡ counts_at history b every_command s)
+    of None = tt
+    of (Some s) = same s
+
+-- an own entry leaves a relation's constraints, where with all that it did the backend sees the same masked rows
+own_shown : (rel : Oid) (history : List Entry) (e : Entry) → IsSound history → MayComeNext history e
+    → ((x : Row) → (counted_mask rel).concerns x → ShowSame (counted_mask rel) x (counts_at (history ++ e ∷ []) e.backend every_command) (versions_by history e.backend e.command e.event (versions_of history)) (counts_at history e.backend every_command) (versions_of history))
+    → counted (scans.Constraint rel) (answer_of (history ++ e ∷ []) e.backend (scans.Constraint rel)) ≡ counted (scans.Constraint rel) (answer_of history e.backend (scans.Constraint rel))
+own_shown rel history e sound comes shows = masked_answer m (scans.Constraint rel) (counted_apart rel) history e b sound comes
+    (λ x cx. subst (λ vs. ShowSame m x (counts after b) vs (counts history b) (versions_of history)) (sym (versions-more history e))
+    (show-trans m x (counts after b) (counts_at after b every_command) (counts history b) now now (versions_of history) (all_counts m after b x now)
+    (show-trans m x (counts_at after b every_command) (counts_at history b every_command) (counts history b) now (versions_of history) (versions_of history) (shows x cx)
+    (show-sym m x (counts history b) (counts_at history b every_command) (versions_of history) (versions_of history) (all_counts m history b x (versions_of history))))))
+  where
+    m : Masking
+    m = counted_mask rel
+
+    b : ℕ
+    b = e.backend
+
+    after : List Entry
+    after = history ++ e ∷ []
+
+    now : List Version
+    now = versions_by history e.backend e.command e.event (versions_of history)
+
+write_counted : (rel : Oid) (history : List Entry) (b c : ℕ) (xid : Xid) (items : List Item) → IsSound history → MayComeNext history (entry_of b c (events.Write xid items)) → is_covered (messages_written history b items) (scans.Constraint rel) ≡ false
+    → counted (scans.Constraint rel) (answer_of (history ++ entry_of b c (events.Write xid items) ∷ []) b (scans.Constraint rel)) ≡ counted (scans.Constraint rel) (answer_of history b (scans.Constraint rel))
+write_counted rel history b c xid items sound comes none = own_shown rel history e sound comes
+    (λ x cx. write_leaves m history b c xid items (lawful_of history e k comes) k comes.follows.event.keys
+    (every-weaker (λ item. IfSome (added_row item) (ToldOf rel history b items item) × IfSome (old_row history b item) (ToldOf rel history b items item)) (λ item. IfSome (added_row item) (LeavesMask m history b item) × IfSome (old_row history b item) (LeavesMask m history b item))
+    (λ item h. (if_some (ToldOf rel history b items item) (LeavesMask m history b item) (on item) (added_row item) h.0, if_some (ToldOf rel history b items item) (LeavesMask m history b item) (on item) (old_row history b item) h.1)) items (told_changes rel history b c xid items k comes))
+    (begun_at history e comes.follows.life k.lives).low every_command x cx (λ i j low is. refl) refl
+    (or_right (is_committed (history ++ e ∷ []) xid.0) (runs_as (history ++ e ∷ []) b xid.0 && true) (ap (λ t. t && true) (ap (has_xid xid.0) (running-own history e b (eq-eqb b b refl)) ∙ eq-eqb xid.0 xid.0 refl))))
+  where
+    m : Masking
+    m = counted_mask rel
+
+    e : Entry
+    e = entry_of b c (events.Write xid items)
+
+    k : Ordered history
+    k = sound_ordered history sound
+
+    on : (item : Item) (row : Row) → ToldOf rel history b items item row → LeavesMask m history b item row
+    on item row told concerned = of (told concerned)
+      where
+        of : (is_covered (messages_written history b items) (scans.Constraint rel) ≡ true) ⊎ KeepsMask m (old_row history b item) item → KeepsMask m (old_row history b item) item
+        of (inl is) = absurd (both_ways _ none is)
+        of (inr keeps) = keeps
+
+gone_counted : (rel : Oid) (history : List Entry) (b c from : ℕ) → IsSound history → MayComeNext history (entry_of b c (events.Gone from)) → is_covered (taken_back history b from) (scans.Constraint rel) ≡ false
+    → counted (scans.Constraint rel) (answer_of (history ++ entry_of b c (events.Gone from) ∷ []) b (scans.Constraint rel)) ≡ counted (scans.Constraint rel) (answer_of history b (scans.Constraint rel))
+gone_counted rel history b c from sound comes none = own_shown rel history e sound comes
+    (λ x cx. show-trans m x (counts_at (history ++ e ∷ []) b every_command) (counts_at history b left) (counts_at history b every_command) (versions_by history b c (events.Gone from) vs) vs vs
+    (gone_leaves m history b c from (lawful_of history e k comes) k b every_command x (λ i j low is. refl))
+    (show-sym m x (counts_at history b every_command) (counts_at history b left) vs vs
+    (sound_steady m (told_marks d) (told_masks rel) history sound b every_command left x cx (λ i j low is. refl) left_down (λ i is. refl) unmarked)))
+  where
+    m : Masking
+    m = counted_mask rel
+
+    d : Purpose
+    d = scans.Constraint rel
+
+    e : Entry
+    e = entry_of b c (events.Gone from)
+
+    k : Ordered history
+    k = sound_ordered history sound
+
+    vs : List Version
+    vs = versions_of history
+
+    left : ℕ → Bool
+    left = passing (b == b) every_command from
+
+    left_down : (i j : ℕ) → i ≤ j → left j ≡ true → left i ≡ true
+    left_down = passing_down (b == b) every_command from (λ i j low is. refl)
+
+    taken : (t : Bool) (i : ℕ) → t ≡ true → passing t every_command from i ≡ false → nat_le from i ≡ true
+    taken true i own not' = not_false (nat_le from i) not'
+      where
+        not_false : (u : Bool) → not u ≡ false → u ≡ true
+        not_false true is = refl
+        not_false false is = absurd (cc)
+    taken false i own not' = absurd (cc)
+
+    unmarked : (i : ℕ) → every_command i ≡ true → left i ≡ false → TellsIn d history b i → ⊥
+    unmarked i is not' told = both_ways _ none (sent-covered d i (lists_from from (lists_of history b))
+        (any-filter (covers_at i d) (λ w. nat_le from w.command) (λ w here. ap (nat_le from) (eqb-true w.command i (and_parts (is_of i w) (is_covered (of_write w) d) here).0) ∙ taken (b == b) i (eq-eqb b b refl) not') (lists_of history b) told))
+
+-- what becomes visible
+visible_counted : (rel : Oid) (history : List Entry) (a c : ℕ) (xid : Xid) (b : ℕ) → (a == b) ≡ false → IsSound history → MayComeNext history (entry_of a c (events.Visible xid)) → is_covered (sent_of history a) (scans.Constraint rel) ≡ false
+    → counted (scans.Constraint rel) (answer_of (history ++ entry_of a c (events.Visible xid) ∷ []) b (scans.Constraint rel)) ≡ counted (scans.Constraint rel) (answer_of history b (scans.Constraint rel))
+visible_counted rel history a c xid b other sound comes none = masked_visible (counted_mask rel) (told_marks (scans.Constraint rel)) (told_masks rel) (scans.Constraint rel) (counted_apart rel) history a c xid b sound comes other
+    (λ i told. both_ways _ none (sent-covered (scans.Constraint rel) i (lists_of history a) told))
+
+other_by : (history : List Entry) (a c : ℕ) (event : Event) (b : ℕ) (d : Purpose) → (a == b) ≡ false → IsSound history → MayComeNext history (entry_of a c event) → IsUntoldByOther history a event d → IsPlain d ⊎ IsOfConstraints d
+    → counted d (answer_of (history ++ entry_of a c event ∷ []) b d) ≡ counted d (answer_of history b d)
+other_by history a c (events.Visible xid) b d other sound comes untold (inl plain) = ap (counted d) (other_answers history (entry_of a c (events.Visible xid)) b d sound comes other (untold, plain))
+other_by history a c (events.Visible xid) b d other sound comes untold (inr (rel, is)) = subst (λ x. counted x (answer_of (history ++ entry_of a c (events.Visible xid) ∷ []) b x) ≡ counted x (answer_of history b x)) (sym is)
+    (visible_counted rel history a c xid b other sound comes (ap (is_covered (sent_of history a)) (sym is) ∙ untold))
+other_by history a c event b d other sound comes untold of = ap (counted d) (other_answers history (entry_of a c event) b d sound comes other tt)
+
+-- what another's entry leaves of an answer that its messages don't cover
+pub counted-other : (history : List Entry) (a c : ℕ) (event : Event) (b : ℕ) (d : Purpose) → (a == b) ≡ false → IsSound history → MayComeNext history (entry_of a c event) → IsUntoldByOther history a event d
+    → counted d (answer_of (history ++ entry_of a c event ∷ []) b d) ≡ counted d (answer_of history b d)
+counted-other history a c event b d other sound comes untold = other_by history a c event b d other sound comes untold (plain_or d)
+
+own_by : (history : List Entry) (b c : ℕ) (event : Event) (d : Purpose) → IsSound history → MayComeNext history (entry_of b c event) → IsUntoldByOwn history b event d → IsPlain d ⊎ IsOfConstraints d
+    → counted d (answer_of (history ++ entry_of b c event ∷ []) b d) ≡ counted d (answer_of history b d)
+own_by history b c (events.Write xid items) d sound comes untold (inl plain) = ap (counted d) (own_answers history (entry_of b c (events.Write xid items)) d sound comes (untold, plain))
+own_by history b c (events.Gone from) d sound comes untold (inl plain) = ap (counted d) (own_answers history (entry_of b c (events.Gone from)) d sound comes (untold, plain))
+own_by history b c (events.Write xid items) d sound comes untold (inr (rel, is)) = subst (λ x. counted x (answer_of (history ++ entry_of b c (events.Write xid items) ∷ []) b x) ≡ counted x (answer_of history b x)) (sym is)
+    (write_counted rel history b c xid items sound comes (ap (is_covered (messages_written history b items)) (sym is) ∙ untold))
+own_by history b c (events.Gone from) d sound comes untold (inr (rel, is)) = subst (λ x. counted x (answer_of (history ++ entry_of b c (events.Gone from) ∷ []) b x) ≡ counted x (answer_of history b x)) (sym is)
+    (gone_counted rel history b c from sound comes (ap (is_covered (taken_back history b from)) (sym is) ∙ untold))
+own_by history b c event d sound comes untold of = ap (counted d) (own_answers history (entry_of b c event) d sound comes tt)
+
+-- and what an own entry leaves
+pub counted-own : (history : List Entry) (b c : ℕ) (event : Event) (d : Purpose) → IsSound history → MayComeNext history (entry_of b c event) → IsUntoldByOwn history b event d
+    → counted d (answer_of (history ++ entry_of b c event ∷ []) b d) ≡ counted d (answer_of history b d)
+counted-own history b c event d sound comes untold = own_by history b c event d sound comes untold (plain_or d)
