@@ -21,6 +21,8 @@ mod calls;
 #[cfg(test)]
 mod cat_caches;
 #[cfg(test)]
+mod checks;
+#[cfg(test)]
 mod commands;
 #[cfg(test)]
 mod descriptors;

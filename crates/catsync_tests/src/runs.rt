@@ -115,6 +115,11 @@ const REFUSED: &[(&[&str], &[u8], u8, &str)] = &[
     (&["Walk"], ABSENT, 1, "usage"),
     (&["run"], ABSENT, 1, "usage"),
     (&["make", "0"], ABSENT, 1, "usage"),
+    (&["check"], ABSENT, 1, "usage"),
+    (&["check", "run"], ABSENT, 1, "usage"),
+    (&["check", "walk", "walk"], ABSENT, 1, "usage"),
+    (&["walk", "check"], ABSENT, 1, "usage"),
+    (&["check", "walk"], ABSENT, 7, "entry 1 differs"),
     (&["walk", "walk"], ABSENT, 1, "usage"),
     (&["walk"], b"", 2, "line 1: NoBackends"),
     (
@@ -382,8 +387,15 @@ const CAUSES: &[(ScriptCause, &str)] = &[
 // What is said of the other ends of a call.
 const STATUSES: &[(Status, &str)] = &[
     (Status::Done, "done"),
-    (Status::Usage, "usage: catsync walk < SCRIPT > OUTPUT"),
-    (Status::TooLong, "the script has more than 1048576 bytes"),
+    (
+        Status::Usage,
+        "usage: catsync walk < SCRIPT > OUTPUT, or catsync check walk < SCRIPT_AND_OUTPUT",
+    ),
+    (
+        Status::TooLong,
+        "the input has more than 1048576 bytes, or 268435456 for check",
+    ),
+    (Status::Differs { entry: 16 }, "entry 16 differs"),
     (Status::ReadFault, "reading failed"),
     (Status::WriteFault, "writing failed"),
     (Status::NoMemory, "want of memory"),

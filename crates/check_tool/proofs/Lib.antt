@@ -5,3 +5,4 @@ pub mod Longest
 pub mod Places
 pub mod Schedule
 pub mod Verdicts
+pub mod Worked

@@ -132,7 +132,8 @@ fn rule(event: &Event) -> &'static str {
         Event::ClashRow { .. } | Event::ClashRunning { .. } => "the name isn't in use so",
         Event::Visible { .. } => "the transaction has no write that stands, or another number",
         Event::Publish { .. } => "so many messages aren't the next to send",
-        Event::Release { .. } => "messages are still to send, or a write stands",
+        Event::Release { .. } =>
+            "messages are still to send, a write stands, or another command was the first",
         Event::Gone { .. } => "no write stands that is taken back",
         Event::Fail => "no command runs out of memory in a walk",
         _ => "the entries before don't allow it",

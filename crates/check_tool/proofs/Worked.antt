@@ -1,0 +1,109 @@
+-- Worked examples: one backend without commands, and what a check finds of some texts.
+use Rattle.std.specs.Fmt.{digits}
+use Rattle.std.proofs.Common.{◌≤◌, ◌<◌, ℕ, true, false, List, [], ◌∷◌, codes, refl, arith}
+use Rattle.std.proofs.lemmas.List.Elements.{All-from_recursion}
+use Rattle.event_kinds.specs.declared.entry.Event.TheVariants.{Start, Stop}
+use Rattle.event_kinds.specs.Entries.{IsEntry}
+use Rattle.check_tool.specs.Leading.{Leads}
+use Rattle.check_tool.specs.Types.{Scenario, Entry, Event}
+use Rattle.check_tool.specs.Verdicts.{IsOutputOf, DiffersAt}
+use Rattle.check_tool.specs.Walked.{MayBeWalked, HaveWalked}
+use Rattle.check_tool.proofs.FirstLines.{none_without_end, none_in_lines}
+use Rattle.check_tool.proofs.Verdicts.{is_output, differs_at}
+
+abbrev entry : ℕ → ℕ → Event → Entry
+entry b c event = record { backend = b; command = c; event = event }
+
+-- backend 1, which has no command and stops at once
+abbrev pub idle : Scenario
+idle = record { size = 64; from = 0; backends = 1; commands = []; steps = [] }
+
+abbrev pub started : List Entry
+started = entry 1 0 Start ∷ []
+
+abbrev pub stopped : List Entry
+stopped = entry 1 0 Start ∷ entry 1 1 Stop ∷ []
+
+small : (n : ℕ) → n ≤ 1 → n < 4294967296
+small n less = omega (arith, less)
+
+started_typed : IsEntry (entry 1 0 Start)
+started_typed = record { backend = small 1 (omega arith); command = small 0 (omega arith); event = tt }
+
+stopped_typed : IsEntry (entry 1 1 Stop)
+stopped_typed = record { backend = small 1 (omega arith); command = small 1 (omega arith); event = tt }
+
+at_least_1 : 1 ≤ 1
+at_least_1 = omega arith
+
+started_walked : MayBeWalked idle started
+started_walked = record {
+  allowed = record { legal = (record { life = refl; visible = tt; gone = tt; event = tt }, tt); queue = (tt, tt); plays = (((at_least_1, at_least_1), tt), tt); economical = (tt, tt) };
+  follows = (refl, tt);
+  looks = (tt, tt);
+}
+
+later : 0 ≤ 1
+later = omega arith
+
+stopped_walked : MayBeWalked idle stopped
+stopped_walked = record {
+  allowed = record {
+    legal = (record { life = refl; visible = tt; gone = tt; event = tt }, (record { life = later; visible = tt; gone = tt; event = refl }, tt));
+    queue = (tt, (tt, tt));
+    plays = (((at_least_1, at_least_1), tt), (((at_least_1, at_least_1), (refl, refl)), tt));
+    economical = (tt, (tt, tt));
+  };
+  follows = (refl, (refl, tt));
+  looks = (tt, (tt, tt));
+}
+
+-- ---- the whole output
+
+stopped_leads : Leads (codes "h 1 0 start\nh 1 1 stop\nend\n") stopped (codes "end\n")
+unfolding digits
+stopped_leads = record { text_is = refl; entries_are = All-from_recursion IsEntry stopped (started_typed, (stopped_typed, tt)); ends = none_in_lines [] }
+
+stopped_far : HaveWalked idle stopped 2 true []
+stopped_far = record {
+  longest = record { within = omega arith; holds = stopped_walked; most = λ less more. absurd (omega (arith, less)) };
+  whole = (λ all. (refl, refl), λ all. refl);
+  lines_are = λ all. refl;
+}
+
+-- it is one, with two entries
+pub whole_output : IsOutputOf idle (codes "h 1 0 start\nh 1 1 stop\nend\n") 2
+whole_output = is_output idle (codes "h 1 0 start\nh 1 1 stop\nend\n") stopped (codes "end\n") 2 true [] stopped_leads stopped_far refl refl
+
+blank_leads : Leads (codes "h 1 0 start\nh 1 1 stop\nend\n ") stopped (codes "end\n ")
+unfolding digits
+blank_leads = record { text_is = refl; entries_are = All-from_recursion IsEntry stopped (started_typed, (stopped_typed, tt)); ends = λ e more is same. absurd cc }
+
+-- a blank after it
+pub something_follows : DiffersAt idle (codes "h 1 0 start\nh 1 1 stop\nend\n ") 3
+something_follows = differs_at idle (codes "h 1 0 start\nh 1 1 stop\nend\n ") stopped (codes "end\n ") 2 true [] blank_leads stopped_far (λ all same. absurd cc)
+
+-- ---- the stop is cut off in its middle
+
+cut_leads : Leads (codes "h 1 0 start\nh 1 1 sto") started (codes "h 1 1 sto")
+unfolding digits
+cut_leads = record { text_is = refl; entries_are = All-from_recursion IsEntry started (started_typed, tt); ends = none_without_end (codes "h 1 1 sto") 9 refl refl }
+
+started_far : HaveWalked idle started 1 false []
+started_far = record {
+  longest = record { within = omega arith; holds = started_walked; most = λ less more. absurd (omega (arith, less)) };
+  whole = (λ all. absurd cc, λ all. let never = all.1 in absurd cc);
+  lines_are = λ all. refl;
+}
+
+-- the second entry is missing
+pub cut_off : DiffersAt idle (codes "h 1 0 start\nh 1 1 sto") 2
+cut_off = differs_at idle (codes "h 1 0 start\nh 1 1 sto") started (codes "h 1 1 sto") 1 false [] cut_leads started_far (λ all same. absurd cc)
+
+-- nothing at all
+pub empty_output : DiffersAt idle [] 1
+empty_output = differs_at idle [] [] [] 0 false [] (record { text_is = refl; entries_are = All-from_recursion IsEntry [] tt; ends = λ e more is same. absurd cc }) (record {
+  longest = record { within = omega arith; holds = record { allowed = record { legal = tt; queue = tt; plays = tt; economical = tt }; follows = tt; looks = tt }; most = λ less more. absurd (omega (arith, less)) };
+  whole = (λ all. absurd cc, λ all. let never = all.1 in absurd cc);
+  lines_are = λ all. refl;
+}) (λ all same. absurd cc)
