@@ -1,6 +1,7 @@
 -- What an entry leaves of the answers of scans as their rows count: a message covers each that it changes. For the relation that a foreign key refers to it doesn't count whether the key is known to hold.
-use Rattle.std.proofs.Common.{◌≡◌, ◌≤◌, ◌∙◌, ◌⊎◌, inl, inr, ℕ, Bool, true, false, not, Option, Some, None, List, [], ◌∷◌, ◌++◌, ◌==◌, ◌||◌, ◌&&◌, refl, sym, ap, subst, map}
+use Rattle.std.proofs.Common.{◌≡◌, ◌≤◌, ◌∙◌, ◌⊎◌, inl, inr, ℕ, Bool, true, false, not, Option, Some, None, List, [], ◌∷◌, ◌++◌, ◌==◌, ◌||◌, ◌&&◌, refl, sym, ap, subst, map, length}
 use Rattle.std.specs.Prelude.{nat_le, ⊤}
+use Rattle.std.specs.List.{list_all, flat_map, filter_map, range_with_len}
 use Rattle.std.specs.Option.{IfSome}
 use Rattle.std.proofs.lemmas.Bool.{eqb-true, eq-eqb, both_ways, and_parts, or_right}
 use Rattle.base_types.specs.declared.ids.Oid.{Oid}
@@ -8,6 +9,7 @@ use Rattle.base_types.specs.declared.ids.Xid.{Xid}
 use Rattle.base_types.specs.declared.row.Row.{Row}
 use Rattle.base_types.specs.declared.scan.Purpose.{Purpose}
 use Rattle.base_types.specs.declared.scan.Purpose.TheVariants as scans
+use Rattle.base_types.specs.RowKeys.{are_distinct_keys}
 use Rattle.event_kinds.specs.declared.entry.Entry.{Entry}
 use Rattle.event_kinds.specs.declared.entry.Event.{Event}
 use Rattle.event_kinds.specs.declared.entry.Event.TheVariants as events
@@ -15,23 +17,27 @@ use Rattle.event_kinds.specs.declared.entry.Item.{Item}
 use Rattle.inval_messages.specs.Lists.{lists_from}
 use Rattle.row_visibility.specs.declared.version.Stamp.{Stamp}
 use Rattle.row_visibility.specs.declared.version.Version.{Version}
-use Rattle.history_model.specs.Transactions.{runs_as, is_committed, has_xid}
-use Rattle.history_model.specs.Versions.{versions_of, versions_by, added_row, old_row, counts, answer_of}
+use Rattle.history_model.specs.Lives.{life_of, FollowsLife}
+use Rattle.history_model.specs.Transactions.{running_transaction_of, is_visible, runs_as, is_committed, has_xid, xid_for}
+use Rattle.history_model.specs.Versions.{versions_of, versions_by, ended_key, added_row, old_row, counts, answer_of}
 use Rattle.history_model.specs.Sent.{messages_written, lists_of, sent_of}
 use Rattle.history_model.specs.Covered.{is_covered, counted_for}
-use Rattle.history_model.specs.Orderly.{MayComeNext, IsSound}
+use Rattle.history_model.specs.Drawn.{drawn_by, made_by, next_oid}
+use Rattle.history_model.specs.Writes.{changed_key, has_row, is_guarded}
+use Rattle.history_model.specs.Orderly.{IsOrderlyWrite, MayComeNext, IsSound}
 use Rattle.history_model.proofs.Every.{every, every-weaker, any-filter}
-use Rattle.history_model.proofs.Lawful.{IsPlain}
-use Rattle.history_model.proofs.Lives.{begun_at}
+use Rattle.history_model.proofs.Lawful.{IsPlain, IsLawful}
+use Rattle.history_model.proofs.Lives.{Begun, begun_at}
 use Rattle.history_model.proofs.Markings.{TellsIn, told_marks}
 use Rattle.history_model.proofs.MaskedRows.{Masking, ShowSame, LeavesMask, KeepsMask, passing, passing_down, show-trans, show-sym, counted_all, write_leaves, gone_leaves, sound_steady}
 use Rattle.history_model.proofs.MaskedScans.{masked_answer, masked_visible}
-use Rattle.history_model.proofs.Ordered.{Ordered, if_some, lawful_of, sound_ordered}
+use Rattle.history_model.proofs.Ordered.{Ordered, Ordered-more, if_some, lawful_of, early_at, covers_items, write_lawful, write_keyed, sound_ordered}
 use Rattle.history_model.proofs.Reading.{running_transaction_of-own as running-own, versions_of-more as versions-more}
 use Rattle.history_model.proofs.RowMasks.{counted_mask, counted_apart, ToldOf, told_changes, told_masks}
-use Rattle.history_model.proofs.Seen.{counts_at, every_command}
+use Rattle.history_model.proofs.Seen.{counts_at, every_command, OneVersion}
+use Rattle.history_model.proofs.OneVersion.{OneVersion-more}
 use Rattle.history_model.proofs.Touched.{entry_of, OfStamps, is_of, of_write, covers_at}
-use Rattle.history_model.proofs.Answers.{sent-covered, taken_back, other_answers, own_answers}
+use Rattle.history_model.proofs.Answers.{sent-covered, taken_back, answer-own, other_answers, own_answers}
 
 -- another's event has no message that covers the scan, where it makes a transaction visible
 abbrev pub IsUntoldByOther : List Entry → ℕ → Event → Purpose → Type 0
@@ -71,10 +77,10 @@ all_counts m history b x vs = counted_all m x (counts history b) (counts_at hist
     of (Some s) = same s
 
 -- an own entry leaves a relation's constraints, where with all that it did the backend sees the same masked rows
-own_shown : (rel : Oid) (history : List Entry) (e : Entry) → IsSound history → MayComeNext history e
+own_shown : (rel : Oid) (history : List Entry) (e : Entry) → OneVersion history → OneVersion (history ++ e ∷ [])
     → ((x : Row) → (counted_mask rel).concerns x → ShowSame (counted_mask rel) x (counts_at (history ++ e ∷ []) e.backend every_command) (versions_by history e.backend e.command e.event (versions_of history)) (counts_at history e.backend every_command) (versions_of history))
     → counted (scans.Constraint rel) (answer_of (history ++ e ∷ []) e.backend (scans.Constraint rel)) ≡ counted (scans.Constraint rel) (answer_of history e.backend (scans.Constraint rel))
-own_shown rel history e sound comes shows = masked_answer m (scans.Constraint rel) (counted_apart rel) history e b sound comes
+own_shown rel history e one one' shows = masked_answer m (scans.Constraint rel) (counted_apart rel) history e b one one'
     (λ x cx. subst (λ vs. ShowSame m x (counts after b) vs (counts history b) (versions_of history)) (sym (versions-more history e))
     (show-trans m x (counts after b) (counts_at after b every_command) (counts history b) now now (versions_of history) (all_counts m after b x now)
     (show-trans m x (counts_at after b every_command) (counts_at history b every_command) (counts history b) now (versions_of history) (versions_of history) (shows x cx)
@@ -92,13 +98,41 @@ own_shown rel history e sound comes shows = masked_answer m (scans.Constraint re
     now : List Version
     now = versions_by history e.backend e.command e.event (versions_of history)
 
-write_counted : (rel : Oid) (history : List Entry) (b c : ℕ) (xid : Xid) (items : List Item) → IsSound history → MayComeNext history (entry_of b c (events.Write xid items)) → is_covered (messages_written history b items) (scans.Constraint rel) ≡ false
+-- what a write needs but that it covers what it changes, and that its new names are free
+pub record IsAllowedWrite (history : List Entry) (b c : ℕ) (xid : Xid) (items : List Item) : Type 0 where
+  pub hidden : is_visible (running_transaction_of history b) ≡ false
+  pub xid_is : xid.0 ≡ xid_for history b
+  pub oids : flat_map drawn_by items ≡ range_with_len (next_oid history) (length (flat_map drawn_by items))
+  pub keys : are_distinct_keys (flat_map changed_key items) ≡ true
+  pub there : list_all (has_row history b) (filter_map ended_key items) ≡ true
+  pub guarded : list_all (is_guarded history b (flat_map made_by items)) items ≡ true
+  pub orderly : IsOrderlyWrite history b items
+  pub life : FollowsLife (life_of history b) c (events.Write xid items)
+
+-- one that may come is so
+allowed_comes : (history : List Entry) (b c : ℕ) (xid : Xid) (items : List Item) → Ordered history → MayComeNext history (entry_of b c (events.Write xid items)) → IsAllowedWrite history b c xid items
+allowed_comes history b c xid items k comes = record {
+  hidden = (lawful_of history (entry_of b c (events.Write xid items)) k comes).0;
+  xid_is = comes.follows.event.xid_is;
+  oids = comes.follows.event.oids;
+  keys = comes.follows.event.keys;
+  there = comes.follows.event.there;
+  guarded = comes.follows.event.guarded;
+  orderly = comes.orderly;
+  life = comes.follows.life;
+}
+
+lawful_write : (history : List Entry) (b c : ℕ) (xid : Xid) (items : List Item) → Ordered history → IsAllowedWrite history b c xid items → IsLawful history (entry_of b c (events.Write xid items))
+lawful_write history b c xid items k may = write_lawful history b c xid items may.hidden may.xid_is may.oids may.guarded may.orderly k (early_at history (entry_of b c (events.Write xid items)) k may.life)
+
+write_counted : (rel : Oid) (history : List Entry) (b c : ℕ) (xid : Xid) (items : List Item) → Ordered history → IsAllowedWrite history b c xid items → is_covered (messages_written history b items) (scans.Constraint rel) ≡ false
     → counted (scans.Constraint rel) (answer_of (history ++ entry_of b c (events.Write xid items) ∷ []) b (scans.Constraint rel)) ≡ counted (scans.Constraint rel) (answer_of history b (scans.Constraint rel))
-write_counted rel history b c xid items sound comes none = own_shown rel history e sound comes
-    (λ x cx. write_leaves m history b c xid items (lawful_of history e k comes) k comes.follows.event.keys
+write_counted rel history b c xid items k may none = own_shown rel history e k.one
+    (OneVersion-more history e lawful (write_keyed history b c xid items may.keys may.there may.orderly k.rels begun) k.runs k.locks k.touched k.guards k.rels k.one)
+    (λ x cx. write_leaves m history b c xid items lawful k may.keys
     (every-weaker (λ item. IfSome (added_row item) (ToldOf rel history b items item) × IfSome (old_row history b item) (ToldOf rel history b items item)) (λ item. IfSome (added_row item) (LeavesMask m history b item) × IfSome (old_row history b item) (LeavesMask m history b item))
-    (λ item h. (if_some (ToldOf rel history b items item) (LeavesMask m history b item) (on item) (added_row item) h.0, if_some (ToldOf rel history b items item) (LeavesMask m history b item) (on item) (old_row history b item) h.1)) items (told_changes rel history b c xid items k comes))
-    (begun_at history e comes.follows.life k.lives).low every_command x cx (λ i j low is. refl) refl
+    (λ item h. (if_some (ToldOf rel history b items item) (LeavesMask m history b item) (on item) (added_row item) h.0, if_some (ToldOf rel history b items item) (LeavesMask m history b item) (on item) (old_row history b item) h.1)) items (told_changes rel history b c xid items may.guarded may.orderly (early_at history e k may.life)))
+    begun.low every_command x cx (λ i j low is. refl) refl
     (or_right (is_committed (history ++ e ∷ []) xid.0) (runs_as (history ++ e ∷ []) b xid.0 && true) (ap (λ t. t && true) (ap (has_xid xid.0) (running-own history e b (eq-eqb b b refl)) ∙ eq-eqb xid.0 xid.0 refl))))
   where
     m : Masking
@@ -107,8 +141,11 @@ write_counted rel history b c xid items sound comes none = own_shown rel history
     e : Entry
     e = entry_of b c (events.Write xid items)
 
-    k : Ordered history
-    k = sound_ordered history sound
+    lawful : IsLawful history e
+    lawful = lawful_write history b c xid items k may
+
+    begun : Begun c (running_transaction_of history b) (lists_of history b)
+    begun = begun_at history e may.life k.lives
 
     on : (item : Item) (row : Row) → ToldOf rel history b items item row → LeavesMask m history b item row
     on item row told concerned = of (told concerned)
@@ -117,9 +154,20 @@ write_counted rel history b c xid items sound comes none = own_shown rel history
         of (inl is) = absurd (both_ways _ none is)
         of (inr keeps) = keeps
 
+write_by : (history : List Entry) (b c : ℕ) (xid : Xid) (items : List Item) (d : Purpose) → Ordered history → IsAllowedWrite history b c xid items → is_covered (messages_written history b items) d ≡ false → IsPlain d ⊎ IsOfConstraints d
+    → counted d (answer_of (history ++ entry_of b c (events.Write xid items) ∷ []) b d) ≡ counted d (answer_of history b d)
+write_by history b c xid items d k may none (inl plain) = ap (counted d) (answer-own history b c (events.Write xid items) d (lawful_write history b c xid items k may) (covers_items history b items k.one may.orderly.told) k.runs k.touched (none, plain))
+write_by history b c xid items d k may none (inr (rel, is)) = subst (λ x. counted x (answer_of (history ++ entry_of b c (events.Write xid items) ∷ []) b x) ≡ counted x (answer_of history b x)) (sym is)
+    (write_counted rel history b c xid items k may (ap (is_covered (messages_written history b items)) (sym is) ∙ none))
+
+-- what its messages don't cover such a write leaves
+pub counted_write : (history : List Entry) (b c : ℕ) (xid : Xid) (items : List Item) (d : Purpose) → Ordered history → IsAllowedWrite history b c xid items → is_covered (messages_written history b items) d ≡ false
+    → counted d (answer_of (history ++ entry_of b c (events.Write xid items) ∷ []) b d) ≡ counted d (answer_of history b d)
+counted_write history b c xid items d k may none = write_by history b c xid items d k may none (plain_or d)
+
 gone_counted : (rel : Oid) (history : List Entry) (b c from : ℕ) → IsSound history → MayComeNext history (entry_of b c (events.Gone from)) → is_covered (taken_back history b from) (scans.Constraint rel) ≡ false
     → counted (scans.Constraint rel) (answer_of (history ++ entry_of b c (events.Gone from) ∷ []) b (scans.Constraint rel)) ≡ counted (scans.Constraint rel) (answer_of history b (scans.Constraint rel))
-gone_counted rel history b c from sound comes none = own_shown rel history e sound comes
+gone_counted rel history b c from sound comes none = own_shown rel history e k.one (Ordered-more history e k comes).one
     (λ x cx. show-trans m x (counts_at (history ++ e ∷ []) b every_command) (counts_at history b left) (counts_at history b every_command) (versions_by history b c (events.Gone from) vs) vs vs
     (gone_leaves m history b c from (lawful_of history e k comes) k b every_command x (λ i j low is. refl))
     (show-sym m x (counts_at history b every_command) (counts_at history b left) vs vs
@@ -178,10 +226,8 @@ counted-other history a c event b d other sound comes untold = other_by history 
 
 own_by : (history : List Entry) (b c : ℕ) (event : Event) (d : Purpose) → IsSound history → MayComeNext history (entry_of b c event) → IsUntoldByOwn history b event d → IsPlain d ⊎ IsOfConstraints d
     → counted d (answer_of (history ++ entry_of b c event ∷ []) b d) ≡ counted d (answer_of history b d)
-own_by history b c (events.Write xid items) d sound comes untold (inl plain) = ap (counted d) (own_answers history (entry_of b c (events.Write xid items)) d sound comes (untold, plain))
+own_by history b c (events.Write xid items) d sound comes untold of = let k = sound_ordered history sound in counted_write history b c xid items d k (allowed_comes history b c xid items k comes) untold
 own_by history b c (events.Gone from) d sound comes untold (inl plain) = ap (counted d) (own_answers history (entry_of b c (events.Gone from)) d sound comes (untold, plain))
-own_by history b c (events.Write xid items) d sound comes untold (inr (rel, is)) = subst (λ x. counted x (answer_of (history ++ entry_of b c (events.Write xid items) ∷ []) b x) ≡ counted x (answer_of history b x)) (sym is)
-    (write_counted rel history b c xid items sound comes (ap (is_covered (messages_written history b items)) (sym is) ∙ untold))
 own_by history b c (events.Gone from) d sound comes untold (inr (rel, is)) = subst (λ x. counted x (answer_of (history ++ entry_of b c (events.Gone from) ∷ []) b x) ≡ counted x (answer_of history b x)) (sym is)
     (gone_counted rel history b c from sound comes (ap (is_covered (taken_back history b from)) (sym is) ∙ untold))
 own_by history b c event d sound comes untold of = ap (counted d) (own_answers history (entry_of b c event) d sound comes tt)

@@ -24,7 +24,7 @@ use Rattle.history_model.proofs.Lawful.{IsLawful}
 use Rattle.history_model.proofs.Asking.{asked}
 use Rattle.history_model.proofs.Touched.{entry_of, OfStamps, Touch}
 use Rattle.history_model.proofs.Guards.{Guard, MayChange, changes_on, guard_changes, one_changer}
-use Rattle.history_model.proofs.Seen.{counts_at, every_command, Pairwise, pair-weaker, pair-map, pair-filter}
+use Rattle.history_model.proofs.Seen.{counts_at, every_command, Pairwise, OneVersion, pair-weaker, pair-map, pair-filter}
 use Rattle.history_model.proofs.OneVersion.{visible_as}
 use Rattle.history_model.proofs.Ordered.{Ordered, Ordered-more, lawful_of, one_seen, sound_ordered}
 use Rattle.history_model.proofs.InOrder.{IsIn, every_self, Differ, IsByNumber, scan_same}
@@ -127,23 +127,20 @@ asked_differ m d apart f vs pairs =
     nothing (x ∷ xs) = (tt, nothing xs)
 
 -- where a backend sees the same masked rows after one more entry, a scan gives them
-pub masked_answer : (m : Masking) (d : Purpose) → AsksMasked m d → (history : List Entry) (e : Entry) (b : ℕ) → IsSound history → MayComeNext history e → ((x : Row) → m.concerns x → ShowSame m x (counts (history ++ e ∷ []) b) (versions_of (history ++ e ∷ [])) (counts history b) (versions_of history))
+pub masked_answer : (m : Masking) (d : Purpose) → AsksMasked m d → (history : List Entry) (e : Entry) (b : ℕ) → OneVersion history → OneVersion (history ++ e ∷ []) → ((x : Row) → m.concerns x → ShowSame m x (counts (history ++ e ∷ []) b) (versions_of (history ++ e ∷ [])) (counts history b) (versions_of history))
     → map m.mask (answer_of (history ++ e ∷ []) b d) ≡ map m.mask (answer_of history b d)
-masked_answer m d apart history e b sound comes shows =
+masked_answer m d apart history e b one_before one_after shows =
     scan_same d m.mask apart.numbers (rows_of after b) (rows_of history b) (apart.by_number (rows_of after b)) (apart.by_number (rows_of history b))
-    (asked_differ m d apart (sees after b) (versions_of after) (one_seen after b (versions_of after) (Ordered-more history e k comes).one)) (asked_differ m d apart (sees history b) (versions_of history) (one_seen history b (versions_of history) k.one))
+    (asked_differ m d apart (sees after b) (versions_of after) (one_seen after b (versions_of after) one_after)) (asked_differ m d apart (sees history b) (versions_of history) (one_seen history b (versions_of history) one_before))
     (asked_too m d apart (versions_of after) (versions_of history) (counts after b) (counts history b) (λ x cx. (shows x cx).0)) (asked_too m d apart (versions_of history) (versions_of after) (counts history b) (counts after b) (λ x cx. (shows x cx).1))
   where
     after : List Entry
     after = history ++ e ∷ []
 
-    k : Ordered history
-    k = sound_ordered history sound
-
 -- what becomes visible leaves the masked answer
 pub masked_visible : (m : Masking) (n : Marking) → Masks m n → (d : Purpose) → AsksMasked m d → (history : List Entry) (a c : ℕ) (xid : Xid) (b : ℕ) → IsSound history → MayComeNext history (entry_of a c (events.Visible xid)) → (a == b) ≡ false → ((i : ℕ) → n.has history a i → ⊥)
     → map m.mask (answer_of (history ++ entry_of a c (events.Visible xid) ∷ []) b d) ≡ map m.mask (answer_of history b d)
-masked_visible m n masks d apart history a c xid b sound comes other none = masked_answer m d apart history e b sound comes
+masked_visible m n masks d apart history a c xid b sound comes other none = masked_answer m d apart history e b (sound_ordered history sound).one (Ordered-more history e (sound_ordered history sound) comes).one
     (λ x cx. subst (λ vs. ShowSame m x (counts (history ++ e ∷ []) b) vs (counts history b) (versions_of history)) (sym (versions-more history e))
     (part_kept m n history a c xid b x (sound_ordered history sound) (sound_steady m n masks history sound) cx (lawful_of history e (sound_ordered history sound) comes) other none))
   where

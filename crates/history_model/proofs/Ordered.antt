@@ -1,7 +1,7 @@
 -- What holds of each sound history: its locks exclude each other, what a running transaction has touched is guarded, and a backend sees one version of a key.
-use Rattle.std.proofs.Common.{◌≡◌, ◌≤◌, ◌∙◌, ◌⊎◌, inl, inr, ℕ, Bool, true, false, not, Option, Some, None, List, [], ◌∷◌, ◌++◌, ◌==◌, ◌||◌, ◌&&◌, cond, refl, sym, ap, subst, map, filter, arith}
+use Rattle.std.proofs.Common.{◌≡◌, ◌≤◌, ◌∙◌, ◌⊎◌, inl, inr, ℕ, Bool, true, false, not, Option, Some, None, List, [], ◌∷◌, ◌++◌, ◌==◌, ◌||◌, ◌&&◌, cond, refl, sym, ap, subst, map, filter, arith, length}
 use Rattle.std.specs.Prelude.{nat_le}
-use Rattle.std.specs.List.{AllByRecursion, list_any, list_all, flat_map, find, filter_map, cons_option}
+use Rattle.std.specs.List.{AllByRecursion, list_any, list_all, flat_map, find, filter_map, cons_option, range_with_len}
 use Rattle.std.specs.Option.{option_map, option_map_or, IfSome}
 use Rattle.std.proofs.lemmas.List.Folds.{list_any-append, list_all-append}
 use Rattle.std.proofs.lemmas.Bool.{eqb-true, eq-eqb, both_ways, or_cases, or_left, or_right, or_parts, and_parts, and_from, le-leb, false_from_ne_true}
@@ -15,7 +15,7 @@ use Rattle.base_types.specs.declared.row.Row.TheVariants as rows
 use Rattle.base_types.specs.declared.scan.Purpose.{Purpose}
 use Rattle.base_types.specs.declared.scan.Purpose.TheVariants as scans
 use Rattle.base_types.specs.declared.row_key.RowKey.{RowKey}
-use Rattle.base_types.specs.RowKeys.{key_of, same_key}
+use Rattle.base_types.specs.RowKeys.{key_of, same_key, are_distinct_keys}
 use Rattle.base_types.specs.Modes.{same_mode}
 use Rattle.base_types.specs.Scans.{same_oid, refers_to, selects}
 use Rattle.row_visibility.specs.declared.version.Version.{Version}
@@ -29,15 +29,15 @@ use Rattle.event_kinds.specs.declared.entry.Item.TheVariants as forms
 use Rattle.lock_modes.specs.declared.grant.Grant.{Grant}
 use Rattle.lock_modes.specs.Grants.{is_lock, holds, stays}
 use Rattle.history_model.specs.Lives.{Life, Unstarted, Alive, Stopped, life_of, FollowsLife}
-use Rattle.history_model.specs.Transactions.{Running, running_transaction_of, is_visible, runs_as, is_committed}
+use Rattle.history_model.specs.Transactions.{Running, running_transaction_of, is_visible, runs_as, is_committed, xid_for}
 use Rattle.history_model.specs.Versions.{versions_of, rows_of, row_with, ends, ended_key, added_row, old_row, counts, sees}
 use Rattle.inval_messages.specs.declared.message.Message.{Message}
 use Rattle.inval_messages.specs.Lists.{Written, has_write_from}
 use Rattle.history_model.specs.Sent.{lists_of, messages_written, ends_transaction as ends_at}
 use Rattle.history_model.specs.Held.{granted_by, held_by, held_of}
-use Rattle.history_model.specs.Drawn.{made_by}
+use Rattle.history_model.specs.Drawn.{made_by, drawn_by, next_oid}
 use Rattle.history_model.specs.Covered.{is_covered}
-use Rattle.history_model.specs.Writes.{has_row, relations_changed, is_validation, rows_named, modes_enough, is_guarded, IsWriteAllowed}
+use Rattle.history_model.specs.Writes.{changed_key, has_row, relations_changed, is_validation, rows_named, modes_enough, is_guarded}
 use Rattle.history_model.specs.Legal.{FollowsVisible, MayRelease, AllowsEvent}
 use Rattle.history_model.specs.Orderly.{has_key, is_fresh, main_rel, keeps_relation, scans_told, covers_told, IsOrderlyWrite, IsOrderlyEvent, MayComeNext, IsSound}
 use Rattle.history_model.proofs.Prefixes.{each-keeps}
@@ -277,15 +277,15 @@ ended_named history b N item one named = of (ended_key item) named
         (λ v is both. let parts = and_parts (same_key (key_of v.row) key) (sees history b v) both in subst (λ o. IfSome o N) (is parts.1 parts.0) named') (versions_of history)
         (found (sees history b) key (versions_of history) (one_seen history b (versions_of history) one))
 
-guarded_items : (history : List Entry) (b c : ℕ) (xid : Xid) (items : List Item) → Ordered history → IsWriteAllowed history b c xid items → IsOrderlyWrite history b items → AllByRecursion (λ g. g.backend ≡ b → g.command ≤ c) (held_of history)
+guarded_items : (history : List Entry) (b c : ℕ) (xid : Xid) (items : List Item) → Ordered history → list_all (is_guarded history b (flat_map made_by items)) items ≡ true → IsOrderlyWrite history b items → AllByRecursion (λ g. g.backend ≡ b → g.command ≤ c) (held_of history)
     → AllByRecursion (IsGuardedItem history b (IsGuarded (held_by b c (events.Write xid items) (held_of history)) b c)) items
-guarded_items history b c xid items k allowed orderly early =
+guarded_items history b c xid items k guarded orderly early =
     every-weaker (λ item. IfSome (added_row item) (For item) × IfSome (old_row history b item) (For item)) (IsGuardedItem history b (IsGuarded held b c))
     (λ item h. (
       if_some (For item) On (main_guarded held b c (old_row history b item) item) (added_row item) h.0,
       ended_named history b On item k.one (if_some (For item) On (main_guarded held b c (old_row history b item) item) (old_row history b item) h.1),
     )) items
-    (guarded_rows history b c xid items allowed.guarded orderly.keeps early)
+    (guarded_rows history b c xid items guarded orderly.keeps early)
   where
     held : List Grant
     held = held_by b c (events.Write xid items) (held_of history)
@@ -340,7 +340,7 @@ told_in P validated (rows.Ind index table state nums) all d is = scan_in P d (ro
 told_in P validated (rows.Trg oid of own on) all d is = scan_in P d (rows.Trg oid of own on) (asks_it d (rows.Trg oid of own on) is) all
 
 -- the messages of an orderly write cover what gives the rows that it adds and ends
-covers_items : (history : List Entry) (b : ℕ) (items : List Item) → OneVersion history → covers_told history b items ≡ true → AllByRecursion (CoversItem history b (messages_written history b items)) items
+pub covers_items : (history : List Entry) (b : ℕ) (items : List Item) → OneVersion history → covers_told history b items ≡ true → AllByRecursion (CoversItem history b (messages_written history b items)) items
 covers_items history b items one named =
     every-weaker (λ item. list_all (is_covered messages) (flat_map (told item) (rows_named item (old_row history b item))) ≡ true) (CoversItem history b messages) of items (all_flat (is_covered messages) (λ item. flat_map (told item) (rows_named item (old_row history b item))) items named)
   where
@@ -434,19 +434,24 @@ keeps_by history b (forms.Put row) rels there other keeps = of (row_with history
 keeps_by history b (forms.Remove key) rels there other keeps = every (KeepsRel (forms.Remove key)) (λ v. tt) (versions_of history)
 keeps_by history b (forms.Force rel) rels there other keeps = every (KeepsRel (forms.Force rel)) (λ v. tt) (versions_of history)
 
-keys_lawful : (history : List Entry) (b c : ℕ) (event : Event) → AllowsEvent history b c event → IsOrderlyEvent history b event → OneRel history → Begun c (running_transaction_of history b) (lists_of history b) → KeysLawfully history b c event
-keys_lawful history b c (events.Write xid items) allows orderly rels k = (
+-- what a write needs of the keys of its rows
+pub write_keyed : (history : List Entry) (b c : ℕ) (xid : Xid) (items : List Item) → are_distinct_keys (flat_map changed_key items) ≡ true → list_all (has_row history b) (filter_map ended_key items) ≡ true → IsOrderlyWrite history b items → OneRel history → Begun c (running_transaction_of history b) (lists_of history b)
+    → KeysLawfully history b c (events.Write xid items)
+write_keyed history b c xid items distinct there orderly rels k = (
   k.low,
-  allows.keys,
+  distinct,
   fresh,
   every-weaker (λ item. IfSome (ended_key item) (λ key. has_row history b key ≡ true) × (AllByRecursion (IsOther item) (versions_of history) × (keeps_relation history b item ≡ true))) (λ item. AllByRecursion (KeepsRel item) (versions_of history))
       (λ item h. keeps_by history b item rels h.0 h.1.0 h.1.1) items
-      (every-both (λ item. IfSome (ended_key item) (λ key. has_row history b key ≡ true)) (λ item. AllByRecursion (IsOther item) (versions_of history) × (keeps_relation history b item ≡ true)) items (all_kept (has_row history b) ended_key items allows.there)
+      (every-both (λ item. IfSome (ended_key item) (λ key. has_row history b key ≡ true)) (λ item. AllByRecursion (IsOther item) (versions_of history) × (keeps_relation history b item ≡ true)) items (all_kept (has_row history b) ended_key items there)
       (every-both (λ item. AllByRecursion (IsOther item) (versions_of history)) (λ item. keeps_relation history b item ≡ true) items fresh (all_each (keeps_relation history b) items orderly.keeps))),
 )
   where
     fresh : AllByRecursion (λ item. AllByRecursion (IsOther item) (versions_of history)) items
     fresh = every-weaker (λ item. is_fresh history item ≡ true) (λ item. AllByRecursion (IsOther item) (versions_of history)) (fresh_others history) items (all_each (is_fresh history) items orderly.fresh)
+
+keys_lawful : (history : List Entry) (b c : ℕ) (event : Event) → AllowsEvent history b c event → IsOrderlyEvent history b event → OneRel history → Begun c (running_transaction_of history b) (lists_of history b) → KeysLawfully history b c event
+keys_lawful history b c (events.Write xid items) allows orderly rels k = write_keyed history b c xid items allows.keys allows.there orderly rels k
 keys_lawful history b c event allows orderly rels k = tt
 
 locks_lawful : (history : List Entry) (b c : ℕ) (event : Event) → AllowsEvent history b c event → IsOrderlyEvent history b event → LocksLawfully history b event
@@ -474,7 +479,7 @@ release_guards history b from true may not' = absurd (of (running_transaction_of
 release_guards history b from false may not' = may
 
 pub guards_lawful : (history : List Entry) (b c : ℕ) (event : Event) → AllowsEvent history b c event → IsOrderlyEvent history b event → Ordered history → AllByRecursion (λ g. g.backend ≡ b → g.command ≤ c) (held_of history) → GuardsLawfully history b c event
-guards_lawful history b c (events.Write xid items) allows orderly k early = guarded_items history b c xid items k allows orderly early
+guards_lawful history b c (events.Write xid items) allows orderly k early = guarded_items history b c xid items k allows.guarded orderly early
 guards_lawful history b c (events.Release from) allows orderly k early = release_guards history b from (is_visible (running_transaction_of history b)) allows.1
 guards_lawful history b c (events.Unlock rel mode) allows orderly k early = (lock_command history b c rel mode k.locks allows.0, allows.1)
 guards_lawful history b c event allows orderly k early = tt
@@ -482,6 +487,16 @@ guards_lawful history b c event allows orderly k early = tt
 hidden_by : (v : Bool) (event : Event) → FollowsVisible v event → (FollowsVisible true event → ⊥) → v ≡ false
 hidden_by false event follows not' = refl
 hidden_by true event follows not' = absurd (not' follows)
+
+-- a write, by its Xid, its new oids and its locks
+pub write_lawful : (history : List Entry) (b c : ℕ) (xid : Xid) (items : List Item) → is_visible (running_transaction_of history b) ≡ false → xid.0 ≡ xid_for history b → flat_map drawn_by items ≡ range_with_len (next_oid history) (length (flat_map drawn_by items))
+    → list_all (is_guarded history b (flat_map made_by items)) items ≡ true → IsOrderlyWrite history b items → Ordered history → AllByRecursion (λ g. g.backend ≡ b → g.command ≤ c) (held_of history) → IsLawfulEvent history b c (events.Write xid items)
+write_lawful history b c xid items hidden is oids guarded orderly k early = (
+  hidden,
+  is,
+  every-weaker (IsGuardedItem history b (IsGuarded (held_by b c (events.Write xid items) (held_of history)) b c)) (EndsOnce history b)
+      (λ item held. ends_once history b c xid items item (LocksWell-more history (entry_of b c (events.Write xid items)) oids k.locks) k.guards held) items (guarded_items history b c xid items k guarded orderly early),
+)
 
 lawful_event : (history : List Entry) (b c : ℕ) (event : Event) → FollowsLife (life_of history b) c event → FollowsVisible (is_visible (running_transaction_of history b)) event → AllowsEvent history b c event → IsOrderlyEvent history b event → Ordered history
     → AllByRecursion (λ g. g.backend ≡ b → g.command ≤ c) (held_of history) → IsLawfulEvent history b c event
@@ -491,12 +506,8 @@ lawful_event history b c events.Start life visible allows orderly k early = of (
     of Unstarted is follows = let none = (k.lives.timely b).unstarted is in (none, (k.lives.timely b).none none)
     of (Alive last) is follows = absurd follows
     of Stopped is follows = absurd follows
-lawful_event history b c (events.Write xid items) life visible allows orderly k early = (
-  hidden_by (is_visible (running_transaction_of history b)) (events.Write xid items) visible (λ f. f),
-  allows.xid_is,
-  every-weaker (IsGuardedItem history b (IsGuarded (held_by b c (events.Write xid items) (held_of history)) b c)) (EndsOnce history b)
-      (λ item guarded. ends_once history b c xid items item (LocksWell-more history (entry_of b c (events.Write xid items)) allows.oids k.locks) k.guards guarded) items (guarded_items history b c xid items k allows orderly early),
-)
+lawful_event history b c (events.Write xid items) life visible allows orderly k early =
+    write_lawful history b c xid items (hidden_by (is_visible (running_transaction_of history b)) (events.Write xid items) visible (λ f. f)) allows.xid_is allows.oids allows.guarded orderly k early
 lawful_event history b c (events.Visible xid) life visible allows orderly k early = (hidden_by (is_visible (running_transaction_of history b)) (events.Visible xid) visible (λ f. f), allows.0)
 lawful_event history b c (events.Gone from) life visible allows orderly k early = hidden_by (is_visible (running_transaction_of history b)) (events.Gone from) visible (λ f. f)
 lawful_event history b c (events.Release from) life visible allows orderly k early = λ ends'. released history b from (is_visible (running_transaction_of history b)) refl allows.1 k.lives (running_transaction_of history b) refl ends'

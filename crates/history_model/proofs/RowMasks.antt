@@ -1,5 +1,5 @@
 -- The masks under which rows of relations, of columns and of constraints are read: which modes a change of a masked row takes.
-use Rattle.std.proofs.Common.{◌≡◌, ◌∙◌, ◌⊎◌, inl, inr, ℕ, Bool, true, false, Option, Some, None, List, [], ◌∷◌, ◌++◌, ◌==◌, ◌||◌, ◌&&◌, refl, sym, ap, subst}
+use Rattle.std.proofs.Common.{◌≡◌, ◌≤◌, ◌∙◌, ◌⊎◌, inl, inr, ℕ, Bool, true, false, Option, Some, None, List, [], ◌∷◌, ◌++◌, ◌==◌, ◌||◌, ◌&&◌, refl, sym, ap, subst}
 use Rattle.std.specs.List.{AllByRecursion, list_any, list_all, flat_map}
 use Rattle.std.specs.Option.{IfSome}
 use Rattle.std.specs.Str.{bytes_eq}
@@ -29,15 +29,16 @@ use Rattle.history_model.specs.Versions.{added_row, old_row}
 use Rattle.history_model.specs.Held.{held_of, held_by}
 use Rattle.history_model.specs.Covered.{is_covered, same_demand, same_row, counted_for}
 use Rattle.history_model.specs.Sent.{messages_written, written_by, lists_of}
-use Rattle.history_model.specs.Orderly.{main_rel, scans_told, MayComeNext}
-use Rattle.history_model.specs.Writes.{rows_named, relations_changed, is_validation, update_where, mode_to_add, weaker_mode}
+use Rattle.history_model.specs.Drawn.{made_by}
+use Rattle.history_model.specs.Orderly.{main_rel, scans_told, IsOrderlyWrite}
+use Rattle.history_model.specs.Writes.{rows_named, is_guarded, relations_changed, is_validation, update_where, mode_to_add, weaker_mode}
 use Rattle.history_model.proofs.Every.{every-weaker, every-both, any-right}
 use Rattle.history_model.proofs.Asking.{bytes_same, oid_eq, scan_in}
 use Rattle.history_model.proofs.Touched.{entry_of, covers_at}
 use Rattle.history_model.proofs.Guards.{is_changing, is_exclusive, IsHeldIn, held_in-weaker, any_with}
 use Rattle.history_model.proofs.EnoughModes.{is_enough, enough_passes, IsNamed, under_row, IsHeldFor}
 use Rattle.history_model.proofs.FixedRows.{fixed, is_loose, class_fixed, column_fixed}
-use Rattle.history_model.proofs.Ordered.{Ordered, all_flat, both_rows, if_some, both_some, told_in, guarded_rows, early_at}
+use Rattle.history_model.proofs.Ordered.{all_flat, both_rows, if_some, both_some, told_in, guarded_rows, early_at}
 use Rattle.history_model.proofs.Reading.{held_of-more as held-more, lists_of-own as lists-own}
 use Rattle.history_model.proofs.MaskedScans.{AsksMasked}
 use Rattle.history_model.proofs.Markings.{HoldsBy, held_marks, TellsIn, told_marks}
@@ -338,14 +339,14 @@ counted_masks rel = constraint_masks (counted_mask rel) rel is_changing refl ref
 abbrev pub ToldOf : Oid → List Entry → ℕ → List Item → Item → Row → Type 0
 ToldOf rel history w items item row = IsConstraintOf rel (counted_for (scans.Constraint rel) row) → (is_covered (messages_written history w items) (scans.Constraint rel) ≡ true) ⊎ KeepsMask (counted_mask rel) (old_row history w item) item
 
-pub told_changes : (rel : Oid) (history : List Entry) (w c : ℕ) (xid : Xid) (items : List Item) → Ordered history → MayComeNext history (entry_of w c (events.Write xid items))
+pub told_changes : (rel : Oid) (history : List Entry) (w c : ℕ) (xid : Xid) (items : List Item) → list_all (is_guarded history w (flat_map made_by items)) items ≡ true → IsOrderlyWrite history w items → AllByRecursion (λ g. g.backend ≡ w → g.command ≤ c) (held_of history)
     → AllByRecursion (λ item. IfSome (added_row item) (ToldOf rel history w items item) × IfSome (old_row history w item) (ToldOf rel history w items item)) items
-told_changes rel history w c xid items k comes =
+told_changes rel history w c xid items guarded orderly early =
     every-weaker (λ item. (IfSome (added_row item) (For item) × IfSome (old_row history w item) (For item)) × (list_all covered (flat_map (told item) (rows_named item (old_row history w item))) ≡ true))
     (λ item. IfSome (added_row item) (ToldOf rel history w items item) × IfSome (old_row history w item) (ToldOf rel history w items item)) of items
     (every-both (λ item. IfSome (added_row item) (For item) × IfSome (old_row history w item) (For item)) (λ item. list_all covered (flat_map (told item) (rows_named item (old_row history w item))) ≡ true) items
-    (guarded_rows history w c xid items comes.follows.event.guarded comes.orderly.keeps (early_at history (entry_of w c (events.Write xid items)) k comes.follows.life))
-    (all_flat covered (λ item. flat_map (told item) (rows_named item (old_row history w item))) items comes.orderly.told))
+    (guarded_rows history w c xid items guarded orderly.keeps early)
+    (all_flat covered (λ item. flat_map (told item) (rows_named item (old_row history w item))) items orderly.told))
   where
     d : Purpose
     d = scans.Constraint rel
@@ -398,7 +399,7 @@ told_changes rel history w c xid items k comes =
 pub told_masks : (rel : Oid) → Masks (counted_mask rel) (told_marks (scans.Constraint rel))
 told_masks rel history w c xid items k comes =
     every-weaker (λ item. IfSome (added_row item) (ToldOf rel history w items item) × IfSome (old_row history w item) (ToldOf rel history w items item)) (λ item. IfSome (added_row item) (For item) × IfSome (old_row history w item) (For item))
-    (λ item h. (if_some (ToldOf rel history w items item) (For item) (on item) (added_row item) h.0, if_some (ToldOf rel history w items item) (For item) (on item) (old_row history w item) h.1)) items (told_changes rel history w c xid items k comes)
+    (λ item h. (if_some (ToldOf rel history w items item) (For item) (on item) (added_row item) h.0, if_some (ToldOf rel history w items item) (For item) (on item) (old_row history w item) h.1)) items (told_changes rel history w c xid items comes.follows.event.guarded comes.orderly (early_at history (entry_of w c (events.Write xid items)) k comes.follows.life))
   where
     d : Purpose
     d = scans.Constraint rel
