@@ -27,10 +27,12 @@ from typing import List, NamedTuple
 
 sys.dont_write_bytecode = True
 
+from built_scripts import built
+
 TOP = os.path.dirname(os.path.dirname(os.path.abspath(__file__)))
 CRATE = os.path.join(TOP, "crates", "lines_replay")
 FLAGS = re.search(r"--stage (\d+)", os.environ.get("CATSYNC_ORACLE_FLAGS", ""))
-STAGE = int(FLAGS[1]) if FLAGS else 9       # of the second reading: the commands that can be run today
+STAGE = int(FLAGS[1]) if FLAGS else 10      # of the second reading, of whose commands only those that can be run today are taken
 SIZES = ("small", "small", "medium")
 BATCH = 200                 # cases of one run of the program: its answers stay below a MiB
 MOST_PLAYED = 300           # entries of a history that is played by the rules
@@ -71,7 +73,7 @@ class Oracle:
 
     def script(self, seed):
         """A random script, whose last line is `end` and nothing else."""
-        lines = self.scripts.make(seed, STAGE, SIZES[seed % len(SIZES)]).rstrip("\n").split("\n")
+        lines = built(self.scripts.make(seed, STAGE, SIZES[seed % len(SIZES)])).rstrip("\n").split("\n")
         return "".join(line + "\n" for line in lines[:-1] + ["end"])
 
     def walked(self, script):

@@ -1,0 +1,30 @@
+#!/usr/bin/env python3
+"""Runs random scripts through the program and through a second reading of the rules, as CATSYNC_ORACLE/checks/agree does, whose
+arguments these are; but without the commands that the program can't run yet."""
+import importlib.machinery
+import importlib.util
+import os
+import sys
+
+sys.dont_write_bytecode = True
+
+from built_scripts import built
+
+
+def load(path):
+    """The program at this path, as a module."""
+    loader = importlib.machinery.SourceFileLoader("agree", path)
+    module = importlib.util.module_from_spec(importlib.util.spec_from_loader("agree", loader))
+    loader.exec_module(module)
+    return module
+
+
+def main():
+    agree = load(os.path.join(os.environ["CATSYNC_ORACLE"], "checks", "agree"))
+    any_script = agree.good_script
+    agree.good_script = lambda seed, stage: built(any_script(seed, stage).decode()).encode()
+    return agree.main()
+
+
+if __name__ == "__main__":
+    sys.exit(main())
