@@ -29,8 +29,9 @@ use Rattle.history_model.proofs.Every.{every-weaker, every-both}
 use Rattle.history_model.proofs.Asking.{oid_eq}
 use Rattle.history_model.proofs.Guards.{any_with}
 use Rattle.history_model.proofs.Exclude.{Agree}
+use Rattle.history_model.specs.Covered.{counted_for}
 use Rattle.history_model.proofs.HeldRows.{IsChangedUnder}
-use Rattle.history_model.proofs.WeakChanges.{weak_visible}
+use Rattle.history_model.proofs.WeakChanges.{field_leaves}
 use Rattle.history_model.proofs.Observed.{IsReadAs, LeavesRead, Leaves, IsDirty, IsWriting, IsBehind, observed_as}
 use Rattle.history_model.proofs.Locked.{changing_modes, unheld_leaves}
 use Rattle.history_model.proofs.Ordered.{all_each, locks_exclude}
@@ -121,17 +122,17 @@ pub kept_out_fresh : (scenario : Scenario) (history : List Entry) (b : ℕ) (rel
 kept_out_fresh scenario history b rel field modes leaves sound plays are usable = kept_out_read scenario history b rel (field_text field rel) (read_by field rel) modes leaves sound plays are usable
 
 -- and of the answer of a scan that asks for rows of the relation, where all modes are kept out under which they are changed
-pub kept_out_given : (scenario : Scenario) (history : List Entry) (b : ℕ) (rel : Oid) (d : Purpose) (modes : List Mode) → IsChangedUnder modes d rel → IsSound history → Plays scenario history → AreKeptOut scenario history b rel modes
+pub kept_out_given : (scenario : Scenario) (history : List Entry) (b : ℕ) (rel : Oid) (d : Purpose) (modes : List Mode) → ((row : Row) → counted_for d row ≡ row) → IsChangedUnder modes d rel → IsSound history → Plays scenario history → AreKeptOut scenario history b rel modes
     → is_usable history b d ≡ true → answer_of history b d ≡ rows_read history b d
-kept_out_given scenario history b rel d modes under sound plays are usable = kept_out_read scenario history b rel (λ given. given) d modes (unheld_leaves d rel modes under) sound plays are usable
+kept_out_given scenario history b rel d modes plain under sound plays are usable = kept_out_read scenario history b rel (λ given. given) d modes (unheld_leaves d rel modes plain under) sound plays are usable
 
 -- as where all modes are kept out under which any rows are changed
-pub kept_out_answers : (scenario : Scenario) (history : List Entry) (b : ℕ) (rel : Oid) (d : Purpose) → IsChangedUnder changing_modes d rel → IsSound history → Plays scenario history → AreKeptOut scenario history b rel changing_modes
+pub kept_out_answers : (scenario : Scenario) (history : List Entry) (b : ℕ) (rel : Oid) (d : Purpose) → ((row : Row) → counted_for d row ≡ row) → IsChangedUnder changing_modes d rel → IsSound history → Plays scenario history → AreKeptOut scenario history b rel changing_modes
     → is_usable history b d ≡ true → answer_of history b d ≡ rows_read history b d
-kept_out_answers scenario history b rel d under sound plays are usable = kept_out_given scenario history b rel d changing_modes under sound plays are usable
+kept_out_answers scenario history b rel d plain under sound plays are usable = kept_out_given scenario history b rel d changing_modes plain under sound plays are usable
 
 -- a protected field is fresh
 pub protected_fresh : (scenario : Scenario) (history : List Entry) (b : ℕ) (rel : Oid) (kind : Kind) (field : Field) → IsSound history → Plays scenario history → has_field kind field ≡ true → is_protected scenario history b rel kind field ≡ true
     → is_usable history b (read_by field rel) ≡ true → fresh_text history b rel field ≡ field_text field rel (rows_read history b (read_by field rel))
 protected_fresh scenario history b rel kind field sound plays has protected usable =
-    kept_out_fresh scenario history b rel field (writers_of kind field) (λ before a c xid o well comes other none. weak_visible before a c xid o kind field rel well comes other has none) sound plays protected usable
+    kept_out_fresh scenario history b rel field (writers_of kind field) (field_leaves kind field rel has) sound plays protected usable

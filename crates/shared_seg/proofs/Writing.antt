@@ -25,7 +25,9 @@ use Rattle.catalog_rows.specs.Store.{Store, has_committed, after_write}
 use Rattle.ddl_effect.specs.declared.draft.Draft.{Draft}
 use Rattle.ddl_effect.specs.Drawing.{changes_of}
 use Rattle.history_model.specs.Changes.{items_of}
-use Rattle.history_model.specs.Drawn.{next_oid}
+use Rattle.history_model.specs.Drawn.{drawn_by, next_oid}
+use Rattle.history_model.specs.Lives.{FollowsLife}
+use Rattle.history_model.specs.Transactions.{xid_for}
 use Rattle.history_model.specs.Held.{granted_by, held_of}
 use Rattle.history_model.specs.Legal.{AllowsEvent}
 use Rattle.history_model.specs.Names.{new_names}
@@ -33,7 +35,7 @@ use Rattle.history_model.specs.Orderly.{IsOrderlyWrite}
 use Rattle.history_model.specs.Versions.{change_by}
 use Rattle.history_model.specs.Writes.{is_free, changed_key}
 use Rattle.base_types.specs.RowKeys.{are_distinct_keys}
-use Rattle.history_model.proofs.Covering.{named_covers}
+use Rattle.history_model.proofs.Covering.{told_covers}
 use Rattle.history_model.proofs.Ordered.{sound_ordered, locks_exclude}
 use Rattle.seg_calls.specs.Calls.{entry_of, items_drawn, messages_in, MayRequest, MayWrite, MakesWrite, Clashes, Writes}
 use Rattle.shared_seg.specs.declared.drawing.Drawn.{Drawn}
@@ -100,8 +102,8 @@ module _ (script : Scenario) (history : List Entry) (promised : List ℕ) (store
   -- a write is allowed where no new name is taken
   pub write_allowed : (draft : Draft) (drawn : Drawn) → MayEnter script history b c store transactions next last draft drawn → AllowsEvent history b c (Write drawn.xid (items_drawn history draft))
   write_allowed draft drawn enter = record {
-    xid_is = ap (λ (x : Xid). x.0) enter.drawn_is.xid ∙ ap (λ o. (xid_drawn (own_xid_in o) last).0) (k.own b) ∙ xid_drawn_is history b last k.last_is;
-    oids = enter.may.oids ∙ ap (range_with_len (next_oid history)) (sym (ap length enter.may.oids ∙ length-range_with_len (next_oid history) draft.new_oids));
+    xid_is = xid_is;
+    oids = oids;
     keys = enter.may.keys;
     there = enter.may.there;
     kinds = enter.may.kinds;
@@ -109,8 +111,23 @@ module _ (script : Scenario) (history : List Entry) (promised : List ℕ) (store
     free = subst (λ items. list_all (is_free history b) (new_names history b items) ≡ true) (ap (λ cs. items_of cs draft.forced) enter.drawn_is.changes ∙ items_are draft)
         (all_free history b store (own_reader transactions b c) mirrors (reads_same script history promised store locks transactions next last b c k enter.request) drawn.changes.items draft.forced enter.free);
     guarded = enter.may.guarded;
-    covered = named_covers history b c drawn.xid (items_drawn history draft) k.sound enter.may.orderly.named;
+    covered = told_covers history b c drawn.xid (items_drawn history draft) k.sound (record {
+      hidden = enter.request.visible;
+      xid_is = xid_is;
+      oids = oids;
+      keys = enter.may.keys;
+      there = enter.may.there;
+      guarded = enter.may.guarded;
+      orderly = enter.may.orderly;
+      life = subst (λ l. FollowsLife l c (Write drawn.xid (items_drawn history draft))) (sym enter.request.alive) enter.request.rises;
+    });
   }
+    where
+      xid_is : drawn.xid.0 ≡ xid_for history b
+      xid_is = ap (λ (x : Xid). x.0) enter.drawn_is.xid ∙ ap (λ o. (xid_drawn (own_xid_in o) last).0) (k.own b) ∙ xid_drawn_is history b last k.last_is
+
+      oids : flat_map drawn_by (items_drawn history draft) ≡ range_with_len (next_oid history) (length (flat_map drawn_by (items_drawn history draft)))
+      oids = enter.may.oids ∙ ap (range_with_len (next_oid history)) (sym (ap length enter.may.oids ∙ length-range_with_len (next_oid history) draft.new_oids))
 
   -- nobody is in the way of the grants of its new relations
   pub write_granted : (draft : Draft) (drawn : Drawn) → MayEnter script history b c store transactions next last draft drawn → AreFree locks (flat_map (granted_by b c) drawn.items.items)

@@ -67,7 +67,7 @@ written_plays_3 : IsNext show_of_anothers_table (started ++ entry 1 0 Start ∷ 
 written_plays_3 = ((at_least_1, at_most_1), (refl, (refl, refl)))
 
 written_comes_3 : MayComeNext (started ++ entry 1 0 Start ∷ entry 1 1 (Look false) ∷ []) (entry 1 1 (Write (xid 1) (new_table 16384 (codes "t") (codes "a"))))
-written_comes_3 = record { follows = record { life = omega arith; visible = tt; gone = tt; event = record { xid_is = refl; oids = refl; keys = refl; there = refl; kinds = refl; only = refl; free = refl; guarded = refl; covered = refl } }; orderly = record { fresh = refl; keeps = refl; named = refl } }
+written_comes_3 = record { follows = record { life = omega arith; visible = tt; gone = tt; event = record { xid_is = refl; oids = refl; keys = refl; there = refl; kinds = refl; only = refl; free = refl; guarded = refl; covered = refl } }; orderly = record { fresh = refl; keeps = refl; told = refl } }
 
 abbrev pub visible : List Entry
 visible = written ++ entry 1 1 (Visible (xid 1)) ∷ []

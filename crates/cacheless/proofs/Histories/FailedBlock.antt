@@ -48,7 +48,7 @@ written_plays : IsNext failed_block begun (entry 1 2 (Write (xid 1) (new_table 1
 written_plays = ((at_least_1, at_most_1), (refl, (refl, refl)))
 
 written_comes : MayComeNext begun (entry 1 2 (Write (xid 1) (new_table 16384 (codes "t") (codes "a"))))
-written_comes = record { follows = record { life = omega arith; visible = tt; gone = tt; event = record { xid_is = refl; oids = refl; keys = refl; there = refl; kinds = refl; only = refl; free = refl; guarded = refl; covered = refl } }; orderly = record { fresh = refl; keeps = refl; named = refl } }
+written_comes = record { follows = record { life = omega arith; visible = tt; gone = tt; event = record { xid_is = refl; oids = refl; keys = refl; there = refl; kinds = refl; only = refl; free = refl; guarded = refl; covered = refl } }; orderly = record { fresh = refl; keeps = refl; told = refl } }
 
 abbrev pub looked : List Entry
 looked = written ++ entry 1 3 (Look false) ∷ []

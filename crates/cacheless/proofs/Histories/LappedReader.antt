@@ -105,7 +105,7 @@ written_plays_2 : IsNext lapped_reader (writer_started ++ entry 1 1 (Look false)
 written_plays_2 = ((at_least_1, at_most_1), (refl, (refl, refl)))
 
 written_comes_2 : MayComeNext (writer_started ++ entry 1 1 (Look false) ∷ []) (entry 1 1 (Write (xid 1) (wide_table 16384 (codes "w") 67)))
-written_comes_2 = record { follows = record { life = omega arith; visible = tt; gone = tt; event = record { xid_is = refl; oids = refl; keys = refl; there = refl; kinds = refl; only = refl; free = refl; guarded = refl; covered = refl } }; orderly = record { fresh = refl; keeps = refl; named = refl } }
+written_comes_2 = record { follows = record { life = omega arith; visible = tt; gone = tt; event = record { xid_is = refl; oids = refl; keys = refl; there = refl; kinds = refl; only = refl; free = refl; guarded = refl; covered = refl } }; orderly = record { fresh = refl; keeps = refl; told = refl } }
 
 abbrev pub visible : List Entry
 visible = written ++ entry 1 1 (Visible (xid 1)) ∷ []

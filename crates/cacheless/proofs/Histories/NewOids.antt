@@ -47,7 +47,7 @@ written_plays : IsNext oids_are_not_drawn_again begun (entry 1 2 (Write (xid 1) 
 written_plays = ((at_least_1, at_most_1), (refl, (refl, refl)))
 
 written_comes : MayComeNext begun (entry 1 2 (Write (xid 1) (new_table 16384 (codes "u") (codes "a"))))
-written_comes = record { follows = record { life = omega arith; visible = tt; gone = tt; event = record { xid_is = refl; oids = refl; keys = refl; there = refl; kinds = refl; only = refl; free = refl; guarded = refl; covered = refl } }; orderly = record { fresh = refl; keeps = refl; named = refl } }
+written_comes = record { follows = record { life = omega arith; visible = tt; gone = tt; event = record { xid_is = refl; oids = refl; keys = refl; there = refl; kinds = refl; only = refl; free = refl; guarded = refl; covered = refl } }; orderly = record { fresh = refl; keeps = refl; told = refl } }
 
 abbrev pub taken_back : List Entry
 taken_back = written ++ entry 1 3 (Gone 1) ∷ []
@@ -83,7 +83,7 @@ written_again_plays : IsNext oids_are_not_drawn_again looked (entry 1 4 (Write (
 written_again_plays = ((at_least_1, at_most_1), (refl, (refl, refl)))
 
 written_again_comes : MayComeNext looked (entry 1 4 (Write (xid 2) (new_table 16385 (codes "w") (codes "a"))))
-written_again_comes = record { follows = record { life = omega arith; visible = tt; gone = tt; event = record { xid_is = refl; oids = refl; keys = refl; there = refl; kinds = refl; only = refl; free = refl; guarded = refl; covered = refl } }; orderly = record { fresh = refl; keeps = refl; named = refl } }
+written_again_comes = record { follows = record { life = omega arith; visible = tt; gone = tt; event = record { xid_is = refl; oids = refl; keys = refl; there = refl; kinds = refl; only = refl; free = refl; guarded = refl; covered = refl } }; orderly = record { fresh = refl; keeps = refl; told = refl } }
 
 abbrev pub visible : List Entry
 visible = written_again ++ entry 1 4 (Visible (xid 2)) ∷ []

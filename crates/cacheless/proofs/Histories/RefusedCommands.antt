@@ -63,7 +63,7 @@ created_plays_2 : IsNext refused_commands (column_refused ++ entry 1 2 (Look fal
 created_plays_2 = ((at_least_1, at_most_1), (refl, (refl, refl)))
 
 created_comes_2 : MayComeNext (column_refused ++ entry 1 2 (Look false) ∷ []) (entry 1 2 (Write (xid 1) (new_table 16384 (codes "t") (codes "a"))))
-created_comes_2 = record { follows = record { life = omega arith; visible = tt; gone = tt; event = record { xid_is = refl; oids = refl; keys = refl; there = refl; kinds = refl; only = refl; free = refl; guarded = refl; covered = refl } }; orderly = record { fresh = refl; keeps = refl; named = refl } }
+created_comes_2 = record { follows = record { life = omega arith; visible = tt; gone = tt; event = record { xid_is = refl; oids = refl; keys = refl; there = refl; kinds = refl; only = refl; free = refl; guarded = refl; covered = refl } }; orderly = record { fresh = refl; keeps = refl; told = refl } }
 
 created_plays_3 : IsNext refused_commands (column_refused ++ entry 1 2 (Look false) ∷ entry 1 2 (Write (xid 1) (new_table 16384 (codes "t") (codes "a"))) ∷ []) (entry 1 2 (Visible (xid 1)))
 created_plays_3 = ((at_least_1, at_most_1), (refl, (refl, refl)))

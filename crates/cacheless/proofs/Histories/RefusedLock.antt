@@ -52,7 +52,7 @@ visible_plays_3 : IsNext refused_lock (entry 1 0 Start ∷ entry 1 1 (Look false
 visible_plays_3 = ((at_least_1, at_most_1), (refl, (refl, refl)))
 
 visible_comes_3 : MayComeNext (entry 1 0 Start ∷ entry 1 1 (Look false) ∷ []) (entry 1 1 (Write (xid 1) (new_table 16384 (codes "t") (codes "a"))))
-visible_comes_3 = record { follows = record { life = omega arith; visible = tt; gone = tt; event = record { xid_is = refl; oids = refl; keys = refl; there = refl; kinds = refl; only = refl; free = refl; guarded = refl; covered = refl } }; orderly = record { fresh = refl; keeps = refl; named = refl } }
+visible_comes_3 = record { follows = record { life = omega arith; visible = tt; gone = tt; event = record { xid_is = refl; oids = refl; keys = refl; there = refl; kinds = refl; only = refl; free = refl; guarded = refl; covered = refl } }; orderly = record { fresh = refl; keeps = refl; told = refl } }
 
 visible_plays_4 : IsNext refused_lock (entry 1 0 Start ∷ entry 1 1 (Look false) ∷ entry 1 1 (Write (xid 1) (new_table 16384 (codes "t") (codes "a"))) ∷ []) (entry 1 1 (Visible (xid 1)))
 visible_plays_4 = ((at_least_1, at_most_1), (refl, (refl, refl)))

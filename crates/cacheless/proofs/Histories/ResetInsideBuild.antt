@@ -53,7 +53,7 @@ created_plays_3 : IsNext reset_inside_build (entry 1 0 Start ∷ entry 1 1 (Look
 created_plays_3 = ((at_least_1, at_most_1), (refl, (refl, refl)))
 
 created_comes_3 : MayComeNext (entry 1 0 Start ∷ entry 1 1 (Look false) ∷ []) (entry 1 1 (Write (xid 1) (new_table 16384 (codes "t") (codes "a"))))
-created_comes_3 = record { follows = record { life = omega arith; visible = tt; gone = tt; event = record { xid_is = refl; oids = refl; keys = refl; there = refl; kinds = refl; only = refl; free = refl; guarded = refl; covered = refl } }; orderly = record { fresh = refl; keeps = refl; named = refl } }
+created_comes_3 = record { follows = record { life = omega arith; visible = tt; gone = tt; event = record { xid_is = refl; oids = refl; keys = refl; there = refl; kinds = refl; only = refl; free = refl; guarded = refl; covered = refl } }; orderly = record { fresh = refl; keeps = refl; told = refl } }
 
 created_plays_4 : IsNext reset_inside_build (entry 1 0 Start ∷ entry 1 1 (Look false) ∷ entry 1 1 (Write (xid 1) (new_table 16384 (codes "t") (codes "a"))) ∷ []) (entry 1 1 (Visible (xid 1)))
 created_plays_4 = ((at_least_1, at_most_1), (refl, (refl, refl)))
@@ -179,7 +179,7 @@ written_plays : IsNext reset_inside_build writer_looked (entry 1 2 (Write (xid 2
 written_plays = ((at_least_1, at_most_1), (refl, (refl, refl)))
 
 written_comes : MayComeNext writer_looked (entry 1 2 (Write (xid 2) (wide_table 16385 (codes "w") 67)))
-written_comes = record { follows = record { life = omega arith; visible = tt; gone = tt; event = record { xid_is = refl; oids = refl; keys = refl; there = refl; kinds = refl; only = refl; free = refl; guarded = refl; covered = refl } }; orderly = record { fresh = refl; keeps = refl; named = refl } }
+written_comes = record { follows = record { life = omega arith; visible = tt; gone = tt; event = record { xid_is = refl; oids = refl; keys = refl; there = refl; kinds = refl; only = refl; free = refl; guarded = refl; covered = refl } }; orderly = record { fresh = refl; keeps = refl; told = refl } }
 
 abbrev pub visible : List Entry
 visible = written ++ entry 1 2 (Visible (xid 2)) ∷ []

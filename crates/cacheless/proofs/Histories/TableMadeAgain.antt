@@ -87,7 +87,7 @@ pub table_made_again_plays : Plays table_made_again ended
 table_made_again_plays = (((at_least_1, at_most_1), tt), (((at_least_1, at_most_1), (refl, refl)), (((at_least_1, at_most_1), (refl, (refl, refl))), (((at_least_1, at_most_1), (refl, (refl, refl))), (((at_least_1, at_most_1), (refl, (refl, refl))), (((at_least_1, at_most_1), (refl, (refl, refl))), (((at_least_1, at_most_1), (refl, (refl, refl))), (((at_least_2, at_most_2), tt), (((at_least_2, at_most_2), (refl, refl)), (((at_least_2, at_most_2), (refl, refl)), (((at_least_2, at_most_2), (refl, (refl, refl, refl))), (((at_least_1, at_most_1), (refl, refl)), (((at_least_1, at_most_1), (refl, tt)), (((at_least_1, at_most_1), (refl, refl)), (((at_least_1, at_most_1), (refl, (refl, refl, refl))), (((at_least_1, at_most_1), (refl, (refl, refl, (refl, refl)))), (((at_least_1, at_most_1), (refl, refl)), (((at_least_1, at_most_1), (refl, refl)), (((at_least_1, at_most_1), (refl, (refl, refl, refl))), (((at_least_1, at_most_1), (refl, refl)), (((at_least_1, at_most_1), (refl, (refl, refl, refl))), (((at_least_1, at_most_1), (refl, refl)), (((at_least_1, at_most_1), (refl, (refl, refl, refl))), (((at_least_1, at_most_1), (refl, refl)), (((at_least_1, at_most_1), (refl, (refl, refl, refl))), (((at_least_1, at_most_1), (refl, refl)), (((at_least_1, at_most_1), (refl, (refl, refl, refl))), (((at_least_1, at_most_1), (refl, refl)), (((at_least_1, at_most_1), (refl, (refl, refl, refl))), (((at_least_1, at_most_1), (refl, (refl, refl))), (((at_least_1, at_most_1), (refl, (refl, refl))), (((at_least_1, at_most_1), (refl, (refl, refl))), (((at_least_1, at_most_1), (refl, (refl, refl))), (((at_least_1, at_most_1), (refl, (refl, refl))), (((at_least_1, at_most_1), (refl, refl)), (((at_least_1, at_most_1), (refl, tt)), (((at_least_1, at_most_1), (refl, (refl, refl))), (((at_least_1, at_most_1), (refl, (refl, refl))), (((at_least_1, at_most_1), (refl, (refl, refl))), (((at_least_1, at_most_1), (refl, (refl, refl))), (((at_least_1, at_most_1), (refl, (refl, refl))), (((at_least_1, at_most_1), (refl, refl)), (((at_least_2, at_most_2), (refl, (refl, refl, (refl, refl)))), (((at_least_2, at_most_2), (refl, refl)), (((at_least_2, at_most_2), (refl, tt)), (((at_least_2, at_most_2), (refl, refl)), (((at_least_2, at_most_2), (refl, (refl, refl, refl))), (((at_least_2, at_most_2), (refl, (refl, (refl, refl, refl)))), (((at_least_2, at_most_2), (refl, (refl, refl, (refl, refl)))), (((at_least_2, at_most_2), (refl, refl)), (((at_least_2, at_most_2), (refl, refl)), (((at_least_2, at_most_2), (refl, (refl, refl, refl))), (((at_least_2, at_most_2), (refl, (refl, refl))), (((at_least_2, at_most_2), (refl, refl)), tt))))))))))))))))))))))))))))))))))))))))))))))))))))))
 
 pub table_made_again_sound : IsSound ended
-table_made_again_sound = (record { follows = record { life = refl; visible = tt; gone = tt; event = tt }; orderly = tt }, (record { follows = record { life = omega arith; visible = tt; gone = tt; event = refl }; orderly = tt }, (record { follows = record { life = omega arith; visible = tt; gone = tt; event = record { xid_is = refl; oids = refl; keys = refl; there = refl; kinds = refl; only = refl; free = refl; guarded = refl; covered = refl } }; orderly = record { fresh = refl; keeps = refl; named = refl } }, (record { follows = record { life = omega arith; visible = tt; gone = tt; event = (refl, refl) }; orderly = tt }, (record { follows = record { life = omega arith; visible = tt; gone = tt; event = (refl, omega arith, refl) }; orderly = tt }, (record { follows = record { life = omega arith; visible = tt; gone = tt; event = (refl, omega arith, refl) }; orderly = tt }, (record { follows = record { life = omega arith; visible = tt; gone = tt; event = (omega arith, (refl, refl)) }; orderly = tt }, (record { follows = record { life = refl; visible = tt; gone = tt; event = tt }; orderly = tt }, (record { follows = record { life = omega arith; visible = tt; gone = tt; event = refl }; orderly = tt }, (record { follows = record { life = omega arith; visible = tt; gone = tt; event = refl }; orderly = tt }, (record { follows = record { life = omega arith; visible = tt; gone = tt; event = refl }; orderly = tt }, (record { follows = record { life = omega arith; visible = tt; gone = tt; event = refl }; orderly = tt }, (record { follows = record { life = omega arith; visible = tt; gone = tt; event = (refl, refl) }; orderly = tt }, (record { follows = record { life = omega arith; visible = tt; gone = tt; event = refl }; orderly = tt }, (record { follows = record { life = omega arith; visible = tt; gone = tt; event = refl }; orderly = tt }, (record { follows = record { life = omega arith; visible = tt; gone = tt; event = (refl, refl) }; orderly = omega arith }, (record { follows = record { life = omega arith; visible = tt; gone = tt; event = refl }; orderly = tt }, (record { follows = record { life = omega arith; visible = tt; gone = tt; event = refl }; orderly = tt }, (record { follows = record { life = omega arith; visible = tt; gone = tt; event = refl }; orderly = tt }, (record { follows = record { life = omega arith; visible = tt; gone = tt; event = refl }; orderly = tt }, (record { follows = record { life = omega arith; visible = tt; gone = tt; event = refl }; orderly = tt }, (record { follows = record { life = omega arith; visible = tt; gone = tt; event = refl }; orderly = tt }, (record { follows = record { life = omega arith; visible = tt; gone = tt; event = refl }; orderly = tt }, (record { follows = record { life = omega arith; visible = tt; gone = tt; event = refl }; orderly = tt }, (record { follows = record { life = omega arith; visible = tt; gone = tt; event = refl }; orderly = tt }, (record { follows = record { life = omega arith; visible = tt; gone = tt; event = refl }; orderly = tt }, (record { follows = record { life = omega arith; visible = tt; gone = tt; event = refl }; orderly = tt }, (record { follows = record { life = omega arith; visible = tt; gone = tt; event = refl }; orderly = tt }, (record { follows = record { life = omega arith; visible = tt; gone = tt; event = refl }; orderly = tt }, (record { follows = record { life = omega arith; visible = tt; gone = tt; event = record { xid_is = refl; oids = refl; keys = refl; there = refl; kinds = refl; only = refl; free = refl; guarded = refl; covered = refl } }; orderly = record { fresh = refl; keeps = refl; named = refl } }, (record { follows = record { life = omega arith; visible = tt; gone = tt; event = (refl, refl) }; orderly = tt }, (record { follows = record { life = omega arith; visible = tt; gone = tt; event = (refl, omega arith, refl) }; orderly = tt }, (record { follows = record { life = omega arith; visible = tt; gone = tt; event = (refl, omega arith, refl) }; orderly = tt }, (record { follows = record { life = omega arith; visible = tt; gone = tt; event = (omega arith, (refl, refl)) }; orderly = tt }, (record { follows = record { life = omega arith; visible = tt; gone = tt; event = refl }; orderly = tt }, (record { follows = record { life = omega arith; visible = tt; gone = tt; event = (refl, refl) }; orderly = tt }, (record { follows = record { life = omega arith; visible = tt; gone = tt; event = record { xid_is = refl; oids = refl; keys = refl; there = refl; kinds = refl; only = refl; free = refl; guarded = refl; covered = refl } }; orderly = record { fresh = refl; keeps = refl; named = refl } }, (record { follows = record { life = omega arith; visible = tt; gone = tt; event = (refl, refl) }; orderly = tt }, (record { follows = record { life = omega arith; visible = tt; gone = tt; event = (refl, omega arith, refl) }; orderly = tt }, (record { follows = record { life = omega arith; visible = tt; gone = tt; event = (refl, omega arith, refl) }; orderly = tt }, (record { follows = record { life = omega arith; visible = tt; gone = tt; event = (omega arith, (refl, refl)) }; orderly = tt }, (record { follows = record { life = omega arith; visible = tt; gone = tt; event = refl }; orderly = tt }, (record { follows = record { life = omega arith; visible = tt; gone = tt; event = (refl, refl) }; orderly = omega arith }, (record { follows = record { life = omega arith; visible = tt; gone = tt; event = refl }; orderly = tt }, (record { follows = record { life = omega arith; visible = tt; gone = tt; event = (refl, refl) }; orderly = tt }, (record { follows = record { life = omega arith; visible = tt; gone = tt; event = refl }; orderly = tt }, (record { follows = record { life = omega arith; visible = tt; gone = tt; event = refl }; orderly = tt }, (record { follows = record { life = omega arith; visible = tt; gone = tt; event = (refl, refl) }; orderly = tt }, (record { follows = record { life = omega arith; visible = tt; gone = tt; event = (refl, refl) }; orderly = omega arith }, (record { follows = record { life = omega arith; visible = tt; gone = tt; event = refl }; orderly = tt }, (record { follows = record { life = omega arith; visible = tt; gone = tt; event = refl }; orderly = tt }, (record { follows = record { life = omega arith; visible = tt; gone = tt; event = refl }; orderly = tt }, (record { follows = record { life = omega arith; visible = tt; gone = tt; event = (omega arith, refl) }; orderly = tt }, (record { follows = record { life = omega arith; visible = tt; gone = tt; event = refl }; orderly = tt }, tt))))))))))))))))))))))))))))))))))))))))))))))))))))))
+table_made_again_sound = (record { follows = record { life = refl; visible = tt; gone = tt; event = tt }; orderly = tt }, (record { follows = record { life = omega arith; visible = tt; gone = tt; event = refl }; orderly = tt }, (record { follows = record { life = omega arith; visible = tt; gone = tt; event = record { xid_is = refl; oids = refl; keys = refl; there = refl; kinds = refl; only = refl; free = refl; guarded = refl; covered = refl } }; orderly = record { fresh = refl; keeps = refl; told = refl } }, (record { follows = record { life = omega arith; visible = tt; gone = tt; event = (refl, refl) }; orderly = tt }, (record { follows = record { life = omega arith; visible = tt; gone = tt; event = (refl, omega arith, refl) }; orderly = tt }, (record { follows = record { life = omega arith; visible = tt; gone = tt; event = (refl, omega arith, refl) }; orderly = tt }, (record { follows = record { life = omega arith; visible = tt; gone = tt; event = (omega arith, (refl, refl)) }; orderly = tt }, (record { follows = record { life = refl; visible = tt; gone = tt; event = tt }; orderly = tt }, (record { follows = record { life = omega arith; visible = tt; gone = tt; event = refl }; orderly = tt }, (record { follows = record { life = omega arith; visible = tt; gone = tt; event = refl }; orderly = tt }, (record { follows = record { life = omega arith; visible = tt; gone = tt; event = refl }; orderly = tt }, (record { follows = record { life = omega arith; visible = tt; gone = tt; event = refl }; orderly = tt }, (record { follows = record { life = omega arith; visible = tt; gone = tt; event = (refl, refl) }; orderly = tt }, (record { follows = record { life = omega arith; visible = tt; gone = tt; event = refl }; orderly = tt }, (record { follows = record { life = omega arith; visible = tt; gone = tt; event = refl }; orderly = tt }, (record { follows = record { life = omega arith; visible = tt; gone = tt; event = (refl, refl) }; orderly = omega arith }, (record { follows = record { life = omega arith; visible = tt; gone = tt; event = refl }; orderly = tt }, (record { follows = record { life = omega arith; visible = tt; gone = tt; event = refl }; orderly = tt }, (record { follows = record { life = omega arith; visible = tt; gone = tt; event = refl }; orderly = tt }, (record { follows = record { life = omega arith; visible = tt; gone = tt; event = refl }; orderly = tt }, (record { follows = record { life = omega arith; visible = tt; gone = tt; event = refl }; orderly = tt }, (record { follows = record { life = omega arith; visible = tt; gone = tt; event = refl }; orderly = tt }, (record { follows = record { life = omega arith; visible = tt; gone = tt; event = refl }; orderly = tt }, (record { follows = record { life = omega arith; visible = tt; gone = tt; event = refl }; orderly = tt }, (record { follows = record { life = omega arith; visible = tt; gone = tt; event = refl }; orderly = tt }, (record { follows = record { life = omega arith; visible = tt; gone = tt; event = refl }; orderly = tt }, (record { follows = record { life = omega arith; visible = tt; gone = tt; event = refl }; orderly = tt }, (record { follows = record { life = omega arith; visible = tt; gone = tt; event = refl }; orderly = tt }, (record { follows = record { life = omega arith; visible = tt; gone = tt; event = refl }; orderly = tt }, (record { follows = record { life = omega arith; visible = tt; gone = tt; event = record { xid_is = refl; oids = refl; keys = refl; there = refl; kinds = refl; only = refl; free = refl; guarded = refl; covered = refl } }; orderly = record { fresh = refl; keeps = refl; told = refl } }, (record { follows = record { life = omega arith; visible = tt; gone = tt; event = (refl, refl) }; orderly = tt }, (record { follows = record { life = omega arith; visible = tt; gone = tt; event = (refl, omega arith, refl) }; orderly = tt }, (record { follows = record { life = omega arith; visible = tt; gone = tt; event = (refl, omega arith, refl) }; orderly = tt }, (record { follows = record { life = omega arith; visible = tt; gone = tt; event = (omega arith, (refl, refl)) }; orderly = tt }, (record { follows = record { life = omega arith; visible = tt; gone = tt; event = refl }; orderly = tt }, (record { follows = record { life = omega arith; visible = tt; gone = tt; event = (refl, refl) }; orderly = tt }, (record { follows = record { life = omega arith; visible = tt; gone = tt; event = record { xid_is = refl; oids = refl; keys = refl; there = refl; kinds = refl; only = refl; free = refl; guarded = refl; covered = refl } }; orderly = record { fresh = refl; keeps = refl; told = refl } }, (record { follows = record { life = omega arith; visible = tt; gone = tt; event = (refl, refl) }; orderly = tt }, (record { follows = record { life = omega arith; visible = tt; gone = tt; event = (refl, omega arith, refl) }; orderly = tt }, (record { follows = record { life = omega arith; visible = tt; gone = tt; event = (refl, omega arith, refl) }; orderly = tt }, (record { follows = record { life = omega arith; visible = tt; gone = tt; event = (omega arith, (refl, refl)) }; orderly = tt }, (record { follows = record { life = omega arith; visible = tt; gone = tt; event = refl }; orderly = tt }, (record { follows = record { life = omega arith; visible = tt; gone = tt; event = (refl, refl) }; orderly = omega arith }, (record { follows = record { life = omega arith; visible = tt; gone = tt; event = refl }; orderly = tt }, (record { follows = record { life = omega arith; visible = tt; gone = tt; event = (refl, refl) }; orderly = tt }, (record { follows = record { life = omega arith; visible = tt; gone = tt; event = refl }; orderly = tt }, (record { follows = record { life = omega arith; visible = tt; gone = tt; event = refl }; orderly = tt }, (record { follows = record { life = omega arith; visible = tt; gone = tt; event = (refl, refl) }; orderly = tt }, (record { follows = record { life = omega arith; visible = tt; gone = tt; event = (refl, refl) }; orderly = omega arith }, (record { follows = record { life = omega arith; visible = tt; gone = tt; event = refl }; orderly = tt }, (record { follows = record { life = omega arith; visible = tt; gone = tt; event = refl }; orderly = tt }, (record { follows = record { life = omega arith; visible = tt; gone = tt; event = refl }; orderly = tt }, (record { follows = record { life = omega arith; visible = tt; gone = tt; event = (omega arith, refl) }; orderly = tt }, (record { follows = record { life = omega arith; visible = tt; gone = tt; event = refl }; orderly = tt }, tt))))))))))))))))))))))))))))))))))))))))))))))))))))))
 
 pub table_made_again_queue : FollowsQueue 4096 ended
 table_made_again_queue = (tt, (tt, (tt, (tt, (tt, (tt, (tt, (tt, (tt, (tt, (tt, (tt, (refl, (tt, (tt, (tt, (tt, (tt, (tt, (tt, (tt, (tt, (tt, (tt, (tt, (tt, (tt, (tt, (tt, (tt, (tt, (tt, (tt, (tt, (tt, (refl, (tt, (tt, (tt, (tt, (tt, (tt, (tt, (tt, (refl, (tt, (tt, (tt, (tt, (tt, (tt, (tt, (tt, (tt, tt))))))))))))))))))))))))))))))))))))))))))))))))))))))

@@ -84,7 +84,7 @@ pub table_renamed_plays : Plays table_renamed ended
 table_renamed_plays = (((at_least_1, at_most_1), tt), (((at_least_1, at_most_1), (refl, refl)), (((at_least_1, at_most_1), (refl, (refl, refl))), (((at_least_1, at_most_1), (refl, (refl, refl))), (((at_least_1, at_most_1), (refl, (refl, refl))), (((at_least_1, at_most_1), (refl, (refl, refl))), (((at_least_1, at_most_1), (refl, (refl, refl))), (((at_least_2, at_most_2), tt), (((at_least_2, at_most_2), (refl, refl)), (((at_least_2, at_most_2), (refl, refl)), (((at_least_2, at_most_2), (refl, (refl, refl, refl))), (((at_least_1, at_most_1), (refl, refl)), (((at_least_1, at_most_1), (refl, tt)), (((at_least_1, at_most_1), (refl, refl)), (((at_least_1, at_most_1), (refl, (refl, refl, refl))), (((at_least_1, at_most_1), (refl, (refl, refl, (refl, refl)))), (((at_least_1, at_most_1), (refl, refl)), (((at_least_1, at_most_1), (refl, refl)), (((at_least_1, at_most_1), (refl, (refl, refl, refl))), (((at_least_1, at_most_1), (refl, refl)), (((at_least_1, at_most_1), (refl, (refl, refl, refl))), (((at_least_1, at_most_1), (refl, refl)), (((at_least_1, at_most_1), (refl, (refl, refl, refl))), (((at_least_1, at_most_1), (refl, refl)), (((at_least_1, at_most_1), (refl, (refl, refl, refl))), (((at_least_1, at_most_1), (refl, refl)), (((at_least_1, at_most_1), (refl, (refl, refl, refl))), (((at_least_1, at_most_1), (refl, refl)), (((at_least_1, at_most_1), (refl, (refl, refl, refl))), (((at_least_1, at_most_1), (refl, (refl, refl))), (((at_least_1, at_most_1), (refl, (refl, refl))), (((at_least_1, at_most_1), (refl, (refl, refl))), (((at_least_1, at_most_1), (refl, (refl, refl))), (((at_least_1, at_most_1), (refl, (refl, refl))), (((at_least_1, at_most_1), (refl, refl)), (((at_least_1, at_most_1), (refl, tt)), (((at_least_1, at_most_1), (refl, refl)), (((at_least_1, at_most_1), (refl, (refl, refl, refl))), (((at_least_1, at_most_1), (refl, (refl, refl, (refl, refl)))), (((at_least_1, at_most_1), (refl, refl)), (((at_least_1, at_most_1), (refl, refl)), (((at_least_1, at_most_1), (refl, (refl, refl, refl))), (((at_least_1, at_most_1), (refl, refl)), (((at_least_1, at_most_1), (refl, (refl, refl, refl))), (((at_least_1, at_most_1), (refl, refl)), (((at_least_1, at_most_1), (refl, (refl, refl, refl))), (((at_least_1, at_most_1), (refl, refl)), (((at_least_1, at_most_1), (refl, (refl, refl, refl))), (((at_least_1, at_most_1), (refl, refl)), (((at_least_1, at_most_1), (refl, (refl, refl, refl))), (((at_least_1, at_most_1), (refl, refl)), (((at_least_1, at_most_1), (refl, (refl, refl, refl))), (((at_least_1, at_most_1), (refl, (refl, refl))), (((at_least_1, at_most_1), (refl, (refl, refl))), (((at_least_1, at_most_1), (refl, (refl, refl))), (((at_least_1, at_most_1), (refl, (refl, refl))), (((at_least_1, at_most_1), (refl, (refl, refl))), (((at_least_1, at_most_1), (refl, refl)), (((at_least_2, at_most_2), (refl, (refl, refl, (refl, refl)))), (((at_least_2, at_most_2), (refl, refl)), (((at_least_2, at_most_2), (refl, tt)), (((at_least_2, at_most_2), (refl, refl)), (((at_least_2, at_most_2), (refl, (refl, refl, refl))), (((at_least_2, at_most_2), (refl, (refl, (refl, refl, refl)))), (((at_least_2, at_most_2), (refl, refl)), (((at_least_2, at_most_2), (refl, (refl, refl))), (((at_least_2, at_most_2), (refl, refl)), tt)))))))))))))))))))))))))))))))))))))))))))))))))))))))))))))))))))
 
 pub table_renamed_sound : IsSound ended
-table_renamed_sound = (record { follows = record { life = refl; visible = tt; gone = tt; event = tt }; orderly = tt }, (record { follows = record { life = omega arith; visible = tt; gone = tt; event = refl }; orderly = tt }, (record { follows = record { life = omega arith; visible = tt; gone = tt; event = record { xid_is = refl; oids = refl; keys = refl; there = refl; kinds = refl; only = refl; free = refl; guarded = refl; covered = refl } }; orderly = record { fresh = refl; keeps = refl; named = refl } }, (record { follows = record { life = omega arith; visible = tt; gone = tt; event = (refl, refl) }; orderly = tt }, (record { follows = record { life = omega arith; visible = tt; gone = tt; event = (refl, omega arith, refl) }; orderly = tt }, (record { follows = record { life = omega arith; visible = tt; gone = tt; event = (refl, omega arith, refl) }; orderly = tt }, (record { follows = record { life = omega arith; visible = tt; gone = tt; event = (omega arith, (refl, refl)) }; orderly = tt }, (record { follows = record { life = refl; visible = tt; gone = tt; event = tt }; orderly = tt }, (record { follows = record { life = omega arith; visible = tt; gone = tt; event = refl }; orderly = tt }, (record { follows = record { life = omega arith; visible = tt; gone = tt; event = refl }; orderly = tt }, (record { follows = record { life = omega arith; visible = tt; gone = tt; event = refl }; orderly = tt }, (record { follows = record { life = omega arith; visible = tt; gone = tt; event = refl }; orderly = tt }, (record { follows = record { life = omega arith; visible = tt; gone = tt; event = (refl, refl) }; orderly = tt }, (record { follows = record { life = omega arith; visible = tt; gone = tt; event = refl }; orderly = tt }, (record { follows = record { life = omega arith; visible = tt; gone = tt; event = refl }; orderly = tt }, (record { follows = record { life = omega arith; visible = tt; gone = tt; event = (refl, refl) }; orderly = omega arith }, (record { follows = record { life = omega arith; visible = tt; gone = tt; event = refl }; orderly = tt }, (record { follows = record { life = omega arith; visible = tt; gone = tt; event = refl }; orderly = tt }, (record { follows = record { life = omega arith; visible = tt; gone = tt; event = refl }; orderly = tt }, (record { follows = record { life = omega arith; visible = tt; gone = tt; event = refl }; orderly = tt }, (record { follows = record { life = omega arith; visible = tt; gone = tt; event = refl }; orderly = tt }, (record { follows = record { life = omega arith; visible = tt; gone = tt; event = refl }; orderly = tt }, (record { follows = record { life = omega arith; visible = tt; gone = tt; event = refl }; orderly = tt }, (record { follows = record { life = omega arith; visible = tt; gone = tt; event = refl }; orderly = tt }, (record { follows = record { life = omega arith; visible = tt; gone = tt; event = refl }; orderly = tt }, (record { follows = record { life = omega arith; visible = tt; gone = tt; event = refl }; orderly = tt }, (record { follows = record { life = omega arith; visible = tt; gone = tt; event = refl }; orderly = tt }, (record { follows = record { life = omega arith; visible = tt; gone = tt; event = refl }; orderly = tt }, (record { follows = record { life = omega arith; visible = tt; gone = tt; event = refl }; orderly = tt }, (record { follows = record { life = omega arith; visible = tt; gone = tt; event = record { xid_is = refl; oids = refl; keys = refl; there = refl; kinds = refl; only = refl; free = refl; guarded = refl; covered = refl } }; orderly = record { fresh = refl; keeps = refl; named = refl } }, (record { follows = record { life = omega arith; visible = tt; gone = tt; event = (refl, refl) }; orderly = tt }, (record { follows = record { life = omega arith; visible = tt; gone = tt; event = (refl, omega arith, refl) }; orderly = tt }, (record { follows = record { life = omega arith; visible = tt; gone = tt; event = (refl, omega arith, refl) }; orderly = tt }, (record { follows = record { life = omega arith; visible = tt; gone = tt; event = (omega arith, (refl, refl)) }; orderly = tt }, (record { follows = record { life = omega arith; visible = tt; gone = tt; event = refl }; orderly = tt }, (record { follows = record { life = omega arith; visible = tt; gone = tt; event = (refl, refl) }; orderly = tt }, (record { follows = record { life = omega arith; visible = tt; gone = tt; event = refl }; orderly = tt }, (record { follows = record { life = omega arith; visible = tt; gone = tt; event = refl }; orderly = tt }, (record { follows = record { life = omega arith; visible = tt; gone = tt; event = (refl, refl) }; orderly = omega arith }, (record { follows = record { life = omega arith; visible = tt; gone = tt; event = refl }; orderly = tt }, (record { follows = record { life = omega arith; visible = tt; gone = tt; event = refl }; orderly = tt }, (record { follows = record { life = omega arith; visible = tt; gone = tt; event = refl }; orderly = tt }, (record { follows = record { life = omega arith; visible = tt; gone = tt; event = refl }; orderly = tt }, (record { follows = record { life = omega arith; visible = tt; gone = tt; event = refl }; orderly = tt }, (record { follows = record { life = omega arith; visible = tt; gone = tt; event = refl }; orderly = tt }, (record { follows = record { life = omega arith; visible = tt; gone = tt; event = refl }; orderly = tt }, (record { follows = record { life = omega arith; visible = tt; gone = tt; event = refl }; orderly = tt }, (record { follows = record { life = omega arith; visible = tt; gone = tt; event = refl }; orderly = tt }, (record { follows = record { life = omega arith; visible = tt; gone = tt; event = refl }; orderly = tt }, (record { follows = record { life = omega arith; visible = tt; gone = tt; event = refl }; orderly = tt }, (record { follows = record { life = omega arith; visible = tt; gone = tt; event = refl }; orderly = tt }, (record { follows = record { life = omega arith; visible = tt; gone = tt; event = refl }; orderly = tt }, (record { follows = record { life = omega arith; visible = tt; gone = tt; event = record { xid_is = refl; oids = refl; keys = refl; there = refl; kinds = refl; only = refl; free = refl; guarded = refl; covered = refl } }; orderly = record { fresh = refl; keeps = refl; named = refl } }, (record { follows = record { life = omega arith; visible = tt; gone = tt; event = (refl, refl) }; orderly = tt }, (record { follows = record { life = omega arith; visible = tt; gone = tt; event = (refl, omega arith, refl) }; orderly = tt }, (record { follows = record { life = omega arith; visible = tt; gone = tt; event = (refl, omega arith, refl) }; orderly = tt }, (record { follows = record { life = omega arith; visible = tt; gone = tt; event = (omega arith, (refl, refl)) }; orderly = tt }, (record { follows = record { life = omega arith; visible = tt; gone = tt; event = refl }; orderly = tt }, (record { follows = record { life = omega arith; visible = tt; gone = tt; event = (refl, refl) }; orderly = omega arith }, (record { follows = record { life = omega arith; visible = tt; gone = tt; event = refl }; orderly = tt }, (record { follows = record { life = omega arith; visible = tt; gone = tt; event = (refl, refl) }; orderly = tt }, (record { follows = record { life = omega arith; visible = tt; gone = tt; event = refl }; orderly = tt }, (record { follows = record { life = omega arith; visible = tt; gone = tt; event = refl }; orderly = tt }, (record { follows = record { life = omega arith; visible = tt; gone = tt; event = (refl, refl) }; orderly = tt }, (record { follows = record { life = omega arith; visible = tt; gone = tt; event = refl }; orderly = tt }, (record { follows = record { life = omega arith; visible = tt; gone = tt; event = (omega arith, refl) }; orderly = tt }, (record { follows = record { life = omega arith; visible = tt; gone = tt; event = refl }; orderly = tt }, tt)))))))))))))))))))))))))))))))))))))))))))))))))))))))))))))))))))
+table_renamed_sound = (record { follows = record { life = refl; visible = tt; gone = tt; event = tt }; orderly = tt }, (record { follows = record { life = omega arith; visible = tt; gone = tt; event = refl }; orderly = tt }, (record { follows = record { life = omega arith; visible = tt; gone = tt; event = record { xid_is = refl; oids = refl; keys = refl; there = refl; kinds = refl; only = refl; free = refl; guarded = refl; covered = refl } }; orderly = record { fresh = refl; keeps = refl; told = refl } }, (record { follows = record { life = omega arith; visible = tt; gone = tt; event = (refl, refl) }; orderly = tt }, (record { follows = record { life = omega arith; visible = tt; gone = tt; event = (refl, omega arith, refl) }; orderly = tt }, (record { follows = record { life = omega arith; visible = tt; gone = tt; event = (refl, omega arith, refl) }; orderly = tt }, (record { follows = record { life = omega arith; visible = tt; gone = tt; event = (omega arith, (refl, refl)) }; orderly = tt }, (record { follows = record { life = refl; visible = tt; gone = tt; event = tt }; orderly = tt }, (record { follows = record { life = omega arith; visible = tt; gone = tt; event = refl }; orderly = tt }, (record { follows = record { life = omega arith; visible = tt; gone = tt; event = refl }; orderly = tt }, (record { follows = record { life = omega arith; visible = tt; gone = tt; event = refl }; orderly = tt }, (record { follows = record { life = omega arith; visible = tt; gone = tt; event = refl }; orderly = tt }, (record { follows = record { life = omega arith; visible = tt; gone = tt; event = (refl, refl) }; orderly = tt }, (record { follows = record { life = omega arith; visible = tt; gone = tt; event = refl }; orderly = tt }, (record { follows = record { life = omega arith; visible = tt; gone = tt; event = refl }; orderly = tt }, (record { follows = record { life = omega arith; visible = tt; gone = tt; event = (refl, refl) }; orderly = omega arith }, (record { follows = record { life = omega arith; visible = tt; gone = tt; event = refl }; orderly = tt }, (record { follows = record { life = omega arith; visible = tt; gone = tt; event = refl }; orderly = tt }, (record { follows = record { life = omega arith; visible = tt; gone = tt; event = refl }; orderly = tt }, (record { follows = record { life = omega arith; visible = tt; gone = tt; event = refl }; orderly = tt }, (record { follows = record { life = omega arith; visible = tt; gone = tt; event = refl }; orderly = tt }, (record { follows = record { life = omega arith; visible = tt; gone = tt; event = refl }; orderly = tt }, (record { follows = record { life = omega arith; visible = tt; gone = tt; event = refl }; orderly = tt }, (record { follows = record { life = omega arith; visible = tt; gone = tt; event = refl }; orderly = tt }, (record { follows = record { life = omega arith; visible = tt; gone = tt; event = refl }; orderly = tt }, (record { follows = record { life = omega arith; visible = tt; gone = tt; event = refl }; orderly = tt }, (record { follows = record { life = omega arith; visible = tt; gone = tt; event = refl }; orderly = tt }, (record { follows = record { life = omega arith; visible = tt; gone = tt; event = refl }; orderly = tt }, (record { follows = record { life = omega arith; visible = tt; gone = tt; event = refl }; orderly = tt }, (record { follows = record { life = omega arith; visible = tt; gone = tt; event = record { xid_is = refl; oids = refl; keys = refl; there = refl; kinds = refl; only = refl; free = refl; guarded = refl; covered = refl } }; orderly = record { fresh = refl; keeps = refl; told = refl } }, (record { follows = record { life = omega arith; visible = tt; gone = tt; event = (refl, refl) }; orderly = tt }, (record { follows = record { life = omega arith; visible = tt; gone = tt; event = (refl, omega arith, refl) }; orderly = tt }, (record { follows = record { life = omega arith; visible = tt; gone = tt; event = (refl, omega arith, refl) }; orderly = tt }, (record { follows = record { life = omega arith; visible = tt; gone = tt; event = (omega arith, (refl, refl)) }; orderly = tt }, (record { follows = record { life = omega arith; visible = tt; gone = tt; event = refl }; orderly = tt }, (record { follows = record { life = omega arith; visible = tt; gone = tt; event = (refl, refl) }; orderly = tt }, (record { follows = record { life = omega arith; visible = tt; gone = tt; event = refl }; orderly = tt }, (record { follows = record { life = omega arith; visible = tt; gone = tt; event = refl }; orderly = tt }, (record { follows = record { life = omega arith; visible = tt; gone = tt; event = (refl, refl) }; orderly = omega arith }, (record { follows = record { life = omega arith; visible = tt; gone = tt; event = refl }; orderly = tt }, (record { follows = record { life = omega arith; visible = tt; gone = tt; event = refl }; orderly = tt }, (record { follows = record { life = omega arith; visible = tt; gone = tt; event = refl }; orderly = tt }, (record { follows = record { life = omega arith; visible = tt; gone = tt; event = refl }; orderly = tt }, (record { follows = record { life = omega arith; visible = tt; gone = tt; event = refl }; orderly = tt }, (record { follows = record { life = omega arith; visible = tt; gone = tt; event = refl }; orderly = tt }, (record { follows = record { life = omega arith; visible = tt; gone = tt; event = refl }; orderly = tt }, (record { follows = record { life = omega arith; visible = tt; gone = tt; event = refl }; orderly = tt }, (record { follows = record { life = omega arith; visible = tt; gone = tt; event = refl }; orderly = tt }, (record { follows = record { life = omega arith; visible = tt; gone = tt; event = refl }; orderly = tt }, (record { follows = record { life = omega arith; visible = tt; gone = tt; event = refl }; orderly = tt }, (record { follows = record { life = omega arith; visible = tt; gone = tt; event = refl }; orderly = tt }, (record { follows = record { life = omega arith; visible = tt; gone = tt; event = refl }; orderly = tt }, (record { follows = record { life = omega arith; visible = tt; gone = tt; event = record { xid_is = refl; oids = refl; keys = refl; there = refl; kinds = refl; only = refl; free = refl; guarded = refl; covered = refl } }; orderly = record { fresh = refl; keeps = refl; told = refl } }, (record { follows = record { life = omega arith; visible = tt; gone = tt; event = (refl, refl) }; orderly = tt }, (record { follows = record { life = omega arith; visible = tt; gone = tt; event = (refl, omega arith, refl) }; orderly = tt }, (record { follows = record { life = omega arith; visible = tt; gone = tt; event = (refl, omega arith, refl) }; orderly = tt }, (record { follows = record { life = omega arith; visible = tt; gone = tt; event = (omega arith, (refl, refl)) }; orderly = tt }, (record { follows = record { life = omega arith; visible = tt; gone = tt; event = refl }; orderly = tt }, (record { follows = record { life = omega arith; visible = tt; gone = tt; event = (refl, refl) }; orderly = omega arith }, (record { follows = record { life = omega arith; visible = tt; gone = tt; event = refl }; orderly = tt }, (record { follows = record { life = omega arith; visible = tt; gone = tt; event = (refl, refl) }; orderly = tt }, (record { follows = record { life = omega arith; visible = tt; gone = tt; event = refl }; orderly = tt }, (record { follows = record { life = omega arith; visible = tt; gone = tt; event = refl }; orderly = tt }, (record { follows = record { life = omega arith; visible = tt; gone = tt; event = (refl, refl) }; orderly = tt }, (record { follows = record { life = omega arith; visible = tt; gone = tt; event = refl }; orderly = tt }, (record { follows = record { life = omega arith; visible = tt; gone = tt; event = (omega arith, refl) }; orderly = tt }, (record { follows = record { life = omega arith; visible = tt; gone = tt; event = refl }; orderly = tt }, tt)))))))))))))))))))))))))))))))))))))))))))))))))))))))))))))))))))
 
 pub table_renamed_queue : FollowsQueue 4096 ended
 table_renamed_queue = (tt, (tt, (tt, (tt, (tt, (tt, (tt, (tt, (tt, (tt, (tt, (tt, (refl, (tt, (tt, (tt, (tt, (tt, (tt, (tt, (tt, (tt, (tt, (tt, (tt, (tt, (tt, (tt, (tt, (tt, (tt, (tt, (tt, (tt, (tt, (refl, (tt, (tt, (tt, (tt, (tt, (tt, (tt, (tt, (tt, (tt, (tt, (tt, (tt, (tt, (tt, (tt, (tt, (tt, (tt, (tt, (tt, (tt, (tt, (tt, (refl, (tt, (tt, (tt, (tt, (tt, (tt, tt)))))))))))))))))))))))))))))))))))))))))))))))))))))))))))))))))))

@@ -58,7 +58,7 @@ created_plays_3 : IsNext holders_in_order_of_grant (entry 1 0 Start ∷ entry 1 
 created_plays_3 = ((at_least_1, at_most_1), (refl, (refl, refl)))
 
 created_comes_3 : MayComeNext (entry 1 0 Start ∷ entry 1 1 (Look false) ∷ []) (entry 1 1 (Write (xid 1) (new_table 16384 (codes "t") (codes "a"))))
-created_comes_3 = record { follows = record { life = omega arith; visible = tt; gone = tt; event = record { xid_is = refl; oids = refl; keys = refl; there = refl; kinds = refl; only = refl; free = refl; guarded = refl; covered = refl } }; orderly = record { fresh = refl; keeps = refl; named = refl } }
+created_comes_3 = record { follows = record { life = omega arith; visible = tt; gone = tt; event = record { xid_is = refl; oids = refl; keys = refl; there = refl; kinds = refl; only = refl; free = refl; guarded = refl; covered = refl } }; orderly = record { fresh = refl; keeps = refl; told = refl } }
 
 created_plays_4 : IsNext holders_in_order_of_grant (entry 1 0 Start ∷ entry 1 1 (Look false) ∷ entry 1 1 (Write (xid 1) (new_table 16384 (codes "t") (codes "a"))) ∷ []) (entry 1 1 (Visible (xid 1)))
 created_plays_4 = ((at_least_1, at_most_1), (refl, (refl, refl)))

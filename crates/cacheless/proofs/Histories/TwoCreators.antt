@@ -56,7 +56,7 @@ first_written_plays : IsNext clash_of_two_creators first_looked (entry 1 2 (Writ
 first_written_plays = ((at_least_1, at_most_1), (refl, (refl, refl)))
 
 first_written_comes : MayComeNext first_looked (entry 1 2 (Write (xid 1) (new_table 16384 (codes "x") (codes "a"))))
-first_written_comes = record { follows = record { life = omega arith; visible = tt; gone = tt; event = record { xid_is = refl; oids = refl; keys = refl; there = refl; kinds = refl; only = refl; free = refl; guarded = refl; covered = refl } }; orderly = record { fresh = refl; keeps = refl; named = refl } }
+first_written_comes = record { follows = record { life = omega arith; visible = tt; gone = tt; event = record { xid_is = refl; oids = refl; keys = refl; there = refl; kinds = refl; only = refl; free = refl; guarded = refl; covered = refl } }; orderly = record { fresh = refl; keeps = refl; told = refl } }
 
 abbrev pub second_started : List Entry
 second_started = first_written ++ entry 2 0 Start ∷ []

@@ -1,5 +1,5 @@
 -- Which modes are enough for a change: one that is, and one that is too weak. Two tables, an index, a foreign key and a trigger are there; backend 2 holds locks on the tables, and the change is its next.
-use Rattle.std.proofs.Common.{◌≡◌, ◌++◌, ℕ, ℤ, Bool, pos, negsuc, true, false, Some, None, List, [], ◌∷◌, codes, refl, map, arith}
+use Rattle.std.proofs.Common.{◌≡◌, ◌++◌, ℕ, ℤ, Bool, pos, negsuc, true, false, Some, None, List, [], ◌∷◌, codes, refl, map, arith, ◌&&◌, ◌||◌}
 use Rattle.base_types.specs.declared.mode.Mode.{Mode}
 use Rattle.base_types.specs.declared.mode.Mode.TheVariants.{ShareUpdateExclusive, Share, ShareRowExclusive, Exclusive, AccessExclusive}
 use Rattle.base_types.specs.declared.kind.Kind.TheVariants.{Table, Index}
@@ -15,7 +15,8 @@ use Rattle.event_kinds.specs.declared.entry.Event.TheVariants.{Start, Look, Lock
 use Rattle.event_kinds.specs.declared.entry.Item.{Item}
 use Rattle.event_kinds.specs.declared.entry.Item.TheVariants.{Add, Put, Remove, Force}
 use Rattle.history_model.specs.Types.{Oid}
-use Rattle.history_model.specs.Orderly.{IsSound}
+use Rattle.history_model.specs.Covered.{covers_changes}
+use Rattle.history_model.specs.Orderly.{covers_told, IsSound}
 use Rattle.history_model.specs.Writes.{is_guarded}
 use Rattle.cacheless.proofs.Plans.Given.{oid, xid, entry, new_table}
 
@@ -142,3 +143,25 @@ index_taken_not = refl
 -- a message that is forced asks for no lock
 pub forced_is : is_enough_by [] [] (Force (oid 16384)) ≡ true
 forced_is = refl
+
+-- what the messages of a write of the first backend must cover, and whether they cover what it changes
+abbrev pub tells_enough : List Item → Bool
+tells_enough items = covers_told made 1 items && covers_changes made 1 2 (xid 2) items
+
+-- a validation sends a message to the foreign key's own relation alone: that it refers to needs none
+pub valid_told : tells_enough (Put (foreign_key (codes "f") true) ∷ []) ≡ true
+valid_told = refl
+
+-- but a change of its name does, and then it is told
+pub key_untold : (covers_told made 1 (Put (foreign_key (codes "h") false) ∷ []) || covers_changes made 1 2 (xid 2) (Put (foreign_key (codes "h") false) ∷ [])) ≡ false
+key_untold = refl
+
+pub key_told : tells_enough (Put (foreign_key (codes "h") false) ∷ Force (oid 16385) ∷ []) ≡ true
+key_told = refl
+
+-- a trigger's change sends none by itself
+pub trigger_untold : (covers_told made 1 (Put (trigger false) ∷ []) || covers_changes made 1 2 (xid 2) (Put (trigger false) ∷ [])) ≡ false
+trigger_untold = refl
+
+pub trigger_told : tells_enough (Put (trigger false) ∷ Force (oid 16384) ∷ []) ≡ true
+trigger_told = refl

@@ -21,6 +21,7 @@ use Rattle.history_model.specs.Versions.{answer_of}
 use Rattle.history_model.proofs.ColumnsKept.{IsOfColumns, by_number, columns_leave}
 use Rattle.history_model.proofs.Every.{every}
 use Rattle.history_model.proofs.FixedRows.{fixed}
+use Rattle.history_model.proofs.HeldRows.{kept_plain}
 use Rattle.history_model.proofs.Locked.{changing_modes, changed_anyhow}
 use Rattle.history_model.proofs.Prefixes.{EachEntry-weaker, EachEntry-prefix}
 use Rattle.cacheless.specs.Types.{Oid, Mode, Row, Purpose, OwnLock, Entry, Opening}
@@ -83,7 +84,7 @@ alone_keeps_out scenario history b s rel mode is clear has alone =
 pub alone_answers : (scenario : Scenario) (history : List Entry) (b : ℕ) (s : Session) (rel : Oid) (mode : Mode) (scan : Purpose) → IsSound history → Plays scenario history → session_of scenario history b ≡ Some s → map cleared s.locks ≡ s.locks
     → has_lock s.locks rel mode ≡ true → conflicts mode mode ≡ true → IsOf rel scan → is_usable history b scan ≡ true → answer_of history b scan ≡ rows_read history b scan
 alone_answers scenario history b s rel mode scan sound plays is clear has alone of usable =
-    kept_out_answers scenario history b rel scan (changed_anyhow scan rel of) sound plays (alone_keeps_out scenario history b s rel mode is clear has alone) usable
+    kept_out_answers scenario history b rel scan (kept_plain scan rel of) (changed_anyhow scan rel of) sound plays (alone_keeps_out scenario history b s rel mode is clear has alone) usable
 
 all_conflict : (mode : Mode) → conflicts AccessExclusive mode ≡ true
 all_conflict AccessShare = refl

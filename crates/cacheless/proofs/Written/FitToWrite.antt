@@ -31,7 +31,7 @@ use Rattle.history_model.specs.Orderly.{main_rel, has_key, is_fresh, keeps_relat
 use Rattle.history_model.specs.Sent.{cats_by, rels_by, messages_written}
 use Rattle.history_model.specs.Versions.{ended_key, rows_of, old_row}
 use Rattle.history_model.specs.Writes.{changed_key, has_row, relations_of, relations_changed, is_validation, rows_named, update_where, weaker_mode, enough_with, modes_enough, is_guarded, same_kind, keeps_kind}
-use Rattle.history_model.proofs.Covering.{flat_all}
+use Rattle.history_model.proofs.Covering.{flat_all, named_told}
 use Rattle.history_model.proofs.Every.{every-weaker, any-right}
 use Rattle.history_model.proofs.InOrder.{IsIn}
 use Rattle.cacheless.specs.Types.{Oid, Mode, AccessExclusive, Row, Purpose, Entry, Item}
@@ -93,8 +93,8 @@ all_fit before b items distinct fit = record {
   orderly = record {
     fresh = all_pass (is_fresh before) items (each (λ item. is_fresh before item ≡ true) (λ item f. f.fresh));
     keeps = all_pass (keeps_relation before b) items (each (λ item. keeps_relation before b item ≡ true) (λ item f. f.keeps));
-    named = flat_all (is_covered (messages_written before b items)) (λ item. flat_map scans_of (rows_named item (old_row before b item))) items
-        (each (λ item. list_all (is_covered (messages_written before b items)) (flat_map scans_of (rows_named item (old_row before b item))) ≡ true) (λ item f. f.named));
+    told = named_told before b items (flat_all (is_covered (messages_written before b items)) (λ item. flat_map scans_of (rows_named item (old_row before b item))) items
+        (each (λ item. list_all (is_covered (messages_written before b items)) (flat_map scans_of (rows_named item (old_row before b item))) ≡ true) (λ item f. f.named)));
   };
 }
   where

@@ -27,7 +27,8 @@ use Rattle.ddl_effect.specs.Commands.{new_table}
 use Rattle.history_model.specs.Covered.{scans_of, is_covered}
 use Rattle.history_model.specs.Drawn.{drawn_by, made_by, next_oid}
 use Rattle.history_model.specs.Names.{new_names}
-use Rattle.history_model.specs.Orderly.{main_rel, IsSound, is_fresh, keeps_relation, covers_named}
+use Rattle.history_model.proofs.Covering.{covers_named, named_told}
+use Rattle.history_model.specs.Orderly.{main_rel, IsSound, is_fresh, keeps_relation}
 use Rattle.history_model.specs.Sent.{cats_by, rels_by, messages_written}
 use Rattle.history_model.specs.Versions.{versions_of, ended_key, old_row}
 use Rattle.history_model.specs.Writes.{changed_key, has_row, is_guarded, keeps_kind, rows_named}
@@ -204,7 +205,7 @@ new_table_fits history b draft sound table = subst (λ d. IsFit history b d.new_
   there = may.there;
   kinds = may.kinds;
   guarded = may.guarded;
-  orderly = record { fresh = may.fresh; keeps = may.keeps; named = may.named };
+  orderly = record { fresh = may.fresh; keeps = may.keeps; told = named_told history b (drafted (next_oid history) (new_table table.name table.columns)) may.named };
 })
   where
     may : MayAdd history b (next_oid history) 1 (drafted (next_oid history) (new_table table.name table.columns))
