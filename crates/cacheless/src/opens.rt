@@ -29,10 +29,17 @@ pub(crate) fn openings_of(
     Ok(openings)
 }
 
-// Lets go of all descriptors but those of these relations.
-pub(crate) fn pin_anew(caches: &mut LocalCaches, opens: &[OpenRelation]) -> Result<(), NoMemory>
+// Lets go of all descriptors but those of these relations, where so many were held: as many are these.
+pub(crate) fn pin_anew(
+    caches: &mut LocalCaches,
+    opens: &[OpenRelation],
+    held: usize,
+) -> Result<(), NoMemory>
     ensures { kept_of caches.new ≡ kept_of caches.old }
 {
+    if held == opens.len() {
+        return Ok(());
+    }
     caches.unpin_all();
     for o in opens {
         caches.pin(o.rel)?;
