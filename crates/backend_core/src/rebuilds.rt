@@ -178,19 +178,19 @@ impl Frames {
         ensures { result ≡ first_left (is_kept (kept_of caches.now)) self.now held.now }
     {
         let mut least = None;
-        for o in held {
-            if self.is_left(caches, o) {
+        for (at, o) in held.iter().enumerate() {
+            if self.is_left(caches, at, o) {
                 least = the_lesser(least, *o);
             }
         }
         least
     }
 
-    // Whether a held relation isn't whole and isn't being rebuilt.
-    fn is_left(&self, caches: &LocalCaches, o: &Opening) -> bool
+    // Whether a held relation, which is at this place of those, isn't whole and isn't being rebuilt.
+    fn is_left(&self, caches: &LocalCaches, at: usize, o: &Opening) -> bool
         ensures { result ≡ awaits (is_kept (kept_of caches.now)) self.now o.now }
     {
-        lacks_some(caches, o) && !self.is_rebuilding(o.rel)
+        caches.lacks_scan(at, o.kind, o.rel) && !self.is_rebuilding(o.rel)
     }
 
     // The next scan of the one on top is made. After its last one it goes, and what a reset has left comes,

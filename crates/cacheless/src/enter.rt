@@ -8,6 +8,7 @@ ghost use Rattle.event_kinds.specs.declared.entry.Entry.{Entry};
 ghost use Rattle.history_model.specs.Log.{fetched_by};
 ghost use Rattle.cacheless.specs.State.{due_looked, due_fetched, locks_accepted};
 
+use crate::scans::note_whole;
 use crate::{Due, Progress};
 use base_types::Command;
 use event_kinds::Event;
@@ -79,6 +80,7 @@ impl Progress {
     {
         self.running = Some(RunningTransaction::begun(self.finished + 1, self.running));
         self.caches.execute(messages);
+        note_whole(&mut self.caches, self.opened.as_slice());
         self.due = after_fetch(messages.len());
         self.search_again();
         self.tally.fetches += 1;

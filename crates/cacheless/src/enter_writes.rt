@@ -13,6 +13,7 @@ ghost use Rattle.cacheless.specs.State.{locks_made, locks_written, messages_in, 
 
 use crate::enter::accept;
 use crate::opens::{held_in, pin_anew};
+use crate::scans::note_whole;
 use crate::{Due, Progress};
 use base_types::{Listed, Name, NoMemory, Oid, Xid};
 use command_answers::CommandError;
@@ -63,6 +64,7 @@ impl Progress {
         self.exec.give(alloc, self.opens.as_slice(), &[])?;
         self.opened = held_in(alloc, &self.blocks, self.opens.as_slice())?;
         pin_anew(&mut self.caches, self.opens.as_slice())?;
+        note_whole(&mut self.caches, self.opened.as_slice());
         self.taken = None;
         let accepting = self.is_in_acceptance();
         accept(&mut self.locks, accepting);

@@ -46,6 +46,20 @@ pub(crate) fn openings_of(
     Ok(openings)
 }
 
+// Pins the descriptors of these relations alone, where so many were held before: if as many, these are pinned.
+pub(crate) fn pin_opens(
+    caches: &mut LocalCaches,
+    opens: &[OpenRelation],
+    held: usize,
+) -> Result<(), NoMemory>
+    ensures { kept_of caches.new ≡ kept_of caches.old }
+{
+    if held == opens.len() {
+        return Ok(());
+    }
+    pin_anew(caches, opens)
+}
+
 // Lets go of all descriptors but those of these relations.
 pub(crate) fn pin_anew(caches: &mut LocalCaches, opens: &[OpenRelation]) -> Result<(), NoMemory>
     ensures { kept_of caches.new ≡ kept_of caches.old }

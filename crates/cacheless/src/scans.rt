@@ -13,12 +13,21 @@ use local_caches::LocalCaches;
 pub fn first_lacking(caches: &LocalCaches, opened: &[Opening]) -> Option<Opening>
     ensures { result ≡ find (λ o. is_some (find (λ scan. not (is_kept (kept_of caches.now) scan)) (build_scans o.kind o.rel))) opened.now }
 {
-    opened.iter().find(|o| lacks_scan(caches, o)).copied()
+    for (at, o) in opened.iter().enumerate() {
+        if caches.lacks_scan(at, o.kind, o.rel) {
+            return Some(*o);
+        }
+    }
+    None
 }
 
-// Whether a descriptor lacks a scan.
-fn lacks_scan(caches: &LocalCaches, o: &Opening) -> bool
-    ensures { result ≡ is_some (find (λ scan. not (is_kept (kept_of caches.now) scan)) (build_scans o.now.kind o.now.rel)) }
+// Notes the first of these descriptors, up to one that lacks a scan, as whole.
+pub(crate) fn note_whole(caches: &mut LocalCaches, opened: &[Opening])
+    ensures { kept_of caches.new ≡ kept_of caches.old }
 {
-    caches.first_missing(o.kind, o.rel).is_some()
+    for (at, o) in opened.iter().enumerate() {
+        if !caches.note_whole(at, o.kind, o.rel) {
+            return;
+        }
+    }
 }

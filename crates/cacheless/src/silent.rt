@@ -9,7 +9,8 @@ ghost use Rattle.cacheless.specs.Silently.{rows_for as gives_rows};
 ghost use Rattle.local_caches.specs.Caches.{kept_of};
 
 use crate::begun::begun;
-use crate::opens::{held_in, opens_after, pin_anew};
+use crate::opens::{held_in, opens_after, pin_opens};
+use crate::scans::note_whole;
 use crate::{Counts, Due, Opening, Progress};
 use base_types::{Command, Kind, Listed, Mode, Name, NoMemory, Oid, Purpose, Row};
 use ddl_effect::{Exec, OpenRelation, Told, Want};
@@ -213,6 +214,7 @@ impl Progress {
     {
         self.opened.push(Opening { rel, kind })?;
         self.caches.pin(rel)?;
+        note_whole(&mut self.caches, self.opened.as_slice());
         self.exec.give(alloc, self.opens.as_slice(), &[])?;
         self.taken = None;
         Ok(())
@@ -262,6 +264,7 @@ impl Progress {
         ensures same { OnOk result (self.new.commands ≡ self.old.commands) }
     {
         let number = self.finished + 1;
+        let held = self.opened.as_slice().len();
         let Some(command) = self.commands.as_slice().get(self.finished as usize) else {
             unreachable!()
         };
@@ -294,7 +297,7 @@ impl Progress {
         self.taken = None;
         self.opened = held_in(alloc, &self.blocks, opens.as_slice())?;
         self.opens = opens;
-        pin_anew(&mut self.caches, self.opens.as_slice())?;
+        pin_opens(&mut self.caches, self.opens.as_slice(), held)?;
         Ok(Line {
             backend: self.id,
             command: number,

@@ -4,3 +4,4 @@ pub mod Homes
 pub mod Putting
 pub mod Unpinned
 pub mod Texts
+pub mod Known

@@ -1,5 +1,5 @@
 -- The texts that are kept of the fields of a relation.
-use Rattle.std.proofs.Common.{◌≡◌, ◌∙◌, ℕ, Bool, true, false, Option, Some, None, List, [], ◌∷◌, cond, refl, ap}
+use Rattle.std.proofs.Common.{◌≡◌, ◌∙◌, ℕ, Bool, true, false, Option, Some, List, [], ◌∷◌, cond, refl, ap}
 use Rattle.std.specs.Option.{option_map, option_and_then}
 use Rattle.std.specs.List.{find}
 use Rattle.base_types.specs.declared.field.Field.{Field}

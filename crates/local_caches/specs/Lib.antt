@@ -8,4 +8,5 @@ pub mod CatCaches
 pub mod Parts
 pub mod Whole
 pub mod Descriptors
+pub mod Known
 pub mod Caches
