@@ -47,7 +47,7 @@ pub(crate) fn openings_of(
 }
 
 // Pins the descriptors of these relations alone, where so many were held before: if as many, these are pinned.
-pub(crate) fn pin_opens(
+pub(crate) fn pin_others(
     caches: &mut LocalCaches,
     opens: &[OpenRelation],
     held: usize,
