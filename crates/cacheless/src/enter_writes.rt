@@ -63,7 +63,7 @@ impl Progress {
         self.due = Due::Nothing;
         self.exec.give(alloc, self.opens.as_slice(), &[])?;
         self.opened = openings_of(alloc, self.opens.as_slice())?;
-        pin_anew(&mut self.caches, self.opens.as_slice(), usize::MAX)?;
+        pin_anew(&mut self.caches, self.opens.as_slice())?;
         note_whole(&mut self.caches, self.opened.as_slice());
         self.taken = None;
         let accepting = self.is_in_acceptance();

@@ -29,8 +29,19 @@ pub(crate) fn openings_of(
     Ok(openings)
 }
 
-// Lets go of all descriptors but those of these relations, where so many were held: as many are these.
-pub(crate) fn pin_anew(
+// Lets go of all descriptors but those of these relations.
+pub(crate) fn pin_anew(caches: &mut LocalCaches, opens: &[OpenRelation]) -> Result<(), NoMemory>
+    ensures { kept_of caches.new ≡ kept_of caches.old }
+{
+    caches.unpin_all();
+    for o in opens {
+        caches.pin(o.rel)?;
+    }
+    Ok(())
+}
+
+// The same at the end of a command, where so many were held: those are these, if they are as many.
+pub(crate) fn pin_others(
     caches: &mut LocalCaches,
     opens: &[OpenRelation],
     held: usize,
@@ -40,11 +51,7 @@ pub(crate) fn pin_anew(
     if held == opens.len() {
         return Ok(());
     }
-    caches.unpin_all();
-    for o in opens {
-        caches.pin(o.rel)?;
-    }
-    Ok(())
+    pin_anew(caches, opens)
 }
 
 // The relations that are open after the running command, which has this number.

@@ -9,7 +9,7 @@ ghost use Rattle.cacheless.specs.Silently.{rows_for as gives_rows};
 ghost use Rattle.local_caches.specs.Caches.{kept_of};
 
 use crate::begun::begun;
-use crate::opens::{openings_of, opens_after, pin_anew};
+use crate::opens::{openings_of, opens_after, pin_others};
 use crate::scans::note_whole;
 use crate::{Counts, Due, Opening, Progress};
 use base_types::{Command, Kind, Listed, Mode, Name, NoMemory, Oid, Purpose, Row};
@@ -295,7 +295,7 @@ impl Progress {
         self.taken = None;
         self.opened = openings_of(alloc, opens.as_slice())?;
         self.opens = opens;
-        pin_anew(&mut self.caches, self.opens.as_slice(), held)?;
+        pin_others(&mut self.caches, self.opens.as_slice(), held)?;
         Ok(Line {
             backend: self.id,
             command: number,
