@@ -46,7 +46,18 @@ pub(crate) fn openings_of(
     Ok(openings)
 }
 
-// Pins the descriptors of these relations alone, where so many were held before: if as many, these are pinned.
+// Lets go of all descriptors but those of these relations.
+pub(crate) fn pin_anew(caches: &mut LocalCaches, opens: &[OpenRelation]) -> Result<(), NoMemory>
+    ensures { kept_of caches.new ≡ kept_of caches.old }
+{
+    caches.unpin_all();
+    for o in opens {
+        caches.pin(o.rel)?;
+    }
+    Ok(())
+}
+
+// The same at the end of a command, where so many were held: those are these, if they are as many.
 pub(crate) fn pin_others(
     caches: &mut LocalCaches,
     opens: &[OpenRelation],
@@ -58,17 +69,6 @@ pub(crate) fn pin_others(
         return Ok(());
     }
     pin_anew(caches, opens)
-}
-
-// Lets go of all descriptors but those of these relations.
-pub(crate) fn pin_anew(caches: &mut LocalCaches, opens: &[OpenRelation]) -> Result<(), NoMemory>
-    ensures { kept_of caches.new ≡ kept_of caches.old }
-{
-    caches.unpin_all();
-    for o in opens {
-        caches.pin(o.rel)?;
-    }
-    Ok(())
 }
 
 // The relations that are open after the running command, which has this number.
