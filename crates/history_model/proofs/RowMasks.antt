@@ -291,7 +291,7 @@ constraint_masks m rel strong exclusive shared asks validating = masks_of m rel 
         of (inl keeps) = inl keeps
         of (inr strong') = inr (subst (λ v. list_any (same_oid rel) (relations_changed v row) ≡ true) (sym validates') strong'.0, subst (λ o. IfSome o (λ mode. strong mode ≡ true)) (sym weak) strong'.1)
 
--- whether a constraint is known to hold a lock of ShareUpdateExclusive may change
+-- under ShareUpdateExclusive nothing of a constraint changes but whether it is known to hold
 pub unvalidated_masks : (rel : Oid) → Masks (unvalidated_mask rel) (held_marks rel under_row)
 unvalidated_masks rel = constraint_masks (unvalidated_mask rel) rel under_row refl refl (λ row concerned. sym (selects_unvalidated rel row) ∙ concerned) (λ a b row same either is. inl same)
 
@@ -326,7 +326,7 @@ validated_alike rel a b row same either is = by_own (same_oid (main_rel row) rel
     by_own true own = inr own
     by_own false other = let both = one_of a b same either in inl (counted a both.0 other ∙ same ∙ sym (counted b both.1 other))
 
--- for the relation that a foreign key refers to no lock of it is needed
+-- a validation takes no lock of the relation that a foreign key refers to: there the key counts as before
 pub counted_masks : (rel : Oid) → Masks (counted_mask rel) (held_marks rel is_changing)
 counted_masks rel = constraint_masks (counted_mask rel) rel is_changing refl refl (λ row concerned. sym (selects_counted rel row) ∙ concerned) (λ a b row same either is. of a b row is (validated_alike rel a b row same either is))
   where
@@ -335,7 +335,7 @@ counted_masks rel = constraint_masks (counted_mask rel) rel is_changing refl ref
     of a b row is (inl keeps) = inl keeps
     of a b row is (inr own) = inr (subst (λ o. list_any (same_oid o) (relations_changed true row) ≡ true) (oid_eq (main_rel row) rel own) (own_changed rel row is), refl)
 
--- nor a message: where the messages of a write cover what they must, they cover the relation's constraints or leave them as they count for it
+-- nor does it send a message for that relation: where the messages of a write cover what they must, they cover a relation's constraints, or each change leaves these as they count for it
 abbrev pub ToldOf : Oid → List Entry → ℕ → List Item → Item → Row → Type 0
 ToldOf rel history w items item row = IsConstraintOf rel (counted_for (scans.Constraint rel) row) → (is_covered (messages_written history w items) (scans.Constraint rel) ≡ true) ⊎ KeepsMask (counted_mask rel) (old_row history w item) item
 

@@ -150,7 +150,7 @@ row_only ShareRowExclusive is = refl
 row_only AccessExclusive is = refl
 row_only mode is = absurd (cc)
 
--- what becomes visible leaves a relation's constraints as they count for it, where its backend holds on it none of the modes that are no weaker than those which exclude themselves
+-- what becomes visible leaves a relation's constraints as they count for it, where its backend holds none of these modes on the relation
 pub counted_leaves : (rel : Oid) → LeavesRead (map (counted_for (scans.Constraint rel))) (scans.Constraint rel) rel (ShareUpdateExclusive ∷ ShareRowExclusive ∷ AccessExclusive ∷ [])
 counted_leaves rel = masked_leaves (counted_mask rel) rel is_changing (counted_masks rel) (scans.Constraint rel) (counted_apart rel) (λ given others alike. alike) (ShareUpdateExclusive ∷ ShareRowExclusive ∷ AccessExclusive ∷ []) changing_only
 
