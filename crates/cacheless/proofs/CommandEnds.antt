@@ -4,7 +4,7 @@ use Rattle.std.specs.Option.{option_map_or}
 use Rattle.std.proofs.lemmas.Option.{slice_get_cases}
 use Rattle.std.proofs.lemmas.List.{drop_all}
 use Rattle.base_types.specs.declared.command.Command.TheVariants as commands
-use Rattle.txn_blocks.specs.Blocks.{Block, Outside, Inside, Failed, innermost}
+use Rattle.txn_blocks.specs.Blocks.{Block, Outside, Inside, Failed, innermost, levels_up_to}
 use Rattle.ddl_effect.specs.Stages.{plan_at}
 use Rattle.cacheless.specs.Types.{Command}
 use Rattle.txn_blocks.specs.declared.transaction.RunningTransaction.{RunningTransaction}
@@ -44,6 +44,7 @@ end_well-same : (facts : Facts) (command : Command) (s : Progress) (r : Rest) â†
 end_well-same facts commands.Begin s r running count = refl
 end_well-same facts commands.Commit s r running count = end_of_block-same facts s s.blocks.block true running
 end_well-same facts commands.Rollback s r running count = end_of_block-same facts s s.blocks.block false running
+end_well-same facts (commands.RollbackTo name) s r running count = ap (Î» n. TakesBack (innermost (n + 1) (levels_up_to name s.blocks.levels))) count
 end_well-same facts command s r running count = end_alone s r count s.blocks.block
 
 -- the end of the running command

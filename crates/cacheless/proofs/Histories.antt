@@ -22,6 +22,8 @@ pub mod TableRenamed
 pub mod ProtectedColumns
 pub mod CatalogCaches
 pub mod OpenTable
+pub mod SavedBlock
+pub mod RebuiltTable
 pub mod WrongEntries
 pub mod WrongPlays
 pub mod WrongResets

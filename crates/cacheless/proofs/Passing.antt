@@ -24,7 +24,7 @@ use Rattle.cacheless.specs.Types.{Mode, Row, Purpose, Command, CommandError, Sce
 use Rattle.cacheless.specs.declared.progress.Counts.{Counts}
 use Rattle.cacheless.specs.declared.progress.Progress.{Progress}
 use Rattle.cacheless.specs.Facts.{Facts, facts_of}
-use Rattle.cacheless.specs.Session.{Session, opening_of, first_of, plan_first, refused_first}
+use Rattle.cacheless.specs.Session.{Session, held_in, first_of, plan_first, is_blocked}
 use Rattle.cacheless.specs.Settled.{next_session, blocks_after, opens_passed, opens_after, finished_as, if_locked, has_taken_no_other, opened_by, sought_by, act_done, settled}
 use Rattle.cacheless.specs.Puts.{AreGivenBy, PutsOpened}
 use Rattle.cacheless.specs.State.{blocks_passed, lists_at, no_counts, kept_at, is_kept, rows_kept, builds_missing, act_missing, row_sought, row_next, is_absent, is_out, end_at, rest_of, session_at}
@@ -159,8 +159,8 @@ at_next was exec blocked blocks opens opened caches = record was { finished = wa
 
 -- a finished command is passed over
 pub finish_keeps : (scenario : Scenario) (seen : List Entry) (was : Progress) (exec : Exec) (blocked : Bool) (blocks : Blocks) (opens : List OpenRelation) (opened : List Opening) (caches : LocalCaches) (command : Command) → Holds scenario seen was → slice_get was.commands was.finished ≡ Some command → is_finished_at command was ≡ true
-    → blocks ≡ blocks_passed (plan_at was.opens was.exec) (was.finished + 1) command was.blocks → opens ≡ opens_passed (plan_at was.opens was.exec) (was.finished + 1) command was.opened was.opens → opened ≡ map opening_of opens → kept_of caches ≡ kept_at was
-    → plan_at opens exec ≡ plan_first blocks opens (slice_get was.commands (was.finished + 1)) → blocked ≡ is_some (refused_first blocks (slice_get was.commands (was.finished + 1)))
+    → blocks ≡ blocks_passed (plan_at was.opens was.exec) (was.finished + 1) command was.blocks → opens ≡ opens_passed (plan_at was.opens was.exec) (was.finished + 1) command was.blocked was.blocks.levels was.opened was.opens → opened ≡ held_in blocks.block opens → kept_of caches ≡ kept_at was
+    → plan_at opens exec ≡ plan_first blocks opens (slice_get was.commands (was.finished + 1)) → blocked ≡ is_blocked blocks (slice_get was.commands (was.finished + 1))
     → Holds scenario seen (at_next was exec blocked blocks opens opened caches)
 finish_keeps scenario seen was exec blocked blocks opens opened caches command holds has finished passes after pinned keeps on refuses = record {
   number = holds.number;
@@ -201,7 +201,7 @@ finish_keeps scenario seen was exec blocked blocks opens opened caches command h
     blocks_are = ap (λ n. blocks_passed (plan_at was.opens was.exec) (n + 1) command was.blocks) holds.count ∙ sym passes
 
     opens_are : opens_after command (session_at was holds.rest) ≡ opens
-    opens_are = ap (λ n. opens_passed (plan_at was.opens was.exec) (n + 1) command was.opened was.opens) holds.count ∙ sym after
+    opens_are = ap (λ n. opens_passed (plan_at was.opens was.exec) (n + 1) command was.blocked was.blocks.levels was.opened was.opens) holds.count ∙ sym after
 
     same : next_session command (first_of (drop (was.finished + 1) was.commands)) (session_at was holds.rest) ≡ session_at (at_next was exec blocked blocks opens opened caches) (rest_of next)
     same = ap (λ o. next_session command o (session_at was holds.rest)) (first_left was.commands (was.finished + 1))
@@ -209,14 +209,14 @@ finish_keeps scenario seen was exec blocked blocks opens opened caches command h
           blocks = blocks_are i;
           opens = opens_are i;
           left = ((λ j. plan_first (blocks_are j) (opens_are j) (slice_get was.commands (was.finished + 1))) ∙ sym on) i;
-          blocked = (ap (λ b. is_some (refused_first b (slice_get was.commands (was.finished + 1)))) blocks_are ∙ sym refuses) i;
-          opened = (ap (map opening_of) opens_are ∙ sym pinned) i;
+          blocked = (ap (λ b. is_blocked b (slice_get was.commands (was.finished + 1))) blocks_are ∙ sym refuses) i;
+          opened = ((λ j. held_in (blocks_are j).block (opens_are j)) ∙ sym pinned) i;
         })
 
 -- and its session is that at the next command
 pub finish_passes : (scenario : Scenario) (seen : List Entry) (was : Progress) (exec : Exec) (blocked : Bool) (blocks : Blocks) (opens : List OpenRelation) (opened : List Opening) (caches : LocalCaches) (command : Command) (held : Holds scenario seen was) → slice_get was.commands was.finished ≡ Some command → is_finished_at command was ≡ true
-    → blocks ≡ blocks_passed (plan_at was.opens was.exec) (was.finished + 1) command was.blocks → opens ≡ opens_passed (plan_at was.opens was.exec) (was.finished + 1) command was.opened was.opens → opened ≡ map opening_of opens → kept_of caches ≡ kept_at was
-    → plan_at opens exec ≡ plan_first blocks opens (slice_get was.commands (was.finished + 1)) → blocked ≡ is_some (refused_first blocks (slice_get was.commands (was.finished + 1)))
+    → blocks ≡ blocks_passed (plan_at was.opens was.exec) (was.finished + 1) command was.blocks → opens ≡ opens_passed (plan_at was.opens was.exec) (was.finished + 1) command was.blocked was.blocks.levels was.opened was.opens → opened ≡ held_in blocks.block opens → kept_of caches ≡ kept_at was
+    → plan_at opens exec ≡ plan_first blocks opens (slice_get was.commands (was.finished + 1)) → blocked ≡ is_blocked blocks (slice_get was.commands (was.finished + 1))
     → HasPassed scenario seen was held (at_next was exec blocked blocks opens opened caches)
 unfolding finish_keeps
 finish_passes scenario seen was exec blocked blocks opens opened caches command held has finished passes after pinned keeps on refuses = record {
@@ -228,8 +228,8 @@ finish_passes scenario seen was exec blocked blocks opens opened caches command 
     blocks = sym blocks_are i;
     opens = sym opens_are i;
     left = sym ((λ j. plan_first (blocks_are j) (opens_are j) (slice_get was.commands (was.finished + 1))) ∙ sym on) i;
-    blocked = sym (ap (λ b. is_some (refused_first b (slice_get was.commands (was.finished + 1)))) blocks_are ∙ sym refuses) i;
-    opened = sym (ap (map opening_of) opens_are ∙ sym pinned) i;
+    blocked = sym (ap (λ b. is_blocked b (slice_get was.commands (was.finished + 1))) blocks_are ∙ sym refuses) i;
+    opened = sym ((λ j. held_in (blocks_are j).block (opens_are j)) ∙ sym pinned) i;
   };
   id = refl;
   commands = refl;
@@ -243,7 +243,7 @@ finish_passes scenario seen was exec blocked blocks opens opened caches command 
     blocks_are = ap (λ n. blocks_passed (plan_at was.opens was.exec) (n + 1) command was.blocks) held.count ∙ sym passes
 
     opens_are : opens_after command (session_at was held.rest) ≡ opens
-    opens_are = ap (λ n. opens_passed (plan_at was.opens was.exec) (n + 1) command was.opened was.opens) held.count ∙ sym after
+    opens_are = ap (λ n. opens_passed (plan_at was.opens was.exec) (n + 1) command was.blocked was.blocks.levels was.opened was.opens) held.count ∙ sym after
 
 -- what an act gives is what the code gives it
 lock_rows : (t : Bool) (given : List Row) → is_some (if_locked t given) ≡ true → if_locked t given ≡ Some given
@@ -337,13 +337,13 @@ acted_code was exec opened caches want opens given acts wants gives same on agai
 
 -- the code's step to the next command
 pub finish_code : (was : Progress) (exec : Exec) (blocked : Bool) (blocks : Blocks) (tally : Counts) (opens : List OpenRelation) (opened : List Opening) (caches : LocalCaches) (answer : Option (List ℕ)) (were : List OpenRelation) (held_before : List Opening) (are : List OpenRelation) (commands : List Command) (command : Command) → Finishes was → slice_get was.commands was.finished ≡ Some command
-    → blocks ≡ blocks_passed (plan_at was.opens was.exec) (was.finished + 1) command was.blocks → were ≡ was.opens → held_before ≡ was.opened → opens ≡ opens_passed (plan_at were was.exec) (was.finished + 1) command held_before were → commands ≡ was.commands → are ≡ opens → plan_at are exec ≡ plan_first blocks are (slice_get commands (was.finished + 1)) → blocked ≡ is_some (refused_first blocks (slice_get commands (was.finished + 1))) → tally ≡ no_counts → opened ≡ map opening_of opens → kept_of caches ≡ kept_at was → answer ≡ None
+    → blocks ≡ blocks_passed (plan_at was.opens was.exec) (was.finished + 1) command was.blocks → were ≡ was.opens → held_before ≡ was.opened → opens ≡ opens_passed (plan_at were was.exec) (was.finished + 1) command was.blocked was.blocks.levels held_before were → commands ≡ was.commands → are ≡ opens → plan_at are exec ≡ plan_first blocks are (slice_get commands (was.finished + 1)) → blocked ≡ is_blocked blocks (slice_get commands (was.finished + 1)) → tally ≡ no_counts → opened ≡ held_in blocks.block opens → kept_of caches ≡ kept_at was → answer ≡ None
     → (scenario : Scenario) (seen : List Entry) (held : Holds scenario seen was)
     → HasPassed scenario seen was held (record was { finished = was.finished + 1; exec = exec; blocked = blocked; ended = false; tally = tally; blocks = blocks; opens = opens; taken = None; opened = opened; caches = caches; answer = answer })
 finish_code was exec blocked blocks tally opens opened caches answer were held_before are commands command finishes at passes was_open was_held after same is_open on refuses fresh pinned keeps taken scenario seen held =
     subst (HasPassed scenario seen was held) (λ i. record (at_next was exec blocked blocks opens opened caches) { tally = sym fresh i; answer = sym taken i })
-    (finish_passes scenario seen was exec blocked blocks opens opened caches command held at (subst (λ c. is_finished_at c was ≡ true) one finishes.finished) passes (after ∙ (λ i. opens_passed (plan_at (was_open i) was.exec) (was.finished + 1) command (was_held i) (was_open i))) pinned keeps
-    (subst (λ o. plan_at o exec ≡ plan_first blocks o (slice_get commands (was.finished + 1))) is_open on ∙ ap (λ l. plan_first blocks opens (slice_get l (was.finished + 1))) same) (refuses ∙ ap (λ l. is_some (refused_first blocks (slice_get l (was.finished + 1)))) same))
+    (finish_passes scenario seen was exec blocked blocks opens opened caches command held at (subst (λ c. is_finished_at c was ≡ true) one finishes.finished) passes (after ∙ (λ i. opens_passed (plan_at (was_open i) was.exec) (was.finished + 1) command was.blocked was.blocks.levels (was_held i) (was_open i))) pinned keeps
+    (subst (λ o. plan_at o exec ≡ plan_first blocks o (slice_get commands (was.finished + 1))) is_open on ∙ ap (λ l. plan_first blocks opens (slice_get l (was.finished + 1))) same) (refuses ∙ ap (λ l. is_blocked blocks (slice_get l (was.finished + 1))) same))
   where
     one : finishes.command ≡ command
     one = ap (λ o. unwrap_or o finishes.command) (sym finishes.at ∙ at)

@@ -3,7 +3,7 @@ use Rattle.std.specs.Prelude.{ℕ, Bool, true, false, Option, Some, None, zero, 
 use Rattle.std.specs.Option.{option_map_or}
 use Rattle.base_types.specs.declared.command.Command.TheVariants as commands
 use Rattle.event_kinds.specs.declared.entry.Event.TheVariants as events
-use Rattle.txn_blocks.specs.Blocks.{Block, Outside, Inside, Failed, innermost}
+use Rattle.txn_blocks.specs.Blocks.{Block, Outside, Inside, Failed, innermost, levels_up_to}
 use Rattle.inval_messages.specs.Lists.{has_write_from}
 use Rattle.history_model.specs.Transactions.{is_visible}
 use Rattle.history_model.specs.Sent.{unsent_in}
@@ -28,14 +28,15 @@ end_of_block facts Inside true = option_map_or (λ t. Commits t.first) facts.run
 end_of_block facts Inside false = end_of_all facts
 end_of_block facts Failed commits = end_of_all facts
 
--- the end of a command that came out well: outside a block it is a transaction of its own
+-- the end of a command that came out well: `rollback to` takes back the level of the savepoint; outside a block a command is a transaction of its own
 abbrev pub end_well : Facts → Command → Session → End
 end_well facts commands.Begin s = Ends
 end_well facts commands.Commit s = end_of_block facts s.blocks.block true
 end_well facts commands.Rollback s = end_of_block facts s.blocks.block false
+end_well facts (commands.RollbackTo name) s = TakesBack (innermost (number_of s) (levels_up_to name s.blocks.levels))
 end_well facts command s = elim s.blocks.block [ Outside ↦ Commits (number_of s) | block ↦ Ends ]
 
--- the end of a command that failed: its level is taken back, unless the blocks refused it
+-- the end of a command that failed: the innermost level is taken back, unless the blocks refused it and nothing is left behind
 abbrev pub end_badly : Session → End
 end_badly s = elim s.blocked [ true ↦ Ends | false ↦ TakesBack (innermost (number_of s) s.blocks.levels) ]
 

@@ -1,5 +1,5 @@
 -- How far a command is in what its plan says, by the session of its backend and the history.
-use Rattle.std.specs.Prelude.{◌≡◌, ◌<◌, ⊤, ℕ, Bool, true, false, Option, Some, None, List, ◌++◌, map, length, slice_get}
+use Rattle.std.specs.Prelude.{◌≡◌, ◌<◌, ◌⊎◌, ⊤, ℕ, Bool, true, false, Option, Some, None, List, ◌++◌, map, length, slice_get}
 use Rattle.std.specs.List.{AllByRecursion}
 use Rattle.base_types.specs.declared.scan.Purpose.TheVariants as scans
 use Rattle.event_kinds.specs.declared.entry.Event.TheVariants as events
@@ -7,17 +7,19 @@ use Rattle.lock_modes.specs.Own.{cleared}
 use Rattle.ddl_effect.specs.declared.told.Told.TheVariants as tells
 use Rattle.ddl_effect.specs.Plans.{Act, Lookup, Write, Plan, Done, Fails, Absent, Do, NotBuilt}
 use Rattle.ddl_effect.specs.Commands.{plan_of, commands_of}
+use Rattle.txn_blocks.specs.Blocks.{refused_by}
 use Rattle.history_model.specs.Lives.{last_event_of}
 use Rattle.history_model.specs.Read.{rows_read}
 use Rattle.history_model.specs.Versions.{answer_of}
 use Rattle.history_model.specs.Writes.{has_written}
-use Rattle.cacheless.specs.Types.{Mode, Row, Command, CommandError, Draft, Told, Scenario, Entry, Event}
+use Rattle.cacheless.specs.Types.{Mode, Row, Command, CommandError, Opening, Draft, Told, Scenario, Entry, Event}
 use Rattle.cacheless.specs.Facts.{Facts, facts_of}
 use Rattle.cacheless.specs.Owed.{owes_accept}
 use Rattle.cacheless.specs.Runs.{runs}
-use Rattle.cacheless.specs.Session.{Session, Well, opening_of, number_of, outcome_of, is_settled}
+use Rattle.cacheless.specs.Session.{Session, Well, held_before, number_of, outcome_of, is_settled}
 use Rattle.cacheless.specs.Settled.{class_oid, found_by, is_finished}
 use Rattle.cacheless.specs.Sessions.{session_of}
+use Rattle.cacheless.specs.Told.{tells_of_scans}
 use Rattle.cacheless.specs.ActsDone.{reached, made_in, opening_by, locked_relation_by, IsHeld, IsStill, WayHolds}
 
 -- the command failed to find a relation
@@ -30,7 +32,7 @@ pub record OnItsWay (seen : List Entry) (b : ℕ) (s : Session) (command : Comma
   pub gave : List (List Row)
   pub plan : s.left ≡ reached gave (plan_of s.opens command)
   pub found : s.found ≡ made_in found_by gave (plan_of s.opens command)
-  pub opened : s.opened ≡ map opening_of s.opens ++ made_in opening_by gave (plan_of s.opens command)
+  pub opened : s.opened ≡ held_before s ++ made_in opening_by gave (plan_of s.opens command)
   pub runs : runs command ≡ true
   pub holds : WayHolds seen b gave (plan_of s.opens command)
   pub unwritten : has_written seen b (number_of s) ≡ false
@@ -83,13 +85,18 @@ pub record WasSought (seen : List Entry) (b : ℕ) (s : Session) (command : Comm
   pub first : s.sought ≡ plan_of s.opens command
   pub runs : runs command ≡ true
   pub found : length s.found ≡ 1
-  pub opened : s.ended ≡ false → s.opened ≡ map opening_of s.opens
+  pub opened : s.ended ≡ false → s.opened ≡ held_before s
   pub unwritten : has_written seen b (number_of s) ≡ false
 
 -- a command that does no act has opened nothing, before its release, and if it hasn't failed its answer is left
 pub record DoesNoAct (s : Session) (told : Told) : Type 0 where
-  pub opened : s.ended ≡ false → s.opened ≡ map opening_of s.opens
+  pub opened : s.ended ≡ false → s.opened ≡ held_before s
   pub left : outcome_of s.left ≡ Well → s.left ≡ Done told
+
+-- what was held as the command began is held
+pub record StillHolds (s : Session) : Type 0 where
+  pub more : List Opening
+  pub opened : s.opened ≡ held_before s ++ more
 
 -- the running command does what its plan says
 pub record FollowsPlan (seen : List Entry) (b : ℕ) (s : Session) (command : Command) : Type 0 where
@@ -98,22 +105,37 @@ pub record FollowsPlan (seen : List Entry) (b : ℕ) (s : Session) (command : Co
   pub named : NamedFits seen b s.left
   pub sought : (name : List ℕ) → s.left ≡ Absent name → WasSought seen b s command name
   pub plain : (told : Told) → plan_of s.opens command ≡ Done told → DoesNoAct s told
+  pub admitted : s.refused ≡ None → refused_by s.blocks command ≡ None
+  pub held : s.ended ≡ false → StillHolds s
+  pub unwritten : (told : Told) → plan_of s.opens command ≡ Done told → has_written seen b (number_of s) ≡ false
 
 -- the locks of a session are clear, unless its accept of messages isn't over
 abbrev pub ClearUnlessOwed : Facts → Option Command → Session → Type 0
 ClearUnlessOwed facts command s = owes_accept facts command s ≡ false → map cleared s.locks ≡ s.locks
 
--- a session is on its course: the running command, if there is one, does what its plan says and hasn't made its release, no later one has written, and its locks are clear unless its accept of messages isn't over
+-- a command that does no act came out well, and what it tells rests on no scan
+pub record TellsAlone (seen : List Entry) (b : ℕ) (s : Session) (command : Command) : Type 0 where
+  pub told : Told
+  pub plan : plan_of s.opens command ≡ Done told
+  pub left : s.left ≡ Done told
+  pub alone : tells_of_scans told ≡ false
+  pub unwritten : has_written seen b (number_of s) ≡ false
+
+-- nothing of a command is taken back or released, or what it tells rests on no scan
+abbrev pub TellsStill : List Entry → ℕ → Session → Command → Type 0
+TellsStill seen b s command = (is_over (last_event_of seen b) s ≡ false) ⊎ TellsAlone seen b s command
+
+-- a session is on its course: the running command, if there is one, does what its plan says, and after its release it tells of no scan; no later one has written, and its locks are clear unless its accept of messages isn't over
 pub record IsOnCourse (scenario : Scenario) (seen : List Entry) (b : ℕ) (s : Session) : Type 0 where
   pub follows : (command : Command) → slice_get (commands_of scenario b) (length s.finished) ≡ Some command → FollowsPlan seen b s command
-  pub going : (command : Command) → slice_get (commands_of scenario b) (length s.finished) ≡ Some command → s.ended ≡ false
+  pub going : (command : Command) → slice_get (commands_of scenario b) (length s.finished) ≡ Some command → s.ended ≡ true → TellsAlone seen b s command
   pub later : (c : ℕ) → number_of s < c → has_written seen b c ≡ false
   pub clear : ClearUnlessOwed (facts_of seen b) (slice_get (commands_of scenario b) (length s.finished)) s
 
--- the same before it has gone on without entries: where the running command has made its release, it is finished
+-- the same before it has gone on without entries: where the running command has made its release, it is finished or tells of no scan
 pub record EntersCourse (scenario : Scenario) (seen : List Entry) (b : ℕ) (s : Session) : Type 0 where
   pub follows : (command : Command) → slice_get (commands_of scenario b) (length s.finished) ≡ Some command → FollowsPlan seen b s command
-  pub ends : (command : Command) → slice_get (commands_of scenario b) (length s.finished) ≡ Some command → s.ended ≡ true → is_finished (facts_of seen b) command s ≡ true
+  pub ends : (command : Command) → slice_get (commands_of scenario b) (length s.finished) ≡ Some command → s.ended ≡ true → (is_finished (facts_of seen b) command s ≡ true) ⊎ TellsAlone seen b s command
   pub later : (c : ℕ) → number_of s < c → has_written seen b c ≡ false
   pub clear : ClearUnlessOwed (facts_of seen b) (slice_get (commands_of scenario b) (length s.finished)) s
 

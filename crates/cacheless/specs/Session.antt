@@ -3,7 +3,7 @@ use Rattle.std.specs.Prelude.{ℕ, Bool, true, false, Option, Some, None, List, 
 use Rattle.ddl_effect.specs.declared.told.Told.TheVariants as tells
 use Rattle.ddl_effect.specs.Plans.{Plan, Done, Fails, Absent, Do, NotBuilt}
 use Rattle.ddl_effect.specs.Commands.{plan_of}
-use Rattle.txn_blocks.specs.Blocks.{Block, Blocks, refused_by}
+use Rattle.txn_blocks.specs.Blocks.{Block, Inside, Failed, Blocks, refused_by}
 use Rattle.cacheless.specs.Types.{Oid, Command, CommandError, OpenRelation, Opening, OwnLock}
 
 -- a finished command: whether it began in a block, the relations that were open as it began, the error that the blocks or an entry showed, the relations with which its lookups ended, and the number of the entry where it is judged
@@ -28,8 +28,8 @@ pub record Tally : Type 0 where
 --   finished   the finished commands in order
 --   left       what is left of the running command
 --   refused    the error that the blocks or an entry showed
---   blocked    that error is the blocks'
---   opened     the descriptors that are held, until the release: of the relations that are open, and, until its write, those that the command has opened
+--   blocked    that error is the blocks', and leaves nothing behind
+--   opened     the descriptors that are held: of the relations that are open, and, until its write, those that the command has opened; from its release on, of the relations that are left open; none in a failed block
 --   taken      the relation that the running lookup has newly locked, and hasn't unlocked
 --   found      the relations with which its lookups ended
 --   sought     what was left of it before its last lookup
@@ -69,6 +69,10 @@ abbrev pub refused_first : Blocks → Option Command → Option CommandError
 refused_first blocks None = None
 refused_first blocks (Some command) = refused_by blocks command
 
+-- the blocks refuse the command, if there is one, and nothing is taken back: outside a block, and in one that has failed
+abbrev pub is_blocked : Blocks → Option Command → Bool
+is_blocked blocks command = elim blocks.block [ Inside ↦ false | block ↦ is_some (refused_first blocks command) ]
+
 -- no relation is open
 abbrev pub none_open : List OpenRelation
 none_open = []
@@ -76,6 +80,15 @@ none_open = []
 -- the descriptor of a relation that is open
 abbrev pub opening_of : OpenRelation → Opening
 opening_of o = record { rel = o.rel; kind = o.kind }
+
+-- the descriptors that are held at the beginning of a command: of the relations that are open, but none in a failed block
+abbrev pub held_in : Block → List OpenRelation → List Opening
+held_in Failed opens = []
+held_in block opens = map opening_of opens
+
+-- the descriptors that were held as the running command began
+abbrev pub held_before : Session → List Opening
+held_before s = held_in s.blocks.block s.opens
 
 -- the plan of a command that the blocks admit, or their error
 abbrev pub plan_admitted : List OpenRelation → Option CommandError → Command → Plan
@@ -95,8 +108,8 @@ at_command blocks opens finished locks last command = record {
   finished = finished;
   left = plan_first blocks opens command;
   refused = refused_first blocks command;
-  blocked = is_some (refused_first blocks command);
-  opened = map opening_of opens;
+  blocked = is_blocked blocks command;
+  opened = held_in blocks.block opens;
   taken = None;
   found = [];
   sought = Done tells.Ok;

@@ -6,12 +6,13 @@ use Rattle.command_answers.specs.declared.error.CommandError.TheVariants as erro
 use Rattle.lock_modes.specs.Own.{cleared}
 use Rattle.ddl_effect.specs.Plans.{Write, Plan, Fails, Absent, Do}
 use Rattle.ddl_effect.specs.Commands.{commands_of}
+use Rattle.ddl_effect.specs.Opens.{opens_before}
 use Rattle.txn_blocks.specs.Blocks.{no_block}
 use Rattle.history_model.specs.Prefixes.{along_own}
 use Rattle.cacheless.specs.Types.{Command, CommandError, Scenario, Entry, Event}
 use Rattle.cacheless.specs.Facts.{Facts, facts_of}
 use Rattle.cacheless.specs.Locks.{locks_by}
-use Rattle.cacheless.specs.Session.{Session, Tally, first_of, none_open, opening_of, at_command}
+use Rattle.cacheless.specs.Session.{Session, Tally, first_of, none_open, opening_of, held_before, at_command}
 use Rattle.cacheless.specs.Owed.{owes_build_scan, owes_accept}
 use Rattle.cacheless.specs.Settled.{settled}
 
@@ -21,7 +22,7 @@ refused_with error s = record s { left = Fails error; refused = Some error }
 
 -- the write of the command is made, and the descriptors that it has opened are closed
 abbrev pub written : Plan → Session → Session
-written (Do (Write draft) rest) s = record s { left = rest []; opened = map opening_of s.opens; taken = None }
+written (Do (Write draft) rest) s = record s { left = rest []; opened = held_before s; taken = None }
 written plan s = s
 
 -- a lookup that ended without a relation goes on
@@ -48,7 +49,7 @@ noted (events.ClashRunning name xid) s = refused_with (errors.NameInUse name xid
 noted (events.Write xid items) s = written s.left s
 noted (events.Fetch count) s = resumed s.left s
 noted events.FetchReset s = resumed s.left s
-noted (events.Release from) s = record s { ended = true; opened = [] }
+noted (events.Release from) s = record s { ended = true; opened = map opening_of (opens_before from s.opens) }
 noted event s = s
 
 -- the event belongs to the end of a command

@@ -8,8 +8,8 @@ use Rattle.base_types.specs.declared.scan.Purpose.TheVariants as scans
 use Rattle.event_kinds.specs.declared.entry.Event.TheVariants as events
 use Rattle.lock_modes.specs.Own.{has_lock}
 use Rattle.ddl_effect.specs.Plans.{Act, Lookup, Open, Search, Read, Lock, Write, Plan, Do}
-use Rattle.ddl_effect.specs.Opens.{without_latest}
-use Rattle.txn_blocks.specs.Blocks.{Blocks, blocks_well, blocks_badly}
+use Rattle.ddl_effect.specs.Opens.{without_latest, opens_before}
+use Rattle.txn_blocks.specs.Blocks.{Blocks, Level, innermost, levels_up_to, blocks_well, blocks_badly}
 use Rattle.history_model.specs.Writes.{is_empty}
 use Rattle.cacheless.specs.Types.{Oid, Mode, Row, Command, Event, OpenRelation, Opening}
 use Rattle.cacheless.specs.Facts.{Facts}
@@ -102,21 +102,31 @@ blocks_after command s = elim (outcome_of s.left) [ Well ↦ blocks_well (number
 abbrev pub opens_with : ℕ → List ℕ → List Opening → List OpenRelation → List OpenRelation
 opens_with number name opened opens = elim (slice_get opened (length opens)) [ Some o ↦ opens ++ record { name = name; rel = o.rel; kind = o.kind; command = number } ∷ [] | None ↦ opens ]
 
--- the relations that are open after a command of this number that came out well
-abbrev pub opens_well : ℕ → Command → List Opening → List OpenRelation → List OpenRelation
-opens_well number (commands.OpenRel name) opened opens = opens_with number name opened opens
-opens_well number (commands.CloseRel name) opened opens = without_latest name opens
-opens_well number commands.Commit opened opens = []
-opens_well number commands.Rollback opened opens = []
-opens_well number command opened opens = opens
+-- the relations that are open after the innermost of these levels is taken back: those that were opened before it
+abbrev pub opens_kept : ℕ → List Level → List OpenRelation → List OpenRelation
+opens_kept number levels opens = opens_before (innermost number levels) opens
 
--- the relations that are open after a command, by what is left of its plan: none after one that failed, since its level is taken back
-abbrev pub opens_passed : Plan → ℕ → Command → List Opening → List OpenRelation → List OpenRelation
-opens_passed plan number command opened opens = elim (outcome_of plan) [ Well ↦ opens_well number command opened opens | outcome ↦ [] ]
+-- the relations that are open after a command of this number that came out well
+abbrev pub opens_well : ℕ → Command → List Level → List Opening → List OpenRelation → List OpenRelation
+opens_well number (commands.OpenRel name) levels opened opens = opens_with number name opened opens
+opens_well number (commands.CloseRel name) levels opened opens = without_latest name opens
+opens_well number (commands.RollbackTo name) levels opened opens = opens_kept number (levels_up_to name levels) opens
+opens_well number commands.Commit levels opened opens = []
+opens_well number commands.Rollback levels opened opens = []
+opens_well number command levels opened opens = opens
+
+-- the relations that are open after a command that failed: its level is taken back, unless the blocks refused it
+abbrev pub opens_badly : ℕ → Bool → List Level → List OpenRelation → List OpenRelation
+opens_badly number true levels opens = opens
+opens_badly number false levels opens = opens_kept number levels opens
+
+-- the relations that are open after a command, by what is left of its plan
+abbrev pub opens_passed : Plan → ℕ → Command → Bool → List Level → List Opening → List OpenRelation → List OpenRelation
+opens_passed plan number command blocked levels opened opens = elim (outcome_of plan) [ Well ↦ opens_well number command levels opened opens | outcome ↦ opens_badly number blocked levels opens ]
 
 -- the same of the running command
 abbrev pub opens_after : Command → Session → List OpenRelation
-opens_after command s = opens_passed s.left (number_of s) command s.opened s.opens
+opens_after command s = opens_passed s.left (number_of s) command s.blocked s.blocks.levels s.opened s.opens
 
 -- what is kept of the running command
 abbrev pub finished_as : Session → Finished

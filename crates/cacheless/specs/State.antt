@@ -12,7 +12,7 @@ use Rattle.lock_modes.specs.Own.{cleared, new_lock}
 use Rattle.inval_messages.specs.Lists.{Written, has_write_from, unsent_after}
 use Rattle.command_lists.specs.Lists.{all_lists, no_lists}
 use Rattle.ddl_effect.specs.Plans.{Plan, Do, Lookup, left_rests_on}
-use Rattle.txn_blocks.specs.Blocks.{Block, Outside, Inside, Failed, Blocks, no_block, ends_block, refused_by, innermost, blocks_well, blocks_badly}
+use Rattle.txn_blocks.specs.Blocks.{Block, Outside, Inside, Failed, Blocks, no_block, ends_block, refused_by, innermost, levels_up_to, blocks_well, blocks_badly}
 use Rattle.ddl_effect.specs.Stages.{plan_at, plan_again}
 use Rattle.ddl_effect.specs.declared.exec.Exec.TheVariants as stages
 use Rattle.history_model.specs.Writes.{is_empty}
@@ -21,7 +21,7 @@ use Rattle.history_model.specs.Transactions.{Running}
 pub use Rattle.cacheless.specs.OnCourse.{is_absent}
 use Rattle.txn_blocks.specs.Transactions.{begun_own}
 use Rattle.cacheless.specs.Types.{Oid, Message, Row, Purpose, Command, CommandError, Clash, Item, Entry, Event, Opening, OwnLock}
-use Rattle.cacheless.specs.Session.{Session, Finished, Tally, Badly, Well, Unsettled, outcome_of, is_settled, none_open, plan_first, refused_first}
+use Rattle.cacheless.specs.Session.{Session, Finished, Tally, Badly, Well, Unsettled, outcome_of, is_settled, none_open, plan_first, is_blocked}
 use Rattle.cacheless.specs.Owed.{Owes, OwesLook, OwesFetch}
 use Rattle.cacheless.specs.Ends.{End, Ends, Commits, TakesBack}
 use Rattle.local_caches.specs.Caches.{kept_of}
@@ -180,6 +180,7 @@ abbrev pub end_in_well : Progress → Command → End
 end_in_well s commands.Begin = Ends
 end_in_well s commands.Commit = end_in_block s.running s.blocks.block true
 end_in_well s commands.Rollback = end_in_block s.running s.blocks.block false
+end_in_well s (commands.RollbackTo name) = TakesBack (innermost (s.finished + 1) (levels_up_to name s.blocks.levels))
 end_in_well s command = elim s.blocks.block [ Outside ↦ Commits (s.finished + 1) | block ↦ Ends ]
 
 -- the end of a command that failed
@@ -229,7 +230,7 @@ pub record IsNew (id : ℕ) (all : List Command) (s : Progress) : Type 0 where
   pub commands_are : s.commands ≡ all
   pub finished : s.finished ≡ 0
   pub plan : plan_at s.opens s.exec ≡ plan_first no_block none_open (slice_get all 0)
-  pub blocked : s.blocked ≡ is_some (refused_first no_block (slice_get all 0))
+  pub blocked : s.blocked ≡ is_blocked no_block (slice_get all 0)
   pub ended : s.ended ≡ false
   pub tally : s.tally ≡ no_counts
   pub due : s.due ≡ dues.Nothing

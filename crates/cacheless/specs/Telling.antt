@@ -8,7 +8,7 @@ use Rattle.cacheless.specs.Answering.{PlacesFit}
 use Rattle.cacheless.specs.Facts.{Facts, facts_of}
 use Rattle.cacheless.specs.Holds.{Holds}
 use Rattle.cacheless.specs.Lines.{line_of, lines_from}
-use Rattle.cacheless.specs.OnCourse.{EntersCourse, is_over}
+use Rattle.cacheless.specs.OnCourse.{EntersCourse, TellsStill}
 use Rattle.cacheless.specs.Played.{IsPlayed}
 use Rattle.cacheless.specs.Session.{Session, number_of, outcome_of, is_settled}
 use Rattle.cacheless.specs.Settled.{finished_as, is_finished}
@@ -28,10 +28,10 @@ pub record Tells (scenario : Scenario) (seen : List Entry) (s : Progress) (sessi
 abbrev pub AreLines : Scenario → List Entry → Progress → Session → List Line → Type 0
 AreLines scenario seen s session lines = lines ≡ lines_from scenario seen s.id 1 session.finished s.commands
 
--- the running command is judged at the history's end, and nothing of it is taken back or released
-pub record IsJudgedHere (seen : List Entry) (b : ℕ) (session : Session) : Type 0 where
+-- the running command is judged at the history's end, and nothing of it is taken back or released, or what it tells rests on no scan
+pub record IsJudgedHere (seen : List Entry) (b : ℕ) (session : Session) (command : Command) : Type 0 where
   pub judged : length seen ≤ session.judged
-  pub stands : is_over (last_event_of seen b) session ≡ false
+  pub stands : TellsStill seen b session command
 
 -- the running command has come out, and its end isn't whole
 pub record IsOnItsEnd (facts : Facts) (command : Command) (session : Session) : Type 0 where
@@ -43,7 +43,7 @@ pub record TellsNow (scenario : Scenario) (seen : List Entry) (s : Progress) (ho
   pub played : IsPlayed scenario seen
   pub course : EntersCourse scenario seen s.id (session_at s holds.rest)
   pub tells : Tells scenario seen s (session_at s holds.rest)
-  pub here : (command : Command) → slice_get s.commands s.finished ≡ Some command → is_some s.answer ≡ false → IsJudgedHere seen s.id (session_at s holds.rest)
+  pub here : (command : Command) → slice_get s.commands s.finished ≡ Some command → is_some s.answer ≡ false → IsJudgedHere seen s.id (session_at s holds.rest) command
   pub last : length seen ≤ holds.rest.last
   pub back : (from : ℕ) (command : Command) → last_event_of seen s.id ≡ Some (events.Gone from) → slice_get s.commands s.finished ≡ Some command → IsOnItsEnd (facts_of seen s.id) command (session_at s holds.rest)
 

@@ -178,6 +178,9 @@ impl Progress {
             Command::Begin => Ending::Ends,
             Command::Commit => self.end_of_block(true),
             Command::Rollback => self.end_of_block(false),
+            Command::RollbackTo(name) => Ending::TakesBack {
+                from: self.blocks.level_of(name, self.finished + 1),
+            },
             _ if self.blocks.is_open() => Ending::Ends,
             _ => Ending::Commits {
                 first: self.finished + 1,

@@ -1,14 +1,15 @@
 // How a session changes with the entries of a command's end.
 
-ghost use Rattle.std.specs.Prelude.{◌≡◌, ◌≤◌, ◌<◌, ◌+◌, ◌^◌, true, false, Some};
+ghost use Rattle.std.specs.Prelude.{◌≡◌, ◌≤◌, ◌<◌, ◌+◌, ◌^◌, true, false, Some, OnOk};
 ghost use Rattle.base_types.specs.Scenario.{Scenario};
 ghost use Rattle.event_kinds.specs.declared.entry.Entry.{Entry};
 ghost use Rattle.cacheless.specs.State.{lists_left};
 ghost use Rattle.command_lists.specs.Lists.{all_lists};
 
 use crate::enter::accept;
+use crate::opens::{opened_before, openings_of, pin_anew};
 use crate::{Due, Progress};
-use base_types::{Listed, Xid};
+use base_types::{NoMemory, Xid};
 use command_lists::InvalLists;
 use event_kinds::Event;
 use std::alloc::Global;
@@ -80,28 +81,31 @@ impl Progress {
 
     /// It released the locks that it was granted in commands of this number and above; where that is
     /// the first command of its transaction, the transaction ends (`LockReleaseAll` in
-    /// `src/backend/storage/lmgr/lock.c`). The descriptors that it held are closed. Condition: its command has
-    /// come out.
-    pub fn enter_release(&mut self, alloc: Global, from: u32)
+    /// `src/backend/storage/lmgr/lock.c`). Of the descriptors that it held those stay whose relations were
+    /// opened before that command. Condition: its command has come out. Out of memory, it may not be used any
+    /// more.
+    pub fn enter_release(&mut self, alloc: Global, from: u32) -> Result<(), NoMemory>
         requires few { self.old.finished ≤ 20000 }
         requires out { is_out self.old ≡ true }
-        ensures kept { kept_at self.new ≡ kept_at self.old }
-        ensures answer { self.new.answer ≡ self.old.answer }
-        ensures holds { (scenario : Scenario) (seen : List Entry) → (rests : Rests scenario seen self.old) → HasEntered scenario seen self.old (Event.Release from) rests self.new }
-        ensures same { self.new.commands ≡ self.old.commands }
+        ensures kept { OnOk result (kept_at self.new ≡ kept_at self.old) }
+        ensures answer { OnOk result (self.new.answer ≡ self.old.answer) }
+        ensures holds { OnOk result ((scenario : Scenario) (seen : List Entry) → (rests : Rests scenario seen self.old) → HasEntered scenario seen self.old (Event.Release from) rests self.new) }
+        ensures same { OnOk result (self.new.commands ≡ self.old.commands) }
     {
+        let left = opened_before(alloc, from, self.opens.as_slice())?;
         clear_if(
             &mut self.lists,
             RunningTransaction::ends(from, self.running),
         );
         self.running = RunningTransaction::begun(self.finished + 1, self.running).released(from);
         self.locks.release(from);
-        self.opened = Listed::new(alloc);
-        self.caches.unpin_all();
+        self.opened = openings_of(alloc, left.as_slice())?;
+        pin_anew(&mut self.caches, left.as_slice())?;
         self.ended = true;
         self.due = Due::Nothing;
         let accepting = self.is_in_acceptance();
         accept(&mut self.locks, accepting);
+        Ok(())
     }
 }
 

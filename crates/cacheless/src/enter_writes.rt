@@ -12,7 +12,7 @@ ghost use Rattle.cacheless.specs.Locks.{locked_by};
 ghost use Rattle.cacheless.specs.State.{locks_made, locks_written, messages_in, clash_event, error_of};
 
 use crate::enter::accept;
-use crate::opens::{openings_of, pin_anew};
+use crate::opens::{held_in, pin_anew};
 use crate::{Due, Progress};
 use base_types::{Listed, Name, NoMemory, Oid, Xid};
 use command_answers::CommandError;
@@ -61,7 +61,7 @@ impl Progress {
         self.running = Some(RunningTransaction::begun(command, self.running).with_xid(xid));
         self.due = Due::Nothing;
         self.exec.give(alloc, self.opens.as_slice(), &[])?;
-        self.opened = openings_of(alloc, self.opens.as_slice())?;
+        self.opened = held_in(alloc, &self.blocks, self.opens.as_slice())?;
         pin_anew(&mut self.caches, self.opens.as_slice())?;
         self.taken = None;
         let accepting = self.is_in_acceptance();

@@ -1,9 +1,10 @@
 // The relations that a session has open, and the descriptors that it holds of them.
 
 ghost use Rattle.std.specs.Prelude.{◌≡◌, ◌≤◌, map, IfOk, OnOk, OnErr, Some, slice_get};
+ghost use Rattle.ddl_effect.specs.Opens.{opens_before};
 ghost use Rattle.ddl_effect.specs.Stages.{plan_at};
-ghost use Rattle.cacheless.specs.Session.{opening_of};
-ghost use Rattle.cacheless.specs.Settled.{opens_with, opens_well, opens_passed};
+ghost use Rattle.cacheless.specs.Session.{opening_of, held_in as are_held};
+ghost use Rattle.cacheless.specs.Settled.{opens_with, opens_kept as kept_open, opens_well, opens_badly, opens_passed};
 ghost use Rattle.local_caches.specs.Caches.{kept_of};
 
 use crate::Opening;
@@ -11,6 +12,22 @@ use base_types::{Command, Listed, Name, NoMemory};
 use ddl_effect::{Exec, OpenRelation, Want, without_latest};
 use local_caches::LocalCaches;
 use std::alloc::Global;
+use txn_blocks::TxnBlocks;
+
+// The descriptors that are held at the beginning of a command, where these relations are open: none in a
+// failed block.
+pub(crate) fn held_in(
+    alloc: Global,
+    blocks: &TxnBlocks,
+    opens: &[OpenRelation],
+) -> Result<Listed<Opening>, NoMemory>
+    ensures { IfOk result (λ held. held ≡ are_held blocks.now.block opens.now) }
+{
+    if blocks.is_failed() {
+        return Ok(Listed::new(alloc));
+    }
+    openings_of(alloc, opens)
+}
 
 // The descriptors of relations.
 pub(crate) fn openings_of(
@@ -46,15 +63,50 @@ pub(crate) fn opens_after(
     number: u32,
     command: &Command,
     exec: &Exec,
+    blocked: bool,
+    blocks: &TxnBlocks,
     opened: &[Opening],
     opens: &[OpenRelation],
 ) -> Result<Listed<OpenRelation>, NoMemory>
-    ensures { IfOk result (λ after. after ≡ opens_passed (plan_at opens.now exec.now) number command.now opened.now opens.now) }
+    ensures { IfOk result (λ after. after ≡ opens_passed (plan_at opens.now exec.now) number command.now blocked blocks.now.levels opened.now opens.now) }
 {
     match exec.next() {
-        Want::Done(_) => opens_after_well(alloc, number, command, opened, opens),
-        _ => Ok(Listed::new(alloc)),
+        Want::Done(_) => opens_after_well(alloc, number, command, blocks, opened, opens),
+        _ => opens_after_badly(alloc, number, blocked, blocks, opens),
     }
+}
+
+// The same after one that failed.
+fn opens_after_badly(
+    alloc: Global,
+    number: u32,
+    blocked: bool,
+    blocks: &TxnBlocks,
+    opens: &[OpenRelation],
+) -> Result<Listed<OpenRelation>, NoMemory>
+    ensures { IfOk result (λ after. after ≡ opens_badly number blocked blocks.now.levels opens.now) }
+{
+    if blocked {
+        return copied(alloc, opens);
+    }
+    opened_before(alloc, blocks.level_from(number), opens)
+}
+
+// Those of these relations that were opened by commands before this one.
+pub(crate) fn opened_before(
+    alloc: Global,
+    from: u32,
+    opens: &[OpenRelation],
+) -> Result<Listed<OpenRelation>, NoMemory>
+    ensures { IfOk result (λ left. left ≡ opens_before from opens.now) }
+{
+    let mut left = Listed::new(alloc);
+    for o in opens {
+        if o.command < from {
+            left.push(*o)?;
+        }
+    }
+    Ok(left)
 }
 
 // The same after one that came out well.
@@ -62,14 +114,16 @@ fn opens_after_well(
     alloc: Global,
     number: u32,
     command: &Command,
+    blocks: &TxnBlocks,
     opened: &[Opening],
     opens: &[OpenRelation],
 ) -> Result<Listed<OpenRelation>, NoMemory>
-    ensures { IfOk result (λ after. after ≡ opens_well number command.now opened.now opens.now) }
+    ensures { IfOk result (λ after. after ≡ opens_well number command.now blocks.now.levels opened.now opens.now) }
 {
     match command {
         Command::OpenRel(name) => opens_one_more(alloc, number, *name, opened, opens),
         Command::CloseRel(name) => Ok(without_latest(name, copied(alloc, opens)?)),
+        Command::RollbackTo(name) => { opened_before(alloc, blocks.level_of(name, number), opens) }
         Command::Commit | Command::Rollback => Ok(Listed::new(alloc)),
         _ => copied(alloc, opens),
     }

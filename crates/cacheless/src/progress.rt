@@ -63,8 +63,8 @@ pub struct Progress {
     pub id: u32,
     pub commands: Listed<Command>,
     pub finished: u32,
-    // the running command: what is left of it, whether the blocks refused it, whether the release of
-    // its end is made, and what it has done so far
+    // the running command: what is left of it, whether the blocks refused it and nothing is taken back,
+    // whether the release of its end is made, and what it has done so far
     pub exec: Exec,
     pub blocked: bool,
     pub ended: bool,
@@ -119,7 +119,7 @@ impl Progress {
         ensures new { IfOk result (λ s. IsNew id commands s) }
         ensures waits { IfOk result (λ s. (scenario : Scenario) → IsBackend scenario.backends id → commands ≡ commands_of scenario id → length commands ≤ 20000 → HasNotStarted scenario [] s) }
     {
-        let blocks = TxnBlocks::new();
+        let blocks = TxnBlocks::new(alloc);
         let opens = Listed::new(alloc);
         let first = begun(alloc, &blocks, opens.as_slice(), commands.as_slice(), 0)?;
         Ok(Progress {

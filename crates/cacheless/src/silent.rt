@@ -9,7 +9,7 @@ ghost use Rattle.cacheless.specs.Silently.{rows_for as gives_rows};
 ghost use Rattle.local_caches.specs.Caches.{kept_of};
 
 use crate::begun::begun;
-use crate::opens::{openings_of, opens_after, pin_anew};
+use crate::opens::{held_in, opens_after, pin_anew};
 use crate::{Counts, Due, Opening, Progress};
 use base_types::{Command, Kind, Listed, Mode, Name, NoMemory, Oid, Purpose, Row};
 use ddl_effect::{Exec, OpenRelation, Told, Want};
@@ -270,10 +270,12 @@ impl Progress {
             number,
             command,
             &self.exec,
+            self.blocked,
+            &self.blocks,
             self.opened.as_slice(),
             self.opens.as_slice(),
         )?;
-        pass(&mut self.blocks, &self.exec, number, command);
+        pass(&mut self.blocks, &self.exec, number, command)?;
         let next = begun(
             alloc,
             &self.blocks,
@@ -290,7 +292,7 @@ impl Progress {
         self.ended = false;
         self.tally = Counts::none();
         self.taken = None;
-        self.opened = openings_of(alloc, opens.as_slice())?;
+        self.opened = held_in(alloc, &self.blocks, opens.as_slice())?;
         self.opens = opens;
         pin_anew(&mut self.caches, self.opens.as_slice())?;
         Ok(Line {
@@ -302,13 +304,14 @@ impl Progress {
 }
 
 // The command of this number has come out.
-fn pass(blocks: &mut TxnBlocks, exec: &Exec, number: u32, command: &Command)
-    ensures { (opens : List OpenRelation) → blocks.new ≡ blocks_passed (plan_at opens exec.now) number command.now blocks.old }
+fn pass(blocks: &mut TxnBlocks, exec: &Exec, number: u32, command: &Command) -> Result<(), NoMemory>
+    ensures { OnOk result ((opens : List OpenRelation) → blocks.new ≡ blocks_passed (plan_at opens exec.now) number command.now blocks.old) }
 {
     match exec.next() {
-        Want::Done(_) => blocks.ended_well(number, command),
+        Want::Done(_) => blocks.ended_well(number, command)?,
         _ => blocks.fail(),
     }
+    Ok(())
 }
 
 // The rows that are given to an act: the row that a lookup found, or those that are kept of its scan.

@@ -45,7 +45,7 @@ fn admitted(blocks: &TxnBlocks, command: &Command) -> &'static str {
         Ok(()) => "ok",
         Err(BlockCause::Failed) => "25P02",
         Err(BlockCause::NoBlock) => "25P01",
-        Err(BlockCause::NoSavepoint) => "3B001",
+        Err(BlockCause::NoSavepoint { .. }) => "3B001",
     }
 }
 

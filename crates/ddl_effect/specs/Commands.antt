@@ -294,6 +294,9 @@ abbrev pub plan_of : List OpenRelation → Command → Plan
 plan_of opens commands.Begin = Done tells.Ok
 plan_of opens commands.Commit = Done tells.Commit
 plan_of opens commands.Rollback = Done tells.Ok
+plan_of opens (commands.Savepoint name) = Done tells.Ok
+plan_of opens (commands.Release name) = Done tells.Ok
+plan_of opens (commands.RollbackTo name) = Done tells.Ok
 plan_of opens (commands.Show name None) = looking_up name AccessShare (showing None)
 plan_of opens (commands.Show name (Some field)) = looking_up name AccessShare (showing_field name field)
 plan_of opens (commands.Columns name) = columns_of name

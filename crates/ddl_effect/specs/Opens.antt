@@ -1,5 +1,5 @@
 -- The relations that a session has open, each under the name by which it was opened.
-use Rattle.std.specs.Prelude.{ℕ, Bool, Option, Some, None, List, [], ◌∷◌, ◌++◌, ◌+◌, if◌then◌else◌, slice_get, take, drop}
+use Rattle.std.specs.Prelude.{ℕ, Bool, Option, Some, None, List, [], ◌∷◌, ◌++◌, ◌+◌, if◌then◌else◌, slice_get, take, drop, filter, nat_lt}
 use Rattle.std.specs.Option.{option_and_then}
 use Rattle.std.specs.List.{list_any}
 use Rattle.std.specs.Str.{bytes_eq}
@@ -22,6 +22,10 @@ latest_open name opens = option_and_then (slice_get opens) (place_latest name op
 -- all but that one
 abbrev pub without_latest : List ℕ → List OpenRelation → List OpenRelation
 without_latest name opens = elim (place_latest name opens) [ Some at ↦ take at opens ++ drop (at + 1) opens | None ↦ opens ]
+
+-- those that were opened by commands before this one
+abbrev pub opens_before : ℕ → List OpenRelation → List OpenRelation
+opens_before from opens = filter (λ o. nat_lt o.command from) opens
 
 -- the relation is open
 abbrev pub has_open : Oid → List OpenRelation → Bool

@@ -73,6 +73,9 @@ impl Exec {
             Command::Begin
                 | Command::Commit
                 | Command::Rollback
+                | Command::Savepoint(_)
+                | Command::Release(_)
+                | Command::RollbackTo(_)
                 | Command::Show { .. }
                 | Command::Columns(_)
                 | Command::Column { .. }
@@ -98,7 +101,11 @@ impl Exec {
         ensures { IfOk result (λ exec. plan_at opens.now exec ≡ plan_of opens.now command.now) }
     {
         match command {
-            Command::Begin | Command::Rollback => Ok(Exec::Done(Told::Ok)),
+            Command::Begin
+            | Command::Rollback
+            | Command::Savepoint(_)
+            | Command::Release(_)
+            | Command::RollbackTo(_) => Ok(Exec::Done(Told::Ok)),
             Command::Commit => Ok(Exec::Done(Told::Commit)),
             Command::Show { name, field: None } => {
                 Ok(Exec::Finding(Finding::Show { name: *name }))

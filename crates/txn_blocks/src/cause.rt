@@ -1,3 +1,5 @@
+use base_types::Name;
+
 /// Why the blocks refuse a command.
 #[derive(Clone, Copy)]
 pub enum BlockCause {
@@ -5,6 +7,6 @@ pub enum BlockCause {
     Failed,
     /// 25P01: no block is open, and the command needs one.
     NoBlock,
-    /// 3B001: the block has no savepoint of that name. Savepoints aren't built yet, so it doesn't come.
-    NoSavepoint,
+    /// 3B001: the block has no savepoint of that name.
+    NoSavepoint { name: Name },
 }

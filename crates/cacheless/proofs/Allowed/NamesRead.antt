@@ -15,7 +15,7 @@ use Rattle.cacheless.specs.Facts.{Facts, facts_of}
 use Rattle.cacheless.specs.OnCourse.{OnItsWay, IsOnCourse, ClearUnlessOwed}
 use Rattle.cacheless.specs.Owed.{OwesScan, unusable, owed_at_start, owed_after, builds_owed, act_owed, scans_owed, owed_of}
 use Rattle.cacheless.specs.Played.{IsPlayed}
-use Rattle.cacheless.specs.Session.{Session, Badly, opening_of, outcome_of}
+use Rattle.cacheless.specs.Session.{Session, Badly, held_before, outcome_of}
 use Rattle.cacheless.specs.Sessions.{session_of}
 use Rattle.cacheless.proofs.Allowed.SettledCourse.{builds_done}
 use Rattle.cacheless.proofs.Plans.ActOrder.{WritesTable, WritesRows, at_write}
@@ -52,8 +52,8 @@ read_as_now scenario history b s command draft rest played is course here at non
         (none_mapped OwesScan _ (sym (ap (map OwesScan) same) ∙ (both_empty (owed_at_start facts command s ++ owed_after facts.last) (map OwesScan (scans_owed facts s)) none).1))).0
 
     own_builds : builds_owed facts opened ≡ []
-    own_builds = (both_empty (builds_owed facts (map opening_of s.opens)) (builds_owed facts opened)
-        (sym (flat_map-append (λ (o : Opening). unusable facts (build_scans o.kind o.rel)) (map opening_of s.opens) opened) ∙ sym (ap (builds_owed facts) way.opened) ∙ builds)).1
+    own_builds = (both_empty (builds_owed facts (held_before s)) (builds_owed facts opened)
+        (sym (flat_map-append (λ (o : Opening). unusable facts (build_scans o.kind o.rel)) (held_before s) opened) ∙ sym (ap (builds_owed facts) way.opened) ∙ builds)).1
 
     clear : map cleared s.locks ≡ s.locks
     clear = subst (λ o. ClearUnlessOwed facts o s) here course.clear (builds_done facts command s builds (ap is_empty start))

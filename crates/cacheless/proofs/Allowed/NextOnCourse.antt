@@ -43,6 +43,7 @@ entered_noted facts left at c event s = record {
     found = ap (λ x. x.found) same;
     sought = ap (λ x. x.sought) same;
     finished = ap (λ x. x.finished) same;
+    blocks = ap (λ x. x.blocks) same;
   };
   ended = ap (λ x. x.ended) same;
 }
@@ -89,8 +90,8 @@ pub other_stays : (scenario : Scenario) (history : List Entry) (e : Entry) (b : 
 other_stays scenario history e b None may other none = λ c. has_written-other history e b c other ∙ none c
 other_stays scenario history e b (Some s) may other course = record {
   follows = λ command at. follows-more history e b s s command may (λ own. absurd (both_ways _ other own)) (λ c. has_written-other history e b c other) (λ name. rows_read-other history e b (scans.RelName name) other)
-      (λ over. ap (λ last. is_over last s) (last_event_of-other history e b other) ∙ over) (record { left = refl; refused = refl; opens = refl; opened = refl; found = refl; sought = refl; finished = refl }) refl (course.follows command at);
-  going = course.going;
+      (λ over. ap (λ last. is_over last s) (last_event_of-other history e b other) ∙ over) (record { left = refl; refused = refl; opens = refl; opened = refl; found = refl; sought = refl; finished = refl; blocks = refl }) refl (course.follows command at);
+  going = λ command at over. let alone = course.going command at over in record { told = alone.told; plan = alone.plan; left = alone.left; alone = alone.alone; unwritten = has_written-other history e b (number_of s) other ∙ alone.unwritten };
   later = λ c after. has_written-other history e b c other ∙ course.later c after;
   clear = subst (λ facts. ClearUnlessOwed facts (slice_get (commands_of scenario b) (length s.finished)) s) (sym (facts_of-other history e b other)) course.clear;
 }
@@ -131,7 +132,7 @@ pub enters_on_course : (scenario : Scenario) (history : List Entry) (b : ℕ) (e
     → EntersCourse scenario (with_entry history b (number_of s) event) b (entered (facts_of (with_entry history b (number_of s) event) b) (commands_left scenario b s) (length history + 1) (number_of s) event s)
 enters_on_course scenario history b event s may plays course = record {
   follows = λ command here. own_follows history b s later command event (own command (now_at command here)) noted_is;
-  ends = λ command here over. release_finishes history b s command event (own command (now_at command here)) (course.going command (now_at command here)) (facts_of-own history (entry_of b (number_of s) event) b (eq-eqb b b refl)) later noted_is over;
+  ends = λ command here over. release_finishes history b s command event (own command (now_at command here)) (facts_of-own history (entry_of b (number_of s) event) b (eq-eqb b b refl)) later noted_is over;
   later = λ n after. has_written-earlier history (entry_of b (number_of s) event) b n (omega (arith, after, counts)) (course.later n (omega (arith, after, counts)));
   clear = subst (λ o. ClearUnlessOwed new_facts o later) (first_left (commands_of scenario b) (length s.finished) ∙ ap (slice_get (commands_of scenario b)) (sym counts)) (accepted_clear new_facts (first_of left) (counted new_facts event (placed_at (length history + 1) (number_of s) event s)));
 }

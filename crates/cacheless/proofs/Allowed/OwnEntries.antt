@@ -10,6 +10,7 @@ use Rattle.event_kinds.specs.declared.entry.Event.TheVariants as events
 use Rattle.command_answers.specs.declared.error.CommandError.TheVariants as errors
 use Rattle.ddl_effect.specs.declared.told.Told.TheVariants as tells
 use Rattle.ddl_effect.specs.Plans.{Lookup, Open, Search, Read, Lock, Write, Plan, Done, Fails, Absent, NotBuilt, Do}
+use Rattle.txn_blocks.specs.Blocks.{refused_by}
 use Rattle.history_model.specs.Drawn.{next_oid}
 use Rattle.history_model.specs.Lives.{last_event_of}
 use Rattle.history_model.specs.Read.{is_scan_of}
@@ -21,16 +22,16 @@ use Rattle.cacheless.specs.Types.{Oid, Mode, Purpose, Item, Opening, Command, Co
 use Rattle.cacheless.specs.ActsDone.{reached, made_in, opening_by}
 use Rattle.cacheless.specs.Ends.{End, Ends, end_of, next_of_end, end_left, end_well, end_badly}
 use Rattle.cacheless.specs.Facts.{Facts, facts_of}
-use Rattle.cacheless.specs.OnCourse.{is_absent, OnItsWay, is_over, Begun, Wrote, Over, NamedFits, WasSought, DoesNoAct, FollowsPlan}
+use Rattle.cacheless.specs.OnCourse.{is_absent, OnItsWay, is_over, Begun, Wrote, Over, NamedFits, WasSought, DoesNoAct, StillHolds, TellsAlone, FollowsPlan}
 use Rattle.cacheless.specs.Owed.{unusable, act_next, is_next_scan}
 use Rattle.cacheless.specs.Plays.{IsWrite, IsUnlock, MayPlay}
-use Rattle.cacheless.specs.Session.{Session, Outcome, Unsettled, Well, Badly, opening_of, number_of, outcome_of, is_settled}
+use Rattle.cacheless.specs.Session.{Session, Outcome, Unsettled, Well, Badly, held_before, number_of, outcome_of, is_settled}
 use Rattle.cacheless.specs.Sessions.{refused_with, written, resumed, noted}
 use Rattle.cacheless.specs.Settled.{found_by}
 use Rattle.cacheless.proofs.Plans.ActOrder.{at_write}
 use Rattle.cacheless.proofs.Plans.AfterActs.{lookup_first}
 use Rattle.cacheless.proofs.Plans.SilentActs.{on_its_way, its_place, unrefused, its_order, named_there}
-use Rattle.cacheless.proofs.Allowed.StaysOnCourse.{has_written-quiet, rows_read-unscanned, IsAfter, IsAfterEnd, before_end, plan_same, MayCome, named-more, way-more, sought-more, plain-more, follows-more, over_stays}
+use Rattle.cacheless.proofs.Allowed.StaysOnCourse.{has_written-quiet, rows_read-unscanned, IsAfter, IsAfterEnd, before_end, plan_same, MayCome, held_same, named-more, way-more, sought-more, plain-more, admitted-more, holds-more, follows-more, over_stays}
 use Rattle.cacheless.proofs.Plans.Ways.{acts, none_reached}
 use Rattle.ddl_effect.specs.Commands.{plan_of}
 
@@ -39,7 +40,7 @@ pub record OwnEntry (history : List Entry) (b : ℕ) (s : Session) (command : Co
   pub may : MayCome history (entry_of b (number_of s) event)
   pub plays : MayPlay (next_oid history) (facts_of history b) command s event
   pub follows : FollowsPlan history b s command
-  pub going : s.ended ≡ false
+  pub going : s.ended ≡ true → TellsAlone history b s command
 
 abbrev pub with_own : List Entry → ℕ → Session → Event → List Entry
 with_own history b s event = history ++ entry_of b (number_of s) event ∷ []
@@ -60,19 +61,22 @@ quiet_follows history b s later command event own quiet unwritten unread noted =
 
 -- what a lookup has taken is no part of how far the command is
 as_noted : (t s later : Session) → IsNoted t later → IsNoted (record t { taken = s.taken }) later
-as_noted t s later noted = let a = noted.after in record { after = record { left = a.left; refused = a.refused; opens = a.opens; opened = a.opened; found = a.found; sought = a.sought; finished = a.finished }; ended = noted.ended }
+as_noted t s later noted = let a = noted.after in record { after = record { left = a.left; refused = a.refused; opens = a.opens; opened = a.opened; found = a.found; sought = a.sought; finished = a.finished; blocks = a.blocks }; ended = noted.ended }
 
 -- an entry that shows an error
-error_follows : (seen : List Entry) (b : ℕ) (s later : Session) (command : Command) (error : CommandError) → ((told : Told) → plan_of s.opens command ≡ Done told → DoesNoAct s told) → IsNoted (refused_with error s) later → FollowsPlan seen b later command
-error_follows seen b s later command error plain noted = record {
+error_follows : (seen : List Entry) (b : ℕ) (s later : Session) (command : Command) (error : CommandError) → ((told : Told) → plan_of s.opens command ≡ Done told → DoesNoAct s told) → (s.ended ≡ false → StillHolds s) → ((told : Told) → plan_of s.opens command ≡ Done told → has_written seen b (number_of s) ≡ false) → IsNoted (refused_with error s) later → FollowsPlan seen b later command
+error_follows seen b s later command error plain held unwritten noted = record {
   refused = λ shown is. noted.after.left ∙ (let both : Some error ≡ Some shown = sym noted.after.refused ∙ is in cc both);
   way = λ none. absurd (let both : Some error ≡ None = sym noted.after.refused ∙ none in cc both);
   named = subst (NamedFits seen b) (sym noted.after.left) tt;
   sought = λ name is. absurd (let both : Fails error ≡ Absent name = sym noted.after.left ∙ is in cc both);
   plain = λ told none. record {
-    opened = λ going. noted.after.opened ∙ (plain told (plan_same s later command noted.after.opens ∙ none)).opened (sym noted.ended ∙ going) ∙ ap (map opening_of) (sym noted.after.opens);
+    opened = λ going. noted.after.opened ∙ (plain told (plan_same s later command noted.after.opens ∙ none)).opened (sym noted.ended ∙ going) ∙ held_same s later noted.after.opens noted.after.blocks;
     left = λ well. absurd (let both : Badly ≡ Well = ap outcome_of (sym noted.after.left) ∙ well in cc both);
   };
+  admitted = λ none. absurd (let both : Some error ≡ None = sym noted.after.refused ∙ none in cc both);
+  held = λ going. let was = held (sym noted.ended ∙ going) in record { more = was.more; opened = noted.after.opened ∙ was.opened ∙ ap (λ l. l ++ was.more) (held_same s later noted.after.opens noted.after.blocks) };
+  unwritten = λ told none. ap (λ l. has_written seen b (length l + 1)) noted.after.finished ∙ unwritten told (plan_same s later command noted.after.opens ∙ none);
 }
 
 -- a command that failed to find a relation makes no scan
@@ -88,6 +92,9 @@ scan_follows history b s later command scan count own noted = record {
   named = subst (NamedFits new b) (sym noted.after.left) (named_there new b s.left there);
   sought = λ name is. absurd (let both : false ≡ true = sym there ∙ ap is_absent (sym noted.after.left ∙ is) in cc both);
   plain = λ told none. plain-more s later told (before_end s later noted.after noted.ended) (own.follows.plain told (plan_same s later command noted.after.opens ∙ none));
+  admitted = admitted-more s later command (before_end s later noted.after noted.ended) own.follows.admitted;
+  held = holds-more s later (before_end s later noted.after noted.ended) own.follows.held;
+  unwritten = λ told none. ap (λ l. has_written new b (length l + 1)) noted.after.finished ∙ has_written-quiet history e b (number_of s) refl ∙ own.follows.unwritten told (plan_same s later command noted.after.opens ∙ none);
 }
   where
     e : Entry
@@ -99,6 +106,14 @@ scan_follows history b s later command scan count own noted = record {
     there : is_absent s.left ≡ false
     there = scan_there (facts_of history b) s scan s.left refl own.plays.1
 
+-- a command whose plan isn't done hasn't made its release
+pub not_released : (history : List Entry) (b : ℕ) (s : Session) (command : Command) (plan : Plan) → s.left ≡ plan → ((told : Told) → plan ≡ Done told → ⊥) → (s.ended ≡ true → TellsAlone history b s command) → s.ended ≡ false
+not_released history b s command plan at undone going = by_ended s.ended refl
+  where
+    by_ended : (t : Bool) → s.ended ≡ t → s.ended ≡ false
+    by_ended false is = is
+    by_ended true is = let alone = going is in absurd (undone alone.told (sym at ∙ alone.left))
+
 -- a fetch brings a command that failed to find a relation back to its lookup
 brought_back : (history : List Entry) (b : ℕ) (s later : Session) (command : Command) (name : List ℕ) (event : Event) → OwnEntry history b s command event → is_write event ≡ false → ((own : List ℕ) → is_scan_of (scans.RelName own) event ≡ false) → s.left ≡ Absent name
     → IsNoted (record s { left = s.sought; found = take (length s.found - 1) s.found }) later → FollowsPlan (with_own history b s event) b later command
@@ -108,7 +123,7 @@ brought_back history b s later command name event own unwritten unread at noted 
     gave = [];
     plan = after.left ∙ was.first ∙ plan_same s later command after.opens;
     found = after.found ∙ ap (λ n. take (n - 1) s.found) was.found;
-    opened = after.opened ∙ was.opened own.going ∙ ap (map opening_of) (sym after.opens) ∙ sym (append-nil (map opening_of later.opens));
+    opened = after.opened ∙ was.opened going ∙ held_same s later after.opens after.blocks ∙ sym (append-nil (held_before later));
     runs = was.runs;
     holds = record { locked = tt; still = tt };
     unwritten = ap (λ l. has_written new b (length l + 1)) after.finished ∙ has_written-quiet history e b (number_of s) unwritten ∙ was.unwritten;
@@ -116,6 +131,9 @@ brought_back history b s later command name event own unwritten unread at noted 
   named = subst (NamedFits new b) (sym (after.left ∙ was.looks)) tt;
   sought = λ other is. absurd (let both : Do (Lookup name was.mode) was.rest ≡ Absent other = sym (after.left ∙ was.looks) ∙ is in cc both);
   plain = λ told none. absurd (let both : Do (Lookup name was.mode) was.rest ≡ Done told = sym was.looks ∙ was.first ∙ plan_same s later command after.opens ∙ none in cc both);
+  admitted = λ none. ap (λ b. refused_by b command) after.blocks ∙ own.follows.admitted (sym after.refused ∙ none);
+  held = λ on. record { more = []; opened = after.opened ∙ was.opened going ∙ held_same s later after.opens after.blocks ∙ sym (append-nil (held_before later)) };
+  unwritten = λ told none. ap (λ l. has_written new b (length l + 1)) after.finished ∙ has_written-quiet history e b (number_of s) unwritten ∙ was.unwritten;
 }
   where
     e : Entry
@@ -130,6 +148,9 @@ brought_back history b s later command name event own unwritten unread at noted 
     was : WasSought history b s command name
     was = own.follows.sought name at
 
+    going : s.ended ≡ false
+    going = not_released history b s command (Absent name) at (λ told is. cc is) own.going
+
 -- a lock that is given back: the lookup that took it is the command's first act
 unlock_follows : (history : List Entry) (b : ℕ) (s later : Session) (command : Command) (rel : Oid) (mode : Mode) → OwnEntry history b s command (events.Unlock rel mode) → IsNoted (record s { taken = None }) later → FollowsPlan (with_own history b s (events.Unlock rel mode)) b later command
 unlock_follows history b s later command rel mode own noted = by_plan s.left refl own.plays.1
@@ -141,7 +162,7 @@ unlock_follows history b s later command rel mode own noted = by_plan s.left ref
     new = history ++ e ∷ []
 
     after : IsAfter s later
-    after = let a = noted.after in record { left = a.left; refused = a.refused; opens = a.opens; opened = a.opened; found = a.found; sought = a.sought; finished = a.finished }
+    after = let a = noted.after in record { left = a.left; refused = a.refused; opens = a.opens; opened = a.opened; found = a.found; sought = a.sought; finished = a.finished; blocks = a.blocks }
 
     by_plan : (p : Plan) → s.left ≡ p → IsUnlock (facts_of history b) s.taken p rel mode → FollowsPlan new b later command
     by_plan (Do (Lookup name wanted) rest) at asks = record {
@@ -150,7 +171,7 @@ unlock_follows history b s later command rel mode own noted = by_plan s.left ref
         gave = [];
         plan = after.left ∙ way.plan ∙ ap (λ g. reached g (plan_of s.opens command)) first ∙ plan_same s later command after.opens;
         found = after.found ∙ way.found ∙ ap (λ g. made_in found_by g (plan_of s.opens command)) first;
-        opened = after.opened ∙ way.opened ∙ ap (λ g. map opening_of s.opens ++ made_in opening_by g (plan_of s.opens command)) first ∙ ap (λ opens. map opening_of opens ++ []) (sym after.opens);
+        opened = after.opened ∙ way.opened ∙ ap (λ g. held_before s ++ made_in opening_by g (plan_of s.opens command)) first ∙ ap (λ l. l ++ []) (held_same s later after.opens after.blocks);
         runs = way.runs;
         holds = record { locked = tt; still = tt };
         unwritten = ap (λ l. has_written new b (length l + 1)) after.finished ∙ has_written-quiet history e b (number_of s) refl ∙ way.unwritten;
@@ -158,6 +179,9 @@ unlock_follows history b s later command rel mode own noted = by_plan s.left ref
       named = subst (NamedFits new b) (sym (after.left ∙ at)) tt;
       sought = λ other is. absurd (let both : Do (Lookup name wanted) rest ≡ Absent other = sym (after.left ∙ at) ∙ is in cc both);
       plain = λ told none. plain-more s later told (before_end s later after noted.ended) (own.follows.plain told (plan_same s later command after.opens ∙ none));
+      admitted = admitted-more s later command (before_end s later after noted.ended) own.follows.admitted;
+      held = holds-more s later (before_end s later after noted.ended) own.follows.held;
+      unwritten = λ told none. ap (λ l. has_written new b (length l + 1)) after.finished ∙ has_written-quiet history e b (number_of s) refl ∙ way.unwritten;
     }
       where
         way : OnItsWay history b s command
@@ -210,6 +234,9 @@ write_follows history b s later command xid items own noted = by_plan s.left ref
       named = subst (NamedFits new b) (sym done) tt;
       sought = λ name absent. absurd (let both : Done tells.Ok ≡ Absent name = sym done ∙ absent in cc both);
       plain = λ told none. absurd (none_reached way.gave (plan_of s.opens command) (Write draft) rest (ap acts (plan_same s later command is.after.opens ∙ none)) (sym way.plan ∙ at));
+      admitted = λ none. ap (λ b. refused_by b command) is.after.blocks ∙ own.follows.admitted (sym is.after.refused ∙ none);
+      held = λ going. record { more = []; opened = is.after.opened ∙ held_same s later is.after.opens is.after.blocks ∙ sym (append-nil (held_before later)) };
+      unwritten = λ told none. absurd (none_reached way.gave (plan_of s.opens command) (Write draft) rest (ap acts (plan_same s later command is.after.opens ∙ none)) (sym way.plan ∙ at));
     }
       where
         way : OnItsWay history b s command
@@ -249,6 +276,9 @@ over_follows history b s later command event own out unwritten unread over after
   named = subst (NamedFits new b) (sym after.left) (named-more history e b s.left (λ name. rows_read-unscanned history e b (scans.RelName name) (unread name)) own.follows.named);
   sought = λ name is. sought-more history e b s later command name (λ c. has_written-quiet history e b c unwritten) after (own.follows.sought name (sym after.left ∙ is));
   plain = λ told none. plain-more s later told after (own.follows.plain told (plan_same s later command after.opens ∙ none));
+  admitted = admitted-more s later command after own.follows.admitted;
+  held = holds-more s later after own.follows.held;
+  unwritten = λ told none. ap (λ l. has_written new b (length l + 1)) after.finished ∙ has_written-quiet history e b (number_of s) unwritten ∙ own.follows.unwritten told (plan_same s later command after.opens ∙ none);
 }
   where
     e : Entry
@@ -265,15 +295,15 @@ own_follows history b s later command events.FetchReset own noted = fetch_follow
 own_follows history b s later command (events.Scan scan count) own noted = scan_follows history b s later command scan count own noted
 own_follows history b s later command (events.LockOk rel mode) own noted = quiet_follows history b s later command (events.LockOk rel mode) own tt refl (λ name. refl) (as_noted (record s { taken = Some rel }) s later noted)
 own_follows history b s later command (events.Unlock rel mode) own noted = unlock_follows history b s later command rel mode own noted
-own_follows history b s later command (events.LockHeld rel mode holder held) own noted = error_follows (with_own history b s (events.LockHeld rel mode holder held)) b s later command (errors.Locked rel holder held) own.follows.plain noted
+own_follows history b s later command (events.LockHeld rel mode holder held) own noted = error_follows (with_own history b s (events.LockHeld rel mode holder held)) b s later command (errors.Locked rel holder held) own.follows.plain own.follows.held (λ told none. has_written-quiet history (entry_of b (number_of s) (events.LockHeld rel mode holder held)) b (number_of s) refl ∙ own.follows.unwritten told none) noted
 own_follows history b s later command (events.Write xid items) own noted = write_follows history b s later command xid items own noted
-own_follows history b s later command (events.ClashRow name rel) own noted = error_follows (with_own history b s (events.ClashRow name rel)) b s later command (errors.RelationExists name) own.follows.plain noted
-own_follows history b s later command (events.ClashRunning name xid) own noted = error_follows (with_own history b s (events.ClashRunning name xid)) b s later command (errors.NameInUse name xid) own.follows.plain noted
+own_follows history b s later command (events.ClashRow name rel) own noted = error_follows (with_own history b s (events.ClashRow name rel)) b s later command (errors.RelationExists name) own.follows.plain own.follows.held (λ told none. has_written-quiet history (entry_of b (number_of s) (events.ClashRow name rel)) b (number_of s) refl ∙ own.follows.unwritten told none) noted
+own_follows history b s later command (events.ClashRunning name xid) own noted = error_follows (with_own history b s (events.ClashRunning name xid)) b s later command (errors.NameInUse name xid) own.follows.plain own.follows.held (λ told none. has_written-quiet history (entry_of b (number_of s) (events.ClashRunning name xid)) b (number_of s) refl ∙ own.follows.unwritten told none) noted
 own_follows history b s later command (events.Visible xid) own noted = quiet_follows history b s later command (events.Visible xid) own tt refl (λ name. refl) noted
 own_follows history b s later command (events.Publish count) own noted = quiet_follows history b s later command (events.Publish count) own tt refl (λ name. refl) noted
 own_follows history b s later command (events.Gone from) own noted =
     over_follows history b s later command (events.Gone from) own (ends_out (facts_of history b) command s (events.Gone from) own.plays.1) refl (λ name. refl) refl (before_end s later noted.after noted.ended)
 own_follows history b s later command (events.Release from) own noted =
     over_follows history b s later command (events.Release from) own (ends_out (facts_of history b) command s (events.Release from) own.plays.1) refl (λ name. refl) noted.ended
-    (let a = noted.after in record { left = a.left; refused = a.refused; opens = a.opens; opened = λ going. absurd (let both : true ≡ false = sym noted.ended ∙ going in cc both); found = a.found; sought = a.sought; finished = a.finished })
+    (let a = noted.after in record { left = a.left; refused = a.refused; opens = a.opens; opened = λ going. absurd (let both : true ≡ false = sym noted.ended ∙ going in cc both); found = a.found; sought = a.sought; finished = a.finished; blocks = a.blocks })
 own_follows history b s later command event own noted = absurd own.plays

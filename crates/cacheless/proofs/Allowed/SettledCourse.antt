@@ -11,11 +11,11 @@ use Rattle.ddl_effect.proofs.HasPlan.{built_alike}
 use Rattle.history_model.specs.Writes.{has_written, is_empty}
 use Rattle.cacheless.specs.Types.{Row, Purpose, Scenario, Command, CommandError, OpenRelation, Told, OwnLock, Entry}
 use Rattle.cacheless.specs.Facts.{Facts, facts_of}
-use Rattle.cacheless.specs.OnCourse.{is_absent, Way, Begun, Unbuilt, FollowsPlan, IsOnCourse, ClearUnlessOwed, EntersCourse}
+use Rattle.cacheless.specs.OnCourse.{is_absent, Way, Begun, Unbuilt, FollowsPlan, TellsAlone, IsOnCourse, ClearUnlessOwed, EntersCourse}
 use Rattle.cacheless.specs.Owed.{Owes, OwesScan, owed_at_start, owed_after, builds_owed, act_owed, scans_owed, owes_build, owes_accept}
 use Rattle.cacheless.specs.Played.{IsPlayed}
 use Rattle.cacheless.specs.Runs.{runs}
-use Rattle.cacheless.specs.Session.{Session, Finished, Outcome, Unsettled, Well, Badly, first_of, none_open, opening_of, plan_admitted, at_command, outcome_of, is_settled}
+use Rattle.cacheless.specs.Session.{Session, Finished, Outcome, Unsettled, Well, Badly, first_of, none_open, held_in, plan_admitted, at_command, outcome_of, is_settled}
 use Rattle.cacheless.specs.Sessions.{session_of}
 use Rattle.cacheless.specs.Settled.{act_done, done_here, acted_on, acted, is_finished, blocks_after, opens_after, finished_as, next_session, settled}
 use Rattle.cacheless.specs.Ends.{end_left}
@@ -108,10 +108,13 @@ begins_plan seen b blocks opens finished locks last command unwritten = record {
   named = named_there seen b (plan_admitted opens (refused_by blocks command) command) (admitted_there opens (refused_by blocks command) command);
   sought = λ name is. absurd (let both : true ≡ false = sym (absent_name name (plan_admitted opens (refused_by blocks command) command) is) ∙ admitted_there opens (refused_by blocks command) command in cc both);
   plain = λ told none. record { opened = λ going. refl; left = λ well. admitted_done opens command (refused_by blocks command) told none well };
+  admitted = λ none. none;
+  held = λ going. record { more = []; opened = sym (append-nil (held_in blocks.block opens)) };
+  unwritten = λ told none. unwritten;
 }
   where
     by_test : plan_admitted opens (refused_by blocks command) command ≡ plan_of opens command → (t : Bool) → runs command ≡ t → Way seen b (at_command blocks opens finished locks last (Some command)) command
-    by_test plan true is = Begun (record { gave = []; plan = plan; found = refl; opened = sym (append-nil (map opening_of opens)); runs = is; holds = record { locked = tt; still = tt }; unwritten = unwritten })
+    by_test plan true is = Begun (record { gave = []; plan = plan; found = refl; opened = sym (append-nil (held_in blocks.block opens)); runs = is; holds = record { locked = tt; still = tt }; unwritten = unwritten })
     by_test plan false is = Unbuilt (record { plan = plan ∙ not_built (plan_of opens command) (built_alike opens none_open command ∙ is) })
 
 pub first_left : (commands : List Command) (n : ℕ) → first_of (drop n commands) ≡ slice_get commands n
@@ -200,9 +203,12 @@ settled_on_course scenario seen b (command ∷ rest) s has are course = by_end (
     counts : length now.finished ≡ length s.finished
     counts = ap length acts_done.finished
 
-    goes : (t : Bool) → s.ended ≡ t → is_finished (facts_of seen b) command now ≡ false → s.ended ≡ false
-    goes true over unfinished = absurd (let both : true ≡ false = sym (finished_stays (facts_of seen b) command s (course.ends command at over)) ∙ unfinished in cc both)
-    goes false on unfinished = on
+    over : is_finished (facts_of seen b) command now ≡ false → s.ended ≡ true → TellsAlone seen b now command
+    over unfinished is = by_end (course.ends command at is)
+      where
+        by_end : (is_finished (facts_of seen b) command s ≡ true) ⊎ TellsAlone seen b s command → TellsAlone seen b now command
+        by_end (inl finished) = absurd (let both : true ≡ false = sym (finished_stays (facts_of seen b) command s finished) ∙ unfinished in cc both)
+        by_end (inr alone) = subst (λ x. TellsAlone seen b x command) (sym (acted-out (facts_of seen b) command s (ap (λ p. is_settled (outcome_of p)) alone.left))) alone
 
     by_end : (t : Bool) → is_finished (facts_of seen b) command now ≡ t
         → (HasSession scenario seen b now.locks → rest ≡ drop (length (now.finished ++ finished_as now ∷ [])) (commands_of scenario b) → EntersCourse scenario seen b (next_session command (first_of rest) now)
@@ -215,7 +221,7 @@ settled_on_course scenario seen b (command ∷ rest) s has are course = by_end (
         next = rest_left (commands_of scenario b) (length s.finished) command rest are ∙ ap (λ n. drop n (commands_of scenario b)) (sym (length_push now.finished (finished_as now) ∙ ap (λ n. n + 1) counts))
     by_end false going more = record {
       follows = λ other here. subst (FollowsPlan seen b now) (let both : Some command ≡ Some other = sym at ∙ ap (slice_get (commands_of scenario b)) (sym counts) ∙ here in cc both) acts_done.follows;
-      going = λ other here. acts_done.ended ∙ goes s.ended refl going;
+      going = λ other here is. subst (TellsAlone seen b now) (let both : Some command ≡ Some other = sym at ∙ ap (slice_get (commands_of scenario b)) (sym counts) ∙ here in cc both) (over going (sym acts_done.ended ∙ is));
       later = λ c after. course.later c (omega (arith, after, counts));
       clear = subst (λ o. ClearUnlessOwed (facts_of seen b) o now) (sym at ∙ ap (slice_get (commands_of scenario b)) (sym counts)) acts_done.clear;
     }
@@ -226,7 +232,7 @@ pub act_enters : (scenario : Scenario) (seen : List Entry) (b : ℕ) (s : Sessio
 act_enters scenario seen b s command act rest given has at free left done course = record {
   follows = λ other here. subst (FollowsPlan seen b (act_done act given (rest given) s)) (let both : Some command ≡ Some other = sym at ∙ here in cc both)
       (act_follows scenario seen b s command act rest given (record { played = has.played; session = has.session; is = has.is; holds = has.holds; clear = clear }) left here_done (course.follows command at));
-  ends = λ other here over. absurd (let both : true ≡ false = sym (settled_if (course.ends command at over)) ∙ ap (λ p. is_settled (outcome_of p)) left in cc both);
+  ends = λ other here over. absurd (unsettled (course.ends command at over));
   later = course.later;
   clear = λ owes. clear;
 }
@@ -236,6 +242,10 @@ act_enters scenario seen b s command act rest given has at free left done course
 
     clear : map cleared s.locks ≡ s.locks
     clear = subst (λ o. ClearUnlessOwed (facts_of seen b) o s) at course.clear (builds_done (facts_of seen b) command s here_done.builds free)
+
+    unsettled : (is_finished (facts_of seen b) command s ≡ true) ⊎ TellsAlone seen b s command → ⊥
+    unsettled (inl finished) = let both : true ≡ false = sym (settled_if finished) ∙ ap (λ p. is_settled (outcome_of p)) left in cc both
+    unsettled (inr alone) = let both : Do act rest ≡ Done alone.told = sym left ∙ alone.left in cc both
 
     settled_if : is_finished (facts_of seen b) command s ≡ true → is_settled (outcome_of s.left) ≡ true
     settled_if finished = (and_parts (is_settled (outcome_of s.left)) (is_none (end_left (facts_of seen b) command s)) (and_parts (is_settled (outcome_of s.left) && is_none (end_left (facts_of seen b) command s)) _ finished).0).0

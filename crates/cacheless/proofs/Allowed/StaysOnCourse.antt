@@ -1,5 +1,5 @@
 -- A command that does what its plan says still does after one more entry of another backend, or of its own that is no write, release or taking back.
-use Rattle.std.proofs.Common.{◌≡◌, ◌+◌, ◌<◌, ◌∙◌, ℕ, Bool, true, false, Option, Some, List, [], ◌∷◌, ◌++◌, ◌==◌, ◌&&◌, ◌||◌, refl, sym, ap, subst, map, length, arith}
+use Rattle.std.proofs.Common.{◌≡◌, ◌+◌, ◌<◌, ◌∙◌, ℕ, Bool, true, false, Option, None, Some, List, [], ◌∷◌, ◌++◌, ◌==◌, ◌&&◌, ◌||◌, refl, sym, ap, subst, map, length, arith}
 use Rattle.std.proofs.Math.Bool.{and-false, or-false}
 use Rattle.std.proofs.lemmas.Bool.{ne_eqb}
 use Rattle.base_types.specs.declared.scan.Purpose.TheVariants as scans
@@ -16,8 +16,9 @@ use Rattle.history_model.proofs.Locked.{IsQuiet, IsIdle}
 use Rattle.history_model.proofs.Reading.{has_written-more, rows_read-own, rows_read-other}
 use Rattle.cacheless.specs.Types.{Purpose, Command, Told, Entry, Event}
 use Rattle.cacheless.specs.ActsDone.{reached, made_in, opening_by, WayHolds}
-use Rattle.cacheless.specs.OnCourse.{OnItsWay, is_over, Way, Begun, Wrote, Unbuilt, Over, NamedFits, WasSought, DoesNoAct, FollowsPlan}
-use Rattle.cacheless.specs.Session.{Session, none_open, opening_of, number_of, outcome_of, is_settled}
+use Rattle.cacheless.specs.OnCourse.{OnItsWay, is_over, Way, Begun, Wrote, Unbuilt, Over, NamedFits, WasSought, DoesNoAct, StillHolds, FollowsPlan}
+use Rattle.txn_blocks.specs.Blocks.{refused_by}
+use Rattle.cacheless.specs.Session.{Session, none_open, held_in, held_before, number_of, outcome_of, is_settled}
 use Rattle.cacheless.specs.Settled.{class_oid, found_by}
 use Rattle.cacheless.proofs.Plans.ActOrder.{follows_order}
 pub use Rattle.cacheless.proofs.Plans.StillLocked.{MayCome}
@@ -53,6 +54,7 @@ pub record IsAfter (s later : Session) : Type 0 where
   pub found : later.found ≡ s.found
   pub sought : later.sought ≡ s.sought
   pub finished : later.finished ≡ s.finished
+  pub blocks : later.blocks ≡ s.blocks
 
 -- the same where its release may have closed what was open
 pub record IsAfterEnd (s later : Session) : Type 0 where
@@ -63,6 +65,7 @@ pub record IsAfterEnd (s later : Session) : Type 0 where
   pub found : later.found ≡ s.found
   pub sought : later.sought ≡ s.sought
   pub finished : later.finished ≡ s.finished
+  pub blocks : later.blocks ≡ s.blocks
 
 pub before_end : (s later : Session) → IsAfter s later → later.ended ≡ s.ended → IsAfterEnd s later
 before_end s later after same = record {
@@ -73,7 +76,12 @@ before_end s later after same = record {
   found = after.found;
   sought = after.sought;
   finished = after.finished;
+  blocks = after.blocks;
 }
+
+-- what was held as its command began is the same
+pub held_same : (s later : Session) → later.opens ≡ s.opens → later.blocks ≡ s.blocks → held_before s ≡ held_before later
+held_same s later opens blocks = λ i. held_in (sym blocks i).block (sym opens i)
 
 -- its plan is the same
 pub plan_same : (s later : Session) (command : Command) → later.opens ≡ s.opens → plan_of s.opens command ≡ plan_of later.opens command
@@ -96,7 +104,7 @@ begun-more history e b s later command may idle writes after way = record {
   gave = way.gave;
   plan = after.left ∙ way.plan ∙ ap (reached way.gave) (plan_same s later command after.opens);
   found = after.found ∙ way.found ∙ ap (made_in found_by way.gave) (plan_same s later command after.opens);
-  opened = after.opened ∙ way.opened ∙ ap (λ opens. map opening_of opens ++ made_in opening_by way.gave (plan_of opens command)) (sym after.opens);
+  opened = after.opened ∙ way.opened ∙ (λ i. held_same s later after.opens after.blocks i ++ made_in opening_by way.gave (plan_same s later command after.opens i));
   runs = way.runs;
   holds = subst (WayHolds (history ++ e ∷ []) b way.gave) (plan_same s later command after.opens)
       (way_stays history e b way.gave (plan_of s.opens command) may idle (follows_order s.opens command (built_alike s.opens none_open command ∙ way.runs)) way.holds);
@@ -132,16 +140,24 @@ sought-more history e b s later command name writes after was = record {
   first = after.sought ∙ was.first ∙ plan_same s later command after.opens;
   runs = was.runs;
   found = ap length after.found ∙ was.found;
-  opened = λ going. let still = after.opened going in still.1 ∙ was.opened still.0 ∙ ap (map opening_of) (sym after.opens);
+  opened = λ going. let still = after.opened going in still.1 ∙ was.opened still.0 ∙ held_same s later after.opens after.blocks;
   unwritten = ap (λ l. has_written (history ++ e ∷ []) b (length l + 1)) after.finished ∙ writes (number_of s) ∙ was.unwritten;
 }
 
 -- a command that does no act
 pub plain-more : (s later : Session) (told : Told) → IsAfterEnd s later → DoesNoAct s told → DoesNoAct later told
 plain-more s later told after none = record {
-  opened = λ going. let still = after.opened going in still.1 ∙ none.opened still.0 ∙ ap (map opening_of) (sym after.opens);
+  opened = λ going. let still = after.opened going in still.1 ∙ none.opened still.0 ∙ held_same s later after.opens after.blocks;
   left = λ well. after.left ∙ none.left (ap outcome_of (sym after.left) ∙ well);
 }
+
+-- what the blocks say of a command that shows no error
+pub admitted-more : (s later : Session) (command : Command) → IsAfterEnd s later → (s.refused ≡ None → refused_by s.blocks command ≡ None) → later.refused ≡ None → refused_by later.blocks command ≡ None
+admitted-more s later command after admitted none = ap (λ b. refused_by b command) after.blocks ∙ admitted (sym after.refused ∙ none)
+
+-- what was held is held
+pub holds-more : (s later : Session) → IsAfterEnd s later → (s.ended ≡ false → StillHolds s) → later.ended ≡ false → StillHolds later
+holds-more s later after held going = let still = after.opened going in let was = held still.0 in record { more = was.more; opened = still.1 ∙ was.opened ∙ ap (λ l. l ++ was.more) (held_same s later after.opens after.blocks) }
 
 -- the running command as a whole
 pub follows-more : (history : List Entry) (e : Entry) (b : ℕ) (s later : Session) (command : Command) → MayCome history e → IsIdle b history e → LeavesWrites history e b → LeavesNames history e b
@@ -152,6 +168,9 @@ follows-more history e b s later command may idle writes names over after same f
   named = subst (NamedFits (history ++ e ∷ []) b) (sym after.left) (named-more history e b s.left names follows.named);
   sought = λ name is. sought-more history e b s later command name writes (before_end s later after same) (follows.sought name (sym after.left ∙ is));
   plain = λ told none. plain-more s later told (before_end s later after same) (follows.plain told (plan_same s later command after.opens ∙ none));
+  admitted = admitted-more s later command (before_end s later after same) follows.admitted;
+  held = holds-more s later (before_end s later after same) follows.held;
+  unwritten = λ told none. ap (has_written (history ++ e ∷ []) b) (number_same s later after) ∙ writes (number_of s) ∙ follows.unwritten told (plan_same s later command after.opens ∙ none);
 }
 
 -- after a taking back only the release comes

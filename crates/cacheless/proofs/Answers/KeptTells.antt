@@ -16,7 +16,7 @@ use Rattle.cacheless.specs.declared.progress.Progress.{Progress}
 use Rattle.cacheless.specs.Facts.{facts_of}
 use Rattle.cacheless.specs.Lines.{answer_judged, line_of}
 use Rattle.cacheless.specs.Owed.{unusable, builds_owed, owed_of}
-use Rattle.cacheless.specs.OnCourse.{is_over, FollowsPlan}
+use Rattle.cacheless.specs.OnCourse.{FollowsPlan, TellsStill}
 use Rattle.cacheless.specs.Played.{IsPlayed}
 use Rattle.cacheless.specs.Session.{Outcome, Badly, number_of, outcome_of}
 use Rattle.cacheless.specs.Settled.{finished_as, settled}
@@ -102,7 +102,7 @@ failed_badly Badly is = refl
 failed_badly o is = absurd (cc is)
 
 -- so what the code answers is the line of its command, once that is to be answered, and while nothing of it is taken back or released
-pub told_now : (scenario : Scenario) (seen : List Entry) (p : Progress) (command : Command) (text : List ℕ) → IsPlayed scenario seen → (holds : Holds scenario seen p) → FollowsPlan seen p.id (session_at p holds.rest) command → is_over (last_event_of seen p.id) (session_at p holds.rest) ≡ false → length seen ≤ holds.rest.judged
+pub told_now : (scenario : Scenario) (seen : List Entry) (p : Progress) (command : Command) (text : List ℕ) → IsPlayed scenario seen → (holds : Holds scenario seen p) → FollowsPlan seen p.id (session_at p holds.rest) command → TellsStill seen p.id (session_at p holds.rest) command → length seen ≤ holds.rest.judged
     → AreLastScans seen p.id (kept_at p) → KeepsMissed p → is_to_answer command p ≡ true → IsToldText p text
     → record { backend = p.id; command = number_of (session_at p holds.rest); text = text } ≡ line_of scenario seen p.id (number_of (session_at p holds.rest)) (finished_as (session_at p holds.rest)) command
 told_now scenario seen p command text played holds follows stands judged at missed out told = told_line scenario seen p holds.rest command text

@@ -87,18 +87,18 @@ reads_front front opened (Do act rest) reads = by_act act reads (λ given o has.
     by_act (Write draft) all further = on further (Write draft) all
 reads_front front opened plan reads = tt
 
-reads_plan : (opens : List OpenRelation) (command : Command) → runs command ≡ true → ReadsOpened (map opening_of opens) (plan_of opens command)
-reads_plan opens command built = subst (λ o. ReadsOpened o (plan_of opens command)) (append-nil (map opening_of opens))
-    (reads_front (map opening_of opens) [] (plan_of opens command) (reads_order (plan_of opens command) (follows_order opens command (built_alike opens none_open command ∙ built))))
+reads_plan : (held : List Opening) (opens : List OpenRelation) (command : Command) → runs command ≡ true → ReadsOpened held (plan_of opens command)
+reads_plan held opens command built = subst (λ o. ReadsOpened o (plan_of opens command)) (append-nil held)
+    (reads_front held [] (plan_of opens command) (reads_order (plan_of opens command) (follows_order opens command (built_alike opens none_open command ∙ built))))
 
-reads_admitted : (opens : List OpenRelation) (refused : Option CommandError) (command : Command) → runs command ≡ true → ReadsOpened (map opening_of opens) (plan_admitted opens refused command)
-reads_admitted opens (Some error) command built = tt
-reads_admitted opens None command built = reads_plan opens command built
+reads_admitted : (held : List Opening) (opens : List OpenRelation) (refused : Option CommandError) (command : Command) → runs command ≡ true → ReadsOpened held (plan_admitted opens refused command)
+reads_admitted held opens (Some error) command built = tt
+reads_admitted held opens None command built = reads_plan held opens command built
 
--- so each command does from its beginning
-pub reads_first : (blocks : Blocks) (opens : List OpenRelation) (o : Option Command) → ((command : Command) → o ≡ Some command → runs command ≡ true) → ReadsOpened (map opening_of opens) (plan_first blocks opens o)
-reads_first blocks opens None built = tt
-reads_first blocks opens (Some command) built = reads_admitted opens (refused_by blocks command) command (built command refl)
+-- so each command does from its beginning, whatever is held before it
+pub reads_first : (held : List Opening) (blocks : Blocks) (opens : List OpenRelation) (o : Option Command) → ((command : Command) → o ≡ Some command → runs command ≡ true) → ReadsOpened held (plan_first blocks opens o)
+reads_first held blocks opens None built = tt
+reads_first held blocks opens (Some command) built = reads_admitted held opens (refused_by blocks command) command (built command refl)
 
 -- one act more
 pub reads_after : (opened : List Opening) (act : Act) (rest : List Row → Plan) (given : List Row) (now : List Opening) (plan : Plan) → ReadsOpened opened (Do act rest) → now ≡ opened ++ opened_by act → plan ≡ rest given → ReadsOpened now plan

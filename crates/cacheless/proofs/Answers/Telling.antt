@@ -1,12 +1,12 @@
 -- What a backend answers without an entry is what the history says.
-use Rattle.std.proofs.Common.{◌≡◌, ◌≤◌, ◌+◌, ◌∙◌, ◌&&◌, ◌||◌, ℕ, Bool, true, false, not, Option, Some, None, List, [], ◌∷◌, ◌++◌, refl, sym, ap, subst, length, drop, slice_get, is_some, is_none, unwrap_or, arith}
+use Rattle.std.proofs.Common.{◌≡◌, ◌≤◌, ◌+◌, ◌∙◌, ◌&&◌, ◌||◌, ◌⊎◌, inl, inr, ℕ, Bool, true, false, not, Option, Some, None, List, [], ◌∷◌, ◌++◌, refl, sym, ap, subst, length, drop, slice_get, is_some, is_none, unwrap_or, arith}
 use Rattle.std.specs.Option.{option_map}
 use Rattle.std.proofs.Math.Bool.{or-true}
 use Rattle.std.proofs.lemmas.Bool.{both_ways, and_parts}
 use Rattle.ddl_effect.specs.Commands.{commands_of}
 use Rattle.base_types.specs.declared.scan.Purpose.TheVariants as scans
 use Rattle.event_kinds.specs.declared.entry.Event.TheVariants as events
-use Rattle.ddl_effect.specs.Plans.{Plan, Act, Absent, Do, Lookup, Open, Search, Read, Lock, Write}
+use Rattle.ddl_effect.specs.Plans.{Plan, Act, Done, Absent, Do, Lookup, Open, Search, Read, Lock, Write}
 use Rattle.ddl_effect.specs.Stages.{plan_at, told_of}
 use Rattle.txn_blocks.specs.Blocks.{Blocks}
 use Rattle.history_model.specs.Lives.{last_event_of}
@@ -16,7 +16,7 @@ use Rattle.cacheless.specs.Answering.{IsToldText, AreLastScans, IsWhole, PlacesF
 use Rattle.cacheless.specs.Facts.{Facts, facts_of}
 use Rattle.cacheless.specs.Holds.{FactsFit, Holds, HasActed, HasPassed}
 use Rattle.cacheless.specs.Lines.{line_of, lines_from}
-use Rattle.cacheless.specs.OnCourse.{is_absent, is_over, OnItsWay, EntersCourse}
+use Rattle.cacheless.specs.OnCourse.{is_absent, is_over, OnItsWay, EntersCourse, TellsStill}
 use Rattle.cacheless.specs.Session.{Session, number_of, first_of, outcome_of, is_settled}
 use Rattle.cacheless.specs.Owed.{act_owed}
 use Rattle.cacheless.specs.Settled.{act_done, blocks_after, opens_after, finished_as, next_session}
@@ -125,7 +125,7 @@ act_tells scenario seen was p held now acted same = record {
   };
   here = λ command at none. let h = now.here command (sym same_command ∙ at) (ap (λ o. is_some o) (sym same) ∙ none) in record {
     judged = subst (λ (x : Session). length seen ≤ x.judged) (sym acted.session) h.judged;
-    stands = (λ i. is_over (last_event_of seen (acted.moves.id i)) (acted.session i)) ∙ over_same (last_event_of seen was.id) s (act_done acted.act acted.given (acted.further acted.given) s) refl ∙ h.stands;
+    stands = inl ((λ i. is_over (last_event_of seen (acted.moves.id i)) (acted.session i)) ∙ over_same (last_event_of seen was.id) s (act_done acted.act acted.given (acted.further acted.given) s) refl ∙ whole command h.stands);
   };
   last = subst (λ (x : Session). length seen ≤ x.last) (sym acted.session) now.last;
   back = λ from command gone at. absurd (both_ways _ going (now.back from acted.command (ap (last_event_of seen) (sym acted.moves.id) ∙ gone) acted.at).out);
@@ -139,6 +139,10 @@ act_tells scenario seen was p held now acted same = record {
 
     going : is_settled (outcome_of s.left) ≡ false
     going = unsettled scenario seen was p held acted
+
+    whole : (command : Command) → TellsStill seen was.id s command → is_over (last_event_of seen was.id) s ≡ false
+    whole command (inl stands) = stands
+    whole command (inr alone) = absurd (both_ways _ going (ap (λ q. is_settled (outcome_of q)) alone.left))
 
 -- and it passes over no command
 pub act_lines : (scenario : Scenario) (seen : List Entry) (was p : Progress) (held : Holds scenario seen was) (acted : HasActed scenario seen was held p) (lines : List Line) → AreLines scenario seen was (session_at was held.rest) lines → AreLines scenario seen p (session_at p acted.holds.rest) lines
@@ -177,9 +181,13 @@ whole_now seen s session same stands = by_last (last_event_of seen s.id) refl st
 -- what the code answers is the line of its command
 pub answered_line : (scenario : Scenario) (seen : List Entry) (s : Progress) (command : Command) (text : List ℕ) (holds : Holds scenario seen s) → TellsNow scenario seen s holds → PlacesFit seen s → slice_get s.commands s.finished ≡ Some command → is_to_answer command s ≡ true → s.answer ≡ None → IsToldText s text
     → record { backend = s.id; command = number_of (session_at s holds.rest); text = text } ≡ line_of scenario seen s.id (number_of (session_at s holds.rest)) (finished_as (session_at s holds.rest)) command
-answered_line scenario seen s command text holds now places at out none told = told_now scenario seen s command text now.played holds (now.course.follows command (at_finished scenario seen s holds ∙ at)) here.stands here.judged places.kept (λ name missed. places.absent name missed (whole_now seen s (session_at s holds.rest) refl here.stands)) out told
+answered_line scenario seen s command text holds now places at out none told = told_now scenario seen s command text now.played holds (now.course.follows command (at_finished scenario seen s holds ∙ at)) here.stands here.judged places.kept (λ name missed. places.absent name missed (whole_now seen s (session_at s holds.rest) refl (whole name missed here.stands))) out told
   where
-    here : IsJudgedHere seen s.id (session_at s holds.rest)
+    whole : (name : List ℕ) → plan_at s.opens s.exec ≡ Absent name → TellsStill seen s.id (session_at s holds.rest) command → is_over (last_event_of seen s.id) (session_at s holds.rest) ≡ false
+    whole name missed (inl stands) = stands
+    whole name missed (inr alone) = absurd (let both : Absent name ≡ Done alone.told = sym missed ∙ alone.left in cc both)
+
+    here : IsJudgedHere seen s.id (session_at s holds.rest) command
     here = now.here command at (ap (λ o. is_some o) none)
 
 -- so with its answer the code tells what the history says
@@ -235,7 +243,7 @@ pass_tells scenario seen was p held now passed none = record {
   };
   here = λ command at unanswered. record {
     judged = subst (λ (x : Session). length seen ≤ x.judged) (sym passed.session) now.last;
-    stands = (λ i. is_over (last_event_of seen (passed.id i)) (passed.session i)) ∙ begins_over (last_event_of seen was.id) refl;
+    stands = inl ((λ i. is_over (last_event_of seen (passed.id i)) (passed.session i)) ∙ begins_over (last_event_of seen was.id) refl);
   };
   last = subst (λ (x : Session). length seen ≤ x.last) (sym passed.session) now.last;
   back = λ from command gone at. absurd (never from (ap (last_event_of seen) (sym passed.id) ∙ gone));

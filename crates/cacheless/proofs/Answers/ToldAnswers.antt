@@ -1,9 +1,10 @@
 -- What a command has to answer by the history is what its backend tells by its last scans and its locks.
-use Rattle.std.proofs.Common.{◌≡◌, ◌≤◌, ◌∙◌, ℕ, true, false, Option, Some, None, List, [], ◌∷◌, refl, sym, ap, subst, map, length, ◌⊎◌, inl, inr}
+use Rattle.std.proofs.Common.{◌≡◌, ◌≤◌, ◌∙◌, ℕ, true, false, Option, Some, None, List, [], ◌∷◌, refl, sym, ap, subst, length, ◌⊎◌, inl, inr}
 use Rattle.std.proofs.lemmas.List.{append-nil, take_all}
 use Rattle.command_answers.specs.Answers.{answer_text}
 use Rattle.command_answers.specs.declared.answer.Answer.TheVariants as answers
 use Rattle.base_types.specs.declared.scan.Purpose.TheVariants as scans
+use Rattle.txn_blocks.specs.Blocks.{refused_by}
 use Rattle.ddl_effect.specs.Commands.{plan_of}
 use Rattle.ddl_effect.proofs.HasPlan.{built_alike}
 use Rattle.ddl_effect.specs.Effects.{effect_at}
@@ -13,18 +14,18 @@ use Rattle.ddl_effect.specs.Plans.{Plan, Done, Fails, Absent, NotBuilt, Do}
 use Rattle.history_model.specs.Lives.{last_event_of}
 use Rattle.history_model.specs.Read.{place_read, rows_read, is_usable}
 use Rattle.history_model.specs.Versions.{answer_of}
-use Rattle.cacheless.specs.Types.{Oid, Command, CommandError, Answer, Told, Scenario, Entry, Line}
+use Rattle.cacheless.specs.Types.{Oid, Command, CommandError, Answer, Told, Opening, Scenario, Entry, Line}
 use Rattle.cacheless.specs.ActsDone.{made_in}
 use Rattle.cacheless.specs.Facts.{facts_of}
 use Rattle.cacheless.specs.Lines.{name_in, answer_well, answer_by, effect_judged, answer_judged, line_of}
-use Rattle.cacheless.specs.OnCourse.{OnItsWay, HasWritten, is_over, Way, Begun, Wrote, Unbuilt, Over, FollowsPlan}
+use Rattle.cacheless.specs.OnCourse.{OnItsWay, HasWritten, is_over, Way, Begun, Wrote, Unbuilt, Over, FollowsPlan, TellsAlone, TellsStill}
 use Rattle.cacheless.specs.Owed.{builds_owed, owed_of}
 use Rattle.cacheless.proofs.Allowed.Releases.{OwesNoScan, owes_no_scan}
-use Rattle.cacheless.specs.Session.{Session, none_open, opening_of, number_of, outcome_of, is_settled, Well, Badly}
+use Rattle.cacheless.specs.Session.{Session, none_open, held_before, number_of, outcome_of, is_settled, Well, Badly}
 use Rattle.cacheless.specs.Settled.{found_by, finished_as}
 use Rattle.cacheless.specs.Told.{tells_of_scans, told_well, told_left, told_read}
 use Rattle.cacheless.proofs.Plans.ActOrder.{TellsOpen, follows_order, goes_by_relation}
-use Rattle.cacheless.proofs.Plans.ToldHeld.{tells_first, ends_told}
+use Rattle.cacheless.proofs.Plans.ToldHeld.{tells_held, ends_told}
 use Rattle.cacheless.proofs.Plans.EffectAlong.{effect_along}
 use Rattle.cacheless.proofs.Allowed.SettledCourse.{HasSession}
 use Rattle.cacheless.proofs.Answers.ReadPlaces.{read_at_place}
@@ -35,32 +36,44 @@ pub record HasComeOut (scenario : Scenario) (seen : List Entry) (b : ℕ) (s : S
   pub has : HasSession scenario seen b s.locks
   pub follows : FollowsPlan seen b s command
   pub out : is_settled (outcome_of s.left) ≡ true
-  pub stands : is_over (last_event_of seen b) s ≡ false
+  pub stands : TellsStill seen b s command
   pub builds : outcome_of s.left ≡ Well → tells_of_scans (told_of s.left) ≡ true → builds_owed (facts_of seen b) s.opened ≡ []
   pub named : (oid : Oid) → s.left ≡ Done (tells.Regclass oid) → is_usable seen b (scans.RelOid oid) ≡ true
 
 -- by what it is on its way to, or has written
 pub data Stays (seen : List Entry) (b : ℕ) (s : Session) (command : Command) : Type 0 where
-  Unwritten : (way : OnItsWay seen b s command) → Stays seen b s command
+  Unwritten : (way : OnItsWay seen b s command) (admitted : refused_by s.blocks command ≡ None) → Stays seen b s command
   Written : (wrote : HasWritten seen b s command) → Stays seen b s command
+  Plain : (alone : TellsAlone seen b s command) → Stays seen b s command
 
 pub stays : (scenario : Scenario) (seen : List Entry) (b : ℕ) (s : Session) (command : Command) → HasComeOut scenario seen b s command → s.refused ≡ None → Stays seen b s command
-stays scenario seen b s command come none = by_way (come.follows.way none)
+stays scenario seen b s command come none = by_side come.stands
   where
-    by_way : Way seen b s command → Stays seen b s command
-    by_way (Begun way) = Unwritten way
-    by_way (Wrote w) = Written w
-    by_way (Unbuilt w) = absurd (let both : true ≡ false = sym come.out ∙ ap (λ p. is_settled (outcome_of p)) w.plan in cc both)
-    by_way (Over w) = absurd (let both : true ≡ false = sym w.over ∙ come.stands in cc both)
+    by_way : is_over (last_event_of seen b) s ≡ false → Way seen b s command → Stays seen b s command
+    by_way stands (Begun way) = Unwritten way (come.follows.admitted none)
+    by_way stands (Wrote w) = Written w
+    by_way stands (Unbuilt w) = absurd (let both : true ≡ false = sym come.out ∙ ap (λ p. is_settled (outcome_of p)) w.plan in cc both)
+    by_way stands (Over w) = absurd (let both : true ≡ false = sym w.over ∙ stands in cc both)
+
+    by_side : TellsStill seen b s command → Stays seen b s command
+    by_side (inl stands) = by_way stands (come.follows.way none)
+    by_side (inr alone) = Plain alone
+
+-- what rests on no scan tells of no relation
+alone_open : (opened : List Opening) (told : Told) → tells_of_scans told ≡ false → TellsOpen opened told
+alone_open opened tells.Ok alone = tt
+alone_open opened tells.Commit alone = tt
+alone_open opened told alone = absurd (cc alone)
 
 -- what is told of a command that came out well, once it is on its way
-tells_open : (seen : List Entry) (b : ℕ) (s : Session) (command : Command) (told : Told) → OnItsWay seen b s command → s.left ≡ Done told → TellsOpen s.opened told
-tells_open seen b s command told way done = subst (λ l. TellsOpen l told) (sym way.opened)
-    (ends_told (map opening_of s.opens) way.gave (plan_of s.opens command) told (follows_order s.opens command (built_alike s.opens none_open command ∙ way.runs)) (tells_first s.opens command) (sym way.plan ∙ done))
+tells_open : (seen : List Entry) (b : ℕ) (s : Session) (command : Command) (told : Told) → OnItsWay seen b s command → refused_by s.blocks command ≡ None → s.left ≡ Done told → TellsOpen s.opened told
+tells_open seen b s command told way admitted done = subst (λ l. TellsOpen l told) (sym way.opened)
+    (ends_told (held_before s) way.gave (plan_of s.opens command) told (follows_order s.opens command (built_alike s.opens none_open command ∙ way.runs)) (tells_held s.blocks s.opens command admitted) (sym way.plan ∙ done))
 
 -- of a relation only what is open is told, and a field only where the relation has it
 pub stays_open : (seen : List Entry) (b : ℕ) (s : Session) (command : Command) (told : Told) → Stays seen b s command → s.left ≡ Done told → TellsOpen s.opened told
-stays_open seen b s command told (Unwritten way) done = tells_open seen b s command told way done
+stays_open seen b s command told (Unwritten way admitted) done = tells_open seen b s command told way admitted done
+stays_open seen b s command told (Plain alone) done = alone_open s.opened told (let same : alone.told ≡ told = (let both : Done alone.told ≡ Done told = sym alone.left ∙ done in cc both) in subst (λ t. tells_of_scans t ≡ false) same alone.alone)
 stays_open seen b s command told (Written wrote) done = subst (TellsOpen s.opened) (ap told_of (sym wrote.plan ∙ done)) tt
 
 -- what is told of a command that came out well by the last scans of its backend
@@ -90,14 +103,24 @@ stays_told : (scenario : Scenario) (seen : List Entry) (b : ℕ) (s : Session) (
 stays_told scenario seen b s command come (Written wrote) =
     ap (λ t. answer_by scenario seen b (finished_as s) (effect_judged seen b (finished_as s) t command)) wrote.written
     ∙ sym (ap (told_left (rows_read seen b) (place_read seen b) s.locks s.blocks.block) wrote.plan)
-stays_told scenario seen b s command come (Unwritten way) =
+stays_told scenario seen b s command come (Plain alone) =
+    ap (λ t. answer_by scenario seen b (finished_as s) (effect_judged seen b (finished_as s) t command)) alone.unwritten
+    ∙ ap (λ p. answer_by scenario seen b (finished_as s) (effect_at (answer_of seen b) s.found p)) alone.plan
+    ∙ by_told alone.told alone.alone
+    ∙ sym (ap (told_left (rows_read seen b) (place_read seen b) s.locks s.blocks.block) alone.left)
+  where
+    by_told : (told : Told) → tells_of_scans told ≡ false → answer_well scenario seen b (finished_as s) told ≡ well_read seen b s told
+    by_told tells.Ok plain = refl
+    by_told tells.Commit plain = refl
+    by_told told plain = absurd (cc plain)
+stays_told scenario seen b s command come (Unwritten way admitted) =
     ap (λ t. answer_by scenario seen b (finished_as s) (effect_judged seen b (finished_as s) t command)) way.unwritten
     ∙ ap (answer_by scenario seen b (finished_as s)) (
     ap (λ l. effect_at (answer_of seen b) l (plan_of s.opens command)) (way.found ∙ sym (append-nil (made_in found_by way.gave (plan_of s.opens command))))
     ∙ effect_along (answer_of seen b) (plan_of s.opens command) way.gave [] (goes_by_relation s.opens command (built_alike s.opens none_open command ∙ way.runs)) way.holds.still
     ∙ ap (effect_at (answer_of seen b) []) (sym way.plan)
     )
-    ∙ left_told scenario seen b s s.left come.out (λ told done. well_told scenario seen b s command told come done (tells_open seen b s command told way done))
+    ∙ left_told scenario seen b s s.left come.out (λ told done. well_told scenario seen b s command told come done (tells_open seen b s command told way admitted done))
 
 -- what a command has to answer that has come out, at the entry where it is judged, is what its backend tells by its last scans and its locks
 pub answer_told : (scenario : Scenario) (seen : List Entry) (b : ℕ) (s : Session) (command : Command) → HasComeOut scenario seen b s command → answer_judged scenario seen b (number_of s) (finished_as s) command s.refused ≡ told_read seen b s
@@ -116,7 +139,7 @@ line_told scenario seen b s command come judged = ap (λ h. line_by h) (take_all
     line_by h = record { backend = b; command = number_of s; text = answer_text (answer_judged scenario h b (number_of s) (finished_as s) command s.refused) }
 
 -- a command that came out of itself and owes nothing or tells of no scan, or has failed, has come out so, where its last entry takes nothing back and is no release
-pub has_come_out : (scenario : Scenario) (seen : List Entry) (b : ℕ) (s : Session) (command : Command) → HasSession scenario seen b s.locks → FollowsPlan seen b s command → is_settled (outcome_of s.left) ≡ true → is_over (last_event_of seen b) s ≡ false
+pub has_come_out : (scenario : Scenario) (seen : List Entry) (b : ℕ) (s : Session) (command : Command) → HasSession scenario seen b s.locks → FollowsPlan seen b s command → is_settled (outcome_of s.left) ≡ true → TellsStill seen b s command
     → (outcome_of s.left ≡ Badly) ⊎ (tells_of_scans (told_of s.left) ≡ false) ⊎ (owed_of (facts_of seen b) command s ≡ []) → HasComeOut scenario seen b s command
 has_come_out scenario seen b s command has follows out stands owes = record {
   has = has;

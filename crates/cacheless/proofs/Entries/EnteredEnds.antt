@@ -1,5 +1,5 @@
 -- What the entries of a command's end make of what the code holds.
-use Rattle.std.proofs.Common.{◌≡◌, ◌≤◌, ◌+◌, ◌∙◌, ◌&&◌, ◌||◌, ℕ, Bool, true, false, not, Option, Some, None, List, [], ◌++◌, refl, sym, ap, subst, slice_get, filter, nat_lt}
+use Rattle.std.proofs.Common.{◌≡◌, ◌≤◌, ◌+◌, ◌∙◌, ◌&&◌, ◌||◌, ℕ, Bool, true, false, not, Option, Some, None, List, [], ◌++◌, refl, sym, ap, subst, slice_get, map, filter, nat_lt}
 use Rattle.std.specs.List.{AllByRecursion, list_any}
 use Rattle.std.proofs.lemmas.List.Folds.{list_any-append}
 use Rattle.event_kinds.specs.declared.entry.Event.TheVariants as events
@@ -18,7 +18,9 @@ use Rattle.txn_blocks.specs.declared.transaction.RunningTransaction.{RunningTran
 use Rattle.cacheless.specs.declared.progress.Progress.{Progress}
 use Rattle.cacheless.specs.Facts.{Facts, facts_of}
 use Rattle.txn_blocks.specs.Transactions.{begun_own, ends_own, released_own}
+use Rattle.ddl_effect.specs.Opens.{opens_before}
 use Rattle.ddl_effect.specs.Stages.{plan_at}
+use Rattle.cacheless.specs.Session.{opening_of}
 use Rattle.cacheless.specs.State.{running_of, lists_at, lists_left, is_out, Kept, kept_at, is_kept, kept_spared, is_in_accept, locks_accepted}
 use Rattle.cacheless.specs.Holds.{AreRight, FactsFit, Rests, HasEntered}
 use Rattle.cacheless.proofs.Written.Putting.{puts_out}
@@ -143,7 +145,7 @@ gone_holds scenario old was from cats rels caches lists locks rests cats_are rel
 
 -- the state after a release
 abbrev pub let_go : Progress → ℕ → LocalCaches → Held → Roomy OwnLock → Progress
-let_go was from caches lists locks = record was { due = dues.Nothing; ended = true; opened = []; running = released_own from (begun_own (was.finished + 1) was.running); caches = caches; lists = lists; locks = locks }
+let_go was from caches lists locks = record was { due = dues.Nothing; ended = true; opened = map opening_of (opens_before from was.opens); running = released_own from (begun_own (was.finished + 1) was.running); caches = caches; lists = lists; locks = locks }
 
 pub release_holds : (scenario : Scenario) (old : List Entry) (was : Progress) (from : ℕ) (caches : LocalCaches) (lists : Held) (held locks : Roomy OwnLock) (rests : Rests scenario old was) → is_out was ≡ true → kept_of caches ≡ kept_at was
     → all_lists lists.lists ≡ lists_left (ends_own from was.running) (lists_at was) → held.items ≡ filter (λ lock. nat_lt lock.command from) was.locks.items
@@ -163,7 +165,7 @@ release_holds scenario old was from caches lists held locks rests out keeps left
   counts = counts_stay rests.holds.counts;
   order = subst (AllByRecursion (λ (list : Written). list.command ≤ was.finished + 1)) (sym left) (left_low (ends_own from was.running));
   sought = rests.holds.sought;
-  puts = puts_out [] (plan_at was.opens was.exec) out;
+  puts = puts_out (map opening_of (opens_before from was.opens)) (plan_at was.opens was.exec) out;
 }) items
   where
     event : Event

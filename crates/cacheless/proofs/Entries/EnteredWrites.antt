@@ -29,7 +29,7 @@ use Rattle.txn_blocks.specs.declared.transaction.RunningTransaction.{RunningTran
 use Rattle.cacheless.specs.declared.progress.Progress.{Progress}
 use Rattle.cacheless.specs.Facts.{Facts, facts_of}
 use Rattle.cacheless.specs.Locks.{locked_by}
-use Rattle.cacheless.specs.Session.{Session, opening_of}
+use Rattle.cacheless.specs.Session.{Session, held_in, held_before}
 use Rattle.cacheless.specs.Sessions.{written}
 use Rattle.cacheless.specs.Puts.{PutsOpened}
 use Rattle.txn_blocks.specs.Transactions.{begun_own}
@@ -84,7 +84,7 @@ done_written opens (stages.Altering altering) given is = alters_done opens alter
 done_written opens stage given is = absurd (cc)
 
 -- the session once the write of its command is made
-written_is : (p : Plan) (s : Session) → want_of p ≡ wants.Write → written p s ≡ record s { left = after_act [] p; opened = map opening_of s.opens; taken = None }
+written_is : (p : Plan) (s : Session) → want_of p ≡ wants.Write → written p s ≡ record s { left = after_act [] p; opened = held_before s; taken = None }
 written_is (Do (Write draft) rest) s is = refl
 written_is (Do (Lookup name mode) rest) s is = absurd (cc)
 written_is (Do (Open rel kind) rest) s is = absurd (cc)
@@ -100,7 +100,7 @@ written_is NotBuilt s is = absurd (cc)
 abbrev pub wrote : Progress → Xid → LocalCaches → Held → Exec → Roomy OwnLock → Progress
 wrote was xid caches lists exec locks = record was {
   exec = exec;
-  opened = map opening_of was.opens;
+  opened = held_in was.blocks.block was.opens;
   taken = None;
   due = dues.Nothing;
   running = Some (record (begun_own (was.finished + 1) was.running) { xid = Some xid });
@@ -134,7 +134,7 @@ write_holds scenario old was xid items messages new_oids first caches lists exec
   order = subst (AllByRecursion (λ (list : Written). list.command ≤ was.finished + 1)) (sym listed)
       (every-append (λ (list : Written). list.command ≤ was.finished + 1) (lists_at was) (written_by old was.id (was.finished + 1) items ∷ []) rests.holds.order (omega arith, tt));
   sought = λ is. absurd (not_both (is_absent (plan_at was.opens exec)) is (ap is_absent done));
-  puts = subst (PutsOpened (map opening_of was.opens)) (sym done) tt;
+  puts = subst (PutsOpened (held_in was.blocks.block was.opens)) (sym done) tt;
 }) accepts
   where
     ends_same : (p : Plan) (s : Session) → (written p s).finished ≡ s.finished
@@ -159,6 +159,6 @@ write_holds scenario old was xid items messages new_oids first caches lists exec
     s : Session
     s = session_at was rests.holds.rest
 
-    whole : noted_after old was event rests.holds.rest ≡ record s { left = plan_at was.opens exec; opened = map opening_of was.opens; taken = None; locks = locked.items; judged = length old + 1; last = length old + 1 }
+    whole : noted_after old was event rests.holds.rest ≡ record s { left = plan_at was.opens exec; opened = held_in was.blocks.block was.opens; taken = None; locks = locked.items; judged = length old + 1; last = length old + 1 }
     whole = ap (λ (t : Session). record t { tally = s.tally; locks = was.locks.items ++ flat_map (locked_by (was.finished + 1)) items; judged = length old + 1; last = length old + 1 }) (written_is (plan_at was.opens was.exec) s wants_it)
-        ∙ (λ i. record s { left = sym goes i; opened = map opening_of was.opens; taken = None; locks = (ap (λ l. was.locks.items ++ l) makes ∙ sym held) i; judged = length old + 1; last = length old + 1 })
+        ∙ (λ i. record s { left = sym goes i; opened = held_in was.blocks.block was.opens; taken = None; locks = (ap (λ l. was.locks.items ++ l) makes ∙ sym held) i; judged = length old + 1; last = length old + 1 })

@@ -9,6 +9,7 @@ use Rattle.inval_messages.specs.Lists.{cats_in, rels_in, lists_from, lists_befor
 use Rattle.command_lists.specs.Lists.{Held, all_lists, new_list, with_messages}
 use Rattle.local_caches.specs.Caches.{kept_of}
 use Rattle.local_caches.specs.declared.local_caches.LocalCaches.{LocalCaches}
+use Rattle.ddl_effect.specs.Opens.{opens_before}
 use Rattle.ddl_effect.specs.Plans.{after_act}
 use Rattle.ddl_effect.specs.Stages.{plan_at, want_of}
 use Rattle.ddl_effect.specs.declared.want.Want.TheVariants as wants
@@ -19,7 +20,7 @@ use Rattle.cacheless.specs.declared.progress.Due.{Due}
 use Rattle.cacheless.specs.declared.progress.Due.TheVariants as dues
 use Rattle.txn_blocks.specs.declared.transaction.RunningTransaction.{RunningTransaction}
 use Rattle.cacheless.specs.declared.progress.Progress.{Progress}
-use Rattle.cacheless.specs.Session.{opening_of}
+use Rattle.cacheless.specs.Session.{opening_of, held_in}
 use Rattle.cacheless.specs.Locks.{locked_by}
 use Rattle.txn_blocks.specs.Transactions.{begun_own, ends_own, released_own}
 use Rattle.cacheless.specs.State.{due_looked, due_fetched, one_if, lists_at, lists_left, kept_at, nothing_kept, kept_with, kept_spared, is_full, is_in_accept, locks_accepted, locks_made, locks_written, messages_in, clash_event, error_of, failed_with, FailsWith, SearchesAgain, is_out}
@@ -121,7 +122,7 @@ built_code was scan rows at own caches locks begins next pushed items scenario s
 
 pub write_code : (was : Progress) (xid : Xid) (messages : List Message) (new_oids : ℕ) (first : Oid) (own : RunningTransaction) (lists : Held) (caches : LocalCaches) (exec : Exec) (open_now : List OpenRelation) (opened : List Opening) (locked locks : Roomy OwnLock)
     → own ≡ record (begun_own (was.finished + 1) was.running) { xid = Some xid } → want_of (plan_at was.opens was.exec) ≡ wants.Write → all_lists lists.lists ≡ lists_at was ++ with_messages messages (new_list (was.finished + 1)) ∷ []
-    → kept_of caches ≡ kept_spared messages (kept_at was) → open_now ≡ was.opens → plan_at open_now exec ≡ after_act [] (plan_at open_now was.exec) → opened ≡ map opening_of was.opens → locked.items ≡ locks_written new_oids first (was.finished + 1) was.locks.items
+    → kept_of caches ≡ kept_spared messages (kept_at was) → open_now ≡ was.opens → plan_at open_now exec ≡ after_act [] (plan_at open_now was.exec) → opened ≡ held_in was.blocks.block was.opens → locked.items ≡ locks_written new_oids first (was.finished + 1) was.locks.items
     → locks.items ≡ locks_accepted (is_in_accept (record was { lists = lists; caches = caches; running = Some own; due = dues.Nothing; exec = exec; opened = opened; taken = None; locks = locked }) (slice_get was.commands was.finished)) locked.items
     → (scenario : Scenario) (seen : List Entry) (items : List Item) → (rests : Rests scenario seen was) → messages ≡ messages_in seen was.id items → flat_map (locked_by (was.finished + 1)) items ≡ locks_made new_oids first (was.finished + 1)
     → HasEntered scenario seen was (events.Write xid items) rests (record was { lists = lists; caches = caches; running = Some own; due = dues.Nothing; exec = exec; opened = opened; taken = None; locks = locks; answer = None })
@@ -153,7 +154,7 @@ gone_code was from own cats rels caches_first caches lists locks begins cats_are
     (gone_holds scenario seen was from cats rels caches lists locks rests cats_are rels_are (keeps ∙ ap (kept_spared rels) first) before items)
 
 pub release_code : (was : Progress) (from : ℕ) (first : Bool) (begun : RunningTransaction) (own : Option RunningTransaction) (lists : Held) (opened : List Opening) (caches : LocalCaches) (held locks : Roomy OwnLock) → is_out was ≡ true → first ≡ ends_own from was.running → begun ≡ begun_own (was.finished + 1) was.running → own ≡ released_own from begun
-    → all_lists lists.lists ≡ lists_left first (lists_at was) → held.items ≡ filter (λ lock. nat_lt lock.command from) was.locks.items → opened ≡ [] → kept_of caches ≡ kept_at was
+    → all_lists lists.lists ≡ lists_left first (lists_at was) → held.items ≡ filter (λ lock. nat_lt lock.command from) was.locks.items → opened ≡ map opening_of (opens_before from was.opens) → kept_of caches ≡ kept_at was
     → locks.items ≡ locks_accepted (is_in_accept (record was { lists = lists; running = own; locks = held; opened = opened; caches = caches; ended = true; due = dues.Nothing }) (slice_get was.commands was.finished)) held.items
     → (scenario : Scenario) (seen : List Entry) → (rests : Rests scenario seen was) → HasEntered scenario seen was (events.Release from) rests (record was { due = dues.Nothing; ended = true; running = own; lists = lists; opened = opened; caches = caches; locks = locks })
 release_code was from first begun own lists opened caches held locks out ends begins is left stay none keeps items scenario seen rests =

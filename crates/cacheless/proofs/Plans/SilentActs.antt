@@ -21,7 +21,7 @@ use Rattle.cacheless.specs.Facts.{Facts, facts_of}
 use Rattle.cacheless.specs.OnCourse.{is_absent, OnItsWay, Way, Begun, Wrote, Unbuilt, Over, GaveNow, NamedFits, WasSought, FollowsPlan}
 use Rattle.cacheless.specs.Owed.{builds_owed, act_owed}
 use Rattle.cacheless.specs.Played.{IsPlayed}
-use Rattle.cacheless.specs.Session.{Session, none_open, opening_of, outcome_of, is_settled}
+use Rattle.cacheless.specs.Session.{Session, none_open, held_before, outcome_of, is_settled}
 use Rattle.cacheless.specs.Sessions.{session_of}
 use Rattle.cacheless.specs.Settled.{class_oid, if_locked, has_taken_no_other, has_accepted, looked_up, gives, opened_by, found_by, act_done, done_here}
 use Rattle.cacheless.proofs.FoundKept.{lookup_ends}
@@ -70,9 +70,9 @@ its_place seen b s command act rest way at = subst (HasCome (made_in relation_by
     (has_come way.gave (plan_of s.opens command) (its_order seen b s command way))
 
 -- before a lookup the command has opened no descriptor
-pub lookup_opens_none : (seen : List Entry) (b : ℕ) (s : Session) (command : Command) (name : List ℕ) (mode : Mode) (rest : List Row → Plan) → FollowsPlan seen b s command → s.left ≡ Do (Lookup name mode) rest → s.opened ≡ map opening_of s.opens
+pub lookup_opens_none : (seen : List Entry) (b : ℕ) (s : Session) (command : Command) (name : List ℕ) (mode : Mode) (rest : List Row → Plan) → FollowsPlan seen b s command → s.left ≡ Do (Lookup name mode) rest → s.opened ≡ held_before s
 lookup_opens_none seen b s command name mode rest follows at =
-    way.opened ∙ ap (λ g. map opening_of s.opens ++ made_in opening_by g (plan_of s.opens command)) (lookup_first way.gave (plan_of s.opens command) name mode rest (its_order seen b s command way) (sym way.plan ∙ at)) ∙ append-nil (map opening_of s.opens)
+    way.opened ∙ ap (λ g. held_before s ++ made_in opening_by g (plan_of s.opens command)) (lookup_first way.gave (plan_of s.opens command) name mode rest (its_order seen b s command way) (sym way.plan ∙ at)) ∙ append-nil (held_before s)
   where
     way : OnItsWay seen b s command
     way = on_its_way seen b s command (Lookup name mode) rest follows at
@@ -190,7 +190,7 @@ way-act seen b s command act rest given at passes now way = record {
   gave = way.gave ++ given ∷ [];
   plan = sym passes ∙ ap (after_given given) (sym at ∙ way.plan) ∙ sym (reached-push way.gave given (plan_of s.opens command));
   found = ap (λ l. l ++ found_by act given) way.found ∙ sym (made found_by);
-  opened = ap (λ l. l ++ opened_by act) way.opened ∙ append_assoc (map opening_of s.opens) (made_in opening_by way.gave (plan_of s.opens command)) (opened_by act) ∙ ap (λ l. map opening_of s.opens ++ l) (sym (made opening_by));
+  opened = ap (λ l. l ++ opened_by act) way.opened ∙ append_assoc (held_before s) (made_in opening_by way.gave (plan_of s.opens command)) (opened_by act) ∙ ap (λ l. held_before s ++ l) (sym (made opening_by));
   runs = way.runs;
   holds = record {
     locked = subst (AllByRecursion (IsHeld seen b)) (sym (made locked_relation_by)) (every-append (IsHeld seen b) (made_in locked_relation_by way.gave (plan_of s.opens command)) (locked_relation_by act given) way.holds.locked now.locked);
@@ -216,7 +216,7 @@ record FailsToFind (seen : List Entry) (b : ℕ) (s : Session) (command : Comman
   none : class_oid (rows_read seen b (scans.RelName name)) ≡ None
   first : s.left ≡ plan_of s.opens command
   found : s.found ≡ []
-  opened : s.opened ≡ map opening_of s.opens
+  opened : s.opened ≡ held_before s
 
 there_or_fails : (seen : List Entry) (b : ℕ) (s : Session) (command : Command) (act : Act) (rest : List Row → Plan) (given : List Row) → (way : OnItsWay seen b s command) → s.left ≡ Do act rest → IsDoneHere (facts_of seen b) s act rest given → is_absent (rest given) ≡ true
     → FailsToFind seen b s command act rest given
@@ -228,7 +228,7 @@ there_or_fails seen b s command (Lookup name mode) rest given way at done absent
   none = gives_class (facts_of seen b) s mode (rows_read seen b (scans.RelName name)) given done.gave ∙ unfound.none;
   first = way.plan ∙ ap (λ g. reached g (plan_of s.opens command)) none_gave;
   found = way.found ∙ ap (λ g. made_in found_by g (plan_of s.opens command)) none_gave;
-  opened = way.opened ∙ ap (λ g. map opening_of s.opens ++ made_in opening_by g (plan_of s.opens command)) none_gave ∙ append-nil (map opening_of s.opens);
+  opened = way.opened ∙ ap (λ g. held_before s ++ made_in opening_by g (plan_of s.opens command)) none_gave ∙ append-nil (held_before s);
 }
   where
     none_gave : way.gave ≡ []
@@ -258,6 +258,9 @@ act_follows scenario seen b s command act rest given holds at done follows = rec
   named = by_test (is_absent (rest given)) refl;
   sought = λ name is. was_sought name is (there_or_fails seen b s command act rest given way at done (absent_name name (rest given) is));
   plain = λ told none. absurd (none_reached way.gave (plan_of s.opens command) act rest (ap acts none) (sym way.plan ∙ at));
+  admitted = follows.admitted;
+  held = λ going. let still = follows.held going in record { more = still.more ++ opened_by act; opened = ap (λ l. l ++ opened_by act) still.opened ∙ append_assoc (held_before s) still.more (opened_by act) };
+  unwritten = follows.unwritten;
 }
   where
     way : OnItsWay seen b s command

@@ -1,7 +1,7 @@
 -- What a command tells of is open: it has opened it itself, or the session had it open before.
 use Rattle.std.proofs.Common.{◌≡◌, ◌∙◌, ℕ, Bool, true, false, Option, Some, None, List, [], ◌∷◌, ◌++◌, zero, suc, Contains, refl, sym, ap, subst, map, length, nat_le, arith}
 use Rattle.std.specs.Prelude.{⊤, slice_get}
-use Rattle.std.specs.Option.{option_and_then}
+use Rattle.std.specs.Option.{option_and_then, option_or}
 use Rattle.std.proofs.lemmas.List.Elements.{Contains-append_left, Contains-append_right}
 use Rattle.base_types.specs.Fields.{has_field}
 use Rattle.base_types.specs.declared.command.Command.TheVariants as commands
@@ -15,7 +15,8 @@ use Rattle.ddl_effect.specs.Commands.{plan_of, found, if_passes, if_no_column, f
 use Rattle.ddl_effect.specs.Opens.{place_latest, latest_open}
 use Rattle.cacheless.specs.Types.{Field, Row, Command, OpenRelation, Draft, Opening, Told}
 use Rattle.cacheless.specs.ActsDone.{reached, made_in, opening_by, relation_by}
-use Rattle.cacheless.specs.Session.{opening_of}
+use Rattle.txn_blocks.specs.Blocks.{Block, Outside, Inside, Failed, Blocks, refused_in, refused_of, refused_by}
+use Rattle.cacheless.specs.Session.{opening_of, held_in}
 use Rattle.cacheless.proofs.Plans.ActOrder.{TellsOpen, FollowsOrder, HasCome, has_come, at_end}
 use Rattle.cacheless.proofs.Plans.EffectAlong.{plain_row}
 use Rattle.cacheless.proofs.Plans.Ways.{reached-over, write_stays}
@@ -67,6 +68,23 @@ tells_first opens (commands.CreateTable name columns) = first_creating (map open
 tells_first opens (commands.Peek name field) = first_peeking opens name field (latest_open name opens) refl
 tells_first opens (commands.CloseRel name) = first_closing (map opening_of opens) name (latest_open name opens)
 tells_first opens command = tt
+
+-- and so of what is held, where the blocks admit the command: in a failed block only those that end or mend it
+pub tells_held : (blocks : Blocks) (opens : List OpenRelation) (command : Command) → refused_by blocks command ≡ None → TellsFirst (held_in blocks.block opens) (plan_of opens command)
+tells_held blocks opens command admitted = by_block blocks.block admitted
+  where
+    in_failed : (c : Command) → option_or (refused_in Failed c) (refused_of blocks.levels c) ≡ None → TellsFirst [] (plan_of opens c)
+    in_failed (commands.Show name None) none = tt
+    in_failed (commands.Show name (Some field)) none = tt
+    in_failed (commands.CreateTable name columns) none = absurd (cc none)
+    in_failed (commands.Peek name field) none = absurd (cc none)
+    in_failed (commands.CloseRel name) none = absurd (cc none)
+    in_failed c none = tt
+
+    by_block : (block : Block) → option_or (refused_in block command) (refused_of blocks.levels command) ≡ None → TellsFirst (held_in block opens) (plan_of opens command)
+    by_block Outside none = tells_first opens command
+    by_block Inside none = tells_first opens command
+    by_block Failed none = in_failed command none
 
 -- so it is where no relation was found
 unfound_told : (held : List Opening) (gave : List (List Row)) (plan : Plan) (told : Told) → FollowsOrder plan → TellsFirst held plan → made_in relation_by gave plan ≡ [] → reached gave plan ≡ Done told → TellsOpen held told
