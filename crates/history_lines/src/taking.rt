@@ -132,8 +132,7 @@ fn release(progress: &mut Progress, alloc: Global, from: u32) -> Result<(), NoMe
     if !progress.is_out() {
         return Err(NoMemory);
     }
-    progress.enter_release(alloc, from);
-    Ok(())
+    progress.enter_release(alloc, from)
 }
 
 // An event that needs nothing of the ledger.

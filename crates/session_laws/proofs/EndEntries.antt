@@ -6,7 +6,7 @@ use Rattle.base_types.specs.declared.command.Command.TheVariants as commands
 use Rattle.base_types.specs.declared.scan.Purpose.{Purpose}
 use Rattle.event_kinds.specs.declared.entry.Event.TheVariants as events
 use Rattle.inval_messages.specs.Lists.{has_write_from}
-use Rattle.txn_blocks.specs.Blocks.{Block, Outside, Inside, Failed, no_block, ends_block, refused_by}
+use Rattle.txn_blocks.specs.Blocks.{Block, Outside, Inside, Failed, no_block, ends_block, ends_failure, refused_by}
 use Rattle.ddl_effect.specs.Commands.{plan_of}
 use Rattle.ddl_effect.specs.Plans.{Plan, Done, Fails, Absent, NotBuilt, Do, Write}
 use Rattle.ddl_effect.specs.Stages.{plan_at, told_of}
@@ -47,11 +47,12 @@ none_begins command s ends = by_block s.blocks.block
 none_at_start : (facts : Facts) (command : Command) (s : Session) → ends_block command ≡ true → owed_at_start facts command s ≡ []
 none_at_start facts command s ends = ap (λ t. elim (t && is_none facts.running) as (λ x. List Owes) [ true ↦ OwesLook ∷ [] | false ↦ [] ]) (none_begins command s ends)
 
--- a command that came out well and whose transaction is taken back ends a block
-taken_back_ends : (facts : Facts) (command : Command) (s : Session) (from : ℕ) → end_well facts command s ≡ TakesBack from → ends_block command ≡ true
+-- a command that came out well and takes commands back ends a block, or mends one
+taken_back_ends : (facts : Facts) (command : Command) (s : Session) (from : ℕ) → end_well facts command s ≡ TakesBack from → ends_failure command ≡ true
 taken_back_ends facts commands.Begin s from is = absurd (cc is)
 taken_back_ends facts commands.Commit s from is = refl
 taken_back_ends facts commands.Rollback s from is = refl
+taken_back_ends facts (commands.RollbackTo name) s from is = refl
 taken_back_ends facts command s from is = absurd (by_block s.blocks.block is)
   where
     by_block : (block : Block) → elim block as (λ x. End) [ Outside ↦ Commits (number_of s) | other ↦ Ends ] ≡ TakesBack from → ⊥
@@ -59,8 +60,8 @@ taken_back_ends facts command s from is = absurd (by_block s.blocks.block is)
     by_block Inside end = cc end
     by_block Failed end = cc end
 
--- before an entry of its end a command that came out well ends a block, or nothing has to come of it
-ends_or_owes_none : (facts : Facts) (command : Command) (s : Session) → outcome_of s.left ≡ Well → owed_at_end facts command s ≡ [] → (ends_block command ≡ true) ⊎ (owed_of facts command s ≡ [])
+-- before an entry of its end a command that came out well ends or mends a block, or nothing has to come of it
+ends_or_owes_none : (facts : Facts) (command : Command) (s : Session) → outcome_of s.left ≡ Well → owed_at_end facts command s ≡ [] → (ends_failure command ≡ true) ⊎ (owed_of facts command s ≡ [])
 ends_or_owes_none facts command s well none = by_end (end_well facts command s) refl (sym (ap (λ o. owed_if (end_if o)) well) ∙ none)
   where
     end_if : Outcome → End
@@ -69,15 +70,16 @@ ends_or_owes_none facts command s well none = by_end (end_well facts command s) 
     owed_if : End → List Owes
     owed_if end = elim end as (λ x. List Owes) [ TakesBack from ↦ owed_after facts.last | other ↦ owed_of facts command s ]
 
-    by_end : (end : End) → end_well facts command s ≡ end → owed_if end ≡ [] → (ends_block command ≡ true) ⊎ (owed_of facts command s ≡ [])
+    by_end : (end : End) → end_well facts command s ≡ end → owed_if end ≡ [] → (ends_failure command ≡ true) ⊎ (owed_of facts command s ≡ [])
     by_end Ends is nothing = inr nothing
     by_end (Commits first) is nothing = inr nothing
     by_end (TakesBack from) is after = inl (taken_back_ends facts command s from is)
 
--- a command that ends blocks tells of no scan
-ends_plainly : (command : Command) (s : Session) → ((told : Told) → plan_of s.opens command ≡ Done told → DoesNoAct s told) → ends_block command ≡ true → outcome_of s.left ≡ Well → tells_of_scans (told_of s.left) ≡ false
+-- a command that ends or mends blocks tells of no scan
+ends_plainly : (command : Command) (s : Session) → ((told : Told) → plan_of s.opens command ≡ Done told → DoesNoAct s told) → ends_failure command ≡ true → outcome_of s.left ≡ Well → tells_of_scans (told_of s.left) ≡ false
 ends_plainly commands.Commit s plain ends well = ap (λ p. tells_of_scans (told_of p)) ((plain tells.Commit refl).left well)
 ends_plainly commands.Rollback s plain ends well = ap (λ p. tells_of_scans (told_of p)) ((plain tells.Ok refl).left well)
+ends_plainly (commands.RollbackTo name) s plain ends well = ap (λ p. tells_of_scans (told_of p)) ((plain tells.Ok refl).left well)
 ends_plainly command s plain ends well = absurd (cc ends)
 
 -- before an entry of its end a command is to be answered
@@ -87,7 +89,7 @@ end_answers facts command p rest event fits plain ends = by_outcome (outcome_of 
     told_of_scans : Bool
     told_of_scans = tells_of_scans (told_of (plan_at p.opens p.exec))
 
-    by_side : outcome_of (plan_at p.opens p.exec) ≡ Well → (ends_block command ≡ true) ⊎ (owed_of facts command (session_at p rest) ≡ []) → (not told_of_scans || owes_nothing command p) ≡ true
+    by_side : outcome_of (plan_at p.opens p.exec) ≡ Well → (ends_failure command ≡ true) ⊎ (owed_of facts command (session_at p rest) ≡ []) → (not told_of_scans || owes_nothing command p) ≡ true
     by_side well (inl block) = ap (λ t. not t || owes_nothing command p) (ends_plainly command (session_at p rest) plain block well)
     by_side well (inr none) = ap (λ t. not told_of_scans || t) (sym (owes_nothing_is facts command p rest fits) ∙ ap is_empty none) ∙ or-true (not told_of_scans)
 

@@ -1,5 +1,5 @@
 -- What a session has to tell, after an entry of its own.
-use Rattle.std.proofs.Common.{◌≡◌, ◌≢◌, ◌+◌, ◌∙◌, ◌==◌, ◌∷◌, ◌++◌, [], ℕ, Bool, true, false, Option, Some, None, List, refl, sym, ap, subst, length, drop, slice_get, is_some, arith}
+use Rattle.std.proofs.Common.{◌≡◌, ◌≢◌, ◌+◌, ◌∙◌, ◌==◌, ◌⊎◌, inl, inr, ◌∷◌, ◌++◌, [], ℕ, Bool, true, false, Option, Some, None, List, refl, sym, ap, subst, length, drop, slice_get, is_some, arith}
 use Rattle.std.proofs.lemmas.Bool.{eq-eqb, both_ways}
 use Rattle.std.proofs.lemmas.List.{length_push}
 use Rattle.std.specs.Option.{option_map_or}
@@ -15,7 +15,7 @@ use Rattle.cacheless.specs.Facts.{Facts, facts_of}
 use Rattle.cacheless.specs.Holds.{HasEntered, HasStarted, entry_of, with_own}
 use Rattle.cacheless.specs.Judged.{ArePlaced}
 use Rattle.cacheless.specs.Lines.{line_of, lines_from, lines_of_backend}
-use Rattle.cacheless.specs.OnCourse.{is_absent, is_over, IsOnCourse, CourseOf, AllOnCourse, EntersCourse}
+use Rattle.cacheless.specs.OnCourse.{is_absent, is_over, IsOnCourse, CourseOf, AllOnCourse, EntersCourse, TellsAlone, TellsStill}
 use Rattle.cacheless.specs.Played.{AreSpelled, IsPlayed}
 use Rattle.cacheless.specs.Plays.{Plays, MayPlayIn, MayPlayAt, IsNext, IsEnd}
 use Rattle.cacheless.specs.Session.{Session, number_of, outcome_of, is_settled, first_of, none_open, at_command}
@@ -26,7 +26,7 @@ use Rattle.cacheless.specs.State.{kept_at, session_at}
 use Rattle.cacheless.specs.Telling.{AreLines, TellsNow, AnswerFits, IsJudgedHere, IsOnItsEnd}
 use Rattle.cacheless.proofs.Allowed.AllowedHistories.{played_more, plays_on_course}
 use Rattle.cacheless.proofs.Allowed.NextKeeps.{KeepsAllBy, next_keeps}
-use Rattle.cacheless.proofs.Allowed.NextOnCourse.{counted_tally, entered_noted, noted_finished, enters_on_course, with_entry}
+use Rattle.cacheless.proofs.Allowed.NextOnCourse.{counted_tally, entered_noted, noted_finished, enters_on_course, alone_on_course, with_entry}
 use Rattle.cacheless.proofs.Allowed.OwnEntries.{IsNoted}
 use Rattle.cacheless.proofs.Allowed.SettledCourse.{begins_on_course}
 use Rattle.cacheless.proofs.Allowed.StaysOnCourse.{MayCome, has_written-quiet}
@@ -182,6 +182,13 @@ own_tells scenario seen was now event lines waits spelled legal plays follows ma
         (subst (λ n. MayCome seen (entry_of b n event) → EntersCourse scenario (with_entry seen b n event) b (entered (facts_of (with_entry seen b n event) b) (commands_left scenario b s) (length seen + 1) n event s)) (ap (λ n. n + 1) waits.rests.holds.count)
         (λ m. enters_on_course scenario seen b event s m (subst (λ o. MayPlayIn (next_oid seen) (facts_of seen b) o s event) (sym at_command_is) may) on) comes))
 
+    -- after its release it tells of no scan
+    alone : (command : Command) → slice_get (commands_of scenario b) (length s.finished) ≡ Some command → s.ended ≡ true → TellsAlone (seen ++ e ∷ []) b later command
+    alone command at over = subst (λ x. TellsAlone (seen ++ e ∷ []) b x command) (sym goes.session)
+        (subst (λ l. TellsAlone (seen ++ e ∷ []) b (entered facts l (length seen + 1) (was.finished + 1) event s) command) (ap (λ n. drop n (commands_of scenario b)) waits.rests.holds.count ∙ ap (drop was.finished) (sym waits.rests.holds.commands))
+        (subst (λ n. MayCome seen (entry_of b n event) → TellsAlone (with_entry seen b n event) b (entered (facts_of (with_entry seen b n event) b) (commands_left scenario b s) (length seen + 1) n event s) command) (ap (λ n. n + 1) waits.rests.holds.count)
+        (λ m. alone_on_course scenario seen b event s m (subst (λ o. MayPlayIn (next_oid seen) (facts_of seen b) o s event) (sym at_command_is) may) on command at over) comes))
+
     finished_same : later.finished ≡ s.finished
     finished_same = ap (λ (x : Session). x.finished) goes.session ∙ noted_is.after.finished ∙ noted_finished event s
 
@@ -216,9 +223,12 @@ own_tells scenario seen was now event lines waits spelled legal plays follows ma
     judged (AtEnd ends some same) command at none = absurd (both_ways _ none (ap (λ o. is_some o) same ∙ some command (sym same_command ∙ at)))
     judged (Inside inside none) command at _ = record {
       judged = omega (arith, length_push seen e, ap (λ (x : Session). x.judged) goes.session, judged_here facts left (length seen + 1) (was.finished + 1) event s inside);
-      stands = ap (λ k. is_over (last_event_of (seen ++ e ∷ []) k) later) goes.moves.id ∙ ap (λ o. is_over o later) (last_event_of-own seen e b own)
-          ∙ inside_stands event s later inside (ap (λ (x : Session). x.ended) goes.session ∙ noted_is.ended) (on.going command (at_command_is ∙ sym same_command ∙ at));
+      stands = subst (λ k. TellsStill (seen ++ e ∷ []) k later command) (sym goes.moves.id) (by_ended s.ended refl);
     }
+      where
+        by_ended : (t : Bool) → s.ended ≡ t → TellsStill (seen ++ e ∷ []) b later command
+        by_ended false going = inl (ap (λ o. is_over o later) (last_event_of-own seen e b own) ∙ inside_stands event s later inside (ap (λ (x : Session). x.ended) goes.session ∙ noted_is.ended) going)
+        by_ended true over = inr (alone command (at_command_is ∙ sym same_command ∙ at) over)
 
 -- so after it the session answers
 pub own_answers : (scenario : Scenario) (seen : List Entry) (was now : Progress) (event : Event) (lines : List Line) (waits : AwaitsEntry scenario seen was lines) → AreSpelled scenario → IsLegal seen → Plays scenario seen
@@ -281,7 +291,7 @@ start_answers scenario seen was now before spelled legal plays follows started k
     };
     here = λ command at none. record {
       judged = omega (arith, length_push seen e, ap (λ (s : Session). s.judged) started.session);
-      stands = (λ i. is_over (last_event_of (seen ++ e ∷ []) (started.moves.id i)) (started.session i)) ∙ ap (λ o. is_over o (at_command no_block none_open [] [] (length seen + 1) (slice_get was.commands 0))) (last_event_of-own seen e b own);
+      stands = inl ((λ i. is_over (last_event_of (seen ++ e ∷ []) (started.moves.id i)) (started.session i)) ∙ ap (λ o. is_over o (at_command no_block none_open [] [] (length seen + 1) (slice_get was.commands 0))) (last_event_of-own seen e b own));
     };
     last = omega (arith, length_push seen e, ap (λ (s : Session). s.last) started.session);
     back = λ from command gone at. absurd (let both : Some events.Start ≡ Some (events.Gone from) = sym (last_event_of-own seen e b own) ∙ ap (last_event_of (seen ++ e ∷ [])) (sym started.moves.id) ∙ gone in cc both);

@@ -13,7 +13,7 @@ use Rattle.history_model.proofs.Reading.{last_event_of-other, rows_read-other}
 use Rattle.history_model.proofs.Touched.{entry_of}
 use Rattle.cacheless.specs.Types.{OwnLock, Scenario, Command, Entry, Event}
 use Rattle.cacheless.specs.Facts.{Facts, facts_of}
-use Rattle.cacheless.specs.OnCourse.{is_over, IsOnCourse, CourseOf, AllOnCourse, ClearUnlessOwed, EntersCourse}
+use Rattle.cacheless.specs.OnCourse.{is_over, TellsAlone, IsOnCourse, CourseOf, AllOnCourse, ClearUnlessOwed, EntersCourse}
 use Rattle.cacheless.specs.Owed.{owes_accept}
 use Rattle.cacheless.specs.Played.{IsPlayed}
 use Rattle.cacheless.specs.Plays.{MayPlayIn, IsStart, MayPlayAt, IsNext}
@@ -22,7 +22,7 @@ use Rattle.cacheless.specs.Sessions.{written, resumed, noted, placed_at, counted
 use Rattle.cacheless.specs.Settled.{settled}
 use Rattle.cacheless.proofs.HeldLocks.{settled-locks}
 use Rattle.cacheless.proofs.Allowed.OwnEntries.{IsNoted, own_follows, OwnEntry}
-use Rattle.cacheless.proofs.Allowed.Releases.{release_finishes}
+use Rattle.cacheless.proofs.Allowed.Releases.{release_finishes, alone_stays}
 use Rattle.cacheless.proofs.Reading.{facts_of-own, facts_of-other, session_of-own, session_of-other}
 use Rattle.cacheless.proofs.Allowed.SettledCourse.{first_left, begins_on_course, settled_on_course}
 use Rattle.cacheless.proofs.Allowed.StaysOnCourse.{has_written-quiet, has_written-other, has_written-earlier, MayCome, follows-more}
@@ -157,6 +157,17 @@ enters_on_course scenario history b event s may plays course = record {
 
     own : (command : Command) → slice_get (commands_of scenario b) (length s.finished) ≡ Some command → OwnEntry history b s command event
     own command at = record { may = may; plays = subst (λ o. MayPlayIn (next_oid history) (facts_of history b) o s event) at plays; follows = course.follows command at; going = course.going command at }
+
+-- after its release a command that goes on tells of no scan, whichever its next entry is
+pub alone_on_course : (scenario : Scenario) (history : List Entry) (b : ℕ) (event : Event) (s : Session) → MayCome history (entry_of b (number_of s) event)
+    → MayPlayIn (next_oid history) (facts_of history b) (slice_get (commands_of scenario b) (length s.finished)) s event → IsOnCourse scenario history b s → (command : Command) → slice_get (commands_of scenario b) (length s.finished) ≡ Some command → s.ended ≡ true
+    → TellsAlone (with_entry history b (number_of s) event) b (entered (facts_of (with_entry history b (number_of s) event) b) (commands_left scenario b s) (length history + 1) (number_of s) event s) command
+alone_on_course scenario history b event s may plays course command at over = alone_stays history b s later command event
+    (record { may = may; plays = subst (λ o. MayPlayIn (next_oid history) (facts_of history b) o s event) at plays; follows = course.follows command at; going = course.going command at })
+    (entered_noted (facts_of (with_entry history b (number_of s) event) b) (commands_left scenario b s) (length history + 1) (number_of s) event s) over
+  where
+    later : Session
+    later = entered (facts_of (with_entry history b (number_of s) event) b) (commands_left scenario b s) (length history + 1) (number_of s) event s
 
 -- no session starts
 no_start : (next : ℕ) (facts : Facts) (command : Option Command) (s : Session) → MayPlayIn next facts command s events.Start → ⊥

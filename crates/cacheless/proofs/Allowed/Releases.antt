@@ -145,7 +145,7 @@ ends_free facts command s plain well none = by_end (end_well facts command s) re
 -- where all scans for open relations are usable, so are those for some of them
 some_builds : (facts : Facts) (from : ℕ) (opens : List OpenRelation) → builds_owed facts (map opening_of opens) ≡ [] → builds_owed facts (map opening_of (opens_before from opens)) ≡ []
 some_builds facts from [] none = none
-some_builds facts from (o ∷ opens) none = by_test (nat_lt o.command from)
+some_builds facts from (o ∷ opens) none = by_test (nat_lt o.command from) (some_builds facts from opens apart.1)
   where
     own : List Purpose
     own = unusable facts (build_scans o.kind o.rel)
@@ -153,9 +153,9 @@ some_builds facts from (o ∷ opens) none = by_test (nat_lt o.command from)
     apart : (own ≡ []) × (builds_owed facts (map opening_of opens) ≡ [])
     apart = both_empty own (builds_owed facts (map opening_of opens)) none
 
-    by_test : (t : Bool) → builds_owed facts (map opening_of (cond t (o ∷ opens_before from opens) (opens_before from opens))) ≡ []
-    by_test true = ap (λ l. l ++ builds_owed facts (map opening_of (opens_before from opens))) apart.0 ∙ some_builds facts from opens apart.1
-    by_test false = some_builds facts from opens apart.1
+    by_test : (t : Bool) → builds_owed facts (map opening_of (opens_before from opens)) ≡ [] → builds_owed facts (map opening_of (cond t (o ∷ opens_before from opens) (opens_before from opens))) ≡ []
+    by_test true others = ap (λ l. l ++ builds_owed facts (map opening_of (opens_before from opens))) apart.0 ∙ others
+    by_test false others = others
 
 -- what is released of a command that has come out well, and is held still
 record OwesNothingLeft (facts : Facts) (s : Session) (from : ℕ) : Type 0 where

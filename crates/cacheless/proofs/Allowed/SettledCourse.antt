@@ -243,12 +243,12 @@ act_enters scenario seen b s command act rest given has at free left done course
     clear : map cleared s.locks ≡ s.locks
     clear = subst (λ o. ClearUnlessOwed (facts_of seen b) o s) at course.clear (builds_done (facts_of seen b) command s here_done.builds free)
 
+    settled_if : is_finished (facts_of seen b) command s ≡ true → is_settled (outcome_of s.left) ≡ true
+    settled_if finished = (and_parts (is_settled (outcome_of s.left)) (is_none (end_left (facts_of seen b) command s)) (and_parts (is_settled (outcome_of s.left) && is_none (end_left (facts_of seen b) command s)) _ finished).0).0
+
     unsettled : (is_finished (facts_of seen b) command s ≡ true) ⊎ TellsAlone seen b s command → ⊥
     unsettled (inl finished) = let both : true ≡ false = sym (settled_if finished) ∙ ap (λ p. is_settled (outcome_of p)) left in cc both
     unsettled (inr alone) = let both : Do act rest ≡ Done alone.told = sym left ∙ alone.left in cc both
-
-    settled_if : is_finished (facts_of seen b) command s ≡ true → is_settled (outcome_of s.left) ≡ true
-    settled_if finished = (and_parts (is_settled (outcome_of s.left)) (is_none (end_left (facts_of seen b) command s)) (and_parts (is_settled (outcome_of s.left) && is_none (end_left (facts_of seen b) command s)) _ finished).0).0
 
 -- and so does the passing over a command that is finished
 pub finish_enters : (scenario : Scenario) (seen : List Entry) (b : ℕ) (s : Session) (command : Command) (rest : List Command) → command ∷ rest ≡ drop (length s.finished) (commands_of scenario b) → is_finished (facts_of seen b) command s ≡ true → EntersCourse scenario seen b s

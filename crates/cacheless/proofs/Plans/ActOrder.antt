@@ -250,6 +250,9 @@ pub follows_order : (opens : List OpenRelation) (command : Command) → is_built
 follows_order opens commands.Begin built = tt
 follows_order opens commands.Commit built = tt
 follows_order opens commands.Rollback built = tt
+follows_order opens (commands.Savepoint name) built = tt
+follows_order opens (commands.Release name) built = tt
+follows_order opens (commands.RollbackTo name) built = tt
 follows_order opens (commands.Show name None) built = order_looking_up name AccessShare (showing None) (λ rel kind. found_opening AccessShare rel kind (Done (tells.Relation rel kind)) (refl, refl) tt)
 follows_order opens (commands.Show name (Some field)) built = order_looking_up name AccessShare (showing_field name field)
     (λ rel kind. by_test rel kind (has_field kind field) refl)

@@ -165,6 +165,9 @@ alters_or_makes : (opens : List OpenRelation) (command : Command) (gave : List (
 alters_or_makes opens commands.Begin gave draft rest built on = absurd (none_reached gave (Done tells.Ok) (Write draft) rest refl on)
 alters_or_makes opens commands.Commit gave draft rest built on = absurd (none_reached gave (Done tells.Commit) (Write draft) rest refl on)
 alters_or_makes opens commands.Rollback gave draft rest built on = absurd (none_reached gave (Done tells.Ok) (Write draft) rest refl on)
+alters_or_makes opens (commands.Savepoint name) gave draft rest built on = absurd (none_reached gave (Done tells.Ok) (Write draft) rest refl on)
+alters_or_makes opens (commands.Release name) gave draft rest built on = absurd (none_reached gave (Done tells.Ok) (Write draft) rest refl on)
+alters_or_makes opens (commands.RollbackTo name) gave draft rest built on = absurd (none_reached gave (Done tells.Ok) (Write draft) rest refl on)
 alters_or_makes opens (commands.Show name None) gave draft rest built on = absurd (never_reaches gave (looking_up name AccessShare (showing None)) draft rest (lookup_never name AccessShare (showing None) (λ rel kind given. tt)) on)
 alters_or_makes opens (commands.Show name (Some field)) gave draft rest built on =
     absurd (never_reaches gave (looking_up name AccessShare (showing_field name field)) draft rest (lookup_never name AccessShare (showing_field name field) (λ rel kind. passes_never (has_field kind field) (errors.NoField name field) (showing (Some field) rel kind) (λ given. tt))) on)
