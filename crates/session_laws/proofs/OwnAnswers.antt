@@ -219,7 +219,7 @@ own_tells scenario seen was now event lines waits spelled legal plays follows ma
     comes_out (Inside inside none) some = absurd (both_ways _ (ap (λ o. is_some o) none) some)
     comes_out (AtEnd ends has_one same) some = ap (λ p. is_settled (outcome_of p)) (ap (λ (x : Session). x.left) goes.session ∙ noted_is.after.left ∙ plan_left event s ends) ∙ waits.tells.out (ap (λ o. is_some o) (sym same) ∙ some)
 
-    judged : KeepsAnswer was now event → (command : Command) → slice_get now.commands now.finished ≡ Some command → is_some now.answer ≡ false → IsJudgedHere (seen ++ e ∷ []) now.id later
+    judged : KeepsAnswer was now event → (command : Command) → slice_get now.commands now.finished ≡ Some command → is_some now.answer ≡ false → IsJudgedHere (seen ++ e ∷ []) now.id later command
     judged (AtEnd ends some same) command at none = absurd (both_ways _ none (ap (λ o. is_some o) same ∙ some command (sym same_command ∙ at)))
     judged (Inside inside none) command at _ = record {
       judged = omega (arith, length_push seen e, ap (λ (x : Session). x.judged) goes.session, judged_here facts left (length seen + 1) (was.finished + 1) event s inside);
