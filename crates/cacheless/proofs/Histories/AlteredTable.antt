@@ -56,4 +56,4 @@ columns = (tt, (tt, (table_kept, (tt, (tt, (tt, (tt, (tt, (tt, (tt, (tt, (fill_k
 
 -- the first may add a column of number 3
 pub third_free : has_key (found ++ locked) (Att (oid 16384) 3) ≡ false
-third_free = (whole_columns (found ++ locked) 1 (oid 16384) (codes "t") Table (EachEntry-prefix MayComeNext (found ++ locked) altered sound) (EachEntry-prefix WritesColumns (found ++ locked) altered columns) (None, refl) (refl, (refl, (refl, tt)))).free
+third_free = (whole_columns (found ++ locked) 1 (oid 16384) (codes "t") Table (EachEntry-prefix MayComeNext (found ++ locked) altered sound) (EachEntry-prefix WritesColumns (found ++ locked) altered columns) (None, refl) (refl, (refl, (refl, (refl, tt))))).free

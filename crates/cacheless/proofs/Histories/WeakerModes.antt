@@ -1,11 +1,11 @@
 -- Which modes are enough for a change: one that is, and one that is too weak. Two tables, an index, a foreign key and a trigger are there; backend 2 holds locks on the tables, and the change is its next.
-use Rattle.std.proofs.Common.{◌≡◌, ◌++◌, ℕ, ℤ, Bool, pos, negsuc, true, false, Option, Some, None, List, [], ◌∷◌, codes, refl, map, arith}
+use Rattle.std.proofs.Common.{◌≡◌, ◌++◌, ℕ, ℤ, Bool, pos, negsuc, true, false, Some, None, List, [], ◌∷◌, codes, refl, map, arith}
 use Rattle.base_types.specs.declared.mode.Mode.{Mode}
-use Rattle.base_types.specs.declared.mode.Mode.TheVariants.{RowExclusive, ShareUpdateExclusive, Share, ShareRowExclusive, Exclusive, AccessExclusive}
+use Rattle.base_types.specs.declared.mode.Mode.TheVariants.{ShareUpdateExclusive, Share, ShareRowExclusive, Exclusive, AccessExclusive}
 use Rattle.base_types.specs.declared.kind.Kind.TheVariants.{Table, Index}
 use Rattle.base_types.specs.declared.index_state.IndexState.TheVariants.{Valid}
 use Rattle.base_types.specs.declared.row.Row.{Row}
-use Rattle.base_types.specs.declared.row.Row.TheVariants.{Class, Att, Def, Ind, Con, Trg}
+use Rattle.base_types.specs.declared.row.Row.TheVariants.{Class, Att, Ind, Con, Trg}
 use Rattle.base_types.specs.declared.row.ConKind.{ConKind}
 use Rattle.base_types.specs.declared.row.ConKind.TheVariants.{Check, Foreign}
 use Rattle.base_types.specs.declared.col_type.ColType.TheVariants.{Int4}

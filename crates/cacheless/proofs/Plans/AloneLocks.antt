@@ -23,7 +23,7 @@ use Rattle.history_model.proofs.Every.{every}
 use Rattle.history_model.proofs.FixedRows.{fixed}
 use Rattle.history_model.proofs.Locked.{changing_modes, changed_anyhow}
 use Rattle.history_model.proofs.Prefixes.{EachEntry-weaker, EachEntry-prefix}
-use Rattle.cacheless.specs.Types.{Oid, Mode, Kind, Row, Purpose, OwnLock, Entry, Opening}
+use Rattle.cacheless.specs.Types.{Oid, Mode, Row, Purpose, OwnLock, Entry, Opening}
 use Rattle.cacheless.specs.ActsDone.{LockedRelation, locked_relation_by, reached, made_in, opening_by, relation_by, IsHeld, WayHolds}
 use Rattle.cacheless.specs.Locks.{grant_of}
 use Rattle.cacheless.specs.Plays.{Plays}

@@ -1,5 +1,5 @@
 -- What acts gave is so still later, if the rows of the relation found stay.
-use Rattle.std.proofs.Common.{◌≡◌, ◌∙◌, ◌-◌, ◌⊎◌, inl, inr, ℕ, true, false, Some, List, [], ◌∷◌, ◌++◌, refl, sym, ap, subst, map}
+use Rattle.std.proofs.Common.{◌≡◌, ◌∙◌, ◌-◌, ℕ, true, false, Some, List, [], ◌∷◌, ◌++◌, refl, sym, ap, subst, map}
 use Rattle.std.specs.List.{AllByRecursion}
 use Rattle.base_types.specs.Modes.{conflicts}
 use Rattle.base_types.specs.declared.row.Row.TheVariants as rows

@@ -1,6 +1,6 @@
 -- What a command's acts gave is so still after one more entry, under the locks of the relations that it found.
-use Rattle.std.proofs.Common.{◌≡◌, ◌∙◌, inl, inr, ℕ, Bool, true, false, List, [], ◌∷◌, ◌++◌, ◌==◌, sym, ap, subst, refl, map}
-use Rattle.std.specs.List.{AllByRecursion, list_all}
+use Rattle.std.proofs.Common.{◌≡◌, ◌∙◌, ℕ, Bool, true, false, List, [], ◌∷◌, ◌++◌, ◌==◌, sym, ap, refl, map}
+use Rattle.std.specs.List.{list_all}
 use Rattle.std.proofs.Math.Bool.{or-false}
 use Rattle.base_types.specs.Modes.{conflicts}
 use Rattle.base_types.specs.declared.mode.Mode.TheVariants.{ShareUpdateExclusive, ShareRowExclusive, Exclusive, AccessExclusive}
@@ -24,7 +24,7 @@ use Rattle.history_model.proofs.Reading.{held_of-more as held-more}
 use Rattle.history_model.proofs.Touched.{entry_of}
 use Rattle.history_model.proofs.WeakChanges.{column_apart, fixed_visible}
 use Rattle.history_model.proofs.ColumnsKept.{IsOfColumns}
-use Rattle.cacheless.specs.Types.{Oid, Mode, Kind, Row, Purpose, Entry, Event}
+use Rattle.cacheless.specs.Types.{Oid, Mode, Row, Purpose, Entry, Event}
 use Rattle.cacheless.specs.ActsDone.{LockedRelation, locked_relation_by, made_in, IsHeld, WayHolds}
 use Rattle.cacheless.specs.TableWrites.{WritesColumns}
 use Rattle.cacheless.proofs.ColumnAnswers.{columns_stay}

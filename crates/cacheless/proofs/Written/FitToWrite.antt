@@ -208,7 +208,7 @@ put_fits before b rel messages old new was of also enough tell = record {
     same_relation = ap option_to_list (tells_table rel new also ∙ sym (tells_table rel old of))
 
 -- unless a constraint is validated, all relations that a row names count
-all_named : (row : Row) → relations_changed false row ≡ relations_of row
+pub all_named : (row : Row) → relations_changed false row ≡ relations_of row
 all_named (rows.Con oid rel name valid (demands.Foreign num refrel refnum)) = refl
 all_named (rows.Con oid rel name valid (demands.Check text)) = refl
 all_named row = refl

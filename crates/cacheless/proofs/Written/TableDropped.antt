@@ -1,5 +1,5 @@
 -- What `drop table` writes, for a table of which nothing but columns is seen, may be written, and takes the columns with the table.
-use Rattle.std.proofs.Common.{◌≡◌, ◌<◌, ◌∙◌, ℕ, true, Option, Some, None, List, [], ◌∷◌, ◌++◌, refl, sym, ap, subst, map, length, arith}
+use Rattle.std.proofs.Common.{◌≡◌, ◌<◌, ◌∙◌, ℕ, true, Option, Some, None, List, [], ◌∷◌, ◌++◌, refl, sym, ap, subst, map, length, arith, false}
 use Rattle.std.specs.Prelude.{⊤}
 use Rattle.std.specs.List.{AllByRecursion, flat_map, list_any, list_all}
 use Rattle.std.proofs.lemmas.Bool.{and_from, eq-eqb, or_left, or_right}
@@ -34,7 +34,7 @@ use Rattle.history_model.proofs.Seen.{pair-push}
 use Rattle.cacheless.specs.Types.{Oid, AccessExclusive, Row, Entry, Item}
 use Rattle.cacheless.specs.Locks.{locked_by}
 use Rattle.cacheless.specs.TableWrites.{is_next_column, CallsApart, AreCalledApart, takes_relation, takes_whole, KeepsColumns, AreNamedApart}
-use Rattle.cacheless.proofs.Written.FitToWrite.{IsFit, Fits, IsOfTable, IsSent, all_fit, all_pass, names_table, sent_itself, taking, removed_fits}
+use Rattle.cacheless.proofs.Written.FitToWrite.{IsFit, Fits, IsOfTable, IsSent, all_fit, all_pass, names_table, all_named, sent_itself, taking, removed_fits}
 use Rattle.cacheless.proofs.Written.SeenRows.{IsGiven, first_given, seen_is_old}
 use Rattle.cacheless.proofs.Written.WrittenMessages.{Tell, written_tell}
 
@@ -53,7 +53,7 @@ all_taken : (before : List Entry) (b : ℕ) (rel : Oid) (messages : List Message
     → AllByRecursion (λ item. Tell messages (cats_by before b item ++ rels_by before b item)) (map taking gone) → AllByRecursion (Fits before b messages) (map taking gone)
 all_taken before b rel messages [] sound has seen tells = tt
 all_taken before b rel messages (row ∷ gone) sound has seen tells = (
-  removed_fits before b messages row sound seen.0.0 (subst (AllByRecursion (λ r. holds (held_of before) b r AccessExclusive ≡ true)) (sym (names_table rel row seen.0.1)) (has, tt)) (own_told before b rel messages row sound seen.0 tells.0),
+  removed_fits before b messages row sound seen.0.0 (subst (AllByRecursion (λ r. holds (held_of before) b r AccessExclusive ≡ true)) (sym (sym (all_named row) ∙ names_table rel false row seen.0.1)) (has, tt)) (own_told before b rel messages row sound seen.0 tells.0),
   all_taken before b rel messages gone sound has seen.1 tells.1,
 )
 
