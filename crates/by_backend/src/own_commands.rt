@@ -53,6 +53,9 @@ fn copied(alloc: Global, command: &Command) -> Result<Command, NoMemory>
         Command::Begin => Command::Begin,
         Command::Commit => Command::Commit,
         Command::Rollback => Command::Rollback,
+        Command::Savepoint(name) => Command::Savepoint(*name),
+        Command::Release(name) => Command::Release(*name),
+        Command::RollbackTo(name) => Command::RollbackTo(*name),
         Command::Show { name, field } => Command::Show {
             name: *name,
             field: *field,

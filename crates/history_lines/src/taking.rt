@@ -132,7 +132,8 @@ fn release(progress: &mut Progress, alloc: Global, from: u32) -> Result<(), NoMe
     if !progress.is_out() {
         return Err(NoMemory);
     }
-    progress.enter_release(alloc, from)
+    progress.enter_release(alloc, from)?;
+    Ok(())
 }
 
 // An event that needs nothing of the ledger.
