@@ -27,7 +27,11 @@ acts_going scenario seen b s command course at unsettled = by_ended s.ended refl
   where
     by_ended : (t : Bool) → s.ended ≡ t → s.ended ≡ false
     by_ended false is = is
-    by_ended true is = absurd (both_ways _ unsettled (and_parts (is_settled (outcome_of s.left)) _ (and_parts (is_settled (outcome_of s.left) && _) _ (course.ends command at is)).0).0)
+    by_ended true is = by_side (course.ends command at is)
+      where
+        by_side : (is_finished (facts_of seen b) command s ≡ true) ⊎ TellsAlone seen b s command → s.ended ≡ false
+        by_side (inl finished) = absurd (both_ways _ unsettled (and_parts (is_settled (outcome_of s.left)) _ (and_parts (is_settled (outcome_of s.left) && _) _ finished).0).0)
+        by_side (inr alone) = absurd (both_ways _ unsettled (ap (λ p. is_settled (outcome_of p)) alone.left))
 
 -- it does an act
 act_agrees : (scenario : Scenario) (seen : List Entry) (was : Backend) (p : Progress) (now : AgreesNow scenario seen was) → HasActed scenario seen was.progress now.holds p → kept_at p ≡ kept_at was.progress → p.answer ≡ was.progress.answer → AgreesNow scenario seen (record was { progress = p })
