@@ -1,11 +1,11 @@
 -- What a backend does without an entry.
-use Rattle.std.proofs.Common.{◌≡◌, ◌+◌, ◌∙◌, ◌&&◌, Bool, true, false, Option, Some, None, Result, Ok, Err, OnOk, List, [], ◌∷◌, ◌++◌, refl, sym, ap, subst, length, slice_get, All, ℕ, arith}
+use Rattle.std.proofs.Common.{◌≡◌, ◌+◌, ◌∙◌, ◌&&◌, Bool, true, false, Option, Some, None, Result, Ok, Err, OnOk, List, [], ◌∷◌, ◌++◌, refl, sym, ap, subst, length, slice_get, All, ℕ, arith, ◌⊎◌, inl, inr}
 use Rattle.std.proofs.lemmas.Bool.{both_ways, and_parts}
 use Rattle.ddl_effect.specs.Commands.{commands_of}
 use Rattle.history_model.specs.Lives.{life_of}
 use Rattle.cacheless.specs.Facts.{facts_of}
 use Rattle.cacheless.specs.Holds.{Holds, HasActed, HasPassed}
-use Rattle.cacheless.specs.OnCourse.{EntersCourse}
+use Rattle.cacheless.specs.OnCourse.{EntersCourse, TellsAlone}
 use Rattle.cacheless.specs.Runs.{runs}
 use Rattle.cacheless.specs.Answering.{IsToldText}
 use Rattle.cacheless.specs.Session.{Session, outcome_of, is_settled}
@@ -18,7 +18,7 @@ use Rattle.backend_core.specs.Fits.{Fits}
 use Rattle.backend_core.proofs.Fitting.FitsOn.{fits_act, fits_pass}
 use Rattle.ddl_effect.specs.Plans.{Do, Lookup}
 use Rattle.cacheless.specs.Types.{Mode}
-use Rattle.cacheless.specs.Settled.{class_oid}
+use Rattle.cacheless.specs.Settled.{class_oid, is_finished}
 use Rattle.cacheless.proofs.Plans.SilentActs.{is_done_here, lookup_says}
 
 -- a command whose next act is done without an entry hasn't made its release

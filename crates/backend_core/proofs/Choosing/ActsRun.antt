@@ -14,18 +14,16 @@ use Rattle.txn_blocks.specs.Blocks.{Block, Outside, Inside, Failed, no_block, en
 use Rattle.ddl_effect.specs.Commands.{plan_of, if_passes, if_no_column, first_twice, writing, new_table, told_fields, peeking, closing}
 use Rattle.ddl_effect.specs.Opens.{latest_open}
 use Rattle.ddl_effect.specs.declared.told.Told.TheVariants as tells
-use Rattle.ddl_effect.specs.Plans.{Act, Plan, Done, Fails, Absent, NotBuilt, Do, Lookup, told_rests_on}
+use Rattle.ddl_effect.specs.Plans.{Act, Plan, Done, Absent, Do, Lookup, told_rests_on}
 use Rattle.ddl_effect.specs.Stages.{plan_at}
 use Rattle.cacheless.specs.Facts.{Facts, facts_of}
 use Rattle.cacheless.specs.May.{is_missing, is_first_missing, is_next_of_act, has_failed, is_next_at}
 use Rattle.cacheless.specs.OnCourse.{OnItsWay, AllOnCourse}
 use Rattle.cacheless.specs.Owed.{Owes, OwesLook, begins, owed_at_start}
 use Rattle.cacheless.specs.Runs.{runs}
-use Rattle.cacheless.specs.Session.{opening_of, held_in, held_before, Session, Unsettled, Well, Badly, none_open, outcome_of, is_settled, plan_admitted, plan_first, refused_first, is_blocked}
+use Rattle.cacheless.specs.Session.{opening_of, held_in, held_before, Session, Unsettled, Well, Badly, outcome_of, is_settled, plan_admitted, plan_first, refused_first, is_blocked}
 use Rattle.cacheless.specs.State.{kept_at, owed_first, is_absent}
 use Rattle.cacheless.specs.Types.{Field, Draft, CommandError, Told, OpenRelation}
-use Rattle.ddl_effect.proofs.HasPlan.{built_alike}
-use Rattle.cacheless.proofs.Plans.ActOrder.{FollowsOrder, follows_order}
 use Rattle.cacheless.proofs.Same.{start_owed}
 use Rattle.cacheless.proofs.Entries.EnteredLooks.{not_absent}
 use Rattle.cacheless.proofs.Plans.SilentActs.{on_its_way}
@@ -68,6 +66,9 @@ rests_first : (opens : List OpenRelation) (command : Command) → RestsFirst (pl
 rests_first opens commands.Begin = refl
 rests_first opens commands.Commit = refl
 rests_first opens commands.Rollback = refl
+rests_first opens (commands.Savepoint name) = refl
+rests_first opens (commands.Release name) = refl
+rests_first opens (commands.RollbackTo name) = refl
 rests_first opens (commands.Show name None) = tt
 rests_first opens (commands.Show name (Some field)) = tt
 rests_first opens (commands.CreateTable name columns) = rests_creating (nat_le (length columns) MOST_COLUMNS) (first_twice [] (map (λ (c : NewColumn). c.name) columns)) (new_table name columns)

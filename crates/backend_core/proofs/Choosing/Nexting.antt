@@ -1,5 +1,5 @@
 -- What a backend does next.
-use Rattle.std.proofs.Common.{◌≡◌, ◌∙◌, ◌⊎◌, inl, inr, ℕ, Bool, true, false, not, ◌&&◌, ◌||◌, Option, Some, None, List, [], ◌∷◌, ◌++◌, cond, refl, sym, ap, subst, map, append_assoc, is_some, slice_get}
+use Rattle.std.proofs.Common.{◌≡◌, ◌∙◌, ◌⊎◌, inl, inr, ℕ, Bool, true, false, not, ◌&&◌, ◌||◌, Option, Some, None, List, [], ◌∷◌, ◌++◌, refl, sym, ap, subst, append_assoc, is_some, slice_get}
 use Rattle.std.specs.List.{find, list_any}
 use Rattle.std.specs.Option.{IsSomeAnd, option_map_or}
 use Rattle.std.proofs.lemmas.Bool.{both_ways}
@@ -28,7 +28,7 @@ use Rattle.cacheless.proofs.Tests.{both_true, not_both}
 use Rattle.backend_core.specs.Types.{Event, Row, Purpose, Command, CommandError, Opening, Scenario, Entry, Next, Frame, Progress, Backend}
 use Rattle.backend_core.specs.declared.next.Next.TheVariants as nexts
 use Rattle.backend_core.specs.Agrees.{command_at, AwaitsEntry}
-use Rattle.backend_core.specs.Steps.{IsGone, IsWhole, WaitsForNone, IsFree, IsScanNext, IsLookNext, IsChoiceSound, EndsNext, InCommand, end_event, IsNextOf, ComesOfCommit, ComesOfBack}
+use Rattle.backend_core.specs.Steps.{IsWhole, WaitsForNone, IsFree, IsScanNext, IsLookNext, IsChoiceSound, EndsNext, InCommand, end_event, IsNextOf, ComesOfCommit, ComesOfBack}
 use Rattle.backend_core.specs.Frames.{lacks, top, IsRebuilt}
 use Rattle.backend_core.specs.Words.{is_looked_for, accepts_again}
 use Rattle.backend_core.proofs.Fitting.Rebuilding.{kept_lacks}

@@ -20,11 +20,11 @@ use Rattle.cacheless.specs.Plays.{MayPlayIn}
 use Rattle.cacheless.specs.Schedule.{LooksTruly}
 use Rattle.cacheless.specs.Session.{Session, Tally, number_of, outcome_of, is_settled}
 use Rattle.cacheless.specs.Sessions.{entered}
-use Rattle.cacheless.specs.State.{kept_at, clash_event, error_of}
+use Rattle.cacheless.specs.State.{kept_at, clash_event, error_of, one_if}
 use Rattle.session_laws.specs.Awaiting.{KeepsScans, answer_after}
 use Rattle.backend_core.specs.Types.{Oid, Mode, Command, CommandError, Scenario, Entry, Event, Progress, Backend}
 use Rattle.backend_core.specs.Agrees.{IsPlayed, command_at, AwaitsEntry}
-use Rattle.backend_core.specs.Fits.{looks_due, LooksFit, TakesFit, FramesFit}
+use Rattle.backend_core.specs.Fits.{looks_due, LooksFit, TakesFit, FramesFit, is_lost}
 use Rattle.backend_core.specs.Steps.{Enters}
 use Rattle.backend_core.proofs.Choosing.Chosen.{Acts}
 use Rattle.backend_core.proofs.Fitting.Entered.{fits_at}

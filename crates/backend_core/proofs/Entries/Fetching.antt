@@ -29,7 +29,7 @@ use Rattle.cacheless.specs.State.{owed_at, one_if, kept_at, nothing_kept, kept_s
 use Rattle.session_laws.specs.Awaiting.{KeepsScans, answer_after}
 use Rattle.backend_core.specs.Types.{Oid, Purpose, Command, Scenario, Entry, Event, Message, OwnLock, Progress, Backend, Opening, Frame}
 use Rattle.backend_core.specs.Agrees.{IsPlayed, command_at, AwaitsEntry}
-use Rattle.backend_core.specs.Fits.{looks_due, LooksFit, came_well, TakesFit, IsLookedFor, Lacks, Unfound, Said, lacks_scan, finds_no_name, Fits, FramesFit, IsUnheld, keeps_whole, looked_in, looked_on_top, told_owed}
+use Rattle.backend_core.specs.Fits.{looks_due, LooksFit, came_well, TakesFit, IsLookedFor, Lacks, Unfound, Said, lacks_scan, finds_no_name, Fits, FramesFit, IsUnheld, keeps_whole, looked_in, looked_on_top, told_owed, is_lost}
 use Rattle.backend_core.specs.Steps.{Enters, MakesEntry}
 use Rattle.backend_core.specs.Noted.{noted_of, noted_given, noted_reset, IsNoted}
 use Rattle.backend_core.specs.declared.next.Next.TheVariants as nexts
@@ -55,6 +55,7 @@ use Rattle.cacheless.proofs.Reading.{facts_of-own}
 use Rattle.history_model.proofs.Every.{any-left, any-right}
 use Rattle.std.specs.Prelude.{nat_lt}
 use Rattle.local_caches.specs.Kept.{Kept}
+use Rattle.backend_core.proofs.Fitting.Over.{IsWellOnceOver, well_lost}
 
 -- a backend whose fetch is due
 record IsDue (seen : List Entry) (s : Backend) : Type 0 where

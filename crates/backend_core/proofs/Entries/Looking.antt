@@ -27,7 +27,7 @@ use Rattle.cacheless.specs.Sessions.{entered}
 use Rattle.cacheless.specs.State.{kept_at, owed_at, owed_first, one_if, running_of, is_kept, is_absent}
 use Rattle.backend_core.specs.Types.{Command, Scenario, Entry, Event, Progress, Backend, Frame, Purpose, Opening}
 use Rattle.backend_core.specs.Agrees.{IsPlayed, command_at, AwaitsEntry}
-use Rattle.backend_core.specs.Fits.{looks_due, LooksFit, Fits, IsLookedFor, Lacks, Unfound, Said, FramesFit, IsTakenBack, IsUnheld, looked_in, looked_on_top, told_owed, lacks_scan}
+use Rattle.backend_core.specs.Fits.{looks_due, LooksFit, Fits, IsLookedFor, Lacks, Unfound, Said, FramesFit, IsTakenBack, IsUnheld, looked_in, looked_on_top, told_owed, lacks_scan, is_lost}
 use Rattle.backend_core.specs.Steps.{OwesLookNow, IsLookNext, Enters, IsScanNext, FindsNone, Looks, Says, IsAcceptNext, IsInTurn}
 use Rattle.backend_core.specs.Words.{has_error, is_looked_for, is_unfound, scan_on_top, frames_looked}
 use Rattle.backend_core.proofs.Choosing.ActsRun.{scan_runs, find_runs}

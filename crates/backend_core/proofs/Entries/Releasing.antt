@@ -240,6 +240,10 @@ release_noted scenario old new had has was from p frames rests goes kept are app
   noted = ap (λ l. record (noted_of was) { frames = l }) (are ∙ (λ i. unless (fails_at (ap (λ (x : Session). x.left) goes.session i)) was.frames (with_rest (is_kept (kept i)) (ap (λ (x : Session). x.opened) goes.session i) was.frames)));
 }
 
+-- so it is where no memory is refused, for the rebuilds by what the code asks
+pub rest_is : (p : Progress) (was frames : List Frame) (fails : Bool) (held : List Opening) → fails ≡ has_failed p → held ≡ p.opened → frames ≡ unless fails was (with_rest (is_kept (kept_at p)) held was) → frames ≡ unless (has_failed p) was (with_rest (is_kept (kept_at p)) p.opened was)
+rest_is p was frames fails held fails_is held_is are = are ∙ (λ i. unless (fails_is i) was (with_rest (is_kept (kept_at p)) (held_is i) was))
+
 -- before it its command has come out
 pub release_out : (scenario : Scenario) (old : List Entry) (was : Backend) (from : ℕ) → AwaitsEntry scenario old was → EndsNext was (events.Release from) → is_out was.progress ≡ true
 release_out scenario old was from waits (InCommand command free out owes again may) = out

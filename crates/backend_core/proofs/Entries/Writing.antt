@@ -1,5 +1,5 @@
 -- The write of a backend, where its draft is at hand.
-use Rattle.std.proofs.Common.{◌≡◌, ◌≤◌, ◌<◌, ◌+◌, ◌∙◌, ◌==◌, ◌&&◌, ◌||◌, inl, inr, ℕ, Bool, false, not, map, Some, None, Result, Ok, Err, OnOk, OnErr, List, [], ◌∷◌, refl, sym, ap, subst, length, drop, arith, true}
+use Rattle.std.proofs.Common.{◌≡◌, ◌≤◌, ◌<◌, ◌+◌, ◌∙◌, ◌==◌, ◌&&◌, ◌||◌, inl, inr, ℕ, Bool, false, not, Some, None, Result, Ok, Err, OnOk, OnErr, List, [], ◌∷◌, refl, sym, ap, subst, length, drop, arith, true}
 use Rattle.std.specs.List.{AllByRecursion, flat_map, list_any}
 use Rattle.std.proofs.Math.Bool.{and-false}
 use Rattle.std.proofs.lemmas.Bool.{both_ways, ne_eqb, false_from_ne_true}
@@ -31,7 +31,7 @@ use Rattle.cacheless.specs.Locks.{locked_by}
 use Rattle.cacheless.specs.OnCourse.{OnItsWay, AllOnCourse}
 use Rattle.cacheless.specs.Owed.{owed_of, started_in}
 use Rattle.cacheless.specs.Plays.{IsWrite, IsClash, MayPlay, MayPlayIn}
-use Rattle.cacheless.specs.Session.{Session, Well, Badly, Unsettled, opening_of, number_of, outcome_of, is_settled}
+use Rattle.cacheless.specs.Session.{Session, Well, Badly, Unsettled, number_of, outcome_of, is_settled, held_before, held_in}
 use Rattle.cacheless.specs.Sessions.{written, entered}
 use Rattle.cacheless.specs.State.{lists_at, kept_at, kept_spared, is_kept, locks_made, messages_in, clash_event, error_of, one_if}
 use Rattle.cacheless.proofs.Allowed.NamesRead.{read_as_now}
@@ -44,7 +44,7 @@ use Rattle.cacheless.proofs.Written.NamesGiven.{AreReadAsNow}
 use Rattle.cacheless.proofs.Written.WriteFits.{WriteFits, write_fits}
 use Rattle.backend_core.specs.Types.{Oid, Xid, Command, Draft, Item, Message, Opening, Purpose, Scenario, Entry, Event, Frame, Progress, Backend}
 use Rattle.backend_core.specs.Agrees.{IsPlayed, command_at, AwaitsEntry}
-use Rattle.backend_core.specs.Fits.{looks_due, looked_on_top, came_well, LooksFit, IsLookedFor, TakesFit, FramesFit, keeps_whole}
+use Rattle.backend_core.specs.Fits.{looks_due, looked_on_top, came_well, LooksFit, IsLookedFor, TakesFit, FramesFit, keeps_whole, is_lost}
 use Rattle.backend_core.specs.Steps.{IsWriteNext, MakesEntry, Enters, IsRefused}
 use Rattle.backend_core.specs.Noted.{noted_of, noted_by, IsNoted}
 use Rattle.backend_core.specs.declared.next.Next.TheVariants as nexts

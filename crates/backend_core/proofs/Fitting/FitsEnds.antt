@@ -8,17 +8,17 @@ use Rattle.base_types.specs.declared.command.Command.TheVariants as commands
 use Rattle.event_kinds.specs.declared.entry.Event.TheVariants as events
 use Rattle.inval_messages.specs.Lists.{Written, has_write_from, lists_before}
 use Rattle.txn_blocks.specs.Blocks.{Block, Outside, Inside, Failed}
-use Rattle.ddl_effect.specs.Plans.{Plan, left_rests_on, Done, Fails, Absent, NotBuilt, Do, Open, told_rests_on}
+use Rattle.ddl_effect.specs.Plans.{Plan, left_rests_on, Done, Fails, Absent, NotBuilt, Do, told_rests_on}
 use Rattle.history_model.specs.Sent.{ends_transaction}
 use Rattle.history_model.specs.Transactions.{Running, begun, after_release, is_visible}
 use Rattle.history_model.specs.Writes.{is_empty}
-use Rattle.cacheless.specs.Ends.{End, Ends, Commits, TakesBack, end_of_all, end_of_block, end_well, end_badly, end_of, next_of_end}
+use Rattle.cacheless.specs.Ends.{End, Ends, Commits, TakesBack, end_of_all, end_of_block, end_well, end_badly, end_of}
 use Rattle.cacheless.specs.Facts.{Facts}
 use Rattle.cacheless.proofs.Allowed.Releases.{OwesNoScan}
 use Rattle.cacheless.specs.Owed.{Owes, OwesLook, OwesScan, unusable, owed_at_start, owed_after, begins, builds_owed, act_owed, scans_owed, owed_of, started_in}
 use Rattle.cacheless.specs.Session.{Session, Outcome, Well, Badly, Unsettled, opening_of, number_of, outcome_of, is_settled}
 use Rattle.backend_core.specs.Types.{Purpose, Command, Event, OwnLock, Frame}
-use Rattle.backend_core.specs.Fits.{looks_due, LooksFit, first_at, RunsBlock, RunsBy, RunsAfter, TransactionFits, OnCommit, OnTakingBack, Fits, IsLookedFor, Lacks, Unfound, Said, TakesFit, FramesFit, IsUnheld, IsTakenBack}
+use Rattle.backend_core.specs.Fits.{looks_due, LooksFit, first_at, RunsBlock, RunsBy, RunsAfter, TransactionFits, OnCommit, OnTakingBack, Fits, IsLookedFor, Lacks, Unfound, Said, TakesFit, FramesFit, IsTakenBack}
 use Rattle.backend_core.proofs.Choosing.EndsNow.{end_by, end_from, EndsBy, IsCommit, commit_first}
 use Rattle.backend_core.proofs.Fitting.NextTransaction.{failed_on}
 use Rattle.cacheless.specs.Types.{Oid, Purpose, OwnLock}

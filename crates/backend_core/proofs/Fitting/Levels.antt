@@ -1,15 +1,12 @@
 -- The levels of a block: its own, which no savepoint began, and within it those of savepoints.
-use Rattle.std.proofs.Common.{◌≡◌, ◌≤◌, ◌+◌, ◌∙◌, ◌∷◌, ◌++◌, ℕ, zero, suc, add-one, Bool, true, false, not, Option, Some, None, List, [], refl, sym, ap, subst, take, arith}
-use Rattle.std.specs.Option.{option_map_or, option_or}
+use Rattle.std.proofs.Common.{◌≡◌, ◌≤◌, ◌+◌, ◌∙◌, ◌∷◌, ◌++◌, ℕ, zero, suc, add-one, Bool, true, false, not, Option, Some, None, List, [], refl, sym, ap, take, arith}
+use Rattle.std.specs.Option.{option_map_or}
 use Rattle.std.specs.Str.{bytes_eq}
 use Rattle.std.proofs.lemmas.Bool.{both_ways}
-use Rattle.base_types.specs.declared.command.Command.TheVariants as commands
 use Rattle.command_answers.specs.declared.error.CommandError.TheVariants as errors
-use Rattle.txn_blocks.specs.Blocks.{Block, Level, Blocks, Outside, Inside, Failed, no_block, is_open, refused_in, refused_of, refused_by, refused_without, is_savepoint, place_of, place_with, levels_around, levels_up_to, innermost}
+use Rattle.txn_blocks.specs.Blocks.{Level, Blocks, Outside, no_block, is_open, refused_without, is_savepoint, place_of, place_with, levels_around, levels_up_to, innermost}
 use Rattle.history_model.specs.Writes.{is_empty}
-use Rattle.cacheless.specs.Types.{CommandError}
-use Rattle.backend_core.specs.Types.{Command}
-use Rattle.backend_core.specs.Fits.{LevelsRise, IsOutermostPlain, outermost}
+use Rattle.backend_core.specs.Fits.{LevelsRise, IsOutermostPlain}
 
 pub rise_more : (from n : ℕ) (levels : List Level) → LevelsRise from n levels → LevelsRise from (n + 1) levels
 rise_more from n [] rise = omega (arith, rise)

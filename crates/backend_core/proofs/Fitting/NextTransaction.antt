@@ -1,5 +1,5 @@
 -- The blocks and the transaction of a backend when it passes to its next command.
-use Rattle.std.proofs.Common.{◌≡◌, ◌≤◌, ◌+◌, ◌∙◌, ◌&&◌, ◌∷◌, ◌++◌, inl, inr, ℕ, suc, take, Bool, true, false, not, Option, Some, None, List, [], refl, sym, ap, subst, is_none, is_some, arith}
+use Rattle.std.proofs.Common.{◌≡◌, ◌+◌, ◌∙◌, ◌&&◌, ◌∷◌, ◌++◌, inl, inr, ℕ, suc, take, Bool, true, false, not, Option, Some, None, List, [], refl, sym, ap, subst, is_none, is_some, arith}
 use Rattle.std.specs.Option.{option_map_or, option_or}
 use Rattle.std.proofs.lemmas.Bool.{both_ways}
 use Rattle.std.proofs.Math.Bool.{and-false}
@@ -9,14 +9,14 @@ use Rattle.txn_blocks.specs.Blocks.{Block, Level, Blocks, Outside, Inside, Faile
 use Rattle.history_model.specs.Transactions.{Running}
 use Rattle.history_model.specs.Writes.{is_empty}
 use Rattle.cacheless.specs.Facts.{Facts}
-use Rattle.ddl_effect.specs.Plans.{Plan, Fails}
+use Rattle.ddl_effect.specs.Plans.{Fails}
 use Rattle.cacheless.specs.Session.{Session, Outcome, Well, Badly, Unsettled, number_of, outcome_of, is_settled, plan_admitted, plan_first, is_blocked}
 use Rattle.cacheless.specs.Types.{CommandError}
 use Rattle.cacheless.specs.Owed.{OwesLook, owed_at_start, begins}
 use Rattle.cacheless.specs.Ends.{End, Ends, Commits, TakesBack, end_of_all, end_of_block, end_well, end_badly, end_of}
 use Rattle.cacheless.specs.Settled.{blocks_after}
 use Rattle.backend_core.specs.Types.{Command}
-use Rattle.backend_core.proofs.Fitting.Levels.{rise_more, rise_take, rise_push, IsWithin, within, none_outside, outside_is, HasOutermost, has_outermost}
+use Rattle.backend_core.proofs.Fitting.Levels.{rise_more, rise_take, rise_push, IsWithin, within, outside_is, HasOutermost, has_outermost}
 use Rattle.backend_core.specs.Fits.{LevelsRise, IsOutermostPlain, outermost, RunsBlock, RunsFailed, RunsAt, RunsIn, RunsBy}
 
 -- the levels of blocks before a command of this number

@@ -1,5 +1,5 @@
 -- The relations that a session has open: their descriptors are among those that are held, from command to command.
-use Rattle.std.proofs.Common.{◌≡◌, ◌∙◌, ℕ, zero, suc, Bool, true, false, Option, Some, None, List, [], ◌∷◌, ◌++◌, ◌+◌, ◌||◌, ◌≤◌, cond, filter, arith, refl, sym, ap, subst, map, length, take, drop, slice_get, is_some}
+use Rattle.std.proofs.Common.{◌≡◌, ◌∙◌, ℕ, zero, suc, Bool, true, false, Option, Some, None, List, [], ◌∷◌, ◌++◌, ◌+◌, ◌||◌, ◌≤◌, cond, filter, arith, refl, sym, ap, subst, map, length, take, drop, slice_get}
 use Rattle.std.specs.Prelude.{nat_lt}
 use Rattle.std.specs.List.{list_any}
 use Rattle.std.proofs.lemmas.Bool.{both_ways, false_from_ne_true, le-ltb}
@@ -7,7 +7,6 @@ use Rattle.std.proofs.lemmas.List.Folds.{list_any-append}
 use Rattle.std.proofs.lemmas.Map.Keys.{any_passes_from_place}
 use Rattle.base_types.specs.declared.command.Command.TheVariants as commands
 use Rattle.command_answers.specs.declared.error.CommandError.TheVariants as errors
-use Rattle.event_kinds.specs.declared.entry.Event.TheVariants as events
 use Rattle.ddl_effect.specs.Opens.{place_latest, without_latest, opens_before}
 use Rattle.txn_blocks.specs.Blocks.{Block, Level, Outside, Inside, Failed, Blocks, refused_in, refused_by, innermost, levels_up_to, blocks_begun, blocks_well, blocks_badly}
 use Rattle.cacheless.specs.Ends.{End, Ends, Commits, TakesBack, end_of_block, end_of, end_well, end_badly}
@@ -15,7 +14,7 @@ use Rattle.cacheless.specs.Facts.{Facts}
 use Rattle.cacheless.specs.Session.{Session, Outcome, Well, Badly, Unsettled, opening_of, held_in, number_of, outcome_of, is_settled, plan_first}
 use Rattle.cacheless.specs.Settled.{opens_with, opens_well, opens_badly, opens_passed, opens_after, blocks_after, next_session}
 use Rattle.cacheless.specs.Types.{OpenRelation}
-use Rattle.backend_core.specs.Types.{Command, Event, Opening, OwnLock}
+use Rattle.backend_core.specs.Types.{Command, Opening}
 use Rattle.backend_core.specs.Fits.{first_at, OpensIn, AreHeld, OpensFit}
 use Rattle.backend_core.proofs.Choosing.EndsNow.{end_from, from_block}
 use Rattle.backend_core.proofs.Fitting.NextTransaction.{block_open, well_admitted}

@@ -1,7 +1,7 @@
 -- Once the release of a command is made, it goes on only where it came out well.
-use Rattle.std.proofs.Common.{◌≡◌, ◌∙◌, ◌&&◌, Bool, true, false, sym, ap, refl}
+use Rattle.std.proofs.Common.{◌≡◌, ◌∙◌, ◌&&◌, Bool, true, false, ap, refl}
 use Rattle.std.proofs.Math.Bool.{and-false}
-use Rattle.ddl_effect.specs.Plans.{Plan, Done, Fails, Absent, Do, NotBuilt}
+use Rattle.ddl_effect.specs.Plans.{Plan, Absent}
 use Rattle.cacheless.specs.Session.{Session, Well, Badly, outcome_of}
 use Rattle.cacheless.specs.State.{is_absent}
 use Rattle.backend_core.specs.Fits.{is_lost}

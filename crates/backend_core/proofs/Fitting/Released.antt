@@ -1,18 +1,18 @@
 -- What is rebuilt once a release is made: what is held still and lacks a scan, unless the command has failed.
-use Rattle.std.proofs.Common.{◌≡◌, ◌≤◌, ◌+◌, ◌∙◌, ◌&&◌, ◌∷◌, ℕ, Bool, true, false, not, Option, Some, None, List, [], refl, sym, ap, subst, arith}
+use Rattle.std.proofs.Common.{◌≡◌, ◌≤◌, ◌+◌, ◌∙◌, ◌&&◌, ℕ, Bool, true, false, not, Option, Some, None, List, [], refl, sym, ap, subst, arith}
 use Rattle.std.specs.List.{cons_option}
 use Rattle.std.specs.Option.{option_map_or}
 use Rattle.std.proofs.lemmas.Bool.{both_ways}
 use Rattle.seg_calls.specs.Calls.{took_back}
-use Rattle.ddl_effect.specs.Plans.{Plan, Done, Fails, Absent, Do, NotBuilt, Open, left_rests_on, told_rests_on}
+use Rattle.ddl_effect.specs.Plans.{Plan, Done, Fails, Absent, Do, NotBuilt, left_rests_on, told_rests_on}
 use Rattle.cacheless.specs.Facts.{Facts}
 use Rattle.cacheless.specs.Owed.{owed_after, started_in}
 use Rattle.cacheless.specs.Session.{Session, Well, Badly, number_of, outcome_of, is_settled}
 use Rattle.cacheless.specs.State.{one_if, is_absent}
 use Rattle.cacheless.specs.Types.{Oid}
 use Rattle.backend_core.specs.Types.{Purpose, Command, Opening, OwnLock, Frame}
-use Rattle.backend_core.specs.Fits.{looks_due, looked_in, looked_on_top, told_owed, LooksFit, FramesFit, IsLookedFor, Lacks, Unfound, Said, IsUnheld, keeps_whole}
-use Rattle.backend_core.specs.Frames.{unless, new_frame, with_new, least_left, with_rest}
+use Rattle.backend_core.specs.Fits.{looks_due, looked_in, looked_on_top, told_owed, LooksFit, FramesFit, IsLookedFor, Lacks, Unfound, Said, IsUnheld}
+use Rattle.backend_core.specs.Frames.{unless, with_new, least_left, with_rest}
 use Rattle.backend_core.specs.Words.{has_error}
 use Rattle.backend_core.proofs.Fitting.Rebuilding.{bare_fits}
 use Rattle.backend_core.proofs.Stacking.Rests.{rest_stack}
