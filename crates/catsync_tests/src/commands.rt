@@ -29,6 +29,8 @@ const ADMITTED: &[(&str, [&str; 3])] = &[
     ("commit", ["ok", "ok", "ok"]),
     ("rollback", ["ok", "ok", "ok"]),
     ("savepoint s", ["25P01", "ok", "25P02"]),
+    ("release s", ["25P01", "3B001", "25P02"]),
+    ("rollback to s", ["25P01", "3B001", "3B001"]),
     ("lock table t in share mode", ["25P01", "ok", "25P02"]),
     ("open t", ["25P01", "ok", "25P02"]),
     ("peek t", ["25P01", "ok", "25P02"]),
@@ -50,25 +52,29 @@ fn admitted(blocks: &TxnBlocks, command: &Command) -> &'static str {
 }
 
 // The same outside a block, inside one, and in a failed one.
-fn admitted_anywhere(command: &Command) -> [&'static str; 3] {
-    let mut blocks = TxnBlocks::new();
+fn admitted_anywhere(alloc: Global, command: &Command) -> Result<[&'static str; 3], NoMemory> {
+    let mut blocks = TxnBlocks::new(alloc);
     let outside = admitted(&blocks, command);
-    blocks.begin(1, true);
+    blocks.begin(1, true)?;
     let inside = admitted(&blocks, command);
     blocks.fail();
-    [outside, inside, admitted(&blocks, command)]
+    Ok([outside, inside, admitted(&blocks, command)])
 }
 
 // Whether this is said of the one command of a script.
 fn is_admitted(alloc: Global, command: &str, wanted: [&'static str; 3]) -> Result<bool, NoMemory> {
     let script = script_of_command(alloc, command)?;
-    Ok(is_one_admitted(script.commands(), wanted))
+    is_one_admitted(alloc, script.commands(), wanted)
 }
 
-fn is_one_admitted(commands: &[Placed], wanted: [&'static str; 3]) -> bool {
+fn is_one_admitted(
+    alloc: Global,
+    commands: &[Placed],
+    wanted: [&'static str; 3],
+) -> Result<bool, NoMemory> {
     match commands {
-        [placed] => admitted_anywhere(&placed.command) == wanted,
-        _ => false,
+        [placed] => Ok(admitted_anywhere(alloc, &placed.command)? == wanted),
+        _ => Ok(false),
     }
 }
 
@@ -92,28 +98,78 @@ const BEGUN_FAILED_ENDED: [(bool, bool, u32); 3] = [
 ];
 
 // The states of a block that is begun, where it has failed, and after it has ended so.
-fn states(blocks: &mut TxnBlocks, ending: &Command) -> [(bool, bool, u32); 3] {
-    blocks.ended_well(4, &Command::Begin);
-    blocks.ended_well(5, &Command::Begin);
+fn states(blocks: &mut TxnBlocks, ending: &Command) -> Result<[(bool, bool, u32); 3], NoMemory> {
+    blocks.ended_well(4, &Command::Begin)?;
+    blocks.ended_well(5, &Command::Begin)?;
     let begun = state(blocks);
     blocks.fail();
     let failed = state(blocks);
-    blocks.ended_well(6, ending);
-    [begun, failed, state(blocks)]
+    blocks.ended_well(6, ending)?;
+    Ok([begun, failed, state(blocks)])
 }
 
 #[test]
-fn blocks_open_fail_and_end(rt: HostRuntime) {
-    let mut blocks = TxnBlocks::new();
+fn blocks_open_fail_and_end(rt: HostRuntime) -> Result<(), Fail> {
+    let mut blocks = TxnBlocks::new(rt.alloc());
     blocks.fail();
-    blocks.begin(2, false);
-    blocks.ended_well(3, &Command::Commit);
+    blocks.begin(2, false)?;
+    blocks.ended_well(3, &Command::Commit)?;
     assert!(rt; state(&blocks) == (false, false, 9));
-    assert!(rt; states(&mut blocks, &Command::Commit) == BEGUN_FAILED_ENDED);
-    assert!(rt; states(&mut blocks, &Command::Rollback) == BEGUN_FAILED_ENDED);
-    blocks.begin(7, true);
+    assert!(rt; states(&mut blocks, &Command::Commit)? == BEGUN_FAILED_ENDED);
+    assert!(rt; states(&mut blocks, &Command::Rollback)? == BEGUN_FAILED_ENDED);
+    blocks.begin(7, true)?;
     blocks.end();
     assert!(rt; state(&blocks) == (false, false, 9));
+    Ok(())
+}
+
+// The commands of a block with two savepoints of one name, and the innermost level after each. They have the
+// numbers from 1 on.
+const LEVELS: &[(&str, u32)] = &[
+    ("begin", 1),
+    ("savepoint s", 2),
+    ("savepoint r", 3),
+    ("savepoint s", 4),
+    ("release s", 3),
+    ("rollback to s", 2),
+    ("savepoint r", 7),
+    ("release s", 1),
+];
+
+#[test]
+fn savepoints_begin_levels(rt: HostRuntime) -> Result<(), Fail> {
+    let mut blocks = TxnBlocks::new(rt.alloc());
+    for (index, &(command, level)) in LEVELS.iter().enumerate() {
+        end_well(rt.alloc(), &mut blocks, index as u32 + 1, command)?;
+        assert!(rt; blocks.level_from(9) == level, "{command}");
+    }
+    Ok(())
+}
+
+// The command of this number came out well.
+fn end_well(
+    alloc: Global,
+    blocks: &mut TxnBlocks,
+    number: u32,
+    command: &str,
+) -> Result<(), NoMemory> {
+    let script = script_of_command(alloc, command)?;
+    match script.commands() {
+        [placed] => blocks.ended_well(number, &placed.command),
+        _ => Ok(()),
+    }
+}
+
+#[test]
+fn a_rollback_to_a_savepoint_mends(rt: HostRuntime) -> Result<(), Fail> {
+    let mut blocks = TxnBlocks::new(rt.alloc());
+    end_well(rt.alloc(), &mut blocks, 1, "begin")?;
+    end_well(rt.alloc(), &mut blocks, 2, "savepoint s")?;
+    blocks.fail();
+    assert!(rt; state(&blocks) == (true, true, 2));
+    end_well(rt.alloc(), &mut blocks, 3, "rollback to s")?;
+    assert!(rt; state(&blocks) == (true, false, 2));
+    Ok(())
 }
 
 // Commands, whether a lookup finds a table, and what each wants in turn.

@@ -137,7 +137,7 @@ const REFUSED: &[(&[&str], &[u8], u8, &str)] = &[
     ),
     (
         &["walk"],
-        b"backends 1\n1: begin\n1: savepoint s\nend\n",
+        b"backends 1\n1: create trigger g on t\nend\n",
         9,
         "the script holds",
     ),

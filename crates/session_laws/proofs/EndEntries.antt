@@ -1,14 +1,13 @@
 -- The entries of a command's end: before each the command has its answer, and after taking back its end isn't whole.
-use Rattle.std.proofs.Common.{◌≡◌, ◌∙◌, ◌&&◌, ◌||◌, ◌⊎◌, inl, inr, ℕ, Bool, true, false, not, Option, Some, None, List, [], ◌∷◌, ◌++◌, refl, sym, ap, subst, map, length, is_none, zero, suc}
+use Rattle.std.proofs.Common.{◌≡◌, ◌∙◌, ◌&&◌, ◌||◌, ◌⊎◌, inl, inr, ℕ, Bool, true, false, not, Option, Some, None, List, [], ◌∷◌, refl, sym, ap, subst, length, is_none, zero, suc}
 use Rattle.std.specs.Option.{option_map_or}
 use Rattle.std.proofs.Math.Bool.{and-false, or-true}
 use Rattle.base_types.specs.declared.command.Command.TheVariants as commands
-use Rattle.base_types.specs.declared.scan.Purpose.{Purpose}
 use Rattle.event_kinds.specs.declared.entry.Event.TheVariants as events
 use Rattle.inval_messages.specs.Lists.{has_write_from}
 use Rattle.txn_blocks.specs.Blocks.{Block, Outside, Inside, Failed, no_block, ends_block, ends_failure, refused_by}
 use Rattle.ddl_effect.specs.Commands.{plan_of}
-use Rattle.ddl_effect.specs.Plans.{Plan, Done, Fails, Absent, NotBuilt, Do, Write}
+use Rattle.ddl_effect.specs.Plans.{Done}
 use Rattle.ddl_effect.specs.Stages.{plan_at, told_of}
 use Rattle.ddl_effect.specs.declared.told.Told.{Told}
 use Rattle.ddl_effect.specs.declared.told.Told.TheVariants as tells
@@ -20,7 +19,7 @@ use Rattle.cacheless.specs.Facts.{Facts}
 use Rattle.cacheless.specs.Holds.{FactsFit}
 use Rattle.cacheless.specs.May.{owes_nothing}
 use Rattle.cacheless.specs.OnCourse.{DoesNoAct}
-use Rattle.cacheless.specs.Owed.{Owes, OwesLook, OwesScan, begins, owed_at_start, owed_after, builds_owed, act_owed, scans_owed, owed_of}
+use Rattle.cacheless.specs.Owed.{Owes, OwesLook, begins, owed_at_start, owed_after, owed_of}
 use Rattle.cacheless.specs.Plays.{owed_at_end, IsEnd, MayPlay}
 use Rattle.cacheless.specs.Session.{Session, Outcome, Unsettled, Well, Badly, number_of, outcome_of, is_settled}
 use Rattle.cacheless.specs.Sessions.{noted, ends_command, entered}
@@ -30,7 +29,7 @@ use Rattle.cacheless.specs.State.{Rest, session_at}
 use Rattle.cacheless.specs.Telling.{IsOnItsEnd}
 use Rattle.cacheless.specs.Told.{tells_of_scans}
 use Rattle.cacheless.proofs.Allowed.OwnEntries.{ends_out}
-use Rattle.cacheless.proofs.Allowed.Releases.{OwesNoScan, ends_free, written_ended, resumed_ended}
+use Rattle.cacheless.proofs.Allowed.Releases.{written_ended, resumed_ended}
 use Rattle.cacheless.proofs.Same.{owes_nothing_is}
 use Rattle.session_laws.specs.Types.{Command, Event, Progress}
 

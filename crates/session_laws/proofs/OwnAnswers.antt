@@ -1,5 +1,5 @@
 -- What a session has to tell, after an entry of its own.
-use Rattle.std.proofs.Common.{◌≡◌, ◌≢◌, ◌+◌, ◌∙◌, ◌==◌, ◌⊎◌, inl, inr, ◌∷◌, ◌++◌, [], ℕ, Bool, true, false, Option, Some, None, List, refl, sym, ap, subst, length, drop, slice_get, is_some, arith}
+use Rattle.std.proofs.Common.{◌≡◌, ◌≢◌, ◌+◌, ◌∙◌, ◌==◌, inl, inr, ◌∷◌, ◌++◌, [], ℕ, Bool, true, false, Option, Some, None, List, refl, sym, ap, subst, length, drop, slice_get, is_some, arith}
 use Rattle.std.proofs.lemmas.Bool.{eq-eqb, both_ways}
 use Rattle.std.proofs.lemmas.List.{length_push}
 use Rattle.std.specs.Option.{option_map_or}

@@ -9,7 +9,6 @@ use Rattle.std.proofs.lemmas.Bool.{and_parts}
 use Rattle.command_answers.specs.Answers.{answer_text}
 use Rattle.ddl_effect.specs.Plans.{Absent}
 use Rattle.ddl_effect.specs.Stages.{plan_at, told_of}
-use Rattle.history_model.specs.Lives.{last_event_of}
 use Rattle.history_model.specs.Read.{place_read, rows_read, is_usable}
 use Rattle.cacheless.specs.Types.{Purpose, Command, Opening, Scenario, Entry}
 use Rattle.cacheless.specs.declared.progress.Progress.{Progress}

@@ -1,5 +1,5 @@
 -- What a command reads is of a descriptor that it has opened before.
-use Rattle.std.proofs.Common.{◌≡◌, ◌-◌, ◌∙◌, ℕ, true, false, ◌||◌, Option, Some, None, List, [], ◌∷◌, ◌++◌, refl, sym, ap, subst, map, Contains}
+use Rattle.std.proofs.Common.{◌≡◌, ◌-◌, ◌∙◌, ℕ, true, false, ◌||◌, Option, Some, None, List, [], ◌∷◌, ◌++◌, refl, sym, ap, subst, Contains}
 use Rattle.std.proofs.lemmas.List.{append-nil, append_assoc}
 use Rattle.std.specs.List.{list_any}
 use Rattle.std.proofs.Math.Bool.{or-true}
@@ -12,7 +12,7 @@ use Rattle.ddl_effect.specs.Commands.{plan_of, found}
 use Rattle.ddl_effect.proofs.HasPlan.{built_alike}
 use Rattle.cacheless.specs.Runs.{runs}
 use Rattle.txn_blocks.specs.Blocks.{Blocks, refused_by}
-use Rattle.cacheless.specs.Session.{none_open, opening_of, outcome_of, is_settled, plan_admitted, plan_first}
+use Rattle.cacheless.specs.Session.{none_open, outcome_of, is_settled, plan_admitted, plan_first}
 use Rattle.cacheless.specs.Settled.{opened_by}
 use Rattle.cacheless.proofs.Plans.ActOrder.{IsEnded, FollowsOpen, FollowsFound, FollowsOrder, follows_order}
 use Rattle.cacheless.proofs.Plans.EffectAlong.{plain_row}

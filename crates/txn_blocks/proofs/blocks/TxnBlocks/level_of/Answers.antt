@@ -1,4 +1,4 @@
-use Rattle.std.proofs.Common.{get_or, sym, ap, ◌∙◌}
+use Rattle.std.proofs.Common.{get_or, ap, ◌∙◌}
 use Rattle.txn_blocks.proofs.Levels.{first_lent}
 use Rattle.txn_blocks.proofs.blocks.TxnBlocks.level_of.Goals as goal
 
