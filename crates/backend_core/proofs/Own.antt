@@ -12,11 +12,11 @@ use Rattle.seg_calls.specs.Calls.{places_for, Appends}
 use Rattle.cacheless.specs.Facts.{facts_of}
 use Rattle.cacheless.specs.Holds.{HasEntered, entry_of, with_own}
 use Rattle.cacheless.specs.MayEnter.{SuitsHistory}
-use Rattle.cacheless.specs.OnCourse.{FollowsPlan, IsOnCourse, CourseOf, AllOnCourse}
+use Rattle.cacheless.specs.OnCourse.{FollowsPlan, TellsAlone, IsOnCourse, CourseOf, AllOnCourse}
 use Rattle.cacheless.specs.Plays.{MayPlayIn, IsNext}
 use Rattle.cacheless.specs.Runs.{runs}
 use Rattle.cacheless.specs.Schedule.{LooksTruly}
-use Rattle.cacheless.specs.Session.{Session}
+use Rattle.cacheless.specs.Session.{Session, Well, outcome_of}
 use Rattle.cacheless.specs.Sessions.{session_of}
 use Rattle.cacheless.specs.State.{session_at}
 use Rattle.cacheless.specs.Telling.{AreLines, TellsNow}
@@ -27,8 +27,9 @@ use Rattle.session_laws.proofs.OwnAnswers.{waiting_is as session_is, at_session 
 use Rattle.session_laws.proofs.OwnPlaces.{own_places}
 use Rattle.backend_core.specs.Types.{Command, Scenario, Entry, Event, Backend}
 use Rattle.backend_core.specs.Agrees.{IsPlayed, command_at, Keeps, AgreesNow, AwaitsEntry, HasNotJoined}
-use Rattle.backend_core.specs.Fits.{Fits}
+use Rattle.backend_core.specs.Fits.{Fits, is_lost}
 use Rattle.backend_core.specs.Steps.{MakesEntry, Enters}
+use Rattle.backend_core.proofs.Fitting.Over.{IsWellOnceOver, well_unlost, well_going}
 
 -- the session of a backend that waits
 abbrev pub waiting : {scenario : Scenario} {seen : List Entry} {s : Backend} → AwaitsEntry scenario seen s → Session
@@ -54,12 +55,25 @@ waiting_course scenario seen s waits courses = subst (CourseOf scenario seen s.p
 pub at_session : (scenario : Scenario) (seen : List Entry) (s : Backend) (waits : AwaitsEntry scenario seen s) → slice_get (commands_of scenario s.progress.id) (length (waiting waits).finished) ≡ command_at s
 at_session scenario seen s waits = command_is scenario seen s.progress s.lines (session_waits waits)
 
--- it does what its plan says, and hasn't made its release
+-- it does what its plan says
 pub follows : (scenario : Scenario) (seen : List Entry) (s : Backend) (waits : AwaitsEntry scenario seen s) → AllOnCourse scenario seen → (command : Command) → command_at s ≡ Some command → FollowsPlan seen s.progress.id (waiting waits) command
 follows scenario seen s waits courses command at = (waiting_course scenario seen s waits courses).follows command (at_session scenario seen s waits ∙ at)
 
-pub going : (scenario : Scenario) (seen : List Entry) (s : Backend) (waits : AwaitsEntry scenario seen s) → AllOnCourse scenario seen → (command : Command) → command_at s ≡ Some command → (waiting waits).ended ≡ false
-going scenario seen s waits courses command at = (waiting_course scenario seen s waits courses).going command (at_session scenario seen s waits ∙ at)
+-- once its release is made it tells of no scan
+pub tells_alone : (scenario : Scenario) (seen : List Entry) (s : Backend) (waits : AwaitsEntry scenario seen s) → AllOnCourse scenario seen → (command : Command) → command_at s ≡ Some command → (waiting waits).ended ≡ true → TellsAlone seen s.progress.id (waiting waits) command
+tells_alone scenario seen s waits courses command at = (waiting_course scenario seen s waits courses).going command (at_session scenario seen s waits ∙ at)
+
+-- so it came out well
+pub over : (scenario : Scenario) (seen : List Entry) (s : Backend) (waits : AwaitsEntry scenario seen s) → AllOnCourse scenario seen → (command : Command) → command_at s ≡ Some command → IsWellOnceOver (waiting waits)
+over scenario seen s waits courses command at ended = ap outcome_of (tells_alone scenario seen s waits courses command at ended).left
+
+-- one that hasn't hasn't made it
+pub going : (scenario : Scenario) (seen : List Entry) (s : Backend) (waits : AwaitsEntry scenario seen s) → AllOnCourse scenario seen → (command : Command) → command_at s ≡ Some command → (outcome_of (waiting waits).left ≡ Well → ⊥) → (waiting waits).ended ≡ false
+going scenario seen s waits courses command at = well_going (waiting waits) (over scenario seen s waits courses command at)
+
+-- and after it none says that it found no relation
+pub unlost : (scenario : Scenario) (seen : List Entry) (s : Backend) (waits : AwaitsEntry scenario seen s) → AllOnCourse scenario seen → (command : Command) → command_at s ≡ Some command → is_lost (waiting waits) ≡ false
+unlost scenario seen s waits courses command at = well_unlost (waiting waits) (over scenario seen s waits courses command at)
 
 -- what the script and the segment ask of its next entry
 pub record OwnEntry (scenario : Scenario) (old : List Entry) (was : Backend) (event : Event) (waits : AwaitsEntry scenario old was) : Type 0 where

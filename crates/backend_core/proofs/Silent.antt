@@ -1,11 +1,11 @@
 -- What a backend does without an entry.
-use Rattle.std.proofs.Common.{◌≡◌, ◌+◌, ◌∙◌, ◌&&◌, Bool, true, false, Option, Some, None, Result, Ok, Err, OnOk, List, [], ◌∷◌, ◌++◌, refl, sym, ap, subst, length, slice_get, All, ℕ, arith}
+use Rattle.std.proofs.Common.{◌≡◌, ◌+◌, ◌∙◌, ◌&&◌, Bool, true, false, Option, Some, None, Result, Ok, Err, OnOk, List, [], ◌∷◌, ◌++◌, refl, sym, ap, subst, length, slice_get, All, ℕ, arith, ◌⊎◌, inl, inr}
 use Rattle.std.proofs.lemmas.Bool.{both_ways, and_parts}
 use Rattle.ddl_effect.specs.Commands.{commands_of}
 use Rattle.history_model.specs.Lives.{life_of}
 use Rattle.cacheless.specs.Facts.{facts_of}
 use Rattle.cacheless.specs.Holds.{Holds, HasActed, HasPassed}
-use Rattle.cacheless.specs.OnCourse.{EntersCourse}
+use Rattle.cacheless.specs.OnCourse.{EntersCourse, TellsAlone}
 use Rattle.cacheless.specs.Runs.{runs}
 use Rattle.cacheless.specs.Answering.{IsToldText}
 use Rattle.cacheless.specs.Session.{Session, outcome_of, is_settled}
@@ -18,7 +18,7 @@ use Rattle.backend_core.specs.Fits.{Fits}
 use Rattle.backend_core.proofs.Fitting.FitsOn.{fits_act, fits_pass}
 use Rattle.ddl_effect.specs.Plans.{Do, Lookup}
 use Rattle.cacheless.specs.Types.{Mode}
-use Rattle.cacheless.specs.Settled.{class_oid}
+use Rattle.cacheless.specs.Settled.{class_oid, is_finished}
 use Rattle.cacheless.proofs.Plans.SilentActs.{is_done_here, lookup_says}
 
 -- a command whose next act is done without an entry hasn't made its release
@@ -27,7 +27,11 @@ acts_going scenario seen b s command course at unsettled = by_ended s.ended refl
   where
     by_ended : (t : Bool) → s.ended ≡ t → s.ended ≡ false
     by_ended false is = is
-    by_ended true is = absurd (both_ways _ unsettled (and_parts (is_settled (outcome_of s.left)) _ (and_parts (is_settled (outcome_of s.left) && _) _ (course.ends command at is)).0).0)
+    by_ended true is = by_side (course.ends command at is)
+      where
+        by_side : (is_finished (facts_of seen b) command s ≡ true) ⊎ TellsAlone seen b s command → s.ended ≡ false
+        by_side (inl finished) = absurd (both_ways _ unsettled (and_parts (is_settled (outcome_of s.left)) _ (and_parts (is_settled (outcome_of s.left) && _) _ finished).0).0)
+        by_side (inr alone) = absurd (both_ways _ unsettled (ap (λ p. is_settled (outcome_of p)) alone.left))
 
 -- it does an act
 act_agrees : (scenario : Scenario) (seen : List Entry) (was : Backend) (p : Progress) (now : AgreesNow scenario seen was) → HasActed scenario seen was.progress now.holds p → kept_at p ≡ kept_at was.progress → p.answer ≡ was.progress.answer → AgreesNow scenario seen (record was { progress = p })

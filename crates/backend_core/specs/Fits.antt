@@ -8,13 +8,14 @@ use Rattle.base_types.specs.declared.scan.Purpose.TheVariants as scans
 use Rattle.event_kinds.specs.declared.entry.Event.TheVariants as events
 use Rattle.inval_messages.specs.Lists.{has_write_from}
 use Rattle.lock_modes.specs.Own.{is_own}
+use Rattle.ddl_effect.specs.Opens.{opens_before}
 use Rattle.ddl_effect.specs.Plans.{Plan, Done, Absent, Do, Lookup, Open, Search, told_rests_on, left_rests_on}
 use Rattle.txn_blocks.specs.Blocks.{Block, Level, Blocks, Outside, Inside, Failed, is_open}
 use Rattle.history_model.specs.Transactions.{is_visible}
 use Rattle.history_model.specs.Writes.{is_empty}
 use Rattle.cacheless.specs.Facts.{Facts}
 use Rattle.seg_calls.specs.Calls.{took_back}
-use Rattle.cacheless.specs.Session.{Session, Badly, opening_of, number_of, outcome_of, is_settled, plan_first, refused_first}
+use Rattle.cacheless.specs.Session.{Session, Badly, opening_of, held_before, number_of, outcome_of, is_settled, plan_first, is_blocked}
 use Rattle.cacheless.specs.Owed.{Owes, OwesLook, owed_after, owed_of, begins, started_in}
 use Rattle.cacheless.specs.Ends.{Commits, TakesBack, end_of, end_of_all}
 use Rattle.cacheless.specs.Settled.{blocks_after, opens_after}
@@ -53,10 +54,11 @@ abbrev pub came_well : Plan → ℕ
 came_well (Done told) = 1
 came_well plan = 0
 
--- its looks are as many as these, those that were made for next scans and its full fetches that ask for one, and no more than these, that for the scan that comes next and two for each fetch; where messages came since a lookup began, one more may be made, and so once the command has come out well
+-- its looks are as many as these, those that were made for next scans and its full fetches that ask for one, and no more than these, that for the scan that comes next and two for each fetch; where messages came since a lookup began, one more may be made, and so once the command has come out well, and once its release is made, unless its transaction started in it
 pub record LooksFit (facts : Facts) (s : Session) (looked : Bool) (frames : List Frame) (told : Bool) : Type 0 where
   pub enough : s.tally.full + looks_owed facts s + one_if looked + looked_in frames ≤ s.tally.looks + looks_due (owed_after facts.last)
-  pub within : s.tally.looks + looks_due (owed_after facts.last) + told_owed told frames ≤ 2 * s.tally.fetches + looks_owed facts s + looked_on_top looked frames + came_well s.left
+  pub within : s.tally.looks + looks_due (owed_after facts.last) + told_owed told frames ≤ 2 * s.tally.fetches + looks_owed facts s + looked_on_top looked frames + came_well s.left + one_if s.ended
+  pub once : started_in (number_of s) facts + one_if s.ended ≤ 1
 
 -- the first command of the running transaction, or 0
 abbrev pub first_at : Facts → ℕ
@@ -78,6 +80,11 @@ outermost number (level ∷ levels) = level.first
 abbrev pub LevelsRise : ℕ → ℕ → List Level → Type 0
 LevelsRise from number [] = from ≤ number
 LevelsRise from number (level ∷ levels) = (from ≤ level.first) × LevelsRise (level.first + 1) number levels
+
+-- the outermost level is the block's own: no savepoint began it
+abbrev pub IsOutermostPlain : List Level → Type 0
+IsOutermostPlain [] = ⊤
+IsOutermostPlain (level ∷ levels) = level.savepoint ≡ None
 
 -- the transaction of a block, whichever command runs: its outermost level began it
 pub record RunsBlock (facts : Facts) (levels : List Level) : Type 0 where
@@ -184,9 +191,13 @@ abbrev pub IsUnheld : List Opening → Plan → Type 0
 IsUnheld held (Do (Open rel kind) rest) = list_any (λ o. same_oid rel o.rel && same_kind kind o.kind) held ≡ false
 IsUnheld held plan = ⊤
 
--- what is held is kept whole: the command hasn't failed, and its end isn't made, nor is anything taken back
+-- the release of a command is made that found no relation
+abbrev pub is_lost : Session → Bool
+is_lost s = s.ended && is_absent s.left
+
+-- what is held is kept whole: the command hasn't failed, for good or with its release, and nothing was taken back just now
 abbrev pub keeps_whole : Facts → Session → Bool
-keeps_whole facts s = not (took_back facts.last) && not s.ended && not (has_error s.left)
+keeps_whole facts s = not (took_back facts.last) && not (is_lost s) && not (has_error s.left)
 
 -- the rebuilds: while what is held is kept whole, they see to that; else there are none, and none in a command that has failed, or after the last one
 pub record FramesFit (facts : Facts) (o : Option Command) (s : Session) (frames : List Frame) : Type 0 where
@@ -195,30 +206,31 @@ pub record FramesFit (facts : Facts) (o : Option Command) (s : Session) (frames 
   pub badly : outcome_of s.left ≡ Badly → frames ≡ []
   pub past : o ≡ None → frames ≡ []
 
--- none is open but in a block that goes on
+-- none is open outside a block
 abbrev pub OpensIn : Block → List OpenRelation → Type 0
-OpensIn Inside opens = ⊤
-OpensIn block opens = opens ≡ []
+OpensIn Outside opens = opens ≡ []
+OpensIn block opens = ⊤
 
--- what is so of no held descriptor is so of no relation that is open
-abbrev pub AreHeld : List Opening → List OpenRelation → Type 0
-AreHeld held opens = (p : Opening → Bool) → list_any p held ≡ false → list_any p (map opening_of opens) ≡ false
+-- what is so of no held descriptor is so of none of these
+abbrev pub AreHeld : List Opening → List Opening → Type 0
+AreHeld held those = (p : Opening → Bool) → list_any p held ≡ false → list_any p those ≡ false
 
--- the relations that are open before the command: until its release their descriptors are held, and after it none of them is open any more
+-- the relations that are open before the command: until its release the descriptors are held that were held as it began, and after it those of the relations that stay open
 pub record OpensFit (o : Option Command) (s : Session) : Type 0 where
   pub inside : OpensIn s.blocks.block s.opens
-  pub held : s.ended ≡ false → AreHeld s.opened s.opens
-  pub over : s.ended ≡ true → (command : Command) → o ≡ Some command → opens_after command s ≡ []
+  pub held : s.ended ≡ false → AreHeld s.opened (held_before s)
+  pub over : s.ended ≡ true → (command : Command) → o ≡ Some command → s.opened ≡ map opening_of (opens_after command s)
 
 -- what the choice keeps
 pub record Fits (facts : Facts) (o : Option Command) (s : Session) (looked : Bool) (frames : List Frame) (told : Bool) : Type 0 where
-  pub looks : s.ended ≡ false → LooksFit facts s looked frames told
+  pub looks : LooksFit facts s looked frames told
   pub rebuilds : FramesFit facts o s frames
   pub transaction : TransactionFits facts o s s.ended
   pub first : first_at facts ≤ number_of s
   pub opens : is_open s.blocks ≡ not (is_empty s.blocks.levels)
   pub levels : LevelsRise 0 (number_of s) s.blocks.levels
-  pub blocked : s.blocked ≡ is_some (refused_first s.blocks o)
+  pub plain : IsOutermostPlain s.blocks.levels
+  pub blocked : s.blocked ≡ is_blocked s.blocks o
   pub settled : is_settled (outcome_of (plan_first s.blocks s.opens o)) ≡ true → s.left ≡ plan_first s.blocks s.opens o
   pub written : has_write_from 0 facts.lists ≡ true → option_map_or (λ t. is_some t.xid) facts.running false ≡ true
   pub visible : is_visible facts.running ≡ true → OnCommit facts o s
@@ -226,6 +238,8 @@ pub record Fits (facts : Facts) (o : Option Command) (s : Session) (looked : Boo
   pub accepts : is_empty (owed_after facts.last) ≡ false → is_some facts.running ≡ true
   pub past : o ≡ None → IsPast facts s
   pub relations : OpensFit o s
+  pub since : opens_before (first_at facts) s.opens ≡ []
+  pub free : s.ended ≡ true → facts.running ≡ None → s.opened ≡ []
   pub sought : looked ≡ true → IsLookedFor facts frames s.taken s.left
   pub takes : TakesFit (number_of s) s.locks s.taken s.left
   pub unheld : looked ≡ true → IsUnheld s.opened s.left

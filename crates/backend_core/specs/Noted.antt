@@ -1,13 +1,15 @@
 -- What a backend notes beside how far it is: whether the look for the next scan of its act is made, the rebuilds that are on their way, and whether messages came since its lookup began; and what each entry makes of that.
-use Rattle.std.specs.Prelude.{◌≡◌, ◌<◌, ◌+◌, ◌++◌, ◌∷◌, ◌&&◌, ◌||◌, Bool, true, false, not, List, [], map}
+use Rattle.std.specs.Prelude.{◌≡◌, ◌<◌, ◌+◌, ◌++◌, ◌∷◌, ◌&&◌, ◌||◌, ℕ, Bool, true, false, not, List, [], map}
 use Rattle.event_kinds.specs.declared.entry.Event.TheVariants as events
 use Rattle.history_model.specs.Log.{fetched_by}
 use Rattle.seg_calls.specs.Calls.{entry_of, messages_in}
-use Rattle.cacheless.specs.Session.{opening_of}
+use Rattle.ddl_effect.specs.Opens.{opens_before}
+use Rattle.cacheless.specs.May.{has_failed}
+use Rattle.cacheless.specs.Session.{opening_of, held_in}
 use Rattle.cacheless.specs.State.{kept_at, kept_spared, is_kept}
 use Rattle.backend_core.specs.Types.{Message, Entry, Event, Frame, Next, Backend}
 use Rattle.backend_core.specs.declared.next.Next.TheVariants as nexts
-use Rattle.backend_core.specs.Frames.{frames_after}
+use Rattle.backend_core.specs.Frames.{unless, with_rest, frames_after}
 use Rattle.backend_core.specs.Steps.{IsNextOf}
 use Rattle.backend_core.specs.Words.{finds_none, has_begun, marks_build, looked_after, told_after, frames_given, frames_reset_of, frames_looked, frames_with_scan}
 
@@ -43,7 +45,11 @@ noted_reset s = record {
 
 -- after a write of these messages, by which what its command opened is closed
 abbrev pub noted_written : Backend → List Message → Noted
-noted_written s messages = record (noted_of s) { frames = frames_after (is_kept (kept_spared messages (kept_at s.progress))) (map opening_of s.progress.opens) messages s.frames }
+noted_written s messages = record (noted_of s) { frames = frames_after (is_kept (kept_spared messages (kept_at s.progress))) (held_in s.progress.blocks.block s.progress.opens) messages s.frames }
+
+-- after the release of the commands from this one on: unless the command has failed, what is held still is rebuilt
+abbrev pub noted_released : Backend → ℕ → Noted
+noted_released s from = record (noted_of s) { frames = unless (has_failed s.progress) s.frames (with_rest (is_kept (kept_at s.progress)) (map opening_of (opens_before from s.progress.opens)) s.frames) }
 
 -- after the entry of this event, which the backend chose as that which comes next: any other entry leaves it as it is
 abbrev pub noted_by : List Entry → Backend → Next → Event → Noted
@@ -54,6 +60,7 @@ noted_by before s nexts.Fetch events.FetchReset = noted_reset s
 noted_by before s (nexts.Scan scan rebuilds) event = record { looked = s.looked && rebuilds; frames = frames_with_scan rebuilds scan s; told = s.told }
 noted_by before s (nexts.Lock rel mode) (events.LockOk granted in_mode) = record (noted_of s) { told = false }
 noted_by before s nexts.Write (events.Write xid items) = noted_written s (messages_in before s.progress.id items)
+noted_by before s (nexts.Release from) event = noted_released s from
 noted_by before s next event = noted_of s
 
 -- the entry that came next is made, in the same command, and what is noted is what it makes of it

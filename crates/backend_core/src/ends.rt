@@ -1,15 +1,15 @@
 // What ends a transaction.
 
 use crate::{Backend, Life};
-use base_types::Xid;
+use base_types::{NoMemory, Xid};
 use seg_calls::Seg;
 use std::alloc::Global;
 
 impl Backend {
-    ghost use Rattle.std.specs.Prelude.{◌≡◌, ◌<◌};
+    ghost use Rattle.std.specs.Prelude.{◌≡◌, ◌<◌, OnOk, OnErr};
     ghost use Rattle.backend_core.specs.Agrees.{IsReady};
     ghost use Rattle.backend_core.specs.declared.next.Next.TheVariants as nexts;
-    ghost use Rattle.backend_core.specs.Steps.{IsNextOf, Steps, Enters};
+    ghost use Rattle.backend_core.specs.Steps.{IsNextOf, Steps, Enters, IsRefused};
     ghost use Rattle.backend_core.specs.Noted.{IsNoted};
 
     // Its transaction is committed.
@@ -53,17 +53,31 @@ impl Backend {
         self.progress.enter_gone(from);
     }
 
-    // It releases the locks of its transaction, which ends.
-    pub(crate) fn release<L: Seg>(&mut self, alloc: Global, seg: &mut L, from: u32)
+    // It releases the locks of these commands, by which its transaction ends, or a level of its block. What
+    // outer levels have open it holds still, and where a rollback to a savepoint took scans of that it is
+    // rebuilt, as after a reset. Out of memory, the backend may not be used any more.
+    pub(crate) fn release<L: Seg>(
+        &mut self,
+        alloc: Global,
+        seg: &mut L,
+        from: u32,
+    ) -> Result<(), NoMemory>
         requires ready { IsReady (L.script seg.old) (L.history seg.old) self.old }
         requires place { 0 < L.promised seg.old self.old.progress.id }
         requires next { IsNextOf self.old (nexts.Release from) }
         ensures script { L.script seg.new ≡ L.script seg.old }
-        ensures enters { Enters (L.script seg.old) (L.history seg.old) (L.history seg.new) (L.promised seg.old) (L.promised seg.new) self.old self.new }
-        ensures noted { IsNoted (L.history seg.old) (L.history seg.new) self.old (nexts.Release from) self.new }
+        ensures enters { OnOk result (Enters (L.script seg.old) (L.history seg.old) (L.history seg.new) (L.promised seg.old) (L.promised seg.new) self.old self.new) }
+        ensures noted { OnOk result (IsNoted (L.history seg.old) (L.history seg.new) self.old (nexts.Release from) self.new) }
+        ensures refused { OnErr result (IsRefused (L.script seg.old) (L.history seg.old) (L.history seg.new) (L.promised seg.old) (L.promised seg.new) self.old.progress.id) }
     {
         seg.release(self.progress.id, self.progress.finished + 1, from);
-        self.progress.enter_release(alloc, from);
+        self.progress.enter_release(alloc, from)?;
+        let fails = self.progress.has_failed();
+        self.frames.reset(
+            fails,
+            &self.progress.caches,
+            self.progress.opened.as_slice(),
+        )
     }
 
     // It leaves.

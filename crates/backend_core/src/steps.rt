@@ -53,7 +53,7 @@ impl Backend {
             Next::Commit { xid } => self.commit(seg, *xid),
             Next::Publish => self.publish(seg),
             Next::TakeBack { from } => self.take_back(seg, *from),
-            Next::Release { from } => self.release(alloc, seg, *from),
+            Next::Release { from } => self.release(alloc, seg, *from)?,
             Next::Leave => unreachable!(),
         }
         Ok(())

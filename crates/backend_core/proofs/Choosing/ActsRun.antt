@@ -1,7 +1,7 @@
 -- In a command that acts or scans, and whose transaction's first look is made, a transaction runs.
 use Rattle.std.proofs.Common.{◌≡◌, ◌≢◌, ◌∙◌, ◌&&◌, ◌||◌, inl, inr, Bool, true, false, not, Option, Some, None, List, [], ◌∷◌, refl, sym, ap, subst, map, length, nat_le, is_none, is_some, ℕ}
 use Rattle.std.specs.Prelude.{⊤}
-use Rattle.std.specs.Option.{option_map_or}
+use Rattle.std.specs.Option.{option_map_or, option_or}
 use Rattle.base_types.specs.Fields.{has_field}
 use Rattle.base_types.specs.declared.command.NewColumn.{NewColumn}
 use Rattle.base_types.specs.declared.dropped.TheConstants.{MOST_COLUMNS}
@@ -10,22 +10,20 @@ use Rattle.std.proofs.lemmas.Bool.{both_ways}
 use Rattle.std.proofs.lemmas.Option.{slice_get_within, get_or_from_slice_get}
 use Rattle.base_types.specs.declared.command.Command.TheVariants as commands
 use Rattle.command_answers.specs.declared.error.CommandError.TheVariants as errors
-use Rattle.txn_blocks.specs.Blocks.{Block, Outside, Inside, Failed, no_block, ends_block, ends_failure, refused_in, refused_by}
+use Rattle.txn_blocks.specs.Blocks.{Block, Outside, Inside, Failed, no_block, ends_block, ends_failure, refused_in, refused_of, refused_by}
 use Rattle.ddl_effect.specs.Commands.{plan_of, if_passes, if_no_column, first_twice, writing, new_table, told_fields, peeking, closing}
 use Rattle.ddl_effect.specs.Opens.{latest_open}
 use Rattle.ddl_effect.specs.declared.told.Told.TheVariants as tells
-use Rattle.ddl_effect.specs.Plans.{Act, Plan, Done, Fails, Absent, NotBuilt, Do, Lookup, told_rests_on}
+use Rattle.ddl_effect.specs.Plans.{Act, Plan, Done, Absent, Do, Lookup, told_rests_on}
 use Rattle.ddl_effect.specs.Stages.{plan_at}
 use Rattle.cacheless.specs.Facts.{Facts, facts_of}
 use Rattle.cacheless.specs.May.{is_missing, is_first_missing, is_next_of_act, has_failed, is_next_at}
 use Rattle.cacheless.specs.OnCourse.{OnItsWay, AllOnCourse}
 use Rattle.cacheless.specs.Owed.{Owes, OwesLook, begins, owed_at_start}
 use Rattle.cacheless.specs.Runs.{runs}
-use Rattle.cacheless.specs.Session.{opening_of, Session, Unsettled, Badly, none_open, outcome_of, is_settled, plan_admitted, plan_first, refused_first}
+use Rattle.cacheless.specs.Session.{opening_of, held_in, held_before, Session, Unsettled, Well, Badly, outcome_of, is_settled, plan_admitted, plan_first, refused_first, is_blocked}
 use Rattle.cacheless.specs.State.{kept_at, owed_first, is_absent}
 use Rattle.cacheless.specs.Types.{Field, Draft, CommandError, Told, OpenRelation}
-use Rattle.ddl_effect.proofs.HasPlan.{built_alike}
-use Rattle.cacheless.proofs.Plans.ActOrder.{FollowsOrder, follows_order}
 use Rattle.cacheless.proofs.Same.{start_owed}
 use Rattle.cacheless.proofs.Entries.EnteredLooks.{not_absent}
 use Rattle.cacheless.proofs.Plans.SilentActs.{on_its_way}
@@ -36,8 +34,10 @@ use Rattle.backend_core.specs.Agrees.{command_at, AwaitsEntry}
 use Rattle.backend_core.specs.Fits.{RunsBy, TransactionFits, OpensIn, Fits}
 use Rattle.backend_core.specs.Steps.{FindsNone, Looks, Says}
 use Rattle.backend_core.specs.Words.{is_unfound}
+use Rattle.history_model.specs.Transactions.{Running}
+use Rattle.backend_core.proofs.Fitting.Levels.{outside_is}
 use Rattle.backend_core.proofs.Fitting.NextTransaction.{some_first}
-use Rattle.backend_core.proofs.Own.{waiting, follows, going}
+use Rattle.backend_core.proofs.Own.{waiting, follows, going, tells_alone}
 
 -- a plan that is over at its beginning tells of nothing that rests on a scan
 abbrev RestsFirst : Plan → Type 0
@@ -66,6 +66,9 @@ rests_first : (opens : List OpenRelation) (command : Command) → RestsFirst (pl
 rests_first opens commands.Begin = refl
 rests_first opens commands.Commit = refl
 rests_first opens commands.Rollback = refl
+rests_first opens (commands.Savepoint name) = refl
+rests_first opens (commands.Release name) = refl
+rests_first opens (commands.RollbackTo name) = refl
 rests_first opens (commands.Show name None) = tt
 rests_first opens (commands.Show name (Some field)) = tt
 rests_first opens (commands.CreateTable name columns) = rests_creating (nat_le (length columns) MOST_COLUMNS) (first_twice [] (map (λ (c : NewColumn). c.name) columns)) (new_table name columns)
@@ -74,13 +77,21 @@ rests_first opens (commands.CloseRel name) = rests_closing name (latest_open nam
 rests_first opens command = tt
 
 -- a command that the blocks refuse fails
-refused_badly : (o : Option Command) (s : Session) → is_some (refused_first s.blocks o) ≡ true → outcome_of (plan_first s.blocks s.opens o) ≡ Badly
-refused_badly None s is = absurd (cc is)
-refused_badly (Some command) s is = by_error (refused_by s.blocks command) is
+refused_badly : (o : Option Command) (s : Session) → is_blocked s.blocks o ≡ true → outcome_of (plan_first s.blocks s.opens o) ≡ Badly
+refused_badly o s is = by_command o (by_block s.blocks.block is)
   where
-    by_error : (error : Option CommandError) → is_some error ≡ true → outcome_of (plan_admitted s.opens error command) ≡ Badly
-    by_error None some = absurd (cc some)
-    by_error (Some error) some = refl
+    by_block : (block : Block) → elim block as (λ x. Bool) [ Inside ↦ false | other ↦ is_some (refused_first s.blocks o) ] ≡ true → is_some (refused_first s.blocks o) ≡ true
+    by_block Outside some = some
+    by_block Inside some = absurd (cc some)
+    by_block Failed some = some
+
+    by_error : (command : Command) (error : Option CommandError) → is_some error ≡ true → outcome_of (plan_admitted s.opens error command) ≡ Badly
+    by_error command None some = absurd (cc some)
+    by_error command (Some error) some = refl
+
+    by_command : (c : Option Command) → is_some (refused_first s.blocks c) ≡ true → outcome_of (plan_first s.blocks s.opens c) ≡ Badly
+    by_command None some = absurd (cc some)
+    by_command (Some command) some = by_error command (refused_by s.blocks command) some
 
 -- a plan that isn't an answer alone
 abbrev DoesSome : Plan → Type 0
@@ -96,7 +107,7 @@ ends_none opens command acts = refl
 mends_none : (opens : List OpenRelation) (command : Command) → runs command ≡ true → DoesSome (plan_of opens command) → ends_failure command ≡ false
 mends_none opens commands.Commit built acts = absurd (acts tells.Commit refl)
 mends_none opens commands.Rollback built acts = absurd (acts tells.Ok refl)
-mends_none opens (commands.RollbackTo name) built acts = absurd (cc built)
+mends_none opens (commands.RollbackTo name) built acts = absurd (acts tells.Ok refl)
 mends_none opens command built acts = refl
 
 none_left : {X : Type 0} (o : Option X) → is_some o ≡ false → is_none o ≡ true
@@ -107,19 +118,20 @@ pub acts_run : (facts : Facts) (o : Option Command) (s : Session) (looked : Bool
     → is_some facts.running ≡ true
 acts_run facts o s looked frames told command at fits going unblocked built acts free = by_block s.blocks.block refl (subst (TransactionFits facts o s) going fits.transaction)
   where
-    admitted : is_some (refused_in s.blocks.block command) ≡ false
-    admitted = ap (λ c. is_some (refused_first s.blocks c)) (sym at) ∙ sym fits.blocked ∙ unblocked
+    admitted : (block : Block) → s.blocks.block ≡ block → elim block as (λ x. Bool) [ Inside ↦ false | other ↦ is_some (refused_by s.blocks command) ] ≡ false
+    admitted block here = ap (λ b. elim b as (λ x. Bool) [ Inside ↦ false | other ↦ is_some (refused_by s.blocks command) ]) (sym here) ∙ ap (is_blocked s.blocks) (sym at) ∙ sym fits.blocked ∙ unblocked
 
     -- outside blocks it would owe its first look
     starts : s.blocks.block ≡ Outside → begins command s ≡ true
     starts is = ap (λ b. elim b as (λ x. Bool) [ Outside ↦ not (ends_block command) && not s.ended && is_none (refused_by no_block command) | other ↦ false ]) is
-        ∙ (λ i. not (ends_none s.opens command acts i) && not (going i) && none_left (refused_by no_block command) (ap (λ b. is_some (refused_in b command)) (sym is) ∙ admitted) i)
+        ∙ (λ i. not (ends_none s.opens command acts i) && not (going i) && none_left (refused_by no_block command) (ap (λ b. is_some (refused_by b command)) (sym (outside_is s.blocks fits.opens is)) ∙ admitted Outside is) i)
 
     by_block : (block : Block) → s.blocks.block ≡ block → RunsBy facts o s block → is_some facts.running ≡ true
     by_block Outside is (inl none) = absurd (let owes : owed_at_start facts command s ≡ OwesLook ∷ [] = (λ i. elim (starts is i && is_none (none i)) as (λ x. List Owes) [ true ↦ OwesLook ∷ [] | false ↦ [] ]) in cc (owes, free))
     by_block Outside is (inr alone) = some_first facts.running _ alone.first
     by_block Inside is block = block.runs
-    by_block Failed is none = absurd (both_ways _ admitted (ap (λ b. is_some (refused_in b command)) is ∙ ap (λ t. is_some (elim t as (λ x. Option CommandError) [ true ↦ None | false ↦ Some errors.BlockFailed ])) (mends_none s.opens command built acts)))
+    by_block Failed is none = absurd (both_ways _ (admitted Failed is) (ap (λ b. is_some (option_or (refused_in b command) (refused_of s.blocks.levels command))) is
+        ∙ ap (λ t. is_some (option_or (elim t as (λ x. Option CommandError) [ true ↦ None | false ↦ Some errors.BlockFailed ]) (refused_of s.blocks.levels command))) (mends_none s.opens command built acts)))
 
 -- a backend that waits in a command whose transaction's first look is made
 module _ (scenario : Scenario) (seen : List Entry) (s : Backend) (waits : AwaitsEntry scenario seen s) (courses : AllOnCourse scenario seen) (command : Command) (at : command_at s ≡ Some command) where
@@ -134,8 +146,8 @@ module _ (scenario : Scenario) (seen : List Entry) (s : Backend) (waits : Awaits
       by_test false is = is
       by_test true is = absurd (let badly : outcome_of (plan_first (waiting waits).blocks (waiting waits).opens (command_at s)) ≡ Badly = refused_badly (command_at s) (waiting waits) (sym waits.fits.blocked ∙ is) in goes (ap outcome_of (waits.fits.settled (ap is_settled badly)) ∙ badly))
 
-  runs_here : owed_first s.progress command ≡ [] → outcome_of (plan_at s.progress.opens s.progress.exec) ≢ Badly → DoesSome (plan_of s.progress.opens command) → is_some (facts_of seen s.progress.id).running ≡ true
-  runs_here free goes acts = acts_run (facts_of seen s.progress.id) (command_at s) (waiting waits) s.looked s.frames s.told command at waits.fits (going scenario seen s waits courses command at) (unblocked_here goes) built acts
+  runs_here : owed_first s.progress command ≡ [] → outcome_of (plan_at s.progress.opens s.progress.exec) ≢ Badly → DoesSome (plan_of s.progress.opens command) → (waiting waits).ended ≡ false → is_some (facts_of seen s.progress.id).running ≡ true
+  runs_here free goes acts on = acts_run (facts_of seen s.progress.id) (command_at s) (waiting waits) s.looked s.frames s.told command at waits.fits on (unblocked_here goes) built acts
       (start_owed (facts_of seen s.progress.id) command s.progress waits.rests.holds.rest waits.rests.holds.facts ∙ free)
 
   -- its plan isn't an answer alone
@@ -146,10 +158,11 @@ module _ (scenario : Scenario) (seen : List Entry) (s : Backend) (waits : Awaits
   -- before an act
   pub act_runs : (act : Act) (rest : List Row → Plan) → plan_at s.progress.opens s.progress.exec ≡ Do act rest → owed_first s.progress command ≡ [] → is_some (facts_of seen s.progress.id).running ≡ true
   act_runs act rest acts free = runs_here free (λ badly. let no : Unsettled ≡ Badly = ap outcome_of (sym acts) ∙ badly in cc no) (acts_none act rest acts)
+      (going scenario seen s waits courses command at (λ well. let no : Unsettled ≡ Well = sym (ap outcome_of acts) ∙ well in cc no))
 
   -- where the command says that there is no relation of a name
   absent_runs : (name : List ℕ) → plan_at s.progress.opens s.progress.exec ≡ Absent name → owed_first s.progress command ≡ [] → is_some (facts_of seen s.progress.id).running ≡ true
-  absent_runs name says free = acts_run (facts_of seen s.progress.id) (command_at s) (waiting waits) s.looked s.frames s.told command at waits.fits (going scenario seen s waits courses command at) unblocked built acts
+  absent_runs name says free = acts_run (facts_of seen s.progress.id) (command_at s) (waiting waits) s.looked s.frames s.told command at waits.fits (going scenario seen s waits courses command at (λ well. let no : Badly ≡ Well = sym (ap outcome_of says) ∙ well in cc no)) unblocked built acts
       (start_owed (facts_of seen s.progress.id) command s.progress waits.rests.holds.rest waits.rests.holds.facts ∙ free)
     where
       unblocked : s.progress.blocked ≡ false
@@ -178,11 +191,8 @@ module _ (scenario : Scenario) (seen : List Entry) (s : Backend) (waits : Awaits
 
   -- before a scan
   pub scan_runs : (scan : Purpose) → is_next_at scan s.progress ≡ true → owed_first s.progress command ≡ [] → is_some (facts_of seen s.progress.id).running ≡ true
-  scan_runs scan next free = by_block s.progress.blocks.block refl waits.fits.relations.inside
+  scan_runs scan next free = by_ended (waiting waits).ended refl
     where
-      going_on : (waiting waits).ended ≡ false
-      going_on = going scenario seen s waits courses command at
-
       both : (not (has_failed s.progress) ≡ true) × ((list_any (λ o. is_first_missing scan (kept_at s.progress) o.kind o.rel) s.progress.opened || is_next_of_act scan s.progress (plan_at s.progress.opens s.progress.exec)) ≡ true)
       both = and_true (not (has_failed s.progress)) _ next
 
@@ -192,17 +202,27 @@ module _ (scenario : Scenario) (seen : List Entry) (s : Backend) (waits : Awaits
           (subst RestsFirst (none ∙ sym (((follows scenario seen s waits courses command at).plain given none).left (ap outcome_of is)) ∙ is) (rests_first s.progress.opens command))) of
       by_plan p is of = absurd (cc of)
 
-      -- where no relation is open before the command
-      none_opened : s.progress.opens ≡ [] → (told : Told) → plan_of s.progress.opens command ≡ Done told → s.progress.opened ≡ []
-      none_opened none told is = ((follows scenario seen s waits courses command at).plain told is).opened going_on ∙ ap (map opening_of) none
+      -- where nothing is held the command does some act
+      acts : ((told : Told) → plan_of s.progress.opens command ≡ Done told → s.progress.opened ≡ []) → DoesSome (plan_of s.progress.opens command)
+      acts none told is = or_either (list_any (λ o. is_first_missing scan (kept_at s.progress) o.kind o.rel) s.progress.opened) (is_next_of_act scan s.progress (plan_at s.progress.opens s.progress.exec)) both.1
+          (λ opened. both_ways _ (ap (list_any (λ o. is_first_missing scan (kept_at s.progress) o.kind o.rel)) (none told is)) opened)
+          (λ act. by_plan (plan_at s.progress.opens s.progress.exec) refl act told is)
 
-      outside : s.progress.opens ≡ [] → is_some (facts_of seen s.progress.id).running ≡ true
-      outside none = runs_here free (λ badly. both_ways _ (not_true (has_failed s.progress) both.0) (ap (λ o. elim o as (λ x. Bool) [ Badly ↦ true | other ↦ false ]) badly))
-          (λ told is. or_either (list_any (λ o. is_first_missing scan (kept_at s.progress) o.kind o.rel) s.progress.opened) (is_next_of_act scan s.progress (plan_at s.progress.opens s.progress.exec)) both.1
-          (λ opened. both_ways _ (ap (list_any (λ o. is_first_missing scan (kept_at s.progress) o.kind o.rel)) (none_opened none told is)) opened)
-          (λ act. by_plan (plan_at s.progress.opens s.progress.exec) refl act told is))
+      -- where none was as it began
+      none_before : (waiting waits).ended ≡ false → held_before (waiting waits) ≡ [] → is_some (facts_of seen s.progress.id).running ≡ true
+      none_before on none = runs_here free (λ badly. both_ways _ (not_true (has_failed s.progress) both.0) (ap (λ o. elim o as (λ x. Bool) [ Badly ↦ true | other ↦ false ]) badly))
+          (acts (λ told is. ((follows scenario seen s waits courses command at).plain told is).opened on ∙ none)) on
 
-      by_block : (block : Block) → s.progress.blocks.block ≡ block → OpensIn block s.progress.opens → is_some (facts_of seen s.progress.id).running ≡ true
-      by_block Outside is none = outside none
-      by_block Failed is none = outside none
-      by_block Inside is opens = (subst (RunsBy (facts_of seen s.progress.id) (command_at s) (waiting waits)) is (subst (TransactionFits (facts_of seen s.progress.id) (command_at s) (waiting waits)) going_on waits.fits.transaction)).runs
+      by_block : (waiting waits).ended ≡ false → (block : Block) → s.progress.blocks.block ≡ block → OpensIn block s.progress.opens → RunsBy (facts_of seen s.progress.id) (command_at s) (waiting waits) block → is_some (facts_of seen s.progress.id).running ≡ true
+      by_block on Outside is none runs_it = none_before on (ap (λ b. held_in b s.progress.opens) is ∙ ap (map opening_of) none)
+      by_block on Failed is opens runs_it = none_before on (ap (λ b. held_in b s.progress.opens) is)
+      by_block on Inside is opens block = block.runs
+
+      -- after its release something is held, and so it runs
+      by_running : (waiting waits).ended ≡ true → (own : Option Running) → (facts_of seen s.progress.id).running ≡ own → is_some own ≡ true
+      by_running ended (Some t) is = refl
+      by_running ended None is = let alone = tells_alone scenario seen s waits courses command at ended in absurd (acts (λ told plan. waits.fits.free ended is) alone.told alone.plan)
+
+      by_ended : (t : Bool) → (waiting waits).ended ≡ t → is_some (facts_of seen s.progress.id).running ≡ true
+      by_ended true ended = by_running ended (facts_of seen s.progress.id).running refl
+      by_ended false on = by_block on s.progress.blocks.block refl waits.fits.relations.inside (subst (TransactionFits (facts_of seen s.progress.id) (command_at s) (waiting waits)) on waits.fits.transaction)

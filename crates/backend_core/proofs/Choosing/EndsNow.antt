@@ -1,13 +1,17 @@
 -- What the next entry of an end rests on, by the facts of its backend, the running command and the session.
-use Rattle.std.proofs.Common.{◌≡◌, ◌≤◌, ◌+◌, ◌∙◌, ◌⊎◌, inl, inr, ℕ, suc, zero, Bool, true, false, not, Option, Some, None, List, [], ◌∷◌, ◌++◌, refl, sym, ap, subst, length, map, min, is_some, if◌then◌else◌, arith}
-use Rattle.std.specs.Option.{option_map_or}
+use Rattle.std.proofs.Common.{◌≡◌, ◌≤◌, ◌+◌, ◌∙◌, ◌⊎◌, inl, inr, ℕ, suc, zero, Bool, true, false, not, Option, Some, None, List, [], ◌∷◌, ◌++◌, refl, sym, ap, subst, length, map, min, take, is_some, if◌then◌else◌, arith}
+use Rattle.std.specs.Option.{option_map_or, option_or}
 use Rattle.std.specs.Prelude.{nat_le}
-use Rattle.std.proofs.lemmas.Bool.{leb-true, leb-false}
+use Rattle.std.proofs.lemmas.Bool.{both_ways, leb-true, leb-false}
 use Rattle.base_types.specs.declared.command.Command.TheVariants as commands
 use Rattle.event_kinds.specs.declared.entry.Event.TheVariants as events
 use Rattle.inval_messages.specs.Lists.{has_write_from}
-use Rattle.txn_blocks.specs.Blocks.{Block, Level, Blocks, Outside, Inside, Failed, refused_in, refused_by, innermost, blocks_well}
+use Rattle.command_answers.specs.declared.error.CommandError.TheVariants as errors
+use Rattle.txn_blocks.specs.Blocks.{Block, Level, Blocks, Outside, Inside, Failed, refused_in, refused_of, refused_by, innermost, levels_up_to, blocks_well}
 use Rattle.ddl_effect.specs.Commands.{plan_of}
+use Rattle.ddl_effect.specs.Opens.{opens_before}
+use Rattle.ddl_effect.specs.Plans.{Done, left_rests_on}
+use Rattle.ddl_effect.specs.declared.told.Told.TheVariants as tells
 use Rattle.history_model.specs.Sent.{unsent_in}
 use Rattle.history_model.specs.Transactions.{Running, is_visible}
 use Rattle.history_model.specs.Writes.{is_empty}
@@ -16,14 +20,15 @@ use Rattle.cacheless.specs.Facts.{Facts}
 use Rattle.cacheless.specs.Owed.{Owes, OwesScan, owed_at_start, owed_after, scans_owed, owed_of}
 use Rattle.cacheless.specs.Plays.{IsEnd, IsLastEnd, MayPlay, MayPlayLast, MayPlayIn}
 use Rattle.cacheless.specs.Runs.{runs}
-use Rattle.cacheless.specs.Session.{Session, Outcome, Well, Badly, Unsettled, number_of, outcome_of, is_settled, plan_admitted, plan_first, refused_first}
+use Rattle.cacheless.specs.Session.{Session, Outcome, Well, Badly, Unsettled, number_of, outcome_of, is_settled, plan_admitted, plan_first, is_blocked}
 use Rattle.cacheless.specs.Sessions.{ends_command}
 use Rattle.cacheless.specs.Types.{CommandError, OpenRelation}
 use Rattle.cacheless.proofs.Allowed.OwnEntries.{ends_out}
 use Rattle.cacheless.proofs.Plans.SilentActs.{both_empty}
 use Rattle.backend_core.specs.Types.{Xid, Command, Event, Frame}
-use Rattle.backend_core.specs.Fits.{LevelsRise, first_at, RunsBlock, RunsFailed, RunsAt, RunsIn, RunsBy, RunsAfter, TransactionFits, Fits, IsTakenBack}
-use Rattle.backend_core.proofs.Fitting.NextTransaction.{some_first, rise_within, rise_above, blocks_out}
+use Rattle.backend_core.specs.Fits.{LevelsRise, OpensIn, outermost, first_at, RunsBlock, RunsFailed, RunsAt, RunsIn, RunsBy, RunsAfter, TransactionFits, Fits, IsTakenBack}
+use Rattle.backend_core.proofs.Fitting.NextTransaction.{some_first, block_open, place_there, well_admitted, runs_cut, blocks_out}
+use Rattle.backend_core.proofs.Fitting.Levels.{rise_within, rise_above, rise_take, IsWithin, within, none_outside}
 
 -- the end of the running command, or after the last one that of what still runs
 abbrev pub end_by : Facts → Option Command → Session → End
@@ -161,7 +166,7 @@ from_commit : (own : Option Running) (n from : ℕ) → end_from (option_map_or 
 from_commit None n from is = absurd (cc is)
 from_commit (Some t) n from is = cc is
 
-from_block : (facts : Facts) (block : Block) (commits : Bool) (n from : ℕ) → end_from (end_of_block facts block commits) ≡ Some from → option_map_or (λ t. t.first) facts.running n ≡ from
+pub from_block : (facts : Facts) (block : Block) (commits : Bool) (n from : ℕ) → end_from (end_of_block facts block commits) ≡ Some from → option_map_or (λ t. t.first) facts.running n ≡ from
 from_block facts Outside commits n from is = absurd (cc is)
 from_block facts Inside true n from is = from_commit facts.running n from is
 from_block facts Inside false n from is = from_all facts.running n from is
@@ -180,11 +185,13 @@ from_alone facts o s Outside from by is = first_alone facts o s by ∙ cc is
 from_alone facts o s Inside from by is = absurd (cc is)
 from_alone facts o s Failed from by is = absurd (cc is)
 
-from_well : (facts : Facts) (o : Option Command) (s : Session) (command : Command) (from : ℕ) → RunsBy facts o s s.blocks.block → end_from (end_well facts command s) ≡ Some from → first_begun facts s ≡ from
-from_well facts o s commands.Begin from by is = absurd (cc is)
-from_well facts o s commands.Commit from by is = from_block facts s.blocks.block true (number_of s) from is
-from_well facts o s commands.Rollback from by is = from_block facts s.blocks.block false (number_of s) from is
-from_well facts o s command from by is = from_alone facts o s s.blocks.block from by is
+-- a command commits its transaction as a whole
+commits_well : (facts : Facts) (o : Option Command) (s : Session) (command : Command) (first : ℕ) → RunsBy facts o s s.blocks.block → end_well facts command s ≡ Commits first → first_begun facts s ≡ first
+commits_well facts o s commands.Begin first by is = absurd (cc is)
+commits_well facts o s commands.Commit first by is = from_block facts s.blocks.block true (number_of s) first (ap end_from is)
+commits_well facts o s commands.Rollback first by is = from_block facts s.blocks.block false (number_of s) first (ap end_from is)
+commits_well facts o s (commands.RollbackTo name) first by is = absurd (cc is)
+commits_well facts o s command first by is = from_alone facts o s s.blocks.block first by (ap end_from is)
 
 -- outside blocks the innermost level is the command itself
 level_outside : (levels : List Level) (n : ℕ) → false ≡ not (is_empty levels) → innermost n levels ≡ n
@@ -195,29 +202,26 @@ level_outside (level ∷ levels) n is = absurd (cc is)
 ends_failed : (opens : List OpenRelation) (command : Command) → is_some (refused_in Failed command) ≡ false → runs command ≡ true → outcome_of (plan_of opens command) ≡ Well
 ends_failed opens commands.Commit admitted built = refl
 ends_failed opens commands.Rollback admitted built = refl
-ends_failed opens (commands.RollbackTo name) admitted built = absurd (cc built)
+ends_failed opens (commands.RollbackTo name) admitted built = refl
 ends_failed opens command admitted built = absurd (cc admitted)
 
 admitted_plan : (opens : List OpenRelation) (error : Option CommandError) (command : Command) → is_some error ≡ false → plan_admitted opens error command ≡ plan_of opens command
 admitted_plan opens None command none = refl
 admitted_plan opens (Some error) command none = absurd (cc none)
 
--- an end releases its transaction as a whole, or an inner level alone, and the transaction goes on; what runs then fits the blocks after the command
-pub data Releases (facts : Facts) (o : Option Command) (s : Session) (from : ℕ) : Type 0 where
-  Whole : first_begun facts s ≡ from → ((later : Facts) → later.running ≡ None → RunsAfter later o s) → Releases facts o s from
-  Inner : is_some facts.running ≡ true → first_at facts + 1 ≤ from → from ≤ number_of s → ((later : Facts) → later.running ≡ facts.running → RunsAfter later o s) → Releases facts o s from
+-- an end releases an inner level alone, of a block, and the transaction goes on; where the command came out well, what it tells rests on no scan
+pub record IsInner (facts : Facts) (o : Option Command) (s : Session) (from : ℕ) : Type 0 where
+  pub runs : is_some facts.running ≡ true
+  pub above : first_at facts + 1 ≤ from
+  pub low : from ≤ number_of s
+  pub on : (later : Facts) → later.running ≡ facts.running → RunsAfter later o s
+  pub command : o ≡ None → ⊥
+  pub plain : outcome_of s.left ≡ Well → left_rests_on s.left ≡ []
 
--- after a command that came out well and ended its transaction none belongs to the blocks
-none_well : (facts later : Facts) (s : Session) (c : Command) (from : ℕ) → later.running ≡ None → end_from (end_well facts c s) ≡ Some from → RunsIn later (blocks_well (number_of s) c s.blocks)
-none_well facts later s commands.Begin from none end = absurd (cc end)
-none_well facts later s commands.Commit from none end = none
-none_well facts later s commands.Rollback from none end = none
-none_well facts later s c from none end = by_block s.blocks.block refl end
-  where
-    by_block : (block : Block) → s.blocks.block ≡ block → end_from (elim block as (λ x. End) [ Outside ↦ Commits (number_of s) | other ↦ Ends ]) ≡ Some from → RunsIn later s.blocks
-    by_block Outside at is = subst (RunsAt later s.blocks.levels) (sym at) none
-    by_block Inside at is = absurd (cc is)
-    by_block Failed at is = absurd (cc is)
+-- an end releases its transaction as a whole, by which no relation is open any more, or an inner level alone; what runs then fits the blocks after the command
+pub data Releases (facts : Facts) (o : Option Command) (s : Session) (from : ℕ) : Type 0 where
+  Whole : first_begun facts s ≡ from → opens_before from s.opens ≡ [] → ((later : Facts) → later.running ≡ None → RunsAfter later o s) → Releases facts o s from
+  Inner : IsInner facts o s from → Releases facts o s from
 
 -- the transaction by the blocks after a command that failed
 abbrev RunsBadly : Facts → Session → Block → Type 0
@@ -240,7 +244,7 @@ module _ (facts : Facts) (o : Option Command) (s : Session) (looked : Bool) (fra
   first_of_commit first is = by_outcome (outcome_of s.left) is
     where
       by_outcome : (x : Outcome) → elim x as (λ y. End) [ Well ↦ end_well facts command s | Badly ↦ end_badly s | Unsettled ↦ Ends ] ≡ Commits first → first_begun facts s ≡ first
-      by_outcome Well end = from_well facts o s command first runs_by (ap end_from end)
+      by_outcome Well end = commits_well facts o s command first runs_by end
       by_outcome Badly end = absurd (badly_back s first end)
       by_outcome Unsettled end = absurd (let no : Ends ≡ Commits first = end in cc no)
 
@@ -248,10 +252,14 @@ module _ (facts : Facts) (o : Option Command) (s : Session) (looked : Bool) (fra
   failed_done built failed admitted = ap outcome_of (fits.settled (ap is_settled first)) ∙ first
     where
       free : is_some (refused_by s.blocks command) ≡ false
-      free = ap (λ c. is_some (refused_first s.blocks c)) (sym at) ∙ sym fits.blocked ∙ admitted
+      free = (λ i. elim (sym failed i) as (λ x. Bool) [ Inside ↦ false | block ↦ is_some (refused_by s.blocks command) ]) ∙ ap (is_blocked s.blocks) (sym at) ∙ sym fits.blocked ∙ admitted
+
+      failed_free : (e : Option CommandError) → is_some (option_or e (refused_of s.blocks.levels command)) ≡ false → is_some e ≡ false
+      failed_free None is = refl
+      failed_free (Some error) is = absurd (cc is)
 
       first : outcome_of (plan_first s.blocks s.opens o) ≡ Well
-      first = ap (λ c. outcome_of (plan_first s.blocks s.opens c)) at ∙ ap outcome_of (admitted_plan s.opens (refused_by s.blocks command) command free) ∙ ends_failed s.opens command (ap (λ b. is_some (refused_in b command)) (sym failed) ∙ free) built
+      first = ap (λ c. outcome_of (plan_first s.blocks s.opens c)) at ∙ ap outcome_of (admitted_plan s.opens (refused_by s.blocks command) command free) ∙ ends_failed s.opens command (failed_free (refused_in Failed command) (ap (λ b. is_some (option_or (refused_in b command) (refused_of s.blocks.levels command))) (sym failed) ∙ free)) built
 
   -- what fits the blocks after the command, by how it came out
   after_well : (later : Facts) → outcome_of s.left ≡ Well → RunsIn later (blocks_well (number_of s) command s.blocks) → RunsAfter later o s
@@ -263,6 +271,13 @@ module _ (facts : Facts) (o : Option Command) (s : Session) (looked : Bool) (fra
       (subst (λ x. RunsIn later (blocks_out command s x)) (sym badly)
       (subst (RunsBadly later s) (sym here) is))
 
+  -- a relation that is open is of its transaction
+  since_from : (from : ℕ) → first_at facts ≡ from → opens_before from s.opens ≡ []
+  since_from from is = ap (λ n. opens_before n s.opens) (sym is) ∙ fits.since
+
+  outside_from : (from : ℕ) → s.blocks.block ≡ Outside → opens_before from s.opens ≡ []
+  outside_from from outside = ap (opens_before from) (subst (λ b. OpensIn b s.opens) outside fits.relations.inside)
+
   -- what a command that failed in a block takes back: the innermost level
   from_inside : (from : ℕ) → outcome_of s.left ≡ Badly → s.blocks.block ≡ Inside → RunsBlock facts s.blocks.levels → innermost (number_of s) s.blocks.levels ≡ from → Releases facts o s from
   from_inside from badly inside block is = by_levels s.blocks.levels refl fits.levels block is
@@ -271,17 +286,23 @@ module _ (facts : Facts) (o : Option Command) (s : Session) (looked : Bool) (fra
       after later failed = after_badly later Inside badly inside failed
 
       by_levels : (levels : List Level) → s.blocks.levels ≡ levels → LevelsRise 0 (number_of s) levels → RunsBlock facts levels → innermost (number_of s) levels ≡ from → Releases facts o s from
-      by_levels [] here rise own to = Whole (first_some facts.running (number_of s) (number_of s) own.runs (own.first (number_of s)) ∙ to) (λ later none. after later (subst (RunsFailed later) (sym here) none))
-      by_levels (level ∷ []) here rise own to = Whole (first_some facts.running (number_of s) level.first own.runs (own.first (number_of s)) ∙ to) (λ later none. after later (subst (RunsFailed later) (sym here) none))
-      by_levels (level ∷ inner ∷ levels) here rise own to = Inner own.runs (omega (arith, own.first (number_of s), rise.1.0, rise_above inner.first (number_of s) levels rise.1.1, to)) (omega (arith, rise_within inner.first (number_of s) levels rise.1.1, to))
-          (λ later same. after later (subst (RunsFailed later) (sym here) (record { runs = ap (λ r. is_some r) same ∙ own.runs; first = λ c. ap (λ r. option_map_or (λ (t : Running). t.first) r 0) same ∙ own.first c })))
+      by_levels [] here rise own to = Whole (first_some facts.running (number_of s) (number_of s) own.runs (own.first (number_of s)) ∙ to) (since_from from (own.first (number_of s) ∙ to)) (λ later none. after later (subst (RunsFailed later) (sym here) none))
+      by_levels (level ∷ []) here rise own to = Whole (first_some facts.running (number_of s) level.first own.runs (own.first (number_of s)) ∙ to) (since_from from (own.first (number_of s) ∙ to)) (λ later none. after later (subst (RunsFailed later) (sym here) none))
+      by_levels (level ∷ inner ∷ levels) here rise own to = Inner (record {
+        runs = own.runs;
+        above = omega (arith, own.first (number_of s), rise.1.0, rise_above inner.first (number_of s) levels rise.1.1, to);
+        low = omega (arith, rise_within inner.first (number_of s) levels rise.1.1, to);
+        on = λ later same. after later (subst (RunsFailed later) (sym here) (record { runs = ap (λ r. is_some r) same ∙ own.runs; first = λ c. ap (λ r. option_map_or (λ (t : Running). t.first) r 0) same ∙ own.first c }));
+        command = λ none. let no : Some command ≡ None = sym at ∙ none in cc no;
+        plain = λ well. absurd (let no : Well ≡ Badly = sym well ∙ badly in cc no);
+      })
 
   -- what a command that failed takes back
   from_badly : (from : ℕ) → runs command ≡ true → outcome_of s.left ≡ Badly → end_from (end_badly s) ≡ Some from → Releases facts o s from
   from_badly from built badly is = by_blocked s.blocked refl is
     where
       by_block : (block : Block) → s.blocks.block ≡ block → s.blocked ≡ false → RunsBy facts o s block → innermost (number_of s) s.blocks.levels ≡ from → Releases facts o s from
-      by_block Outside outside admitted by to = Whole (first_alone facts o s by ∙ sym (level_outside s.blocks.levels (number_of s) (ap (λ b. elim b as (λ x. Bool) [ Outside ↦ false | block ↦ true ]) (sym outside) ∙ fits.opens)) ∙ to)
+      by_block Outside outside admitted by to = Whole (first_alone facts o s by ∙ sym (level_outside s.blocks.levels (number_of s) (ap (λ b. elim b as (λ x. Bool) [ Outside ↦ false | block ↦ true ]) (sym outside) ∙ fits.opens)) ∙ to) (outside_from from outside)
           (λ later none. after_badly later Outside badly outside (subst (RunsAt later s.blocks.levels) (sym outside) none))
       by_block Inside inside admitted by to = from_inside from badly inside by to
       by_block Failed failed admitted by to = absurd (let no : Well ≡ Badly = sym (failed_done built failed admitted) ∙ badly in cc no)
@@ -290,12 +311,90 @@ module _ (facts : Facts) (o : Option Command) (s : Session) (looked : Bool) (fra
       by_blocked true blocked end = absurd (cc end)
       by_blocked false blocked end = by_block s.blocks.block refl blocked runs_by (cc end)
 
+  -- what `rollback to` takes back: a level within the outermost one
+  from_saved : (name : List ℕ) (from : ℕ) → command ≡ commands.RollbackTo name → outcome_of s.left ≡ Well → innermost (number_of s) (levels_up_to name s.blocks.levels) ≡ from → Releases facts o s from
+  from_saved name from same well to = Inner (record {
+    runs = own.runs;
+    above = omega (arith, first, rise.1.0, rise_above found.inner.first (number_of s) inside rise_in, is);
+    low = omega (arith, rise_within found.inner.first (number_of s) inside rise_in, is);
+    on = λ later stays. after_well later well (subst (λ c. RunsIn later (blocks_well (number_of s) c s.blocks)) (sym same)
+        (runs_cut later s.blocks.levels (levels_up_to name s.blocks.levels) found.outer (found.inner ∷ found.more) (found.inner ∷ inside) found.are found.up_to (record { runs = ap (λ r. is_some r) stays ∙ own.runs; first = λ c. ap (λ r. option_map_or (λ (t : Running). t.first) r 0) stays ∙ own.first c })));
+    command = λ none. let no : Some command ≡ None = sym at ∙ none in cc no;
+    plain = λ came. ap left_rests_on (fits.settled (ap (λ p. is_settled (outcome_of p)) done) ∙ done);
+  })
+    where
+      admitted : refused_by s.blocks command ≡ None
+      admitted = well_admitted o s command at fits.settled well
+
+      found : IsWithin name s.blocks.levels
+      found = within name s.blocks.levels fits.plain (place_there s.blocks (commands.RollbackTo name) (subst (λ c. refused_by s.blocks c ≡ None) same admitted))
+
+      done : plan_first s.blocks s.opens o ≡ Done tells.Ok
+      done = ap (plan_first s.blocks s.opens) at ∙ ap (λ e. plan_admitted s.opens e command) admitted ∙ ap (plan_of s.opens) same
+
+      inside : List Level
+      inside = take found.at found.more
+
+      rise : LevelsRise 0 (number_of s) (found.outer ∷ found.inner ∷ found.more)
+      rise = subst (LevelsRise 0 (number_of s)) found.are fits.levels
+
+      rise_in : LevelsRise (found.inner.first + 1) (number_of s) inside
+      rise_in = rise_take found.at (found.inner.first + 1) (number_of s) found.more rise.1.1
+
+      is : innermost found.inner.first inside ≡ from
+      is = sym (ap (innermost (number_of s)) found.up_to) ∙ to
+
+      by_block : (block : Block) → s.blocks.block ≡ block → RunsBy facts o s block → RunsBlock facts s.blocks.levels
+      by_block Outside outside by = absurd (let no : found.outer ∷ found.inner ∷ found.more ≡ [] = sym found.are ∙ none_outside s.blocks fits.opens outside in cc no)
+      by_block Inside inside by = by
+      by_block Failed failed by = subst (RunsBlock facts) (sym found.are) (subst (RunsFailed facts) found.are by)
+
+      own : RunsBlock facts s.blocks.levels
+      own = by_block s.blocks.block refl runs_by
+
+      first : first_at facts ≡ found.outer.first
+      first = own.first (number_of s) ∙ ap (outermost (number_of s)) found.are
+
+  -- what a command that came out well releases
+  from_well : (from : ℕ) → outcome_of s.left ≡ Well → end_from (end_well facts command s) ≡ Some from → Releases facts o s from
+  from_well from well = by_command command refl
+    where
+      closes : (c : Command) (commits : Bool) → command ≡ c → ((later : Facts) → later.running ≡ None → RunsIn later (blocks_well (number_of s) c s.blocks)) → end_from (end_of_block facts s.blocks.block commits) ≡ Some from → Releases facts o s from
+      closes c commits same none is = Whole (from_block facts s.blocks.block commits (number_of s) from is) (since_from from (from_block facts s.blocks.block commits 0 from is))
+          (λ later over. after_well later well (subst (λ x. RunsIn later (blocks_well (number_of s) x s.blocks)) (sym same) (none later over)))
+
+      -- outside a block it is a transaction of its own
+      alone : (c : Command) → command ≡ c → (s.blocks.block ≡ Outside → (later : Facts) → later.running ≡ None → RunsIn later (blocks_well (number_of s) c s.blocks)) → end_from (elim s.blocks.block as (λ x. End) [ Outside ↦ Commits (number_of s) | other ↦ Ends ]) ≡ Some from → Releases facts o s from
+      alone c same none = by_block s.blocks.block refl
+        where
+          by_block : (block : Block) → s.blocks.block ≡ block → end_from (elim block as (λ x. End) [ Outside ↦ Commits (number_of s) | other ↦ Ends ]) ≡ Some from → Releases facts o s from
+          by_block Outside outside is = Whole (first_alone facts o s (subst (RunsBy facts o s) outside runs_by) ∙ cc is) (outside_from from outside)
+              (λ later over. after_well later well (subst (λ x. RunsIn later (blocks_well (number_of s) x s.blocks)) (sym same) (none outside later over)))
+          by_block Inside inside is = absurd (cc is)
+          by_block Failed failed is = absurd (cc is)
+
+      -- none of those that need a block
+      needs : (c : Command) → command ≡ c → refused_in Outside c ≡ Some errors.NoBlock → s.blocks.block ≡ Outside → {X : Type 0} → X
+      needs c same none outside = absurd (both_ways _ (ap (λ b. elim b as (λ x. Bool) [ Outside ↦ false | block ↦ true ]) outside) (block_open s.blocks c none (subst (λ x. refused_by s.blocks x ≡ None) same (well_admitted o s command at fits.settled well))))
+
+      stays : s.blocks.block ≡ Outside → (later : Facts) → later.running ≡ None → RunsIn later s.blocks
+      stays outside later none = subst (RunsAt later s.blocks.levels) (sym outside) none
+
+      by_command : (c : Command) → command ≡ c → end_from (end_well facts c s) ≡ Some from → Releases facts o s from
+      by_command commands.Begin same is = absurd (cc is)
+      by_command commands.Commit same is = closes commands.Commit true same (λ later none. none) is
+      by_command commands.Rollback same is = closes commands.Rollback false same (λ later none. none) is
+      by_command (commands.RollbackTo name) same is = from_saved name from same well (let to : Some (innermost (number_of s) (levels_up_to name s.blocks.levels)) ≡ Some from = is in cc to)
+      by_command (commands.Savepoint name) same is = alone (commands.Savepoint name) same (λ outside. needs (commands.Savepoint name) same refl outside) is
+      by_command (commands.Release name) same is = alone (commands.Release name) same (λ outside. needs (commands.Release name) same refl outside) is
+      by_command c same is = alone c same stays is
+
   -- what an end with an entry releases
   released_by : (from : ℕ) → runs command ≡ true → end_from (end_of facts command s) ≡ Some from → Releases facts o s from
   released_by from built is = by_outcome (outcome_of s.left) refl is
     where
       by_outcome : (x : Outcome) → outcome_of s.left ≡ x → end_from (elim x as (λ y. End) [ Well ↦ end_well facts command s | Badly ↦ end_badly s | Unsettled ↦ Ends ]) ≡ Some from → Releases facts o s from
-      by_outcome Well outcome end = Whole (from_well facts o s command from runs_by end) (λ later none. after_well later outcome (none_well facts later s command from none end))
+      by_outcome Well outcome end = from_well from outcome end
       by_outcome Badly outcome end = from_badly from built outcome end
       by_outcome Unsettled outcome end = absurd (cc end)
 
@@ -306,7 +405,7 @@ commit_first facts (Some command) s looked frames told first fits going is = fir
 
 -- what an end releases; after the last command all that runs
 pub end_releases : (facts : Facts) (o : Option Command) (s : Session) (looked : Bool) (frames : List Frame) (told : Bool) (from : ℕ) → ((command : Command) → o ≡ Some command → runs command ≡ true) → Fits facts o s looked frames told → s.ended ≡ false → end_from (end_by facts o s) ≡ Some from → Releases facts o s from
-end_releases facts None s looked frames told from built fits going is = Whole (from_all facts.running (number_of s) from is) (λ later none. none)
+end_releases facts None s looked frames told from built fits going is = Whole (from_all facts.running (number_of s) from is) (ap (λ n. opens_before n s.opens) (sym (from_all facts.running 0 from is)) ∙ fits.since) (λ later none. none)
 end_releases facts (Some command) s looked frames told from built fits going is = released_by facts (Some command) s looked frames told command refl fits going from (built command refl) is
 
 -- a visible transaction is on its commit

@@ -1,12 +1,12 @@
 -- What a backend does next.
-use Rattle.std.proofs.Common.{◌≡◌, ◌∙◌, ◌⊎◌, inl, inr, ℕ, Bool, true, false, not, ◌&&◌, ◌||◌, Option, Some, None, List, [], ◌∷◌, ◌++◌, cond, refl, sym, ap, subst, map, append_assoc, is_some, slice_get}
+use Rattle.std.proofs.Common.{◌≡◌, ◌∙◌, ◌⊎◌, inl, inr, ℕ, Bool, true, false, not, ◌&&◌, ◌||◌, Option, Some, None, List, [], ◌∷◌, ◌++◌, refl, sym, ap, subst, append_assoc, is_some, slice_get}
 use Rattle.std.specs.List.{find, list_any}
 use Rattle.std.specs.Option.{IsSomeAnd, option_map_or}
 use Rattle.std.proofs.lemmas.Bool.{both_ways}
 use Rattle.std.proofs.lemmas.List.{append-nil}
 use Rattle.base_types.specs.Scans.{same_scan, build_scans}
 use Rattle.base_types.proofs.SameScan.{same_scan-itself}
-use Rattle.txn_blocks.specs.Blocks.{Inside}
+use Rattle.txn_blocks.specs.Blocks.{refused_by}
 use Rattle.ddl_effect.specs.Commands.{plan_of, commands_of}
 use Rattle.ddl_effect.specs.Plans.{Plan, Act, Done, Fails, Absent, NotBuilt, Do, Lookup, Open, Search, Read, Lock, Write}
 use Rattle.ddl_effect.specs.Stages.{plan_at, want_of}
@@ -20,7 +20,7 @@ use Rattle.cacheless.specs.OnCourse.{Way, Begun, Wrote, Unbuilt, Over, FollowsPl
 use Rattle.cacheless.specs.OpenedReads.{ReadsOpened}
 use Rattle.cacheless.specs.Runs.{runs}
 use Rattle.cacheless.specs.Settled.{opened_by}
-use Rattle.cacheless.specs.Session.{opening_of}
+use Rattle.cacheless.specs.Session.{held_before, plan_admitted}
 use Rattle.cacheless.specs.Silently.{is_ends, IsAtRest}
 use Rattle.cacheless.specs.State.{kept_at, is_kept, is_absent, is_quiet, act_missing, is_out, end_at}
 use Rattle.cacheless.proofs.Answers.OpenedReads.{reads_out, reads_first, reads_after}
@@ -28,7 +28,7 @@ use Rattle.cacheless.proofs.Tests.{both_true, not_both}
 use Rattle.backend_core.specs.Types.{Event, Row, Purpose, Command, CommandError, Opening, Scenario, Entry, Next, Frame, Progress, Backend}
 use Rattle.backend_core.specs.declared.next.Next.TheVariants as nexts
 use Rattle.backend_core.specs.Agrees.{command_at, AwaitsEntry}
-use Rattle.backend_core.specs.Steps.{IsGone, IsWhole, WaitsForNone, IsFree, IsScanNext, IsLookNext, IsChoiceSound, EndsNext, InCommand, end_event, IsNextOf, ComesOfCommit, ComesOfBack}
+use Rattle.backend_core.specs.Steps.{IsWhole, WaitsForNone, IsFree, IsScanNext, IsLookNext, IsChoiceSound, EndsNext, InCommand, end_event, IsNextOf, ComesOfCommit, ComesOfBack}
 use Rattle.backend_core.specs.Frames.{lacks, top, IsRebuilt}
 use Rattle.backend_core.specs.Words.{is_looked_for, accepts_again}
 use Rattle.backend_core.proofs.Fitting.Rebuilding.{kept_lacks}
@@ -143,19 +143,19 @@ reads_now scenario seen s waits courses = by_command (command_at s) refl
     on = waiting_course scenario seen s waits courses
 
     held : List Opening
-    held = map opening_of s.progress.opens
+    held = held_before (waiting waits)
 
-    first : (command : Command) → runs command ≡ true → ReadsOpened held (plan_of s.progress.opens command)
-    first command runs_it = reads_first (record { block = Inside; levels = [] }) s.progress.opens (Some command) (λ c is. let one : command ≡ c = cc is in subst (λ x. runs x ≡ true) one runs_it)
+    first : (command : Command) → refused_by s.progress.blocks command ≡ None → runs command ≡ true → ReadsOpened held (plan_of s.progress.opens command)
+    first command admitted runs_it = subst (λ e. ReadsOpened held (plan_admitted s.progress.opens e command)) admitted (reads_first held s.progress.blocks s.progress.opens (Some command) (λ c is. let one : command ≡ c = cc is in subst (λ x. runs x ≡ true) one runs_it))
 
-    by_way : (command : Command) → Way seen s.progress.id (waiting waits) command → ReadsOpened s.progress.opened (plan_at s.progress.opens s.progress.exec)
-    by_way command (Begun way) = subst (ReadsOpened s.progress.opened) (sym way.plan) (subst (λ o. ReadsOpened o (reached way.gave (plan_of s.progress.opens command))) (sym way.opened) (reads_reached way.gave held (plan_of s.progress.opens command) (first command way.runs)))
-    by_way command (Wrote w) = subst (ReadsOpened s.progress.opened) (sym w.plan) tt
-    by_way command (Unbuilt w) = subst (ReadsOpened s.progress.opened) (sym w.plan) tt
-    by_way command (Over w) = reads_out s.progress.opened (plan_at s.progress.opens s.progress.exec) w.out
+    by_way : (command : Command) → refused_by s.progress.blocks command ≡ None → Way seen s.progress.id (waiting waits) command → ReadsOpened s.progress.opened (plan_at s.progress.opens s.progress.exec)
+    by_way command admitted (Begun way) = subst (ReadsOpened s.progress.opened) (sym way.plan) (subst (λ o. ReadsOpened o (reached way.gave (plan_of s.progress.opens command))) (sym way.opened) (reads_reached way.gave held (plan_of s.progress.opens command) (first command admitted way.runs)))
+    by_way command admitted (Wrote w) = subst (ReadsOpened s.progress.opened) (sym w.plan) tt
+    by_way command admitted (Unbuilt w) = subst (ReadsOpened s.progress.opened) (sym w.plan) tt
+    by_way command admitted (Over w) = reads_out s.progress.opened (plan_at s.progress.opens s.progress.exec) w.out
 
     by_refused : (command : Command) → FollowsPlan seen s.progress.id (waiting waits) command → (o : Option CommandError) → (waiting waits).refused ≡ o → ReadsOpened s.progress.opened (plan_at s.progress.opens s.progress.exec)
-    by_refused command follows None is = by_way command (follows.way is)
+    by_refused command follows None is = by_way command (follows.admitted is) (follows.way is)
     by_refused command follows (Some error) is = subst (ReadsOpened s.progress.opened) (sym (follows.refused error is)) tt
 
     by_command : (o : Option Command) → command_at s ≡ o → ReadsOpened s.progress.opened (plan_at s.progress.opens s.progress.exec)

@@ -17,7 +17,7 @@ use Rattle.backend_core.specs.Agrees.{command_at, AwaitsEntry}
 use Rattle.backend_core.specs.Fits.{looks_due, LooksFit, TakesFit, IsLookedFor, Lacks, Unfound, Said, finds_no_name, is_look, OnTakingBack, IsTakenBack}
 use Rattle.backend_core.specs.Steps.{IsChoiceSound, IsGone, IsWhole}
 use Rattle.backend_core.proofs.Fitting.Sought.{unfound_facts, finds_serves}
-use Rattle.backend_core.proofs.Own.{waiting, going}
+use Rattle.backend_core.proofs.Own.{waiting, unlost}
 use Rattle.backend_core.proofs.Fitting.Rebuilding.{top_rebuilt, usable_is, kept_lacks, none_lacks}
 use Rattle.backend_core.specs.Frames.{lacks, IsStack, IsRebuilt}
 use Rattle.std.specs.List.{list_any, cons_option}
@@ -81,7 +81,7 @@ choice_sound scenario seen s waits courses = record {
     whole_now command at bare goes (Some (events.Gone from)) is = inr (gone_now command bare goes from (waits.fits.taken from is)
         (subst (λ o. elim o as (λ x. Type 0) [ Some c ↦ IsTakenBack facts c (waiting waits) from | None ↦ end_of_all facts ≡ TakesBack from ]) at (waits.fits.taken from is).end))
     whole_now command at bare goes last is = inl (lacks_none (none_lacks facts.usable s.progress.opened (subst (IsStack facts.usable s.progress.opened) bare
-        (waits.fits.rebuilds.stack (λ i. not (took_back (is i)) && not (going scenario seen s waits courses command at i) && not (no_error goes i))))))
+        (waits.fits.rebuilds.stack (λ i. not (took_back (is i)) && not (unlost scenario seen s waits courses command at i) && not (no_error goes i))))))
 
     by_look : (command : Command) → command_at s ≡ Some command → s.looked ≡ true → finds_no_name facts s.progress.taken (plan_at s.progress.opens s.progress.exec) ≡ true → owed_at s.progress.due ≡ [] → is_look facts.last ≡ true → has_accepted_at s.progress ≡ true
     by_look command at looked finds none look = λ i. (ap (λ o. is_none o) (finds_serves facts s.progress.taken (plan_at s.progress.opens s.progress.exec) finds).3) i && quiet i && has i
@@ -93,7 +93,7 @@ choice_sound scenario seen s waits courses = record {
         quiet = sym waits.rests.holds.facts.quiet ∙ quiet_look facts.last look owed
 
         before : LooksFit facts (waiting waits) s.looked s.frames s.told
-        before = waits.fits.looks (going scenario seen s waits courses command at)
+        before = waits.fits.looks
 
         has : has_looked_at s.progress ≡ true
         has = sym (looked_same facts s.progress waits.rests.holds.rest waits.rests.holds.facts waits.rests.holds.count)

@@ -152,7 +152,7 @@ module _ (scenario : Scenario) (old : List Entry) (was : Backend) (event : Event
 pub commit_enters : (scenario : Scenario) (old new : List Entry) (had has : ℕ → ℕ) (was : Backend) (xid : Xid) (p : Progress) (waits : AwaitsEntry scenario old was) → IsPlayed scenario old → AllOnCourse scenario old → EndsNext was (events.Visible xid)
     → HasEntered scenario old was.progress (events.Visible xid) waits.rests p → kept_at p ≡ kept_at was.progress → p.answer ≡ was.progress.answer → Appends old new had has (entry_of was.progress.id (was.progress.finished + 1) (events.Visible xid)) → Enters scenario old new had has was (record was { progress = p })
 commit_enters scenario old new had has was xid p waits played courses next goes kept same appends =
-    end_enters scenario old new had has was event p waits refl played courses next goes kept same
+    end_enters scenario old new had has was event p was.frames waits refl played courses next goes kept same
     (commit_fits scenario old was event waits refl next now.commit (begun (was.progress.finished + 1) facts.running).published true _ (length old + 1) refl (λ from is. cc is)) appends
   where
     event : Event
@@ -170,7 +170,7 @@ pub publish_enters : (scenario : Scenario) (old new : List Entry) (had has : ℕ
     → HasEntered scenario old was.progress (events.Publish (length messages)) waits.rests p → kept_at p ≡ kept_at was.progress → p.answer ≡ was.progress.answer
     → Appends old new had has (entry_of was.progress.id (was.progress.finished + 1) (events.Publish (length messages))) → Enters scenario old new had has was (record was { progress = p })
 publish_enters scenario old new had has was messages p waits played courses next is goes kept same appends =
-    end_enters scenario old new had has was event p waits refl played courses now_next goes kept same
+    end_enters scenario old new had has was event p was.frames waits refl played courses now_next goes kept same
     (commit_fits scenario old was event waits refl now_next (publish_now scenario old was messages waits next is).commit ((begun (was.progress.finished + 1) facts.running).published + length messages) (begun (was.progress.finished + 1) facts.running).visible _ (length old + 1) refl (λ from same. cc same)) appends
   where
     event : Event

@@ -23,13 +23,13 @@ use Rattle.cacheless.specs.State.{owed_at, has_write_since, end_of_running}
 use Rattle.cacheless.proofs.Deciding.{holds_decides}
 use Rattle.cacheless.proofs.Tests.{both_true}
 use Rattle.session_laws.specs.Awaiting.{KeepsScans, answer_after}
-use Rattle.backend_core.specs.Types.{Command, Scenario, Entry, Event, Progress, Backend}
+use Rattle.backend_core.specs.Types.{Command, Scenario, Entry, Event, Progress, Frame, Backend}
 use Rattle.backend_core.specs.Agrees.{IsPlayed, command_at, AwaitsEntry}
 use Rattle.backend_core.specs.Fits.{Fits}
 use Rattle.backend_core.specs.Steps.{EndsNext, InCommand, AfterAll, Enters}
 use Rattle.backend_core.proofs.Choosing.EndsNow.{EndsBy, ends_by}
 use Rattle.backend_core.proofs.Fitting.Entered.{fits_at}
-use Rattle.backend_core.proofs.Own.{waiting, own_enters}
+use Rattle.backend_core.proofs.Own.{waiting, OwnEntry, own_enters}
 use Rattle.backend_core.proofs.Fitting.Rebuilding.{owed_bare}
 use Rattle.cacheless.specs.Owed.{owed_of}
 use Rattle.cacheless.proofs.Same.{owes_nothing_is}
@@ -123,15 +123,20 @@ module _ (scenario : Scenario) (seen : List Entry) (s : Backend) (waits : Awaits
 pub built_at : (scenario : Scenario) (seen : List Entry) (s : Backend) → AwaitsEntry scenario seen s → (command : Command) → command_at s ≡ Some command → runs command ≡ true
 built_at scenario seen s waits command at = subst (λ c. runs c ≡ true) (get_or_from_slice_get s.progress.commands s.progress.finished command command at) (waits.keeps.built s.progress.finished command (slice_get_within s.progress.commands s.progress.finished command at))
 
+-- what the script and the segment ask of it
+pub end_own : (scenario : Scenario) (old : List Entry) (was : Backend) (waits : AwaitsEntry scenario old was) (event : Event) → ends_command event ≡ true → EndsNext was event → OwnEntry scenario old was event waits
+end_own scenario old was waits event ends next = let plain = is_plain scenario old was.progress.id (was.progress.finished + 1) event ends in
+    record { plays = end_plays scenario old was waits event ends next; truly = plain.truly; queue = plain.queue }
+
 -- after an entry of an end the backend agrees
-pub end_enters : (scenario : Scenario) (old new : List Entry) (had has : ℕ → ℕ) (was : Backend) (event : Event) (p : Progress) (waits : AwaitsEntry scenario old was) → ends_command event ≡ true → IsPlayed scenario old → AllOnCourse scenario old → EndsNext was event
+pub end_enters : (scenario : Scenario) (old new : List Entry) (had has : ℕ → ℕ) (was : Backend) (event : Event) (p : Progress) (frames : List Frame) (waits : AwaitsEntry scenario old was) → ends_command event ≡ true → IsPlayed scenario old → AllOnCourse scenario old → EndsNext was event
     → HasEntered scenario old was.progress event waits.rests p → KeepsScans old was.progress event p → p.answer ≡ was.progress.answer
     → Fits (facts_by old was.progress.id (was.progress.finished + 1) event (facts_of old was.progress.id)) (command_at was)
-    (entered (facts_of (with_own old was.progress event) was.progress.id) (drop was.progress.finished was.progress.commands) (length old + 1) (was.progress.finished + 1) event (waiting waits)) was.looked was.frames was.told
-    → Appends old new had has (entry_of was.progress.id (was.progress.finished + 1) event) → Enters scenario old new had has was (record was { progress = p })
-end_enters scenario old new had has was event p waits ends played courses next goes kept same fits appends =
-    own_enters scenario old new had has was (record was { progress = p }) event waits played courses (record { plays = end_plays scenario old was waits event ends next; truly = plain.truly; queue = plain.queue }) goes kept
-    (fits_at scenario old was event waits p goes was.looked was.frames was.told fits) refl plain.lives refl plain.on (same ∙ sym (plain.answers was.progress.answer)) appends
+    (entered (facts_of (with_own old was.progress event) was.progress.id) (drop was.progress.finished was.progress.commands) (length old + 1) (was.progress.finished + 1) event (waiting waits)) was.looked frames was.told
+    → Appends old new had has (entry_of was.progress.id (was.progress.finished + 1) event) → Enters scenario old new had has was (record was { progress = p; frames = frames })
+end_enters scenario old new had has was event p frames waits ends played courses next goes kept same fits appends =
+    own_enters scenario old new had has was (record was { progress = p; frames = frames }) event waits played courses (end_own scenario old was waits event ends next) goes kept
+    (fits_at scenario old was event waits p goes was.looked frames was.told fits) refl plain.lives refl plain.on (same ∙ sym (plain.answers was.progress.answer)) appends
   where
     plain : IsPlain scenario old was.progress.id (was.progress.finished + 1) event
     plain = is_plain scenario old was.progress.id (was.progress.finished + 1) event ends

@@ -20,16 +20,16 @@ use Rattle.cacheless.specs.Plays.{MayPlayIn}
 use Rattle.cacheless.specs.Schedule.{LooksTruly}
 use Rattle.cacheless.specs.Session.{Session, Tally, number_of, outcome_of, is_settled}
 use Rattle.cacheless.specs.Sessions.{entered}
-use Rattle.cacheless.specs.State.{kept_at, clash_event, error_of}
+use Rattle.cacheless.specs.State.{kept_at, clash_event, error_of, one_if}
 use Rattle.session_laws.specs.Awaiting.{KeepsScans, answer_after}
 use Rattle.backend_core.specs.Types.{Oid, Mode, Command, CommandError, Scenario, Entry, Event, Progress, Backend}
 use Rattle.backend_core.specs.Agrees.{IsPlayed, command_at, AwaitsEntry}
-use Rattle.backend_core.specs.Fits.{looks_due, LooksFit, TakesFit, FramesFit}
+use Rattle.backend_core.specs.Fits.{looks_due, LooksFit, TakesFit, FramesFit, is_lost}
 use Rattle.backend_core.specs.Steps.{Enters}
 use Rattle.backend_core.proofs.Choosing.Chosen.{Acts}
 use Rattle.backend_core.proofs.Fitting.Entered.{fits_at}
 use Rattle.backend_core.proofs.Entries.Inside.{runs_on, inside_fits}
-use Rattle.backend_core.proofs.Own.{waiting, going, own_enters}
+use Rattle.backend_core.proofs.Own.{waiting, own_enters}
 use Rattle.cacheless.specs.Types.{Oid}
 use Rattle.backend_core.proofs.Fitting.Sought.{well_settled}
 use Rattle.backend_core.proofs.Fitting.Rebuilding.{bare_fits}
@@ -105,10 +105,10 @@ failed_enters scenario old new had has was p event error command waits played co
     same = shows.running ∙ runs_on (was.progress.finished + 1) (facts_of old was.progress.id).running acting.runs
 
     rebuilds : FramesFit later (command_at was) now was.frames
-    rebuilds = subst (FramesFit later (command_at was) now) (sym acting.bare) (bare_fits later (command_at was) now (λ keeps. absurd (both_ways _ (ap (λ p. not (took_back later.last) && not now.ended && not (has_error p)) shows.left ∙ and-false (not (took_back later.last) && not now.ended)) keeps)))
+    rebuilds = subst (FramesFit later (command_at was) now) (sym acting.bare) (bare_fits later (command_at was) now (λ keeps. absurd (both_ways _ (ap (λ p. not (took_back later.last) && not (is_lost now) && not (has_error p)) shows.left ∙ and-false (not (took_back later.last) && not (is_lost now))) keeps)))
 
     before : LooksFit (facts_of old was.progress.id) (waiting waits) was.looked was.frames was.told
-    before = waits.fits.looks (going scenario old was waits courses command acting.at)
+    before = waits.fits.looks
 
     started : started_in (number_of now) later ≡ started_in (number_of (waiting waits)) (facts_of old was.progress.id)
     started = (λ i. started_in (length (shows.finished i) + 1) (record (facts_of old was.progress.id) { running = same i }))
@@ -116,5 +116,6 @@ failed_enters scenario old new had has was p event error command waits played co
     looks : LooksFit later now was.looked was.frames was.told
     looks = record {
       enough = omega (arith, before.enough, ap looks_due acting.owed, ap looks_due shows.owes, started, ap (λ (t : Tally). t.looks) shows.tally, ap (λ (t : Tally). t.scans) shows.tally, ap (λ (t : Tally). t.grants) shows.tally, ap (λ (t : Tally). t.full) shows.tally);
-      within = omega (arith, before.within, well_settled (plan_at was.progress.opens was.progress.exec) acting.unsettled, ap looks_due acting.owed, ap looks_due shows.owes, started, ap (λ (t : Tally). t.looks) shows.tally, ap (λ (t : Tally). t.scans) shows.tally, ap (λ (t : Tally). t.grants) shows.tally, ap (λ (t : Tally). t.fetches) shows.tally);
+      within = omega (arith, before.within, well_settled (plan_at was.progress.opens was.progress.exec) acting.unsettled, ap looks_due acting.owed, ap looks_due shows.owes, started, ap (λ (t : Tally). t.looks) shows.tally, ap (λ (t : Tally). t.scans) shows.tally, ap (λ (t : Tally). t.grants) shows.tally, ap (λ (t : Tally). t.fetches) shows.tally, ap one_if shows.ended);
+      once = omega (arith, before.once, started, ap one_if shows.ended);
     }

@@ -29,7 +29,7 @@ use Rattle.cacheless.specs.State.{owed_at, one_if, kept_at, nothing_kept, kept_s
 use Rattle.session_laws.specs.Awaiting.{KeepsScans, answer_after}
 use Rattle.backend_core.specs.Types.{Oid, Purpose, Command, Scenario, Entry, Event, Message, OwnLock, Progress, Backend, Opening, Frame}
 use Rattle.backend_core.specs.Agrees.{IsPlayed, command_at, AwaitsEntry}
-use Rattle.backend_core.specs.Fits.{looks_due, LooksFit, came_well, TakesFit, IsLookedFor, Lacks, Unfound, Said, lacks_scan, finds_no_name, Fits, FramesFit, IsUnheld, keeps_whole, looked_in, looked_on_top, told_owed}
+use Rattle.backend_core.specs.Fits.{looks_due, LooksFit, came_well, TakesFit, IsLookedFor, Lacks, Unfound, Said, lacks_scan, finds_no_name, Fits, FramesFit, IsUnheld, keeps_whole, looked_in, looked_on_top, told_owed, is_lost}
 use Rattle.backend_core.specs.Steps.{Enters, MakesEntry}
 use Rattle.backend_core.specs.Noted.{noted_of, noted_given, noted_reset, IsNoted}
 use Rattle.backend_core.specs.declared.next.Next.TheVariants as nexts
@@ -40,7 +40,7 @@ use Rattle.backend_core.proofs.Fitting.FitsEntries.{StaysAt, Goes, fits_inside}
 use Rattle.backend_core.proofs.Fitting.Sought.{takes_cleared, unfound_held, well_there}
 use Rattle.backend_core.proofs.Entries.Looking.{begun_written}
 use Rattle.cacheless.proofs.Tests.{not_true}
-use Rattle.backend_core.proofs.Own.{waiting, going, OwnEntry, own_enters, follows, own_makes}
+use Rattle.backend_core.proofs.Own.{waiting, over, unlost, OwnEntry, own_enters, follows, own_makes}
 use Rattle.inval_messages.specs.Messages.{is_spared}
 use Rattle.backend_core.proofs.Stacking.Looked.{top_most, told_most, after_less, reset_less, look_more, look_top}
 use Rattle.backend_core.proofs.Stacking.Stacks.{stack_look, look_empty}
@@ -55,6 +55,7 @@ use Rattle.cacheless.proofs.Reading.{facts_of-own}
 use Rattle.history_model.proofs.Every.{any-left, any-right}
 use Rattle.std.specs.Prelude.{nat_lt}
 use Rattle.local_caches.specs.Kept.{Kept}
+use Rattle.backend_core.proofs.Fitting.Over.{IsWellOnceOver, well_lost}
 
 -- a backend whose fetch is due
 record IsDue (seen : List Entry) (s : Backend) : Type 0 where
@@ -151,7 +152,7 @@ record IsToldOf (facts later : Facts) (o : Option Command) (s now : Session) (ev
 
 -- what the choice keeps after it
 fetch_fits : (facts : Facts) (o : Option Command) (s now : Session) (event : Event) (usable : Purpose → Bool) (command : Command) (looked : Bool) (frames : List Frame) (told unfound marked : Bool) (frames_now : List Frame) (told_now : Bool) → ((scan : Purpose) → facts.usable scan ≡ false → usable scan ≡ false) → (is_absent s.left ≡ true → unfound ≡ true) → (finds_no_name facts s.taken s.left ≡ true → unfound ≡ true) → o ≡ Some command → Fits facts o s looked frames told → IsFetched s now event → is_some facts.running ≡ true → is_visible facts.running ≡ false
-    → s.ended ≡ false → owed_after facts.last ≡ OwesFetch ∷ [] → IsToldOf facts (fetched_facts facts s event usable) o s now event looked frames told (looked && not unfound && not marked) frames_now told_now → Fits (fetched_facts facts s event usable) o now (looked && not unfound && not marked) frames_now told_now
+    → IsWellOnceOver s → owed_after facts.last ≡ OwesFetch ∷ [] → IsToldOf facts (fetched_facts facts s event usable) o s now event looked frames told (looked && not unfound && not marked) frames_now told_now → Fits (fetched_facts facts s event usable) o now (looked && not unfound && not marked) frames_now told_now
 fetch_fits facts o s now event usable command looked frames told unfound marked frames_now told_now spares says finds at fits fetched runs hides goes owed tells = fits_inside facts later o s now looked frames told (looked && not unfound && not marked) frames_now told_now command at fits
     (record { runs = refl; written = λ is. begun_written (number_of s) facts.running (fits.written is); last = fetched.last }) fetched.stays (Goes runs) hides goes looks tells.rebuilds sought (fetched.takes fits.takes)
   where
@@ -159,7 +160,7 @@ fetch_fits facts o s now event usable command looked frames told unfound marked 
     later = fetched_facts facts s event usable
 
     before : LooksFit facts s looked frames told
-    before = fits.looks goes
+    before = fits.looks
 
     started : started_in (number_of now) later ≡ started_in (number_of s) facts
     started = ap (λ n. started_in (n + 1) later) fetched.stays.finished ∙ started_still (number_of s) (number_of s) facts.running runs
@@ -174,7 +175,8 @@ fetch_fits facts o s now event usable command looked frames told unfound marked 
     looks : LooksFit later now (looked && not unfound && not marked) frames_now told_now
     looks = record {
       enough = omega (arith, before.enough, ap looks_due owed, started, fetched.looks, fetched.scans, fetched.grants, tells.full, tells.less);
-      within = omega (arith, before.within, ap looks_due owed, started, fetched.looks, fetched.scans, fetched.grants, fetched.fetches, tells.most, well);
+      within = omega (arith, before.within, ap looks_due owed, started, fetched.looks, fetched.scans, fetched.grants, fetched.fetches, tells.most, well, ap one_if fetched.stays.ended);
+      once = omega (arith, before.once, started, ap one_if fetched.stays.ended);
     }
 
     -- what a look was made for that counts still is lacking still
@@ -224,7 +226,7 @@ fetch_agrees scenario old new had has was p event unfound marked frames waits un
     own_enters scenario old new had has was (record was { progress = p; looked = looked_after was unfound marked; frames = frames; told = told_after was unfound marked }) event waits played courses brings.own goes
     kept
     (fits_at scenario old was event waits p goes (looked_after was unfound marked) frames (told_after was unfound marked) (subst (λ f. Fits f (command_at was) (entered (facts_of (with_own old was.progress event) b) (drop was.progress.finished was.progress.commands) (length old + 1) (was.progress.finished + 1) event s) (looked_after was unfound marked) frames (told_after was unfound marked)) (sym brings.facts)
-    (fetch_fits (facts_of old b) (command_at was) s _ event brings.usable due.command was.looked was.frames was.told unfound marked frames (told_after was unfound marked) brings.spares (λ absent. unfound_is ∙ ap (λ t. t || is_unfound was.progress (plan_at was.progress.opens was.progress.exec)) absent) (λ finds. unfound_is ∙ ap (λ t. is_absent (plan_at was.progress.opens was.progress.exec) || t) (unfound_held (facts_of old b) was.progress (plan_at was.progress.opens was.progress.exec) waits.rests.holds.facts finds) ∙ or-true (is_absent (plan_at was.progress.opens was.progress.exec))) due.at waits.fits brings.fetched due.runs (hidden scenario old was waits due.command due.at due.busy) (going scenario old was waits courses due.command due.at) due.owed tells)))
+    (fetch_fits (facts_of old b) (command_at was) s _ event brings.usable due.command was.looked was.frames was.told unfound marked frames (told_after was unfound marked) brings.spares (λ absent. unfound_is ∙ ap (λ t. t || is_unfound was.progress (plan_at was.progress.opens was.progress.exec)) absent) (λ finds. unfound_is ∙ ap (λ t. is_absent (plan_at was.progress.opens was.progress.exec) || t) (unfound_held (facts_of old b) was.progress (plan_at was.progress.opens was.progress.exec) waits.rests.holds.facts finds) ∙ or-true (is_absent (plan_at was.progress.opens was.progress.exec))) due.at waits.fits brings.fetched due.runs (hidden scenario old was waits due.command due.at due.busy) (over scenario old was waits courses due.command due.at) due.owed tells)))
     refl brings.lives refl brings.on (none ∙ sym (brings.unanswered was.progress.answer)) appends
   where
     b : ℕ
@@ -344,8 +346,8 @@ module _ (scenario : Scenario) (old : List Entry) (was : Backend) (waits : Await
   abbrev command : Command
   command = (is_due scenario old was waits due).command
 
-  going_on : s.ended ≡ false
-  going_on = going scenario old was waits courses command (is_due scenario old was waits due).at
+  going_on : is_lost s ≡ false
+  going_on = unlost scenario old was waits courses command (is_due scenario old was waits due).at
 
   stays_on : took_back facts.last ≡ false
   stays_on = ap took_back (fetch_owed facts.last (is_due scenario old was waits due).owed)
@@ -372,14 +374,14 @@ module _ (scenario : Scenario) (old : List Entry) (was : Backend) (waits : Await
 
       by_error : (t : Bool) → has_error s.left ≡ t → FramesFit later (command_at was) now frames
       by_error true errs = record {
-        stack = λ keeps. absurd (both_ways _ (ap (λ t. not (took_back later.last) && not now.ended && not t) (ap has_error left ∙ resumed_errs s.left s refl errs) ∙ and-false (not (took_back later.last) && not now.ended)) keeps);
+        stack = λ keeps. absurd (both_ways _ (ap (λ t. not (took_back later.last) && not (is_lost now) && not t) (ap has_error left ∙ resumed_errs s.left s refl errs) ∙ and-false (not (took_back later.last) && not (is_lost now))) keeps);
         over = λ over. bare errs;
         badly = λ is. bare errs;
         past = past;
       }
       by_error false errs = let goes = resumed_goes s.left s refl errs again in record {
         stack = λ keeps. subst (λ held. IsStack later.usable held frames) (sym opened) (stack errs);
-        over = λ over. absurd (both_ways _ over (λ i. not (last i) && not ((ended ∙ going_on) i) && not ((ap has_error left ∙ goes.errs) i)));
+        over = λ over. absurd (both_ways _ over (λ i. not (last i) && not (well_lost now (λ badly. goes.goes (sym (ap outcome_of left) ∙ badly)) i) && not ((ap has_error left ∙ goes.errs) i)));
         badly = λ is. absurd (goes.goes (sym (ap outcome_of left) ∙ is));
         past = past;
       }

@@ -13,7 +13,7 @@ use Rattle.backend_core.specs.Fits.{LooksFit, FramesFit, IsUnheld, Fits, IsLooke
 use Rattle.backend_core.specs.Steps.{MakesEntry, IsRefused, After}
 use Rattle.backend_core.proofs.Choosing.Chosen.{Busy, hidden}
 use Rattle.backend_core.proofs.Fitting.FitsEntries.{StaysInside, StaysAt, Goes, fits_inside}
-use Rattle.backend_core.proofs.Own.{waiting, going}
+use Rattle.backend_core.proofs.Own.{waiting, over}
 
 -- an entry that is made, after which memory is refused
 pub made_refused : {E : Type 0} (scenario : Scenario) (old new : List Entry) (had has : ℕ → ℕ) (b : ℕ) (result : Result (Unit {0}) E) → MakesEntry scenario old new had has b → OnErr result (IsRefused scenario old new had has b)
@@ -36,7 +36,7 @@ module _ (scenario : Scenario) (old : List Entry) (was : Backend) (waits : Await
   entry_fits later now looked frames told inside stays runs busy looks rebuilds sought takes = subst (λ o. Fits later o now looked frames told) (sym at)
       (fits_inside (facts_of old was.progress.id) later (Some command) (waiting waits) now was.looked was.frames was.told looked frames told command refl
       (subst (λ o. Fits (facts_of old was.progress.id) o (waiting waits) was.looked was.frames was.told) at waits.fits)
-      inside stays (Goes runs) (hidden scenario old was waits command at busy) (going scenario old was waits courses command at) looks (subst (λ o. FramesFit later o now frames) at rebuilds) sought takes)
+      inside stays (Goes runs) (hidden scenario old was waits command at busy) (over scenario old was waits courses command at) looks (subst (λ o. FramesFit later o now frames) at rebuilds) sought takes)
 
   -- an entry that leaves the transaction and its lists
   pub inside_fits : (later : Facts) (now : Session) (looked : Bool) (frames : List Frame) (told : Bool) → later.running ≡ (facts_of old was.progress.id).running → later.lists ≡ (facts_of old was.progress.id).lists → ((from : ℕ) → later.last ≡ Some (events.Gone from) → ⊥) → StaysAt (waiting waits) now

@@ -29,7 +29,6 @@ use Rattle.backend_core.specs.Fits.{looks_due, IsPast, Fits}
 use Rattle.backend_core.specs.Steps.{MakesEntry, Enters}
 use Rattle.backend_core.proofs.Own.{no_entry, appended_makes}
 use Rattle.backend_core.proofs.Fitting.Rebuilding.{bare_fits}
-use Rattle.backend_core.proofs.Fitting.OpenRelations.{held_all}
 
 -- it may be entered
 pub join_call : (scenario : Scenario) (seen : List Entry) (s : Backend) → HasNotJoined scenario seen s → MayCall scenario seen (entry_of s.progress.id 0 events.Start)
@@ -48,14 +47,17 @@ join_call scenario seen s before = record {
 fits_first : (facts : Facts) (o : Option Command) (at : ℕ) → facts.running ≡ None → facts.lists ≡ [] → facts.last ≡ Some events.Start → Fits facts o (at_command no_block none_open [] [] at o) false [] false
 fits_first facts o at runs lists last = record {
   rebuilds = bare_fits facts o (at_command no_block none_open [] [] at o) (λ keeps. refl);
-  looks = λ _. record { enough = omega (arith, none, ap (λ l. looks_due (owed_after l)) last); within = omega (arith, none, ap (λ l. looks_due (owed_after l)) last) };
+  looks = record { once = omega (arith, none); enough = omega (arith, none, ap (λ l. looks_due (owed_after l)) last); within = omega (arith, none, ap (λ l. looks_due (owed_after l)) last) };
   transaction = inl runs;
   first = omega (arith, ap (λ r. option_map_or (λ (t : Running). t.first) r 0) runs);
   opens = refl;
   levels = omega arith;
+  plain = tt;
+  since = refl;
+  free = λ over. absurd (cc over);
   blocked = refl;
   settled = λ is. refl;
-  relations = record { inside = refl; held = λ going. held_all []; over = λ over. absurd (cc over) };
+  relations = record { inside = refl; held = λ going p none. none; over = λ over. absurd (cc over) };
   written = λ is. absurd (both_ways _ (ap (has_write_from 0) lists) is);
   visible = λ is. absurd (both_ways _ (ap (λ r. is_visible r) runs) is);
   taken = λ from is. absurd (let both : Some events.Start ≡ Some (events.Gone from) = sym last ∙ is in cc both);

@@ -38,7 +38,7 @@ use Rattle.backend_core.proofs.Choosing.Chosen.{Acts, may_request, now_plays, st
 use Rattle.backend_core.proofs.Fitting.Entered.{fits_at}
 use Rattle.backend_core.proofs.Entries.Failing.{IsActing, held_shows, failed_enters}
 use Rattle.backend_core.proofs.Entries.Inside.{runs_on, inside_fits}
-use Rattle.backend_core.proofs.Own.{waiting, waiting_is, follows, going, own_enters}
+use Rattle.backend_core.proofs.Own.{waiting, waiting_is, follows, own_enters}
 use Rattle.backend_core.proofs.Fitting.Sought.{takes_cleared, no_look, act_serves, takes_granted, lock_found}
 use Rattle.cacheless.proofs.Allowed.NextKeeps.{nothing_owed}
 use Rattle.cacheless.specs.Types.{Row}
@@ -118,7 +118,7 @@ module _ (scenario : Scenario) (old : List Entry) (was : Backend) (waits : Await
   }
 
   before : LooksFit facts s was.looked was.frames was.told
-  before = waits.fits.looks (going scenario old was waits courses next.command next.free.at)
+  before = waits.fits.looks
 
   same : Some (begun (was.progress.finished + 1) facts.running) ≡ facts.running
   same = runs_on (was.progress.finished + 1) facts.running acting.runs
@@ -150,7 +150,7 @@ module _ (scenario : Scenario) (old : List Entry) (was : Backend) (waits : Await
         kept
         (fits_at scenario old was event waits p goes was.looked was.frames false
         (inside_fits scenario old was waits courses next.command next.free.at later now was.looked was.frames false same refl (λ from is. cc is) (record { blocks = refl; opens = refl; held = inl refl; finished = refl; blocked = refl; ended = refl; left = λ is there. refl }) acting.runs (Acts acting.unsettled)
-        (record { enough = omega (arith, before.enough, ap looks_due acting.owed, started); within = omega (arith, told_none was.told was.frames, before.within, ap looks_due acting.owed, started) })
+        (record { enough = omega (arith, before.enough, ap looks_due acting.owed, started); within = omega (arith, told_none was.told was.frames, before.within, ap looks_due acting.owed, started); once = omega (arith, before.once, started) })
         (same_fits facts later (command_at was) s now was.frames refl refl refl refl (sym (standing scenario old was waits next.command next.free.at (Acts acting.unsettled))) waits.fits.rebuilds)
         (λ made. unlooked (waits.fits.sought made)) (takes_cleared _ (number_of s) (s.locks ++ record { rel = rel; mode = mode; command = was.progress.finished + 1; clear = false } ∷ []) (Some rel) s.left
         (takes_granted facts (number_of s) (was.progress.finished + 1) s.locks s.left rel mode (ap (λ n. n + 1) (sym waits.rests.holds.count)) asks.2))))

@@ -27,14 +27,14 @@ use Rattle.cacheless.specs.Sessions.{entered}
 use Rattle.cacheless.specs.State.{kept_at, owed_at, owed_first, one_if, running_of, is_kept, is_absent}
 use Rattle.backend_core.specs.Types.{Command, Scenario, Entry, Event, Progress, Backend, Frame, Purpose, Opening}
 use Rattle.backend_core.specs.Agrees.{IsPlayed, command_at, AwaitsEntry}
-use Rattle.backend_core.specs.Fits.{looks_due, LooksFit, Fits, IsLookedFor, Lacks, Unfound, Said, FramesFit, IsTakenBack, IsUnheld, looked_in, looked_on_top, told_owed, lacks_scan}
+use Rattle.backend_core.specs.Fits.{looks_due, LooksFit, Fits, IsLookedFor, Lacks, Unfound, Said, FramesFit, IsTakenBack, IsUnheld, looked_in, looked_on_top, told_owed, lacks_scan, is_lost}
 use Rattle.backend_core.specs.Steps.{OwesLookNow, IsLookNext, Enters, IsScanNext, FindsNone, Looks, Says, IsAcceptNext, IsInTurn}
 use Rattle.backend_core.specs.Words.{has_error, is_looked_for, is_unfound, scan_on_top, frames_looked}
 use Rattle.backend_core.proofs.Choosing.ActsRun.{scan_runs, find_runs}
 use Rattle.backend_core.proofs.Choosing.Chosen.{Busy, Due, Begins, Scans, StartsNow, starts_now, may_call, hidden, started_most, started_by, started_now, started_still, look_may, Acts, Sought, standing}
 use Rattle.backend_core.proofs.Fitting.Entered.{fits_at}
 use Rattle.backend_core.proofs.Fitting.FitsEntries.{RunsHere, Goes, Starts, fits_inside}
-use Rattle.backend_core.proofs.Own.{waiting, going, own_enters}
+use Rattle.backend_core.proofs.Own.{waiting, over, unlost, own_enters}
 use Rattle.backend_core.proofs.Fitting.Sought.{takes_cleared, unfound_facts, sought_looked, sought_rebuilt, next_act, well_most, unheld_lacking}
 use Rattle.ddl_effect.specs.Stages.{plan_at}
 use Rattle.ddl_effect.specs.Plans.{Plan, left_rests_on, told_rests_on, Done, Do, Absent, Open, Lookup, Search, Read, Lock, Write}
@@ -85,6 +85,15 @@ begins_outside command s is = by_block s.blocks.block is
     by_block Inside is = absurd (cc)
     by_block Failed is = absurd (cc)
 
+-- nor is its release made
+begins_going : (command : Command) (s : Session) → begins command s ≡ true → s.ended ≡ false
+begins_going command s is = by_ended s.ended refl
+  where
+    by_ended : (t : Bool) → s.ended ≡ t → t ≡ false
+    by_ended false ended = refl
+    by_ended true ended = absurd (both_ways _ (ap (λ b. elim b as (λ x. Bool) [ Outside ↦ not (ends_block command) && not s.ended && is_none (refused_by no_block command) | block ↦ false ]) (begins_outside command s is)
+        ∙ ap (λ t. not (ends_block command) && not t && is_none (refused_by no_block command)) ended ∙ ap (λ t. t && is_none (refused_by no_block command)) (and-false (not (ends_block command)))) is)
+
 -- the facts after a look of a command of this number
 abbrev looked_facts : Facts → Session → Bool → Facts
 looked_facts facts s some_wait = record facts { last = Some (events.Look some_wait); running = Some (begun (number_of s) facts.running) }
@@ -94,15 +103,16 @@ pub record LookCounts (facts : Facts) (s : Session) (command : Command) (looked 
   pub goes : RunsHere facts (Some command) s
   pub owes : (owed_after facts.last ≡ []) ⊎ (owed_after facts.last ≡ OwesLook ∷ [])
   pub most : looks_due (owed_after facts.last) + (started_by (number_of s) (Some (begun (number_of s) facts.running)) + one_if looked_now + looked_in frames_now) ≤ started_in (number_of s) facts + one_if looked + looked_in frames + 1
+  pub once : started_in (number_of s) facts + one_if s.ended ≤ 1 → started_by (number_of s) (Some (begun (number_of s) facts.running)) + one_if s.ended ≤ 1
   pub least : started_in (number_of s) facts + looked_on_top looked frames + 1 + told_owed told_now frames_now ≤ looks_due (owed_after facts.last) + (started_by (number_of s) (Some (begun (number_of s) facts.running)) + looked_on_top looked_now frames_now) + told_owed told frames
 
 -- in an accept
 counts_due : (facts : Facts) (s : Session) (command : Command) (looked : Bool) (frames : List Frame) (told : Bool) → owed_after facts.last ≡ OwesLook ∷ [] → is_some facts.running ≡ true → LookCounts facts s command looked frames told looked frames told
-counts_due facts s command looked frames told owed runs = record { goes = Goes runs; owes = inr owed; most = omega (arith, ap looks_due owed, started_still (number_of s) (number_of s) facts.running runs); least = omega (arith, ap looks_due owed, started_still (number_of s) (number_of s) facts.running runs) }
+counts_due facts s command looked frames told owed runs = record { goes = Goes runs; owes = inr owed; once = λ one. omega (arith, one, started_still (number_of s) (number_of s) facts.running runs); most = omega (arith, ap looks_due owed, started_still (number_of s) (number_of s) facts.running runs); least = omega (arith, ap looks_due owed, started_still (number_of s) (number_of s) facts.running runs) }
 
 -- at the transaction's start
 counts_start : (facts : Facts) (s : Session) (command : Command) (looked : Bool) (frames : List Frame) (told : Bool) → owed_after facts.last ≡ [] → begins command s ≡ true → facts.running ≡ None → LookCounts facts s command looked frames told looked frames told
-counts_start facts s command looked frames told owed starts none = record { goes = Starts command refl starts (begins_outside command s starts) none; owes = inl owed; most = omega (arith, ap looks_due owed, started_now (number_of s) facts.running none, none_before); least = omega (arith, ap looks_due owed, started_now (number_of s) facts.running none, none_before) }
+counts_start facts s command looked frames told owed starts none = record { goes = Starts command refl starts (begins_outside command s starts) none; owes = inl owed; once = λ one. omega (arith, started_now (number_of s) facts.running none, ap one_if (begins_going command s starts)); most = omega (arith, ap looks_due owed, started_now (number_of s) facts.running none, none_before); least = omega (arith, ap looks_due owed, started_now (number_of s) facts.running none, none_before) }
   where
     none_before : started_in (number_of s) facts ≡ 0
     none_before = ap (λ o. started_by (number_of s) o) none
@@ -112,6 +122,7 @@ counts_act : (facts : Facts) (s : Session) (command : Command) (looked told : Bo
 counts_act facts s command looked told owed runs unlooked = record {
   goes = Goes runs;
   owes = inl owed;
+  once = λ one. omega (arith, one, started_still (number_of s) (number_of s) facts.running runs);
   most = omega (arith, ap looks_due owed, started_still (number_of s) (number_of s) facts.running runs, ap one_if unlooked);
   least = omega (arith, ap looks_due owed, started_still (number_of s) (number_of s) facts.running runs, ap one_if unlooked);
 }
@@ -121,6 +132,7 @@ counts_rebuild : (facts : Facts) (s : Session) (command : Command) (looked told 
 counts_rebuild facts s command looked told under f owed runs unlooked = record {
   goes = Goes runs;
   owes = inl owed;
+  once = λ one. omega (arith, one, started_still (number_of s) (number_of s) facts.running runs);
   most = omega (arith, ap looks_due owed, started_still (number_of s) (number_of s) facts.running runs, in_push under f, in_push under (with_look f), ap one_if unlooked);
   least = omega (arith, ap looks_due owed, started_still (number_of s) (number_of s) facts.running runs, top_looked looked under f, top_looked looked under (with_look f), told_push told under f, told_push told under (with_look f), ap one_if unlooked);
 }
@@ -137,6 +149,7 @@ counts_accept : (facts : Facts) (s : Session) (command : Command) (looked told :
 counts_accept facts s command looked told owed runs side = record {
   goes = Goes runs;
   owes = inl owed;
+  once = λ one. omega (arith, one, started_still (number_of s) (number_of s) facts.running runs);
   most = omega (arith, ap looks_due owed, started_still (number_of s) (number_of s) facts.running runs);
   least = omega (arith, ap looks_due owed, started_still (number_of s) (number_of s) facts.running runs, told_less looked told side);
 }
@@ -160,15 +173,15 @@ module _ (scenario : Scenario) (old : List Entry) (was : Backend) (waits : Await
 
   module _ (looked : Bool) (frames : List Frame) (told : Bool) (counts : LookCounts facts s command was.looked was.frames was.told looked frames told) where
     before : LooksFit facts s was.looked was.frames was.told
-    before = waits.fits.looks (going scenario old was waits courses command at)
+    before = waits.fits.looks
 
     -- the look stays within its bound
     within : s.tally.looks + 1 ≤ s.tally.scans + s.tally.grants + 2 * s.tally.fetches + 3
-    within = omega (arith, before.within, counts.least, started_most (number_of s) (looked_facts facts s some_wait), top_most looked frames, well_most s.left)
+    within = omega (arith, before.within, counts.least, started_most (number_of s) (looked_facts facts s some_wait), top_most looked frames, well_most s.left, before.once)
 
     -- and is counted
     looks_more : LooksFit (looked_facts facts s some_wait) now looked frames told
-    looks_more = record { enough = omega (arith, before.enough, counts.most, looked_due some_wait); within = omega (arith, before.within, counts.least, looked_due some_wait) }
+    looks_more = record { enough = omega (arith, before.enough, counts.most, looked_due some_wait); within = omega (arith, before.within, counts.least, looked_due some_wait); once = counts.once before.once }
 
     abbrev MadeFor : Type 0
     MadeFor = looked ≡ true → IsLookedFor (looked_facts facts s some_wait) frames s.taken s.left × IsUnheld s.opened s.left
@@ -182,7 +195,7 @@ module _ (scenario : Scenario) (old : List Entry) (was : Backend) (waits : Await
     look_fits hides rebuilds sought = subst (λ f. Fits f (command_at was) now looked frames told) (sym later_is) (subst (λ o. Fits (looked_facts facts s some_wait) o now looked frames told) (sym at)
         (fits_inside facts (looked_facts facts s some_wait) (Some command) s now was.looked was.frames was.told looked frames told command refl (subst (λ o. Fits facts o s was.looked was.frames was.told) at waits.fits)
         (record { runs = refl; written = λ is. begun_written (number_of s) facts.running (waits.fits.written is); last = λ from is. cc is })
-        (record { blocks = refl; opens = refl; held = inl refl; finished = refl; blocked = refl; ended = refl; left = λ is there. refl }) counts.goes hides (going scenario old was waits courses command at) looks_more rebuilds sought (takes_cleared _ (number_of s) s.locks s.taken s.left waits.fits.takes)))
+        (record { blocks = refl; opens = refl; held = inl refl; finished = refl; blocked = refl; ended = refl; left = λ is there. refl }) counts.goes hides (over scenario old was waits courses command at) looks_more rebuilds sought (takes_cleared _ (number_of s) s.locks s.taken s.left waits.fits.takes)))
 
     -- so after it the backend agrees
     pub look_agrees : (new : List Entry) (had has : ℕ → ℕ) (p : Progress) → IsPlayed scenario old → some_wait ≡ is_waiting old was.progress.id → Busy (facts_of old was.progress.id).last was.progress command → FramesFit facts (command_at was) s frames → MadeFor → HasEntered scenario old was.progress event waits.rests p → kept_at p ≡ kept_at was.progress → p.answer ≡ None
@@ -228,7 +241,7 @@ scan_stands scenario seen s scan rebuilds waits next = by_last (facts_of seen s.
     rests_on p at out plain = refl
 
     none_gone : (t : Bool) (from : ℕ) → facts.last ≡ Some (events.Gone from) → IsTakenBack facts next.command (waiting waits) from → IsInTurn t s scan → ⊥
-    none_gone true from is back turn = let none : s.frames ≡ [] = waits.fits.rebuilds.over (λ i. not (took_back (is i)) && not s.progress.ended && not (has_error (plan_at s.progress.opens s.progress.exec))) in
+    none_gone true from is back turn = let none : s.frames ≡ [] = waits.fits.rebuilds.over (λ i. not (took_back (is i)) && not (is_lost (waiting waits)) && not (has_error (plan_at s.progress.opens s.progress.exec))) in
         let no : None ≡ Some scan = sym (ap (λ l. elim (top l) as (λ x. Option Purpose) [ Some f ↦ find (λ d. not (is_kept (kept_at s.progress) d)) (build_scans f.opening.kind f.opening.rel) | None ↦ None ]) none) ∙ turn in cc no
     none_gone false from is back turn = both_ways _ (rests_on (plan_at s.progress.opens s.progress.exec) refl (waits.fits.taken from is).out back.plain) turn.1
 
@@ -276,7 +289,7 @@ opens_unheld scenario seen s waits courses command at busy bare lacking = by_pla
 
     by_plan : (p : Plan) → (waiting waits).left ≡ p → lacks_scan facts p ≡ true → IsUnheld (waiting waits).opened p
     by_plan (Do (Open rel kind) rest) is lacks_it = unheld_lacking facts.usable (waiting waits).opened rel kind
-        (none_lacks facts.usable (waiting waits).opened (subst (IsStack facts.usable (waiting waits).opened) bare (waits.fits.rebuilds.stack (λ i. not (standing scenario seen s waits command at busy i) && not (going scenario seen s waits courses command at i) && not (has_error (is i)))))) lacks_it
+        (none_lacks facts.usable (waiting waits).opened (subst (IsStack facts.usable (waiting waits).opened) bare (waits.fits.rebuilds.stack (λ i. not (standing scenario seen s waits command at busy i) && not (unlost scenario seen s waits courses command at i) && not (has_error (is i)))))) lacks_it
     by_plan (Do (Lookup name mode) rest) is lacks_it = tt
     by_plan (Do (Search scan) rest) is lacks_it = tt
     by_plan (Do (Read scan) rest) is lacks_it = tt

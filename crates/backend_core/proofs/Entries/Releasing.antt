@@ -1,8 +1,8 @@
 -- The locks of a transaction are released.
-use Rattle.std.proofs.Common.{◌≡◌, ◌≤◌, ◌+◌, ◌∙◌, ◌∷◌, ◌⊎◌, inl, inr, ℕ, Bool, true, false, Option, Some, None, List, [], cond, refl, sym, ap, subst, length, drop, is_some, arith}
+use Rattle.std.proofs.Common.{◌≡◌, ◌≤◌, ◌+◌, ◌∙◌, ◌∷◌, ◌⊎◌, inl, inr, ℕ, Bool, true, false, Option, Some, None, List, [], cond, refl, sym, ap, subst, length, drop, map, is_some, ◌==◌, arith}
 use Rattle.std.specs.Option.{option_map, option_map_or}
 use Rattle.std.specs.Prelude.{nat_lt}
-use Rattle.std.proofs.lemmas.Bool.{both_ways, ltb-true, false_from_ne_true}
+use Rattle.std.proofs.lemmas.Bool.{both_ways, ltb-true, ne_eqb, false_from_ne_true}
 use Rattle.std.proofs.lemmas.List.{length-drop}
 use Rattle.event_kinds.specs.declared.entry.Event.TheVariants as events
 use Rattle.inval_messages.specs.Lists.{Written, has_write_from, cats_in, sent_in, left_after, unsent_after}
@@ -12,18 +12,29 @@ use Rattle.history_model.specs.Transactions.{Running, is_visible}
 use Rattle.seg_calls.specs.Calls.{entry_of, MayCall, Appends}
 use Rattle.cacheless.specs.Ends.{Commits, TakesBack}
 use Rattle.cacheless.specs.Facts.{Facts, facts_of, facts_by}
-use Rattle.cacheless.specs.Holds.{HasEntered}
+use Rattle.cacheless.specs.Holds.{Rests, HasEntered}
+use Rattle.cacheless.specs.May.{has_failed}
+use Rattle.cacheless.specs.Owed.{started_in}
+use Rattle.ddl_effect.specs.Opens.{opens_before}
+use Rattle.ddl_effect.specs.Plans.{Plan, Done, Fails, Absent, Do, NotBuilt}
+use Rattle.ddl_effect.specs.Stages.{plan_at}
 use Rattle.cacheless.specs.OnCourse.{AllOnCourse}
-use Rattle.cacheless.specs.Session.{Session, number_of}
-use Rattle.cacheless.specs.State.{kept_at, is_out}
-use Rattle.backend_core.specs.Types.{Command, Scenario, Entry, Event, OwnLock, Message, Progress, Backend, Frame}
+use Rattle.cacheless.specs.Session.{Session, Well, opening_of, number_of, outcome_of, is_settled}
+use Rattle.cacheless.specs.State.{kept_at, is_kept, one_if, is_out}
+use Rattle.backend_core.specs.Types.{Command, Scenario, Entry, Event, OwnLock, Opening, Message, Progress, Backend, Frame}
 use Rattle.backend_core.specs.Agrees.{IsPlayed, command_at, AwaitsEntry}
-use Rattle.backend_core.specs.Fits.{first_at, RunsAfter, Fits}
-use Rattle.backend_core.specs.Steps.{EndsNext, InCommand, AfterAll, Enters}
-use Rattle.backend_core.proofs.Entries.EndEntries.{end_now, end_call, built_at, end_enters, end_bare}
-use Rattle.backend_core.proofs.Choosing.EndsNow.{end_by, EndsBy, LetsGo, AllSent, NoWrite, Releases, Whole, Inner, comes_now, from_of, first_begun, commit_first, end_releases, commit_end, back_end}
-use Rattle.backend_core.proofs.Fitting.FitsEnds.{fits_released, ended_running, ended_lists, kept_running, kept_lists}
-use Rattle.backend_core.proofs.Own.{waiting}
+use Rattle.backend_core.specs.Fits.{first_at, looked_on_top, told_owed, LooksFit, RunsAfter, Fits}
+use Rattle.backend_core.specs.Frames.{unless, with_rest}
+use Rattle.backend_core.specs.Noted.{noted_of, IsNoted}
+use Rattle.backend_core.specs.declared.next.Next.TheVariants as nexts
+use Rattle.backend_core.specs.Steps.{EndsNext, InCommand, AfterAll, MakesEntry, Enters}
+use Rattle.backend_core.proofs.Entries.EndEntries.{end_now, end_own, end_call, built_at, end_enters, end_bare}
+use Rattle.backend_core.proofs.Fitting.Released.{fails_at, frames_left, left_fits, left_unlooked, left_top, left_looks, plain_unlooked}
+use Rattle.backend_core.proofs.Fitting.Rebuilding.{usable_is}
+use Rattle.backend_core.proofs.Fitting.OpenRelations.{since_none}
+use Rattle.backend_core.proofs.Choosing.EndsNow.{end_by, EndsBy, LetsGo, AllSent, NoWrite, IsInner, Releases, Whole, Inner, comes_now, from_of, first_begun, commit_first, end_releases, commit_end, back_end}
+use Rattle.backend_core.proofs.Fitting.FitsEnds.{released_at, fits_released, ended_running, ended_lists, kept_running, kept_lists}
+use Rattle.backend_core.proofs.Own.{waiting, own_makes}
 
 -- where a publish would send nothing, all is published
 left_none : (published : ℕ) (lists : List Written) → length (unsent_after published lists) ≡ 0 → left_after published lists ≡ []
@@ -106,8 +117,8 @@ module _ (scenario : Scenario) (old : List Entry) (was : Backend) (from : ℕ) (
 
   -- no later command is released
   from_low : Releases facts (command_at was) s from → from ≤ was.progress.finished + 1
-  from_low (Whole is none) = low_from facts.running (was.progress.finished + 1) from (first_here is) (subst (λ n. first_at facts ≤ n + 1) waits.rests.holds.count waits.fits.first)
-  from_low (Inner runs above low on) = subst (λ n. from ≤ n + 1) waits.rests.holds.count low
+  from_low (Whole is bare none) = low_from facts.running (was.progress.finished + 1) from (first_here is) (subst (λ n. first_at facts ≤ n + 1) waits.rests.holds.count waits.fits.first)
+  from_low (Inner inner) = subst (λ n. from ≤ n + 1) waits.rests.holds.count inner.low
 
   may_release : LetsGo facts (end_by facts (command_at was) s) from → MayRelease (is_visible facts.running) old was.progress.id from
   may_release (AllSent commits visible sent) = subst (λ v. MayRelease v old was.progress.id from) (sym visible) (first_visible facts.running (was.progress.finished + 1) from visible (first_committed commits), all_left facts.lists facts.running sent)
@@ -118,39 +129,120 @@ module _ (scenario : Scenario) (old : List Entry) (was : Backend) (from : ℕ) (
   release_call = end_call scenario old was waits (events.Release from) refl next (released (is_visible facts.running) from) (release_gone facts (command_at was) s was.looked was.frames was.told from waits.fits lets)
       (from_low part, may_release lets)
 
-  release_fits : (locks : List OwnLock) (at : ℕ) → Fits (facts_by old was.progress.id (was.progress.finished + 1) (events.Release from) facts) (command_at was) (record s { ended = true; opened = []; locks = locks; last = at }) was.looked was.frames was.told
+  abbrev pub later : Facts
+  later = facts_by old was.progress.id (was.progress.finished + 1) (events.Release from) facts
+
+  -- what is held then
+  abbrev pub held_now : List Opening
+  held_now = map opening_of (opens_before from was.progress.opens)
+
+  -- and rebuilt
+  abbrev pub frames_now : List Frame
+  frames_now = frames_left facts.usable (plan_at was.progress.opens was.progress.exec) held_now
+
+  release_fits : (locks : List OwnLock) (at : ℕ) → Fits later (command_at was) (released_at facts later (command_at was) s was.looked was.frames was.told (events.Release from) locks at waits.fits now from) was.looked frames_now was.told
   release_fits locks at = by_part part
     where
-      later : Facts
-      later = facts_by old was.progress.id (was.progress.finished + 1) (events.Release from) facts
+      then : Session
+      then = released_at facts later (command_at was) s was.looked was.frames was.told (events.Release from) locks at waits.fits now from
+
+      before : LooksFit facts s was.looked [] was.told
+      before = subst (λ l. LooksFit facts s was.looked l was.told) (end_bare scenario old was waits (events.Release from) refl next) waits.fits.looks
 
       fits_here : first_at later ≤ number_of s → (has_write_from 0 later.lists ≡ true → option_map_or (λ (t : Running). is_some t.xid) later.running false ≡ true) → is_visible later.running ≡ false → RunsAfter later (command_at was) s
-          → Fits later (command_at was) (record s { ended = true; opened = []; locks = locks; last = at }) was.looked was.frames was.told
-      fits_here low written hidden runs = fits_released facts later (command_at was) s was.looked was.frames was.told (events.Release from) locks at waits.fits now from refl (end_bare scenario old was waits (events.Release from) refl next) (λ scan none. none) low written hidden runs
+          → opens_before (first_at later) s.opens ≡ [] → (later.running ≡ None → opens_before from s.opens ≡ []) → (command_at was ≡ None → held_now ≡ []) → started_in (number_of s) later ≡ 0
+          → told_owed was.told frames_now + one_if was.looked + started_in (number_of s) facts ≤ one_if was.told + looked_on_top was.looked frames_now + 1 → Fits later (command_at was) then was.looked frames_now was.told
+      fits_here low written hidden runs since free past started top = fits_released facts later (command_at was) s was.looked was.frames was.told (events.Release from) locks at waits.fits now from frames_now refl
+          (from_of facts (end_by facts (command_at was) s) from lets) (λ scan none. none) low written hidden runs since free
+          (left_looks facts later s held_now locks at was.looked frames_now was.told before now.going now.after refl started (left_unlooked facts.usable s.left held_now) top)
+          (left_fits later (command_at was) then now.out refl refl past)
 
       -- a level that is released alone isn't that of a commit
-      inner_hidden : first_at facts + 1 ≤ from → is_some facts.running ≡ true → LetsGo facts (end_by facts (command_at was) s) from → is_visible facts.running ≡ false
-      inner_hidden above runs (AllSent commits visible sent) = absurd (omega (arith, above, first_running facts.running (was.progress.finished + 1) from runs (first_committed commits)))
-      inner_hidden above runs (NoWrite end bare) = bare_hidden facts (command_at was) s was.looked was.frames was.told from waits.fits end bare
+      inner_hidden : IsInner facts (command_at was) s from → LetsGo facts (end_by facts (command_at was) s) from → is_visible facts.running ≡ false
+      inner_hidden inner (AllSent commits visible sent) = absurd (omega (arith, inner.above, first_running facts.running (was.progress.finished + 1) from inner.runs (first_committed commits)))
+      inner_hidden inner (NoWrite end bare) = bare_hidden facts (command_at was) s was.looked was.frames was.told from waits.fits end bare
 
-      by_part : Releases facts (command_at was) s from → Fits later (command_at was) (record s { ended = true; opened = []; locks = locks; last = at }) was.looked was.frames was.told
-      by_part (Whole is none) = fits_here (subst (λ n. n ≤ number_of s) (sym (ap (λ r. option_map_or (λ (t : Running). t.first) r 0) ended)) (omega arith))
-          (λ some. absurd (both_ways _ (ended_lists facts.running facts.lists (was.progress.finished + 1) from (first_here is) waits.fits.written) some)) (ap (λ r. is_visible r) ended) (none later ended)
+      -- and no look is made for what a command tells that takes one back
+      inner_unlooked : IsInner facts (command_at was) s from → fails_at s.left ≡ false → was.looked ≡ false
+      inner_unlooked inner goes = by_looked was.looked refl
+        where
+          by_plan : (p : Plan) → is_settled (outcome_of p) ≡ true → fails_at p ≡ false → outcome_of p ≡ Well
+          by_plan (Done told) out is = refl
+          by_plan (Fails error) out is = absurd (cc is)
+          by_plan (Absent name) out is = absurd (cc is)
+          by_plan (Do act rest) out is = absurd (cc out)
+          by_plan NotBuilt out is = absurd (cc out)
+
+          by_looked : (t : Bool) → was.looked ≡ t → t ≡ false
+          by_looked false is = refl
+          by_looked true is = let well = by_plan s.left now.out goes in absurd (plain_unlooked facts was.frames s.taken s.left well (inner.plain well) (waits.fits.sought is))
+
+      by_part : Releases facts (command_at was) s from → Fits later (command_at was) then was.looked frames_now was.told
+      by_part (Whole is none on) = fits_here (subst (λ n. n ≤ number_of s) (sym (ap (λ r. option_map_or (λ (t : Running). t.first) r 0) ended)) (omega arith))
+          (λ some. absurd (both_ways _ (ended_lists facts.running facts.lists (was.progress.finished + 1) from (first_here is) waits.fits.written) some)) (ap (λ r. is_visible r) ended) (on later ended)
+          (ap (λ r. opens_before (option_map_or (λ (t : Running). t.first) r 0) s.opens) ended ∙ since_none s.opens) (λ over. none) (λ past. ap (map opening_of) none) (ap (λ r. option_map_or (λ (t : Running). elim (t.first == number_of s) as (λ x. ℕ) [ true ↦ 1 | false ↦ 0 ]) r 0) ended)
+          (subst (λ l. told_owed was.told l + one_if was.looked + started_in (number_of s) facts ≤ one_if was.told + looked_on_top was.looked l + 1) (sym (bare_left none)) (omega (arith, before.once)))
         where
           ended : later.running ≡ None
           ended = ended_running facts.running (was.progress.finished + 1) from (first_here is)
-      by_part (Inner runs above low on) = fits_here (subst (λ n. n ≤ number_of s) (sym (ap (λ r. option_map_or (λ (t : Running). t.first) r 0) same)) waits.fits.first)
-          (λ some. ap (λ r. option_map_or (λ (t : Running). is_some t.xid) r false) same ∙ waits.fits.written (ap (has_write_from 0) (sym (kept_lists facts.running facts.lists from runs above)) ∙ some))
-          (ap (λ r. is_visible r) same ∙ inner_hidden above runs lets) (on later same)
+
+          bare_left : opens_before from s.opens ≡ [] → frames_now ≡ []
+          bare_left without = ap (λ l. frames_left facts.usable s.left (map opening_of l)) without ∙ by_fails (fails_at s.left)
+            where
+              by_fails : (t : Bool) → unless t [] [] ≡ []
+              by_fails true = refl
+              by_fails false = refl
+      by_part (Inner inner) = fits_here (subst (λ n. n ≤ number_of s) (sym (ap (λ r. option_map_or (λ (t : Running). t.first) r 0) same)) waits.fits.first)
+          (λ some. ap (λ r. option_map_or (λ (t : Running). is_some t.xid) r false) same ∙ waits.fits.written (ap (has_write_from 0) (sym (kept_lists facts.running facts.lists from inner.runs inner.above)) ∙ some))
+          (ap (λ r. is_visible r) same ∙ inner_hidden inner lets) (inner.on later same)
+          (ap (λ r. opens_before (option_map_or (λ (t : Running). t.first) r 0) s.opens) same ∙ waits.fits.since) (λ over. absurd (both_ways _ (ap (λ r. is_some r) (sym same ∙ over)) inner.runs)) (λ none. absurd (inner.command none)) (ap (λ r. option_map_or (λ (t : Running). elim (t.first == number_of s) as (λ x. ℕ) [ true ↦ 1 | false ↦ 0 ]) r 0) same ∙ started_before)
+          (omega (arith, started_before, left_top facts.usable s.left held_now was.looked was.told (inner_unlooked inner)))
         where
           same : later.running ≡ facts.running
-          same = kept_running facts.running (was.progress.finished + 1) from runs above
+          same = kept_running facts.running (was.progress.finished + 1) from inner.runs inner.above
+
+          started_before : started_in (number_of s) facts ≡ 0
+          started_before = by_own facts.running inner.above
+            where
+              by_own : (own : Option Running) → option_map_or (λ t. t.first) own 0 + 1 ≤ from → option_map_or (λ (t : Running). elim (t.first == number_of s) as (λ x. ℕ) [ true ↦ 1 | false ↦ 0 ]) own 0 ≡ 0
+              by_own None above = refl
+              by_own (Some t) above = ap (λ x. elim x as (λ y. ℕ) [ true ↦ 1 | false ↦ 0 ]) (ne_eqb t.first (number_of s) (λ is. absurd (omega (arith, is, above, inner.low))))
 
 -- the state after it
-pub release_enters : (scenario : Scenario) (old new : List Entry) (had has : ℕ → ℕ) (was : Backend) (from : ℕ) (p : Progress) (waits : AwaitsEntry scenario old was) → IsPlayed scenario old → AllOnCourse scenario old → EndsNext was (events.Release from)
-    → HasEntered scenario old was.progress (events.Release from) waits.rests p → kept_at p ≡ kept_at was.progress → p.answer ≡ was.progress.answer → Appends old new had has (entry_of was.progress.id (was.progress.finished + 1) (events.Release from)) → Enters scenario old new had has was (record was { progress = p })
-release_enters scenario old new had has was from p waits played courses next goes kept same appends =
-    end_enters scenario old new had has was (events.Release from) p waits refl played courses next goes kept same (release_fits scenario old was from waits next _ (length old + 1)) appends
+pub release_enters : (scenario : Scenario) (old new : List Entry) (had has : ℕ → ℕ) (was : Backend) (from : ℕ) (p : Progress) (frames : List Frame) (waits : AwaitsEntry scenario old was) → IsPlayed scenario old → AllOnCourse scenario old → EndsNext was (events.Release from)
+    → HasEntered scenario old was.progress (events.Release from) waits.rests p → kept_at p ≡ kept_at was.progress → p.answer ≡ was.progress.answer → frames ≡ unless (has_failed p) was.frames (with_rest (is_kept (kept_at p)) p.opened was.frames)
+    → Appends old new had has (entry_of was.progress.id (was.progress.finished + 1) (events.Release from)) → Enters scenario old new had has was (record was { progress = p; frames = frames })
+release_enters scenario old new had has was from p frames waits played courses next goes kept same are appends =
+    subst (λ l. Enters scenario old new had has was (record was { progress = p; frames = l })) (sym (are ∙ frames_are))
+    (end_enters scenario old new had has was (events.Release from) p (frames_now scenario old was from waits next) waits refl played courses next goes kept same (release_fits scenario old was from waits next _ (length old + 1)) appends)
+  where
+    bare : was.frames ≡ []
+    bare = end_bare scenario old was waits (events.Release from) refl next
+
+    usable : is_kept (kept_at p) ≡ (facts_of old was.progress.id).usable
+    usable = ap is_kept kept ∙ sym (usable_is (facts_of old was.progress.id) was.progress waits.rests.holds.facts)
+
+    frames_are : unless (has_failed p) was.frames (with_rest (is_kept (kept_at p)) p.opened was.frames) ≡ frames_now scenario old was from waits next
+    frames_are = λ i. unless (fails_at (ap (λ (x : Session). x.left) goes.session i)) (bare i) (with_rest (usable i) (ap (λ (x : Session). x.opened) goes.session i) (bare i))
+
+-- out of memory, its entry is made
+pub release_makes : (scenario : Scenario) (old new : List Entry) (had has : ℕ → ℕ) (was : Backend) (from : ℕ) (waits : AwaitsEntry scenario old was) → IsPlayed scenario old → AllOnCourse scenario old → EndsNext was (events.Release from)
+    → Appends old new had has (entry_of was.progress.id (was.progress.finished + 1) (events.Release from)) → MakesEntry scenario old new had has was.progress.id
+release_makes scenario old new had has was from waits played courses next appends = own_makes scenario old new had has was (events.Release from) waits played courses (end_own scenario old was waits (events.Release from) refl next) appends
+
+-- what is noted with it
+pub release_noted : (scenario : Scenario) (old new : List Entry) (had has : ℕ → ℕ) (was : Backend) (from : ℕ) (p : Progress) (frames : List Frame) (rests : Rests scenario old was.progress) → HasEntered scenario old was.progress (events.Release from) rests p → kept_at p ≡ kept_at was.progress
+    → frames ≡ unless (has_failed p) was.frames (with_rest (is_kept (kept_at p)) p.opened was.frames) → Appends old new had has (entry_of was.progress.id (was.progress.finished + 1) (events.Release from)) → IsNoted old new was (nexts.Release from) (record was { progress = p; frames = frames })
+release_noted scenario old new had has was from p frames rests goes kept are appends = record {
+  event = events.Release from;
+  entered = appends.entries;
+  number = goes.moves.finished;
+  noted = ap (λ l. record (noted_of was) { frames = l }) (are ∙ (λ i. unless (fails_at (ap (λ (x : Session). x.left) goes.session i)) was.frames (with_rest (is_kept (kept i)) (ap (λ (x : Session). x.opened) goes.session i) was.frames)));
+}
+
+-- so it is where no memory is refused, for the rebuilds by what the code asks
+pub rest_is : (p : Progress) (was frames : List Frame) (fails : Bool) (held : List Opening) → fails ≡ has_failed p → held ≡ p.opened → frames ≡ unless fails was (with_rest (is_kept (kept_at p)) held was) → frames ≡ unless (has_failed p) was (with_rest (is_kept (kept_at p)) p.opened was)
+rest_is p was frames fails held fails_is held_is are = are ∙ (λ i. unless (fails_is i) was (with_rest (is_kept (kept_at p)) (held_is i) was))
 
 -- before it its command has come out
 pub release_out : (scenario : Scenario) (old : List Entry) (was : Backend) (from : ℕ) → AwaitsEntry scenario old was → EndsNext was (events.Release from) → is_out was.progress ≡ true

@@ -31,7 +31,7 @@ use Rattle.backend_core.proofs.Choosing.Chosen.{may_request, standing}
 use Rattle.backend_core.proofs.Fitting.Entered.{fits_at}
 use Rattle.backend_core.proofs.Entries.Inside.{runs_on, inside_fits}
 use Rattle.backend_core.proofs.Entries.Looking.{scan_busy, IsOnTop, on_top_of, on_some}
-use Rattle.backend_core.proofs.Own.{waiting, going, OwnEntry, own_makes, own_enters}
+use Rattle.backend_core.proofs.Own.{waiting, unlost, OwnEntry, own_makes, own_enters}
 use Rattle.backend_core.proofs.Fitting.Sought.{takes_cleared, built_leaves}
 use Rattle.cacheless.proofs.ReadsBuilds.{stage_reads}
 use Rattle.std.specs.List.{find}
@@ -98,7 +98,7 @@ module _ (scenario : Scenario) (old : List Entry) (was : Backend) (waits : Await
   owed = waits.rests.holds.facts.owed ∙ next.free.due
 
   before : LooksFit facts s was.looked was.frames was.told
-  before = waits.fits.looks (going scenario old was waits courses next.command next.free.at)
+  before = waits.fits.looks
 
   -- the rebuilds after it
   abbrev frames_now : Bool → List Frame
@@ -136,6 +136,7 @@ module _ (scenario : Scenario) (old : List Entry) (was : Backend) (waits : Await
   looks_less = record {
     enough = omega (arith, before.enough, ap looks_due owed, started, counts.most);
     within = omega (arith, before.within, ap looks_due owed, started, counts.least);
+    once = omega (arith, before.once, started);
   }
     where
       started : started_in (number_of now) later ≡ started_in (number_of s) facts
@@ -164,7 +165,7 @@ module _ (scenario : Scenario) (old : List Entry) (was : Backend) (waits : Await
 
   -- what the rebuilds see to
   stack : IsStack facts.usable was.progress.opened was.frames
-  stack = waits.fits.rebuilds.stack (λ i. not (standing scenario old was waits next.command next.free.at (scan_busy scenario old was scan rebuilds waits next) i) && not (going scenario old was waits courses next.command next.free.at i) && not (no_error i))
+  stack = waits.fits.rebuilds.stack (λ i. not (standing scenario old was waits next.command next.free.at (scan_busy scenario old was scan rebuilds waits next) i) && not (unlost scenario old was waits courses next.command next.free.at i) && not (no_error i))
 
   -- its first missing scan, by the facts
   first_of : (on : IsOnTop was scan) → find (λ d. not (facts.usable d)) (build_scans on.parts.one.opening.kind on.parts.one.opening.rel) ≡ Some scan
@@ -183,7 +184,7 @@ module _ (scenario : Scenario) (old : List Entry) (was : Backend) (waits : Await
   rebuilds_now : FramesFit later (command_at was) now (frames_now rebuilds)
   rebuilds_now = record {
     stack = λ keeps. stack_now;
-    over = λ over. absurd (both_ways _ over (λ i. not false && not (going scenario old was waits courses next.command next.free.at i) && not (no_error i)));
+    over = λ over. absurd (both_ways _ over (λ i. not false && not (unlost scenario old was waits courses next.command next.free.at i) && not (no_error i)));
     badly = λ is. absurd (failed_by (plan_at was.progress.opens was.progress.exec) refl is);
     past = λ none. absurd (let both : Some next.command ≡ None = sym next.free.at ∙ none in cc both);
   }

@@ -107,5 +107,5 @@ pub take_back_enters : (scenario : Scenario) (old new : List Entry) (had has : �
     → HasEntered scenario old was.progress (events.Gone from) waits.rests p → kept_at p ≡ kept_spared (rels_in (lists_from from (lists_at was.progress))) (kept_spared (cats_in (lists_from from (lists_at was.progress))) (kept_at was.progress)) → p.answer ≡ was.progress.answer
     → Appends old new had has (entry_of was.progress.id (was.progress.finished + 1) (events.Gone from)) → Enters scenario old new had has was (record was { progress = p })
 take_back_enters scenario old new had has was from p waits played courses next goes kept same appends =
-    end_enters scenario old new had has was (events.Gone from) p waits refl played courses next goes kept same
+    end_enters scenario old new had has was (events.Gone from) p was.frames waits refl played courses next goes kept same
     (take_back_fits scenario old was from waits next courses _ (length old + 1)) appends

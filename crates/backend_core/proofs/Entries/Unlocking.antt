@@ -35,7 +35,7 @@ use Rattle.backend_core.proofs.Entries.Failing.{IsActing}
 use Rattle.backend_core.proofs.Entries.Inside.{runs_on, inside_fits}
 use Rattle.backend_core.proofs.Fitting.Entered.{fits_at}
 use Rattle.backend_core.proofs.Fitting.Sought.{act_serves, no_look, unlock_found}
-use Rattle.backend_core.proofs.Own.{waiting, waiting_is, follows, going, own_enters}
+use Rattle.backend_core.proofs.Own.{waiting, waiting_is, follows, own_enters}
 use Rattle.history_model.specs.Drawn.{next_oid}
 use Rattle.history_model.specs.Transactions.{begun}
 use Rattle.cacheless.specs.May.{may_play_at, may_last_at}
@@ -130,7 +130,7 @@ module _ (scenario : Scenario) (old : List Entry) (was : Backend) (waits : Await
   not_taken_back = not_gone scenario old was waits next.command next.free.at (Acts acting.unsettled)
 
   before : LooksFit facts s was.looked was.frames was.told
-  before = waits.fits.looks (going scenario old was waits courses next.command next.free.at)
+  before = waits.fits.looks
 
   same : Some (begun (was.progress.finished + 1) facts.running) ≡ facts.running
   same = runs_on (was.progress.finished + 1) facts.running acting.runs
@@ -148,7 +148,7 @@ module _ (scenario : Scenario) (old : List Entry) (was : Backend) (waits : Await
       kept
       (fits_at scenario old was event waits p goes was.looked was.frames was.told
       (inside_fits scenario old was waits courses next.command next.free.at later now was.looked was.frames was.told same refl (λ from is. cc is) (record { blocks = refl; opens = refl; held = inl refl; finished = refl; blocked = refl; ended = refl; left = λ is there. refl }) acting.runs (Acts acting.unsettled)
-      (record { enough = omega (arith, before.enough, ap looks_due acting.owed, started); within = omega (arith, before.within, ap looks_due acting.owed, started) })
+      (record { enough = omega (arith, before.enough, ap looks_due acting.owed, started); within = omega (arith, before.within, ap looks_due acting.owed, started); once = omega (arith, before.once, started) })
       (same_fits facts later (command_at was) s now was.frames refl refl refl refl (sym not_taken_back) waits.fits.rebuilds)
       (λ made. unlooked (waits.fits.sought made)) tt))
       refl refl refl (λ stop. cc stop) none appends

@@ -1,5 +1,5 @@
 -- The write of a backend, where its draft is at hand.
-use Rattle.std.proofs.Common.{◌≡◌, ◌≤◌, ◌<◌, ◌+◌, ◌∙◌, ◌==◌, ◌&&◌, ◌||◌, inl, inr, ℕ, Bool, false, not, map, Some, None, Result, Ok, Err, OnOk, OnErr, List, [], ◌∷◌, refl, sym, ap, subst, length, drop, arith, true}
+use Rattle.std.proofs.Common.{◌≡◌, ◌≤◌, ◌<◌, ◌+◌, ◌∙◌, ◌==◌, ◌&&◌, ◌||◌, inl, inr, ℕ, Bool, false, not, Some, None, Result, Ok, Err, OnOk, OnErr, List, [], ◌∷◌, refl, sym, ap, subst, length, drop, arith, true}
 use Rattle.std.specs.List.{AllByRecursion, flat_map, list_any}
 use Rattle.std.proofs.Math.Bool.{and-false}
 use Rattle.std.proofs.lemmas.Bool.{both_ways, ne_eqb, false_from_ne_true}
@@ -31,7 +31,7 @@ use Rattle.cacheless.specs.Locks.{locked_by}
 use Rattle.cacheless.specs.OnCourse.{OnItsWay, AllOnCourse}
 use Rattle.cacheless.specs.Owed.{owed_of, started_in}
 use Rattle.cacheless.specs.Plays.{IsWrite, IsClash, MayPlay, MayPlayIn}
-use Rattle.cacheless.specs.Session.{Session, Well, Badly, Unsettled, opening_of, number_of, outcome_of, is_settled}
+use Rattle.cacheless.specs.Session.{Session, Well, Badly, Unsettled, number_of, outcome_of, is_settled, held_before, held_in}
 use Rattle.cacheless.specs.Sessions.{written, entered}
 use Rattle.cacheless.specs.State.{lists_at, kept_at, kept_spared, is_kept, locks_made, messages_in, clash_event, error_of, one_if}
 use Rattle.cacheless.proofs.Allowed.NamesRead.{read_as_now}
@@ -44,7 +44,7 @@ use Rattle.cacheless.proofs.Written.NamesGiven.{AreReadAsNow}
 use Rattle.cacheless.proofs.Written.WriteFits.{WriteFits, write_fits}
 use Rattle.backend_core.specs.Types.{Oid, Xid, Command, Draft, Item, Message, Opening, Purpose, Scenario, Entry, Event, Frame, Progress, Backend}
 use Rattle.backend_core.specs.Agrees.{IsPlayed, command_at, AwaitsEntry}
-use Rattle.backend_core.specs.Fits.{looks_due, looked_on_top, came_well, LooksFit, IsLookedFor, TakesFit, FramesFit, keeps_whole}
+use Rattle.backend_core.specs.Fits.{looks_due, looked_on_top, came_well, LooksFit, IsLookedFor, TakesFit, FramesFit, keeps_whole, is_lost}
 use Rattle.backend_core.specs.Steps.{IsWriteNext, MakesEntry, Enters, IsRefused}
 use Rattle.backend_core.specs.Noted.{noted_of, noted_by, IsNoted}
 use Rattle.backend_core.specs.declared.next.Next.TheVariants as nexts
@@ -152,14 +152,18 @@ module _ (scenario : Scenario) (old : List Entry) (was : Backend) (draft : Draft
   wrote_refused first id new had has result made makes = made_refused scenario old new had has first.progress.id result
       (subst (MakesEntry scenario old new had has) id (own_makes scenario old new had has was (events.Write made.xid (items_drawn old draft)) waits played courses (write_own made.xid) makes.appends))
 
+  -- its release isn't made
+  going_on : s.ended ≡ false
+  going_on = going scenario old was waits courses next.command next.free.at (λ well. let no : Unsettled ≡ Well = sym (ap outcome_of at) ∙ well in cc no)
+
   -- what was held before it lacked no scan, so nothing that is open does
-  open_whole : list_any (lacks facts.usable) (map opening_of s.opens) ≡ false
-  open_whole = waits.fits.relations.held (going scenario old was waits courses next.command next.free.at) (lacks facts.usable)
+  open_whole : list_any (lacks facts.usable) (held_before s) ≡ false
+  open_whole = waits.fits.relations.held going_on (lacks facts.usable)
       (owed_whole facts s.opened (owed_builds facts s next.command (λ badly. let both : Unsettled ≡ Badly = sym (ap outcome_of at) ∙ badly in cc both) owed_none))
 
   -- the rebuilds that its messages put on
   abbrev frames_wrote : (Purpose → Bool) → List Frame
-  frames_wrote kept = frames_after kept (map opening_of s.opens) (messages_in old was.progress.id (items_drawn old draft)) []
+  frames_wrote kept = frames_after kept (held_before s) (messages_in old was.progress.id (items_drawn old draft)) []
 
   -- after it the backend agrees
   wrote_enters : (new : List Entry) (had has : ℕ → ℕ) (p : Progress) (kept_then : Purpose → Bool) (xid : Xid) → HasEntered scenario old was.progress (events.Write xid (items_drawn old draft)) waits.rests p → kept_at p ≡ kept_spared (messages_in old was.progress.id (items_drawn old draft)) (kept_at was.progress) → p.answer ≡ None
@@ -170,7 +174,7 @@ module _ (scenario : Scenario) (old : List Entry) (was : Backend) (draft : Draft
       (fits_at scenario old was event waits p goes was.looked (frames_wrote kept_then) was.told
       (entry_fits scenario old was waits courses next.command next.free.at later now was.looked (frames_wrote kept_then) was.told
       (record { runs = λ i. Some (record (begun (sym waits.rests.holds.count i + 1) facts.running) { xid = Some xid.0 }); written = λ is. refl; last = λ from is. cc is })
-      (record { blocks = ap (λ q. (written q s).blocks) at; opens = ap (λ q. (written q s).opens) at; held = inr (ap (λ q. (written q s).opened) at); finished = ap (λ q. length (written q s).finished) at; blocked = ap (λ q. (written q s).blocked) at; ended = ap (λ q. (written q s).ended) at; left = λ is there. absurd (both_ways _ acting.unsettled is) })
+      (record { blocks = ap (λ q. (written q s).blocks) at; opens = ap (λ q. (written q s).opens) at; held = inr (ap (λ q. (written q s).opened) at, going_on); finished = ap (λ q. length (written q s).finished) at; blocked = ap (λ q. (written q s).blocked) at; ended = ap (λ q. (written q s).ended) at; left = λ is there. absurd (both_ways _ acting.unsettled is) })
       acting.runs (Acts acting.unsettled) looks rebuilds
       (λ made. absurd (unlooked made)) (subst (λ q. TakesFit (number_of now) now.locks (written q s).taken (written q s).left) (sym at) tt)))
       refl refl refl (λ stop. cc stop) none appends
@@ -185,7 +189,7 @@ module _ (scenario : Scenario) (old : List Entry) (was : Backend) (draft : Draft
       now = entered (facts_of (with_own old was.progress event) was.progress.id) (drop was.progress.finished was.progress.commands) (length old + 1) (was.progress.finished + 1) event s
 
       before : LooksFit facts s was.looked was.frames was.told
-      before = waits.fits.looks (going scenario old was waits courses next.command next.free.at)
+      before = waits.fits.looks
 
       started : started_in (number_of now) later ≡ started_in (number_of s) facts
       started = ap (λ q. started_in (length (written q s).finished + 1) later) at ∙ started_still (number_of s) (was.progress.finished + 1) facts.running acting.runs
@@ -196,20 +200,21 @@ module _ (scenario : Scenario) (old : List Entry) (was : Backend) (draft : Draft
 
       looks : LooksFit later now was.looked (frames_wrote kept_then) was.told
       looks = record {
-        enough = omega (arith, before.enough, ap looks_due acting.owed, started, after_less kept_then (map opening_of s.opens) (messages_in old was.progress.id (items_drawn old draft)) []);
-        within = omega (arith, before.within, ap looks_due acting.owed, started, no_looks, told_most was.told (frames_wrote kept_then), ap came_well at, ap (λ q. came_well (written q s).left) at);
+        enough = omega (arith, before.enough, ap looks_due acting.owed, started, after_less kept_then (held_before s) (messages_in old was.progress.id (items_drawn old draft)) []);
+        within = omega (arith, before.within, ap looks_due acting.owed, started, no_looks, told_most was.told (frames_wrote kept_then), ap came_well at, ap (λ q. came_well (written q s).left) at, ap (λ q. one_if (written q s).ended) at);
+        once = omega (arith, before.once, started, ap (λ q. one_if (written q s).ended) at);
       }
 
       usable_then : later.usable ≡ (λ scan. is_spared scan (messages_in old was.progress.id (items_drawn old draft)) && facts.usable scan)
       usable_then = λ i scan. sym (spared_alike old was.progress.id (items_drawn old draft) scan) i && facts.usable scan
 
-      stack : IsStack later.usable (map opening_of s.opens) (frames_wrote kept_then)
-      stack = subst (λ h. IsStack h (map opening_of s.opens) (frames_wrote kept_then)) (sym usable_then)
-          (stack_after kept_then facts.usable (map opening_of s.opens) (messages_in old was.progress.id (items_drawn old draft)) []
-          (record { found = λ o among. inl (each_whole facts.usable (map opening_of s.opens) o open_whole among); each = tt; once = tt }))
+      stack : IsStack later.usable (held_before s) (frames_wrote kept_then)
+      stack = subst (λ h. IsStack h (held_before s) (frames_wrote kept_then)) (sym usable_then)
+          (stack_after kept_then facts.usable (held_before s) (messages_in old was.progress.id (items_drawn old draft)) []
+          (record { found = λ o among. inl (each_whole facts.usable (held_before s) o open_whole among); each = tt; once = tt }))
 
       keeps : keeps_whole later now ≡ true
-      keeps = ap (λ q. not (took_back later.last) && not (written q s).ended && not (has_error (written q s).left)) at ∙ ap (λ t. not false && not t && not false) (going scenario old was waits courses next.command next.free.at)
+      keeps = ap (λ q. not (took_back later.last) && not (is_lost (written q s)) && not (has_error (written q s).left)) at ∙ ap (λ t. not false && not (t && false) && not false) going_on
 
       rebuilds : FramesFit later (command_at was) now (frames_wrote kept_then)
       rebuilds = record {
@@ -260,7 +265,7 @@ module _ (scenario : Scenario) (old : List Entry) (was : Backend) (draft : Draft
       now_kept : kept_at p ≡ kept_spared (messages_in old was.progress.id (items_drawn old draft)) (kept_at was.progress)
       now_kept = kept ∙ ap (λ m. kept_spared m (kept_at was.progress)) (are ∙ makes.messages)
 
-      frames_are : frames_after (is_kept (kept_at p)) held given was.frames ≡ frames_after (is_kept (kept_spared (messages_in old was.progress.id (items_drawn old draft)) (kept_at was.progress))) (map opening_of was.progress.opens) (messages_in old was.progress.id (items_drawn old draft)) was.frames
+      frames_are : frames_after (is_kept (kept_at p)) held given was.frames ≡ frames_after (is_kept (kept_spared (messages_in old was.progress.id (items_drawn old draft)) (kept_at was.progress))) (held_in was.progress.blocks.block was.progress.opens) (messages_in old was.progress.id (items_drawn old draft)) was.frames
       frames_are = λ i. frames_after (is_kept (now_kept i)) ((opens ∙ ap (λ (x : Session). x.opened) entered_it.session ∙ ap (λ q. (written q s).opened) at) i) ((gives ∙ makes.messages) i) was.frames
 
   -- and with one that is refused

@@ -8,25 +8,24 @@ use Rattle.base_types.specs.declared.command.Command.TheVariants as commands
 use Rattle.event_kinds.specs.declared.entry.Event.TheVariants as events
 use Rattle.inval_messages.specs.Lists.{Written, has_write_from, lists_before}
 use Rattle.txn_blocks.specs.Blocks.{Block, Outside, Inside, Failed}
-use Rattle.ddl_effect.specs.Plans.{Plan, left_rests_on, Done, Fails, Absent, NotBuilt, Do, Open, told_rests_on}
+use Rattle.ddl_effect.specs.Plans.{Plan, left_rests_on, Done, Fails, Absent, NotBuilt, Do, told_rests_on}
 use Rattle.history_model.specs.Sent.{ends_transaction}
 use Rattle.history_model.specs.Transactions.{Running, begun, after_release, is_visible}
 use Rattle.history_model.specs.Writes.{is_empty}
-use Rattle.cacheless.specs.Ends.{End, Ends, Commits, TakesBack, end_of_all, end_of_block, end_well, end_badly, end_of, next_of_end}
+use Rattle.cacheless.specs.Ends.{End, Ends, Commits, TakesBack, end_of_all, end_of_block, end_well, end_badly, end_of}
 use Rattle.cacheless.specs.Facts.{Facts}
 use Rattle.cacheless.proofs.Allowed.Releases.{OwesNoScan}
 use Rattle.cacheless.specs.Owed.{Owes, OwesLook, OwesScan, unusable, owed_at_start, owed_after, begins, builds_owed, act_owed, scans_owed, owed_of, started_in}
-use Rattle.cacheless.specs.Session.{Session, Outcome, Well, Badly, Unsettled, number_of, outcome_of, is_settled}
+use Rattle.cacheless.specs.Session.{Session, Outcome, Well, Badly, Unsettled, opening_of, number_of, outcome_of, is_settled}
 use Rattle.backend_core.specs.Types.{Purpose, Command, Event, OwnLock, Frame}
-use Rattle.backend_core.specs.Fits.{looks_due, first_at, RunsBlock, RunsBy, RunsAfter, TransactionFits, OnCommit, OnTakingBack, Fits, IsLookedFor, Lacks, Unfound, Said, TakesFit, FramesFit, IsUnheld, IsTakenBack}
-use Rattle.backend_core.proofs.Choosing.EndsNow.{end_by, EndsBy, IsCommit, commit_first}
+use Rattle.backend_core.specs.Fits.{looks_due, LooksFit, first_at, RunsBlock, RunsBy, RunsAfter, TransactionFits, OnCommit, OnTakingBack, Fits, IsLookedFor, Lacks, Unfound, Said, TakesFit, FramesFit, IsTakenBack}
+use Rattle.backend_core.proofs.Choosing.EndsNow.{end_by, end_from, EndsBy, IsCommit, commit_first}
 use Rattle.backend_core.proofs.Fitting.NextTransaction.{failed_on}
 use Rattle.cacheless.specs.Types.{Oid, Purpose, OwnLock}
 use Rattle.cacheless.proofs.Tests.{not_true}
-use Rattle.backend_core.proofs.Fitting.Rebuilding.{bare_fits}
+use Rattle.backend_core.proofs.Fitting.Released.{unheld_out}
+use Rattle.ddl_effect.specs.Opens.{opens_before}
 use Rattle.backend_core.proofs.Fitting.OpenRelations.{opens_over}
-use Rattle.seg_calls.specs.Calls.{took_back}
-use Rattle.backend_core.specs.Words.{has_error}
 
 -- the session after an entry of an end, with its locks
 abbrev pub later_at : Session → List OwnLock → ℕ → Session
@@ -71,6 +70,7 @@ end_same facts later command s locks at goes = by_outcome (outcome_of s.left)
     by_command commands.Begin = refl
     by_command commands.Commit = by_block s.blocks.block true
     by_command commands.Rollback = by_block s.blocks.block false
+    by_command (commands.RollbackTo name) = refl
     by_command c = refl
 
     by_outcome : (x : Outcome) → ◌≡◌ {A = End} (elim x [ Well ↦ end_well later command (later_at s locks at) | Badly ↦ end_badly (later_at s locks at) | Unsettled ↦ Ends ]) (elim x [ Well ↦ end_well facts command s | Badly ↦ end_badly s | Unsettled ↦ Ends ])
@@ -95,22 +95,22 @@ owed_later facts later command s locks at goes out built =
     by_plan NotBuilt at is none = absurd (cc is)
 
 -- a look that was made for a command that has come out: for its answer, or to say that there is no relation of a name
-sought_out : (facts later : Facts) (frames : List Frame) (taken : Option Oid) (p : Plan) → is_settled (outcome_of p) ≡ true → ((scan : Purpose) → facts.usable scan ≡ false → later.usable scan ≡ false) → IsLookedFor facts frames taken p → IsLookedFor later frames taken p
-sought_out facts later frames taken p out spares (Said is) = Said is
-sought_out facts later frames taken (Done told) out spares (Lacks is) = Lacks (by_scan (told_rests_on told) is)
+sought_out : (facts later : Facts) (frames now : List Frame) (taken : Option Oid) (p : Plan) → is_settled (outcome_of p) ≡ true → ((scan : Purpose) → facts.usable scan ≡ false → later.usable scan ≡ false) → IsLookedFor facts frames taken p → IsLookedFor later now taken p
+sought_out facts later frames now taken p out spares (Said is) = Said is
+sought_out facts later frames now taken (Done told) out spares (Lacks is) = Lacks (by_scan (told_rests_on told) is)
   where
     by_scan : (o : Option Purpose) → option_map_or (λ scan. not (facts.usable scan)) o false ≡ true → option_map_or (λ scan. not (later.usable scan)) o false ≡ true
     by_scan None lacks = lacks
     by_scan (Some scan) lacks = ap not (spares scan (not_true (facts.usable scan) lacks))
-sought_out facts later frames taken (Do act rest) out spares (Lacks is) = absurd (cc out)
-sought_out facts later frames taken (Fails error) out spares (Lacks is) = absurd (cc is)
-sought_out facts later frames taken (Absent name) out spares (Lacks is) = absurd (cc is)
-sought_out facts later frames taken NotBuilt out spares (Lacks is) = absurd (cc is)
-sought_out facts later frames taken (Do act rest) out spares (Unfound is look bare) = absurd (cc out)
-sought_out facts later frames taken (Done told) out spares (Unfound is look bare) = absurd (cc is)
-sought_out facts later frames taken (Fails error) out spares (Unfound is look bare) = absurd (cc is)
-sought_out facts later frames taken (Absent name) out spares (Unfound is look bare) = absurd (cc is)
-sought_out facts later frames taken NotBuilt out spares (Unfound is look bare) = absurd (cc is)
+sought_out facts later frames now taken (Do act rest) out spares (Lacks is) = absurd (cc out)
+sought_out facts later frames now taken (Fails error) out spares (Lacks is) = absurd (cc is)
+sought_out facts later frames now taken (Absent name) out spares (Lacks is) = absurd (cc is)
+sought_out facts later frames now taken NotBuilt out spares (Lacks is) = absurd (cc is)
+sought_out facts later frames now taken (Do act rest) out spares (Unfound is look bare) = absurd (cc out)
+sought_out facts later frames now taken (Done told) out spares (Unfound is look bare) = absurd (cc is)
+sought_out facts later frames now taken (Fails error) out spares (Unfound is look bare) = absurd (cc is)
+sought_out facts later frames now taken (Absent name) out spares (Unfound is look bare) = absurd (cc is)
+sought_out facts later frames now taken NotBuilt out spares (Unfound is look bare) = absurd (cc is)
 
 -- such a command needs no lock that its lookup took
 takes_out : (number : ℕ) (locks : List OwnLock) (number' : ℕ) (locks' : List OwnLock) (taken : Option Oid) (p : Plan) → is_settled (outcome_of p) ≡ true → TakesFit number locks taken p → TakesFit number' locks' taken p
@@ -120,11 +120,6 @@ takes_out number locks number' locks' (Some rel) (Absent name) out takes = takes
 takes_out number locks number' locks' (Some rel) (Done told) out takes = tt
 takes_out number locks number' locks' (Some rel) (Fails error) out takes = tt
 takes_out number locks number' locks' (Some rel) NotBuilt out takes = tt
-
--- nothing is held where nothing is
-unheld_none : (plan : Plan) → IsUnheld [] plan
-unheld_none (Do (Open rel kind) rest) = refl
-unheld_none plan = tt
 
 module _ (facts later : Facts) (o : Option Command) (s : Session) (looked : Bool) (frames : List Frame) (told : Bool) (event : Event) (locks : List OwnLock) (at : ℕ) (fits : Fits facts o s looked frames told) (ends : EndsBy facts o s event) where
   runs_later : GoesOn facts later → (t : Bool) → TransactionFits facts o s t → s.ended ≡ t → TransactionFits later o (later_at s locks at) t
@@ -148,11 +143,14 @@ module _ (facts later : Facts) (o : Option Command) (s : Session) (looked : Bool
       → (is_visible later.running ≡ true → OnCommit later o (later_at s locks at)) → ((from : ℕ) → later.last ≡ Some (events.Gone from) → OnTakingBack later o (later_at s locks at) from) → Fits later o (later_at s locks at) looked frames told
   fits_ending goes rebuilds spares written visible taken = record {
     rebuilds = rebuilds;
-    looks = λ going. let l = fits.looks going in record { enough = omega (arith, l.enough, started, due, due_now); within = omega (arith, l.within, started, due, due_now) };
+    looks = let l = fits.looks in record { enough = omega (arith, l.enough, started, due, due_now); within = omega (arith, l.within, started, due, due_now); once = omega (arith, l.once, started) };
     transaction = runs_later goes s.ended fits.transaction refl;
     first = subst (λ n. n ≤ number_of s) (sym (first_same facts later goes)) fits.first;
     opens = fits.opens;
     levels = fits.levels;
+    plain = fits.plain;
+    since = ap (λ n. opens_before n s.opens) (first_same facts later goes) ∙ fits.since;
+    free = λ over. absurd (both_ways _ ends.going over);
     blocked = fits.blocked;
     settled = fits.settled;
     written = written;
@@ -160,7 +158,7 @@ module _ (facts later : Facts) (o : Option Command) (s : Session) (looked : Bool
     taken = taken;
     accepts = λ owes. absurd (both_ways _ owes (ap (λ l. is_empty l) goes.free));
     past = λ none. let p = fits.past none in record { out = p.out; free = goes.free };
-    sought = λ is. sought_out facts later frames s.taken s.left ends.out spares (fits.sought is);
+    sought = λ is. sought_out facts later frames frames s.taken s.left ends.out spares (fits.sought is);
     takes = takes_out (number_of s) s.locks (number_of s) locks s.taken s.left ends.out fits.takes;
     unheld = fits.unheld;
     relations = record { inside = fits.relations.inside; held = fits.relations.held; over = λ over. absurd (both_ways _ ends.going over) };
@@ -210,16 +208,23 @@ module _ (facts later : Facts) (o : Option Command) (s : Session) (looked : Bool
       by_command (Some c) here is = record { end = end_same facts later c s locks at goes ∙ is; free = goes.free; plain = none c here }
       by_command None here is = of_first TakesBack Ends later.running facts.running goes.same ∙ is
 
+  -- the session once the release is made
+  abbrev pub released_at : ℕ → Session
+  released_at from = record s { ended = true; opened = map opening_of (opens_before from s.opens); locks = locks; last = at }
+
   -- the release is made: what runs then fits the blocks after the command, and isn't visible
-  pub fits_released : (from : ℕ) → later.last ≡ Some (events.Release from) → frames ≡ [] → ((scan : Purpose) → facts.usable scan ≡ false → later.usable scan ≡ false) → first_at later ≤ number_of s → (has_write_from 0 later.lists ≡ true → option_map_or (λ t. is_some t.xid) later.running false ≡ true) → is_visible later.running ≡ false → RunsAfter later o s
-      → Fits later o (record s { ended = true; opened = []; locks = locks; last = at }) looked frames told
-  fits_released from last bare spares low written hidden runs_on = record {
-    looks = λ going. absurd (cc going);
-    rebuilds = subst (FramesFit later o (record s { ended = true; opened = []; locks = locks; last = at })) (sym bare) (bare_fits later o (record s { ended = true; opened = []; locks = locks; last = at }) (λ keeps. absurd (both_ways _ (ap (λ t. t && not (has_error s.left)) (and-false (not (took_back later.last)))) keeps)));
+  pub fits_released : (from : ℕ) (now : List Frame) → later.last ≡ Some (events.Release from) → end_from (end_by facts o s) ≡ Some from → ((scan : Purpose) → facts.usable scan ≡ false → later.usable scan ≡ false) → first_at later ≤ number_of s → (has_write_from 0 later.lists ≡ true → option_map_or (λ t. is_some t.xid) later.running false ≡ true) → is_visible later.running ≡ false → RunsAfter later o s
+      → opens_before (first_at later) s.opens ≡ [] → (later.running ≡ None → opens_before from s.opens ≡ []) → LooksFit later (released_at from) looked now told → FramesFit later o (released_at from) now → Fits later o (released_at from) looked now told
+  fits_released from now last comes spares low written hidden runs_on since free looks rebuilds = record {
+    looks = looks;
+    rebuilds = rebuilds;
     transaction = by_command o runs_on;
     first = low;
     opens = fits.opens;
     levels = fits.levels;
+    plain = fits.plain;
+    since = since;
+    free = λ over none. ap (map opening_of) (free none);
     blocked = fits.blocked;
     settled = fits.settled;
     written = written;
@@ -227,13 +232,13 @@ module _ (facts later : Facts) (o : Option Command) (s : Session) (looked : Bool
     taken = λ n is. absurd (let no : Some (events.Release from) ≡ Some (events.Gone n) = sym last ∙ is in cc no);
     accepts = λ owes. absurd (both_ways _ owes (ap (λ l. is_empty (owed_after l)) last));
     past = λ past. let p = fits.past past in record { out = p.out; free = ap owed_after last };
-    sought = λ is. sought_out facts later frames s.taken s.left ends.out spares (fits.sought is);
+    sought = λ is. sought_out facts later frames now s.taken s.left ends.out spares (fits.sought is);
     takes = takes_out (number_of s) s.locks (number_of s) locks s.taken s.left ends.out fits.takes;
-    unheld = λ is. unheld_none s.left;
-    relations = record { inside = fits.relations.inside; held = λ going. absurd (cc going); over = λ over command at. opens_over facts s command event (ap (λ x. next_of_end facts (end_by facts x s)) (sym at) ∙ ends.comes) fits.relations.inside };
+    unheld = λ is. unheld_out (map opening_of (opens_before from s.opens)) s.left ends.out;
+    relations = record { inside = fits.relations.inside; held = λ going. absurd (cc going); over = λ over command here. ap (map opening_of) (opens_over facts s command from (ap (λ x. end_from (end_by facts x s)) (sym here) ∙ comes) fits.relations.inside fits.since) };
   }
     where
-      by_command : (x : Option Command) → RunsAfter later x s → RunsAfter later x (record s { ended = true; opened = []; locks = locks; last = at })
+      by_command : (x : Option Command) → RunsAfter later x s → RunsAfter later x (released_at from)
       by_command None none = none
       by_command (Some command) runs_it = runs_it
 

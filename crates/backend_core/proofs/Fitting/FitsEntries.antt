@@ -1,20 +1,23 @@
 -- What the choice keeps with an entry of a command that runs: a look, a fetch, a scan, a lock, a write, or one that is refused.
-use Rattle.std.proofs.Common.{◌≡◌, ◌≤◌, ◌+◌, ◌∙◌, ◌&&◌, ◌⊎◌, inl, inr, map, ℕ, Bool, true, false, not, Option, Some, None, refl, sym, ap, subst, length, is_none, is_some, arith, List}
+use Rattle.std.proofs.Common.{◌≡◌, ◌≤◌, ◌+◌, ◌∙◌, ◌&&◌, ◌⊎◌, inl, inr, map, ℕ, Bool, true, false, not, Option, Some, None, refl, sym, ap, subst, length, is_none, is_some, arith, List, []}
 use Rattle.std.specs.Option.{option_map_or}
 use Rattle.std.proofs.lemmas.Bool.{both_ways}
+use Rattle.std.proofs.Math.Bool.{and-false}
 use Rattle.event_kinds.specs.declared.entry.Event.TheVariants as events
 use Rattle.inval_messages.specs.Lists.{has_write_from}
-use Rattle.txn_blocks.specs.Blocks.{Block, Outside, Inside, Failed, no_block, is_open, ends_block, refused_by}
+use Rattle.txn_blocks.specs.Blocks.{Block, Level, Blocks, Outside, Inside, Failed, no_block, is_open, ends_block, refused_by, blocks_well, blocks_badly}
 use Rattle.history_model.specs.Transactions.{Running, begun, is_visible}
 use Rattle.history_model.specs.Writes.{is_empty}
 use Rattle.cacheless.specs.Facts.{Facts}
-use Rattle.cacheless.specs.Session.{Session, opening_of, number_of, outcome_of, is_settled, plan_first, refused_first}
+use Rattle.cacheless.specs.Session.{Session, Well, opening_of, held_in, held_before, number_of, outcome_of, is_settled, plan_first, is_blocked}
+use Rattle.cacheless.specs.Settled.{blocks_after, opens_passed, opens_after}
+use Rattle.ddl_effect.specs.Opens.{opens_before}
 use Rattle.cacheless.specs.Owed.{begins}
 use Rattle.cacheless.specs.State.{is_absent}
 use Rattle.cacheless.proofs.Entries.EnteredLooks.{not_absent}
 use Rattle.backend_core.specs.Types.{Command, Frame}
-use Rattle.backend_core.specs.Fits.{LooksFit, FramesFit, IsUnheld, first_at, LevelsRise, RunsBlock, RunsFailed, RunsBy, TransactionFits, Fits, IsLookedFor, TakesFit, OpensIn, AreHeld, OpensFit}
-use Rattle.backend_core.proofs.Fitting.OpenRelations.{held_all}
+use Rattle.backend_core.specs.Fits.{LooksFit, FramesFit, IsUnheld, first_at, LevelsRise, IsOutermostPlain, RunsBlock, RunsFailed, RunsAt, RunsIn, RunsBy, RunsAfter, TransactionFits, Fits, IsLookedFor, TakesFit, OpensIn, AreHeld, OpensFit}
+use Rattle.backend_core.proofs.Fitting.Over.{IsWellOnceOver, well_present}
 use Rattle.backend_core.proofs.Fitting.NextTransaction.{some_first, failed_on}
 
 -- what such an entry leaves of the facts: its transaction runs, with its first command, and isn't visible
@@ -27,23 +30,31 @@ pub record StaysInside (facts later : Facts) (number : ℕ) : Type 0 where
 pub record StaysAt (s later : Session) : Type 0 where
   pub blocks : later.blocks ≡ s.blocks
   pub opens : later.opens ≡ s.opens
-  pub held : (later.opened ≡ s.opened) ⊎ (later.opened ≡ map opening_of s.opens)
+  pub held : (later.opened ≡ s.opened) ⊎ ((later.opened ≡ held_before s) × (s.ended ≡ false))
   pub finished : length later.finished ≡ length s.finished
   pub blocked : later.blocked ≡ s.blocked
   pub ended : later.ended ≡ s.ended
   pub left : is_settled (outcome_of s.left) ≡ true → is_absent s.left ≡ false → later.left ≡ s.left
 
+-- where it has come out well its plan stays
+plan_stays : (s now : Session) → StaysAt s now → outcome_of s.left ≡ Well → now.left ≡ s.left
+plan_stays s now same well = same.left (ap is_settled well) (well_present s.left well)
+
 -- what is held of the relations that are open goes on
-opens_stay : (o : Option Command) (s now : Session) → StaysAt s now → s.ended ≡ false → OpensFit o s → OpensFit o now
-opens_stay o s now same going fits = record {
+opens_stay : (o : Option Command) (s now : Session) → StaysAt s now → IsWellOnceOver s → OpensFit o s → OpensFit o now
+opens_stay o s now same over fits = record {
   inside = subst (λ b. OpensIn b.block now.opens) (sym same.blocks) (subst (OpensIn s.blocks.block) (sym same.opens) fits.inside);
-  held = λ on. subst (AreHeld now.opened) (sym same.opens) (by_held same.held);
-  over = λ over. absurd (both_ways _ (same.ended ∙ going) over);
+  held = λ on. subst (AreHeld now.opened) (λ i. held_in (sym same.blocks i).block (sym same.opens i)) (by_held same.held on);
+  over = λ ended command at. by_over same.held (sym same.ended ∙ ended) command at;
 }
   where
-    by_held : (now.opened ≡ s.opened) ⊎ (now.opened ≡ map opening_of s.opens) → AreHeld now.opened s.opens
-    by_held (inl is) = subst (λ held. AreHeld held s.opens) (sym is) (fits.held going)
-    by_held (inr is) = subst (λ held. AreHeld held s.opens) (sym is) (held_all s.opens)
+    by_held : (now.opened ≡ s.opened) ⊎ ((now.opened ≡ held_before s) × (s.ended ≡ false)) → now.ended ≡ false → AreHeld now.opened (held_before s)
+    by_held (inl is) on = subst (λ held. AreHeld held (held_before s)) (sym is) (fits.held (sym same.ended ∙ on))
+    by_held (inr (is, going)) on = subst (λ held. AreHeld held (held_before s)) (sym is) (λ p none. none)
+
+    by_over : (now.opened ≡ s.opened) ⊎ ((now.opened ≡ held_before s) × (s.ended ≡ false)) → s.ended ≡ true → (command : Command) → o ≡ Some command → now.opened ≡ map opening_of (opens_after command now)
+    by_over (inr (is, going)) ended command at = absurd (both_ways _ going ended)
+    by_over (inl is) ended command at = is ∙ fits.over ended command at ∙ (λ i. map opening_of (opens_passed (sym (plan_stays s now same (over ended)) i) (sym same.finished i + 1) command (sym same.blocked i) (sym same.blocks i).levels (sym is i) (sym same.opens i)))
 
 -- the plan with which the command began
 plan_then : (o : Option Command) (s later : Session) → StaysAt s later → plan_first s.blocks s.opens o ≡ plan_first later.blocks later.opens o
@@ -87,8 +98,8 @@ module _ (facts later : Facts) (o : Option Command) (s now : Session) (command :
   begins_same : (c : Command) → begins c now ≡ begins c s
   begins_same c = λ i. elim (same.blocks i).block as (λ x. Bool) [ Outside ↦ not (ends_block c) && not (same.ended i) && is_none (refused_by no_block c) | block ↦ false ]
 
-  block_now : RunsBlock facts s.blocks.levels → RunsBlock later s.blocks.levels
-  block_now block = record { runs = ap (λ r. is_some r) stays.runs; first = λ c. first_kept block.runs ∙ block.first c }
+  block_now : (levels : List Level) → RunsBlock facts levels → RunsBlock later levels
+  block_now levels block = record { runs = ap (λ r. is_some r) stays.runs; first = λ c. first_kept block.runs ∙ block.first c }
 
   runs_now : (block : Block) → s.blocks.block ≡ block → RunsBy facts o s block → RunsBy later o now block
   runs_now Outside is (inl none) = by_goes goes
@@ -97,24 +108,48 @@ module _ (facts later : Facts) (o : Option Command) (s now : Session) (command :
       by_goes (Goes some) = absurd (both_ways _ (ap (λ r. is_some r) none) some)
       by_goes (Starts c here starts outside none') = inr (record { command = c; at = here; begins = begins_same c ∙ starts; first = first_now ∙ ap (λ r. option_map_or (λ (t : Running). t.first) r (number_of s)) none ∙ sym number_same })
   runs_now Outside is (inr alone) = inr (record { command = alone.command; at = alone.at; begins = begins_same alone.command ∙ alone.begins; first = first_kept (some_first facts.running _ alone.first) ∙ alone.first ∙ sym number_same })
-  runs_now Inside is block = subst (λ b. RunsBlock later b.levels) (sym same.blocks) (block_now block)
-  runs_now Failed is failed = subst (λ b. RunsFailed later b.levels) (sym same.blocks) (failed_on facts later s.blocks.levels block_now (λ none. none_runs none goes) failed)
+  runs_now Inside is block = subst (λ b. RunsBlock later b.levels) (sym same.blocks) (block_now s.blocks.levels block)
+  runs_now Failed is failed = subst (λ b. RunsFailed later b.levels) (sym same.blocks) (failed_on facts later s.blocks.levels (block_now s.blocks.levels) (λ none. none_runs none goes) failed)
     where
       none_runs : {X : Type 0} → facts.running ≡ None → RunsHere facts o s → X
       none_runs none (Goes some) = absurd (both_ways _ (ap (λ r. is_some r) none) some)
       none_runs none (Starts c here starts outside none') = absurd (let both : Failed ≡ Outside = sym is ∙ outside in cc both)
 
+  -- once the release is made
+  after_now : IsWellOnceOver s → s.ended ≡ true → RunsIn facts (blocks_after command s) → RunsIn later (blocks_after command now)
+  after_now over ended runs = subst (RunsIn later) (λ i. elim (outcome_of (sym (plan_stays s now same (over ended)) i)) as (λ x. Blocks) [ Well ↦ blocks_well (sym number_same i) command (sym same.blocks i) | outcome ↦ blocks_badly (sym same.blocks i) ])
+      (by_block (blocks_after command s).levels (blocks_after command s).block runs)
+    where
+      none_runs : {X : Type 0} → facts.running ≡ None → RunsHere facts o s → X
+      none_runs none (Goes some) = absurd (both_ways _ (ap (λ r. is_some r) none) some)
+      none_runs none (Starts c here starts outside none') = absurd (both_ways _ (ap (λ b. elim b as (λ x. Bool) [ Outside ↦ not (ends_block c) && not s.ended && is_none (refused_by no_block c) | other ↦ false ]) outside
+          ∙ ap (λ t. not (ends_block c) && not t && is_none (refused_by no_block c)) ended ∙ ap (λ t. t && is_none (refused_by no_block c)) (and-false (not (ends_block c)))) starts)
+
+      by_block : (levels : List Level) (block : Block) → RunsAt facts levels block → RunsAt later levels block
+      by_block levels Outside none = none_runs none goes
+      by_block levels Inside block = block_now levels block
+      by_block levels Failed failed = failed_on facts later levels (block_now levels) (λ none. none_runs none goes) failed
+
+  -- the relations that are open are of its transaction
+  since_now : OpensIn s.blocks.block s.opens → opens_before (first_at facts) s.opens ≡ [] → opens_before (first_at later) now.opens ≡ []
+  since_now inside since = ap (opens_before (first_at later)) same.opens ∙ by_goes goes
+    where
+      by_goes : RunsHere facts o s → opens_before (first_at later) s.opens ≡ []
+      by_goes (Goes some) = ap (λ n. opens_before n s.opens) (first_kept some) ∙ since
+      by_goes (Starts c here starts outside none) = ap (opens_before (first_at later)) (subst (λ b. OpensIn b s.opens) outside inside)
+
 -- what the choice keeps
-pub fits_inside : (facts later : Facts) (o : Option Command) (s now : Session) (looked : Bool) (frames : List Frame) (told looked_now : Bool) (frames_now : List Frame) (told_now : Bool) (command : Command) → o ≡ Some command → Fits facts o s looked frames told → StaysInside facts later (number_of s) → StaysAt s now → RunsHere facts o s → is_visible facts.running ≡ false → s.ended ≡ false
+pub fits_inside : (facts later : Facts) (o : Option Command) (s now : Session) (looked : Bool) (frames : List Frame) (told looked_now : Bool) (frames_now : List Frame) (told_now : Bool) (command : Command) → o ≡ Some command → Fits facts o s looked frames told → StaysInside facts later (number_of s) → StaysAt s now → RunsHere facts o s → is_visible facts.running ≡ false → IsWellOnceOver s
     → LooksFit later now looked_now frames_now told_now → FramesFit later o now frames_now → (looked_now ≡ true → IsLookedFor later frames_now now.taken now.left × IsUnheld now.opened now.left) → TakesFit (number_of now) now.locks now.taken now.left → Fits later o now looked_now frames_now told_now
-fits_inside facts later o s now looked frames told looked_now frames_now told_now command at fits stays same goes hidden going looks rebuilds sought takes = record {
-  looks = λ _. looks;
+fits_inside facts later o s now looked frames told looked_now frames_now told_now command at fits stays same goes hidden over looks rebuilds sought takes = record {
+  looks = looks;
   rebuilds = rebuilds;
-  transaction = subst (TransactionFits later o now) (sym (same.ended ∙ going)) (subst (λ b. RunsBy later o now b.block) (sym same.blocks) (runs_now facts later o s now command at fits.first stays same goes s.blocks.block refl (subst (TransactionFits facts o s) going fits.transaction)));
+  transaction = subst (TransactionFits later o now) (sym same.ended) (by_ended s.ended refl fits.transaction);
   first = first_low facts later o s now command at fits.first stays same goes;
   opens = subst (λ b. is_open b ≡ not (is_empty b.levels)) (sym same.blocks) fits.opens;
   levels = subst (λ b. LevelsRise 0 (number_of now) b.levels) (sym same.blocks) (subst (λ n. LevelsRise 0 n s.blocks.levels) (sym (ap (λ n. n + 1) same.finished)) fits.levels);
-  blocked = same.blocked ∙ fits.blocked ∙ ap (λ b. is_some (refused_first b o)) (sym same.blocks);
+  plain = subst (λ b. IsOutermostPlain b.levels) (sym same.blocks) fits.plain;
+  blocked = same.blocked ∙ fits.blocked ∙ ap (λ b. is_blocked b o) (sym same.blocks);
   settled = λ is. let before = plan_then o s now same in let first = fits.settled (ap (λ p. is_settled (outcome_of p)) before ∙ is) in
       same.left (ap (λ p. is_settled (outcome_of p)) first ∙ ap (λ p. is_settled (outcome_of p)) before ∙ is) (ap is_absent first ∙ not_absent s.blocks s.opens o) ∙ first ∙ before;
   written = stays.written;
@@ -122,8 +157,14 @@ fits_inside facts later o s now looked frames told looked_now frames_now told_no
   taken = λ from is. absurd (stays.last from is);
   accepts = λ _. ap (λ r. is_some r) stays.runs;
   past = λ none. absurd (let both : Some command ≡ None = sym at ∙ none in cc both);
-  relations = opens_stay o s now same going fits.relations;
+  relations = opens_stay o s now same over fits.relations;
+  since = since_now facts later o s now command at fits.first stays same goes fits.relations.inside fits.since;
+  free = λ ended none. absurd (let no : None ≡ Some (record (begun (number_of s) facts.running) { xid = option_map_or (λ t. t.xid) later.running None }) = sym none ∙ stays.runs in cc no);
   sought = λ made. (sought made).0;
   takes = takes;
   unheld = λ made. (sought made).1;
 }
+  where
+    by_ended : (t : Bool) → s.ended ≡ t → TransactionFits facts o s t → TransactionFits later o now t
+    by_ended false going runs = subst (λ b. RunsBy later o now b.block) (sym same.blocks) (runs_now facts later o s now command at fits.first stays same goes s.blocks.block refl runs)
+    by_ended true ended runs = subst (λ x. RunsAfter later x now) (sym at) (after_now facts later o s now command at fits.first stays same goes over ended (subst (λ x. RunsAfter facts x s) at runs))

@@ -3,26 +3,28 @@ use Rattle.std.proofs.Common.{◌≡◌, ◌≤◌, ◌+◌, ◌∙◌, ◌==◌
 use Rattle.std.specs.Option.{option_map_or}
 use Rattle.std.proofs.lemmas.Bool.{both_ways, ne_eqb, and_parts, or_from}
 use Rattle.std.proofs.lemmas.List.{length_push}
-use Rattle.txn_blocks.specs.Blocks.{Block, Outside, Inside, Failed}
+use Rattle.base_types.specs.declared.command.Command.TheVariants as commands
+use Rattle.txn_blocks.specs.Blocks.{Block, Blocks, Outside, Inside, Failed, ends_failure, innermost, blocks_well, blocks_badly}
+use Rattle.ddl_effect.specs.Opens.{opens_before}
 use Rattle.base_types.specs.declared.scan.Purpose.TheVariants as scans
 use Rattle.ddl_effect.specs.Plans.{Act, Plan, Do, Lookup, Absent, Open}
 use Rattle.event_kinds.specs.declared.entry.Event.TheVariants as events
 use Rattle.history_model.specs.Transactions.{Running}
 use Rattle.history_model.specs.Writes.{is_empty}
 use Rattle.cacheless.specs.Facts.{Facts}
-use Rattle.cacheless.specs.Session.{Session, Outcome, Well, Badly, Unsettled, opening_of, number_of, outcome_of, is_settled}
+use Rattle.cacheless.specs.Session.{Session, Outcome, Well, Badly, Unsettled, opening_of, held_in, held_before, number_of, outcome_of, is_settled}
 use Rattle.cacheless.specs.Owed.{OwesScan, owed_at_start, owed_after, scans_owed, owed_of, started_in, act_owed}
-use Rattle.cacheless.specs.Ends.{End, Ends, Commits, TakesBack, end_of, end_of_all, end_left, next_of_end}
-use Rattle.cacheless.specs.Settled.{act_done, is_finished, blocks_after, finished_as, next_session, class_oid, opened_by, opens_well, opens_after}
-use Rattle.cacheless.proofs.Plans.SilentActs.{both_empty, empty_list, IsDoneHere, gives_class, kept_already}
+use Rattle.cacheless.specs.Ends.{End, Ends, Commits, TakesBack, end_well, end_badly, end_of, end_of_all, end_left, next_of_end}
+use Rattle.cacheless.specs.Settled.{act_done, is_finished, blocks_after, finished_as, next_session, class_oid, opened_by, opens_well, opens_badly}
+use Rattle.cacheless.proofs.Plans.SilentActs.{both_empty, empty_list, IsDoneHere, gives_class}
 use Rattle.backend_core.specs.Types.{Row, Command, Event, Frame, Opening}
-use Rattle.backend_core.specs.Fits.{looks_due, first_at, LevelsRise, RunsAt, RunsIn, RunsBy, RunsAfter, TransactionFits, IsPast, Fits, IsLookedFor, Lacks, Unfound, Said, FramesFit, IsUnheld, IsTakenBack, came_well}
-use Rattle.backend_core.proofs.Fitting.NextTransaction.{LevelsFit, levels_next, next_silent}
+use Rattle.backend_core.specs.Fits.{looks_due, first_at, LevelsRise, RunsAt, RunsIn, RunsBy, RunsAfter, TransactionFits, IsPast, Fits, IsLookedFor, Lacks, Unfound, Said, FramesFit, IsUnheld, AreHeld, IsTakenBack, came_well}
+use Rattle.backend_core.proofs.Fitting.NextTransaction.{LevelsFit, levels_next, next_silent, well_admitted, failed_mends}
 use Rattle.cacheless.specs.Types.{Mode}
 use Rattle.cacheless.specs.State.{is_absent}
 use Rattle.backend_core.proofs.Fitting.Sought.{no_class, act_serves}
 use Rattle.backend_core.proofs.Fitting.Rebuilding.{bare_fits, builds_bare, owed_whole, owed_builds}
-use Rattle.backend_core.proofs.Fitting.OpenRelations.{held_front, passed_none, opens_next}
+use Rattle.backend_core.proofs.Fitting.OpenRelations.{held_front, well_none, held_badly, opens_next, since_next}
 use Rattle.cacheless.specs.Types.{OpenRelation}
 use Rattle.std.specs.List.{list_any}
 use Rattle.backend_core.specs.Frames.{lacks}
@@ -52,11 +54,14 @@ pub fits_act : (facts : Facts) (o : Option Command) (s : Session) (looked : Bool
 fits_act facts o s looked frames told command act further given at left going done says fits = record {
   rebuilds = subst (FramesFit facts o (act_done act given (further given) s)) (sym (builds_bare facts o s frames fits.rebuilds done.builds)) (bare_fits facts o (act_done act given (further given) s)
       (λ keeps. list_any-append (lacks facts.usable) s.opened (opened_by act) ∙ or_from (list_any (lacks facts.usable) s.opened) (list_any (lacks facts.usable) (opened_by act)) (owed_whole facts s.opened done.builds) (opened_whole facts act further done.owed)));
-  looks = λ _. let l = fits.looks going in record { enough = l.enough; within = omega (arith, l.within, ap came_well left) };
+  looks = let l = fits.looks in record { enough = l.enough; within = omega (arith, l.within, ap came_well left); once = l.once };
   transaction = subst (TransactionFits facts o (act_done act given (further given) s)) (sym going) (by_block s.blocks.block (subst (TransactionFits facts o s) going fits.transaction));
   first = fits.first;
   opens = fits.opens;
   levels = fits.levels;
+  plain = fits.plain;
+  since = fits.since;
+  free = λ over. absurd (both_ways _ going over);
   blocked = fits.blocked;
   settled = λ is. absurd (unsettled (ap (λ p. is_settled (outcome_of p)) (fits.settled is) ∙ is));
   written = fits.written;
@@ -64,7 +69,7 @@ fits_act facts o s looked frames told command act further given at left going do
   taken = λ from is. absurd (unsettled (fits.taken from is).out);
   accepts = fits.accepts;
   past = λ none. absurd (let both : Some command ≡ None = sym at ∙ none in cc both);
-  relations = record { inside = fits.relations.inside; held = λ on. held_front s.opened (opened_by act) s.opens (fits.relations.held on); over = λ over. absurd (both_ways _ going over) };
+  relations = record { inside = fits.relations.inside; held = λ on. held_front s.opened (opened_by act) (held_before s) (fits.relations.held on); over = λ over. absurd (both_ways _ going over) };
   sought = λ is. Said (absent is);
   takes = tt;
   unheld = λ is. absent_unheld (s.opened ++ opened_by act) (further given) (absent is);
@@ -114,7 +119,7 @@ passes_to facts o s looked frames told command at done fits = by_ended s.ended r
   where
     by_ended : (t : Bool) → s.ended ≡ t → TransactionFits facts o s t → is_none (elim t as (λ x. Option Event) [ true ↦ None | false ↦ next_of_end facts (end_of facts command s) ]) ≡ true → RunsIn facts (blocks_after command s)
     by_ended true is runs over = subst (λ x. RunsAfter facts x s) at runs
-    by_ended false is runs over = next_silent facts o s command at fits.blocked is done.out done.first runs (none_ends facts (end_of facts command s) over)
+    by_ended false is runs over = next_silent facts o s command at fits.blocked (record { opens = fits.opens; rise = fits.levels; plain = fits.plain }) (well_admitted o s command at fits.settled) is done.out done.first runs (none_ends facts (end_of facts command s) over)
 
 -- by which it runs then
 runs_next : (facts : Facts) (o : Option Command) (s : Session) (block : Block) → RunsAt facts s.blocks.levels block → RunsBy facts o s block
@@ -139,14 +144,18 @@ not_started number (Some t) low = ap (λ x. elim x as (λ y. ℕ) [ true ↦ 1 |
 pub fits_pass : (facts : Facts) (o : Option Command) (s : Session) (looked : Bool) (frames : List Frame) (told : Bool) (command : Command) (next : Option Command) → o ≡ Some command → is_finished facts command s ≡ true → Fits facts o s looked frames told → Fits facts next (next_session command next s) false [] false
 fits_pass facts o s looked frames told command next at finished fits = record {
   rebuilds = bare_fits facts next now (λ keeps. open_whole);
-  looks = λ going. record {
+  looks = record {
     enough = omega (arith, started);
     within = omega (arith, ap looks_due done.after);
+    once = omega (arith, started);
   };
   transaction = runs_next facts next now now.blocks.block (passes_to facts o s looked frames told command at done fits);
   first = subst (λ n. first_at facts ≤ n) (sym counts) (omega (arith, fits.first));
   opens = levels.opens;
   levels = subst (λ n. LevelsRise 0 n now.blocks.levels) (sym counts) levels.rise;
+  plain = levels.plain;
+  since = since_next (first_at facts) s command fits.first fits.since;
+  free = λ over. absurd (cc over);
   blocked = refl;
   settled = λ is. refl;
   written = fits.written;
@@ -169,18 +178,53 @@ fits_pass facts o s looked frames told command next at finished fits = record {
 
     -- none of the relations that are open then lacks a scan: their descriptors were held, and none of those did
     open_whole : list_any (lacks facts.usable) now.opened ≡ false
-    open_whole = by_ended s.ended refl
+    open_whole = by_outcome (outcome_of s.left) refl
       where
-        by_outcome : s.ended ≡ false → (x : Outcome) → outcome_of s.left ≡ x → list_any (lacks facts.usable) (map opening_of (elim x as (λ y. List OpenRelation) [ Well ↦ opens_well (number_of s) command s.opened s.opens | outcome ↦ [] ])) ≡ false
-        by_outcome going Well is = ap (λ y. list_any (lacks facts.usable) (map opening_of (elim y as (λ z. List OpenRelation) [ Well ↦ opens_well (number_of s) command s.opened s.opens | outcome ↦ [] ]))) (sym is)
-            ∙ passed_none (lacks facts.usable) s.opened s.opens (fits.relations.held going)
-            (owed_whole facts s.opened (owed_builds facts s command (λ badly. let both : Well ≡ Badly = sym is ∙ badly in cc both) done.owed)) s.left (number_of s) command
-        by_outcome going Badly is = refl
-        by_outcome going Unsettled is = refl
+        some_held : (block : Block) (opens : List OpenRelation) → list_any (lacks facts.usable) (map opening_of opens) ≡ false → list_any (lacks facts.usable) (held_in block opens) ≡ false
+        some_held Outside opens none = none
+        some_held Inside opens none = none
+        some_held Failed opens none = refl
 
-        by_ended : (t : Bool) → s.ended ≡ t → list_any (lacks facts.usable) (map opening_of (opens_after command s)) ≡ false
-        by_ended true over = ap (λ l. list_any (lacks facts.usable) (map opening_of l)) (fits.relations.over over command at)
-        by_ended false going = by_outcome going (outcome_of s.left) refl
+        whole : outcome_of s.left ≡ Well → list_any (lacks facts.usable) s.opened ≡ false
+        whole well = owed_whole facts s.opened (owed_builds facts s command (λ badly. let both : Well ≡ Badly = sym well ∙ badly in cc both) done.owed)
+
+        going_well : s.ended ≡ false → outcome_of s.left ≡ Well → list_any (lacks facts.usable) (map opening_of (opens_well (number_of s) command s.blocks.levels s.opened s.opens)) ≡ false
+        going_well going well = by_block s.blocks.block refl (fits.relations.held going)
+          where
+            held_whole : AreHeld s.opened (map opening_of s.opens) → list_any (lacks facts.usable) (map opening_of (opens_well (number_of s) command s.blocks.levels s.opened s.opens)) ≡ false
+            held_whole are = well_none (lacks facts.usable) s.opened s.opens are (whole well) (number_of s) command s.blocks.levels
+
+            silent : end_well facts command s ≡ Ends
+            silent = sym (ap (λ x. elim x as (λ y. End) [ Well ↦ end_well facts command s | Badly ↦ end_badly s | Unsettled ↦ Ends ]) well) ∙ none_ends facts (end_of facts command s) (subst (λ t. is_none (elim t as (λ x. Option Event) [ true ↦ None | false ↦ next_of_end facts (end_of facts command s) ]) ≡ true) going done.none)
+
+            ends_none : (c : Command) → ends_failure c ≡ true → end_well facts c s ≡ Ends → list_any (lacks facts.usable) (map opening_of (opens_well (number_of s) c s.blocks.levels s.opened s.opens)) ≡ false
+            ends_none commands.Commit mends end = refl
+            ends_none commands.Rollback mends end = refl
+            ends_none (commands.RollbackTo name) mends end = absurd (cc end)
+            ends_none c mends end = absurd (cc mends)
+
+            by_block : (block : Block) → s.blocks.block ≡ block → AreHeld s.opened (held_in block s.opens) → list_any (lacks facts.usable) (map opening_of (opens_well (number_of s) command s.blocks.levels s.opened s.opens)) ≡ false
+            by_block Outside is are = held_whole are
+            by_block Inside is are = held_whole are
+            by_block Failed is are = ends_none command (failed_mends s.blocks command is (well_admitted o s command at fits.settled well)) silent
+
+        by_ended : (t : Bool) → s.ended ≡ t → outcome_of s.left ≡ Well → list_any (lacks facts.usable) (map opening_of (opens_well (number_of s) command s.blocks.levels s.opened s.opens)) ≡ false
+        by_ended false going well = going_well going well
+        by_ended true over well = ap (λ x. list_any (lacks facts.usable) (map opening_of (elim x as (λ y. List OpenRelation) [ Well ↦ opens_well (number_of s) command s.blocks.levels s.opened s.opens | outcome ↦ opens_badly (number_of s) s.blocked s.blocks.levels s.opens ]))) (sym well)
+            ∙ ap (list_any (lacks facts.usable)) (sym (fits.relations.over over command at)) ∙ whole well
+
+        badly : list_any (lacks facts.usable) (held_in (blocks_badly s.blocks).block (opens_badly (number_of s) s.blocked s.blocks.levels s.opens)) ≡ false
+        badly = ap (list_any (lacks facts.usable)) (held_badly s (opens_badly (number_of s) s.blocked s.blocks.levels s.opens) fits.relations.inside (none_badly s.blocked))
+          where
+            none_badly : (t : Bool) → s.opens ≡ [] → opens_badly (number_of s) t s.blocks.levels s.opens ≡ []
+            none_badly true none = none
+            none_badly false none = ap (opens_before (innermost (number_of s) s.blocks.levels)) none
+
+        by_outcome : (x : Outcome) → outcome_of s.left ≡ x
+            → list_any (lacks facts.usable) (held_in (elim x as (λ y. Blocks) [ Well ↦ blocks_well (number_of s) command s.blocks | outcome ↦ blocks_badly s.blocks ]).block (elim x as (λ y. List OpenRelation) [ Well ↦ opens_well (number_of s) command s.blocks.levels s.opened s.opens | outcome ↦ opens_badly (number_of s) s.blocked s.blocks.levels s.opens ])) ≡ false
+        by_outcome Well is = some_held (blocks_well (number_of s) command s.blocks).block (opens_well (number_of s) command s.blocks.levels s.opened s.opens) (by_ended s.ended refl is)
+        by_outcome Badly is = badly
+        by_outcome Unsettled is = badly
 
     counts : number_of now ≡ number_of s + 1
     counts = ap (λ n. n + 1) (length_push s.finished (finished_as s))
@@ -189,7 +233,7 @@ fits_pass facts o s looked frames told command next at finished fits = record {
     started = ap (λ n. started_in n facts) counts ∙ not_started (number_of s) facts.running fits.first
 
     levels : LevelsFit (number_of s + 1) (blocks_after command s)
-    levels = levels_next s command (record { opens = fits.opens; rise = fits.levels })
+    levels = levels_next s command (well_admitted o s command at fits.settled) (record { opens = fits.opens; rise = fits.levels; plain = fits.plain })
 
     one : (c : Command) → o ≡ Some c → c ≡ command
     one c is = let both : Some c ≡ Some command = sym is ∙ at in cc both

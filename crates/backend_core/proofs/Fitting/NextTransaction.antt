@@ -1,57 +1,106 @@
 -- The blocks and the transaction of a backend when it passes to its next command.
-use Rattle.std.proofs.Common.{◌≡◌, ◌≤◌, ◌+◌, ◌∙◌, ◌&&◌, ◌∷◌, inl, inr, ℕ, Bool, true, false, not, Option, Some, None, List, [], refl, sym, ap, subst, is_none, is_some, arith}
-use Rattle.std.specs.Option.{option_map_or}
+use Rattle.std.proofs.Common.{◌≡◌, ◌+◌, ◌∙◌, ◌&&◌, ◌∷◌, ◌++◌, inl, inr, ℕ, suc, take, Bool, true, false, not, Option, Some, None, List, [], refl, sym, ap, subst, is_none, is_some, arith}
+use Rattle.std.specs.Option.{option_map_or, option_or}
 use Rattle.std.proofs.lemmas.Bool.{both_ways}
 use Rattle.std.proofs.Math.Bool.{and-false}
 use Rattle.base_types.specs.declared.command.Command.TheVariants as commands
-use Rattle.txn_blocks.specs.Blocks.{Block, Level, Blocks, Outside, Inside, Failed, no_block, is_open, ends_block, refused_in, refused_by, innermost, blocks_well, blocks_badly}
+use Rattle.command_answers.specs.declared.error.CommandError.TheVariants as errors
+use Rattle.txn_blocks.specs.Blocks.{Block, Level, Blocks, Outside, Inside, Failed, no_block, is_open, ends_block, ends_failure, refused_in, refused_of, refused_by, innermost, levels_around, levels_up_to, blocks_well, blocks_badly}
 use Rattle.history_model.specs.Transactions.{Running}
 use Rattle.history_model.specs.Writes.{is_empty}
 use Rattle.cacheless.specs.Facts.{Facts}
-use Rattle.cacheless.specs.Session.{Session, Outcome, Well, Badly, Unsettled, number_of, outcome_of, is_settled, refused_first}
+use Rattle.ddl_effect.specs.Plans.{Fails}
+use Rattle.cacheless.specs.Session.{Session, Outcome, Well, Badly, Unsettled, number_of, outcome_of, is_settled, plan_admitted, plan_first, is_blocked}
+use Rattle.cacheless.specs.Types.{CommandError}
 use Rattle.cacheless.specs.Owed.{OwesLook, owed_at_start, begins}
 use Rattle.cacheless.specs.Ends.{End, Ends, Commits, TakesBack, end_of_all, end_of_block, end_well, end_badly, end_of}
 use Rattle.cacheless.specs.Settled.{blocks_after}
 use Rattle.backend_core.specs.Types.{Command}
-use Rattle.backend_core.specs.Fits.{LevelsRise, RunsBlock, RunsFailed, RunsAt, RunsIn, RunsBy}
+use Rattle.backend_core.proofs.Fitting.Levels.{rise_more, rise_take, rise_push, IsWithin, within, outside_is, HasOutermost, has_outermost}
+use Rattle.backend_core.specs.Fits.{LevelsRise, IsOutermostPlain, outermost, RunsBlock, RunsFailed, RunsAt, RunsIn, RunsBy}
 
 -- the levels of blocks before a command of this number
 pub record LevelsFit (number : ℕ) (blocks : Blocks) : Type 0 where
   pub opens : is_open blocks ≡ not (is_empty blocks.levels)
   pub rise : LevelsRise 0 number blocks.levels
-
-rise_more : (from n : ℕ) (levels : List Level) → LevelsRise from n levels → LevelsRise from (n + 1) levels
-rise_more from n [] rise = omega (arith, rise)
-rise_more from n (level ∷ levels) rise = (rise.0, rise_more (level.first + 1) n levels rise.1)
-
--- the innermost level began before this command
-pub rise_within : (outer n : ℕ) (levels : List Level) → LevelsRise (outer + 1) n levels → innermost outer levels + 1 ≤ n
-rise_within outer n [] rise = omega (arith, rise)
-rise_within outer n (level ∷ levels) rise = rise_within level.first n levels rise.1
-
--- and not before the ones around it
-pub rise_above : (outer n : ℕ) (levels : List Level) → LevelsRise (outer + 1) n levels → outer ≤ innermost outer levels
-rise_above outer n [] rise = omega arith
-rise_above outer n (level ∷ levels) rise = omega (arith, rise.0, rise_above level.first n levels rise.1)
+  pub plain : IsOutermostPlain blocks.levels
 
 levels_stay : (n : ℕ) (blocks : Blocks) → LevelsFit n blocks → LevelsFit (n + 1) blocks
-levels_stay n blocks fits = record { opens = fits.opens; rise = rise_more 0 n blocks.levels fits.rise }
+levels_stay n blocks fits = record { opens = fits.opens; rise = rise_more 0 n blocks.levels fits.rise; plain = fits.plain }
 
 levels_begun : (n : ℕ) (blocks : Blocks) → LevelsFit n blocks → (block : Block) → LevelsFit (n + 1) (elim block as (λ x. Blocks) [ Outside ↦ record { block = Inside; levels = record { first = n; savepoint = None } ∷ [] } | other ↦ blocks ])
-levels_begun n blocks fits Outside = record { opens = refl; rise = (omega arith, omega arith) }
+levels_begun n blocks fits Outside = record { opens = refl; rise = (omega arith, omega arith); plain = refl }
 levels_begun n blocks fits Inside = levels_stay n blocks fits
 levels_begun n blocks fits Failed = levels_stay n blocks fits
 
-levels_well : (n : ℕ) (command : Command) (blocks : Blocks) → LevelsFit n blocks → LevelsFit (n + 1) (blocks_well n command blocks)
-levels_well n commands.Begin blocks fits = levels_begun n blocks fits blocks.block
-levels_well n commands.Commit blocks fits = record { opens = refl; rise = omega arith }
-levels_well n commands.Rollback blocks fits = record { opens = refl; rise = omega arith }
-levels_well n command blocks fits = levels_stay n blocks fits
+-- a command that needs a block has one, where it isn't refused
+pub block_open : (blocks : Blocks) (command : Command) → refused_in Outside command ≡ Some errors.NoBlock → refused_by blocks command ≡ None → is_open blocks ≡ true
+block_open blocks command needs admitted = by_block blocks.block refl
+  where
+    by_block : (block : Block) → blocks.block ≡ block → elim block as (λ x. Bool) [ Outside ↦ false | other ↦ true ] ≡ true
+    by_block Inside is = refl
+    by_block Failed is = refl
+    by_block Outside is = absurd (let no : None ≡ Some errors.NoBlock = sym admitted ∙ (λ i. option_or (refused_in (is i) command) (refused_of blocks.levels command)) ∙ ap (λ e. option_or e (refused_of blocks.levels command)) needs in cc no)
+
+-- nor is it refused for its savepoint
+pub place_there : (blocks : Blocks) (command : Command) → refused_by blocks command ≡ None → refused_of blocks.levels command ≡ None
+place_there blocks command admitted = by_error (refused_in blocks.block command) admitted
+  where
+    by_error : (e : Option CommandError) → option_or e (refused_of blocks.levels command) ≡ None → refused_of blocks.levels command ≡ None
+    by_error None is = is
+    by_error (Some error) is = absurd (cc is)
+
+-- a failed block admits what mends or ends it
+pub failed_mends : (blocks : Blocks) (command : Command) → blocks.block ≡ Failed → refused_by blocks command ≡ None → ends_failure command ≡ true
+failed_mends blocks command failed admitted = by_test (ends_failure command) ((λ i. option_or (refused_in (sym failed i) command) (refused_of blocks.levels command)) ∙ admitted)
+  where
+    by_test : (t : Bool) → option_or (elim t as (λ x. Option CommandError) [ true ↦ None | false ↦ Some errors.BlockFailed ]) (refused_of blocks.levels command) ≡ None → t ≡ true
+    by_test true is = refl
+    by_test false is = absurd (cc is)
+
+-- a level more
+levels_pushed : (n : ℕ) (name : List ℕ) (blocks : Blocks) → LevelsFit n blocks → is_open blocks ≡ true → LevelsFit (n + 1) (record { block = blocks.block; levels = blocks.levels ++ record { first = n; savepoint = Some name } ∷ [] })
+levels_pushed n name blocks fits inside = record {
+  opens = inside ∙ ap (λ l. not (is_empty (l ++ record { first = n; savepoint = Some name } ∷ []))) (sym own.are);
+  rise = rise_push 0 n blocks.levels (Some name) fits.rise;
+  plain = subst (λ l. IsOutermostPlain (l ++ record { first = n; savepoint = Some name } ∷ [])) (sym own.are) (subst IsOutermostPlain own.are fits.plain);
+}
+  where
+    own : HasOutermost blocks.levels
+    own = has_outermost blocks fits.opens inside
+
+-- some of them, with the outermost one
+levels_cut : (n k : ℕ) (block : Block) (blocks : Blocks) (levels : List Level) (outer : Level) (more : List Level) → LevelsFit n blocks → blocks.levels ≡ outer ∷ more → levels ≡ outer ∷ take k more → elim block as (λ x. Bool) [ Outside ↦ false | other ↦ true ] ≡ true → LevelsFit (n + 1) (record { block = block; levels = levels })
+levels_cut n k block blocks levels outer more fits are cut inside = record {
+  opens = inside ∙ ap (λ l. not (is_empty l)) (sym cut);
+  rise = let rise = subst (LevelsRise 0 n) are fits.rise in rise_more 0 n levels (subst (LevelsRise 0 n) (sym cut) (rise.0, rise_take k (outer.first + 1) n more rise.1));
+  plain = subst IsOutermostPlain (sym cut) (subst IsOutermostPlain are fits.plain);
+}
+
+levels_well : (n : ℕ) (command : Command) (blocks : Blocks) → refused_by blocks command ≡ None → LevelsFit n blocks → LevelsFit (n + 1) (blocks_well n command blocks)
+levels_well n commands.Begin blocks admitted fits = levels_begun n blocks fits blocks.block
+levels_well n commands.Commit blocks admitted fits = record { opens = refl; rise = omega arith; plain = tt }
+levels_well n commands.Rollback blocks admitted fits = record { opens = refl; rise = omega arith; plain = tt }
+levels_well n (commands.Savepoint name) blocks admitted fits = levels_pushed n name blocks fits (block_open blocks (commands.Savepoint name) refl admitted)
+levels_well n (commands.Release name) blocks admitted fits = let at = within name blocks.levels fits.plain (place_there blocks (commands.Release name) admitted) in
+    levels_cut n at.at blocks.block blocks (levels_around name blocks.levels) at.outer (at.inner ∷ at.more) fits at.are at.around (block_open blocks (commands.Release name) refl admitted)
+levels_well n (commands.RollbackTo name) blocks admitted fits = let at = within name blocks.levels fits.plain (place_there blocks (commands.RollbackTo name) admitted) in
+    levels_cut n (suc at.at) Inside blocks (levels_up_to name blocks.levels) at.outer (at.inner ∷ at.more) fits at.are at.up_to refl
+levels_well n command blocks admitted fits = levels_stay n blocks fits
 
 levels_badly : (n : ℕ) (blocks : Blocks) → LevelsFit n blocks → (block : Block) → blocks.block ≡ block → LevelsFit (n + 1) (elim block as (λ x. Blocks) [ Outside ↦ blocks | other ↦ record { block = Failed; levels = blocks.levels } ])
 levels_badly n blocks fits Outside at = levels_stay n blocks fits
-levels_badly n blocks fits Inside at = record { opens = ap (λ b. elim b [ Outside ↦ false | block ↦ true ]) (sym at) ∙ fits.opens; rise = rise_more 0 n blocks.levels fits.rise }
-levels_badly n blocks fits Failed at = record { opens = ap (λ b. elim b [ Outside ↦ false | block ↦ true ]) (sym at) ∙ fits.opens; rise = rise_more 0 n blocks.levels fits.rise }
+levels_badly n blocks fits Inside at = record { opens = ap (λ b. elim b [ Outside ↦ false | block ↦ true ]) (sym at) ∙ fits.opens; rise = rise_more 0 n blocks.levels fits.rise; plain = fits.plain }
+levels_badly n blocks fits Failed at = record { opens = ap (λ b. elim b [ Outside ↦ false | block ↦ true ]) (sym at) ∙ fits.opens; rise = rise_more 0 n blocks.levels fits.rise; plain = fits.plain }
+
+-- a command that came out well wasn't refused by the blocks
+pub well_admitted : (o : Option Command) (s : Session) (command : Command) → o ≡ Some command → (is_settled (outcome_of (plan_first s.blocks s.opens o)) ≡ true → s.left ≡ plan_first s.blocks s.opens o) → outcome_of s.left ≡ Well → refused_by s.blocks command ≡ None
+well_admitted o s command at settled well = by_error (refused_by s.blocks command) refl
+  where
+    by_error : (error : Option CommandError) → refused_by s.blocks command ≡ error → error ≡ None
+    by_error None is = refl
+    by_error (Some error) is = absurd (let first : plan_first s.blocks s.opens o ≡ Fails error = ap (plan_first s.blocks s.opens) at ∙ ap (λ e. plan_admitted s.opens e command) is in
+        let both : Well ≡ Badly = sym well ∙ ap outcome_of (settled (ap (λ p. is_settled (outcome_of p)) first) ∙ first) in cc both)
 
 -- what holds of a block's transaction holds of a failed one's, and so does that none runs
 pub failed_on : (facts later : Facts) (levels : List Level) → (RunsBlock facts levels → RunsBlock later levels) → (facts.running ≡ None → later.running ≡ None) → RunsFailed facts levels → RunsFailed later levels
@@ -59,13 +108,13 @@ failed_on facts later [] block none runs = none runs
 failed_on facts later (level ∷ []) block none runs = none runs
 failed_on facts later (level ∷ inner ∷ levels) block none runs = block runs
 
-pub levels_next : (s : Session) (command : Command) → LevelsFit (number_of s) s.blocks → LevelsFit (number_of s + 1) (blocks_after command s)
-levels_next s command fits = by_outcome (outcome_of s.left)
+pub levels_next : (s : Session) (command : Command) → (outcome_of s.left ≡ Well → refused_by s.blocks command ≡ None) → LevelsFit (number_of s) s.blocks → LevelsFit (number_of s + 1) (blocks_after command s)
+levels_next s command admitted fits = by_outcome (outcome_of s.left) refl
   where
-    by_outcome : (o : Outcome) → LevelsFit (number_of s + 1) (elim o as (λ x. Blocks) [ Well ↦ blocks_well (number_of s) command s.blocks | outcome ↦ blocks_badly s.blocks ])
-    by_outcome Well = levels_well (number_of s) command s.blocks fits
-    by_outcome Badly = levels_badly (number_of s) s.blocks fits s.blocks.block refl
-    by_outcome Unsettled = levels_badly (number_of s) s.blocks fits s.blocks.block refl
+    by_outcome : (o : Outcome) → outcome_of s.left ≡ o → LevelsFit (number_of s + 1) (elim o as (λ x. Blocks) [ Well ↦ blocks_well (number_of s) command s.blocks | outcome ↦ blocks_badly s.blocks ])
+    by_outcome Well is = levels_well (number_of s) command s.blocks (admitted is) fits
+    by_outcome Badly is = levels_badly (number_of s) s.blocks fits s.blocks.block refl
+    by_outcome Unsettled is = levels_badly (number_of s) s.blocks fits s.blocks.block refl
 
 -- the blocks after a command that came out so
 abbrev pub blocks_out : Command → Session → Outcome → Blocks
@@ -86,7 +135,11 @@ pub some_first : (own : Option Running) (n : ℕ) → option_map_or (λ t. t.fir
 some_first None n is = absurd (omega (arith, is))
 some_first (Some t) n is = refl
 
-module _ (facts : Facts) (o : Option Command) (s : Session) (command : Command) (at : o ≡ Some command) (blocked : s.blocked ≡ is_some (refused_first s.blocks o)) where
+-- levels with the same outermost one have the same transaction
+pub runs_cut : (facts : Facts) (levels now : List Level) (outer : Level) (more others : List Level) → levels ≡ outer ∷ more → now ≡ outer ∷ others → RunsBlock facts levels → RunsBlock facts now
+runs_cut facts levels now outer more others are cut block = record { runs = block.runs; first = λ c. block.first c ∙ ap (outermost c) are ∙ ap (outermost c) (sym cut) }
+
+module _ (facts : Facts) (o : Option Command) (s : Session) (command : Command) (at : o ≡ Some command) (blocked : s.blocked ≡ is_blocked s.blocks o) (levels : LevelsFit (number_of s) s.blocks) (admitted : outcome_of s.left ≡ Well → refused_by s.blocks command ≡ None) where
   -- what a command ends by itself begins no transaction
   not_begun : ends_block command ≡ true → begins command s ≡ false
   not_begun ends = by_block s.blocks.block
@@ -97,11 +150,15 @@ module _ (facts : Facts) (o : Option Command) (s : Session) (command : Command) 
       by_block Failed = refl
 
   -- nor does a command that is refused
-  not_begun_refused : is_some (refused_in Outside command) ≡ true → begins command s ≡ false
+  not_begun_refused : is_some (refused_by no_block command) ≡ true → begins command s ≡ false
   not_begun_refused refused = by_block s.blocks.block
     where
+      none_left : (e : Option CommandError) → is_some e ≡ true → is_none e ≡ false
+      none_left None is = absurd (cc is)
+      none_left (Some error) is = refl
+
       by_block : (block : Block) → elim block as (λ x. Bool) [ Outside ↦ not (ends_block command) && not s.ended && is_none (refused_by no_block command) | other ↦ false ] ≡ false
-      by_block Outside = ap (λ t. not (ends_block command) && not s.ended && not t) refused ∙ and-false (not (ends_block command) && not s.ended)
+      by_block Outside = ap (λ t. not (ends_block command) && not s.ended && t) (none_left (refused_by no_block command) refused) ∙ and-false (not (ends_block command) && not s.ended)
       by_block Inside = refl
       by_block Failed = refl
 
@@ -127,22 +184,26 @@ module _ (facts : Facts) (o : Option Command) (s : Session) (command : Command) 
   next_badly : RunsBy facts o s s.blocks.block → end_badly s ≡ Ends → RunsIn facts (blocks_badly s.blocks)
   next_badly runs ends = by_blocked s.blocked refl ends
     where
-      refuses : s.blocked ≡ true → is_some (refused_in s.blocks.block command) ≡ true
-      refuses is = ap (λ c. is_some (refused_first s.blocks c)) (sym at) ∙ sym blocked ∙ is
+      refuses : (block : Block) → s.blocks.block ≡ block → s.blocked ≡ true → elim block as (λ x. Bool) [ Inside ↦ false | other ↦ is_some (refused_by s.blocks command) ] ≡ true
+      refuses block here is = ap (λ b. elim b as (λ x. Bool) [ Inside ↦ false | other ↦ is_some (refused_by s.blocks command) ]) (sym here) ∙ ap (is_blocked s.blocks) (sym at) ∙ sym blocked ∙ is
 
       by_block : (block : Block) → s.blocks.block ≡ block → s.blocked ≡ true → RunsBy facts o s block
           → RunsIn facts (elim block as (λ x. Blocks) [ Outside ↦ s.blocks | other ↦ record { block = Failed; levels = s.blocks.levels } ])
-      by_block Outside is stops r = next_stays Outside is (λ _. none_alone r (not_begun_refused (ap (λ b. is_some (refused_in b command)) (sym is) ∙ refuses stops))) r
-      by_block Inside is stops r = absurd (both_ways _ refl (ap (λ b. is_some (refused_in b command)) (sym is) ∙ refuses stops))
+      by_block Outside is stops r = next_stays Outside is (λ _. none_alone r (not_begun_refused (ap (λ b. is_some (refused_by b command)) (sym (outside_is s.blocks levels.opens is)) ∙ refuses Outside is stops))) r
+      by_block Inside is stops r = absurd (cc (refuses Inside is stops))
       by_block Failed is stops r = r
 
       by_blocked : (t : Bool) → s.blocked ≡ t → elim t [ true ↦ Ends | false ↦ TakesBack (innermost (number_of s) s.blocks.levels) ] ≡ Ends → RunsIn facts (blocks_badly s.blocks)
       by_blocked true is e = by_block s.blocks.block refl is runs
       by_blocked false is e = absurd (cc)
 
+  -- a failed block refuses what neither mends nor ends it
+  failed_refuses : (c : Command) → s.blocks.block ≡ Failed → refused_in Failed c ≡ Some errors.BlockFailed → refused_by s.blocks c ≡ None → ⊥
+  failed_refuses c failed refuses allowed = let no : None ≡ Some errors.BlockFailed = sym allowed ∙ (λ i. option_or (refused_in (failed i) c) (refused_of s.blocks.levels c)) ∙ ap (λ e. option_or e (refused_of s.blocks.levels c)) refuses in cc no
+
   -- a command that came out well and ends with no entry
-  next_well : (c : Command) → command ≡ c → s.ended ≡ false → owed_at_start facts command s ≡ [] → RunsBy facts o s s.blocks.block → end_well facts c s ≡ Ends → RunsIn facts (blocks_well (number_of s) c s.blocks)
-  next_well commands.Begin same going free runs ends = by_block s.blocks.block refl runs
+  next_well : (c : Command) → command ≡ c → refused_by s.blocks c ≡ None → s.ended ≡ false → owed_at_start facts command s ≡ [] → RunsBy facts o s s.blocks.block → end_well facts c s ≡ Ends → RunsIn facts (blocks_well (number_of s) c s.blocks)
+  next_well commands.Begin same allowed going free runs ends = by_block s.blocks.block refl runs
     where
       starts : s.blocks.block ≡ Outside → begins command s ≡ true
       starts is = ap (λ c. begins c s) same ∙ ap (λ b. elim b as (λ x. Bool) [ Outside ↦ not s.ended && true | other ↦ false ]) is ∙ ap (λ t. not t && true) going
@@ -152,9 +213,31 @@ module _ (facts : Facts) (o : Option Command) (s : Session) (command : Command) 
       by_block Outside is r = begun_first is (starts is) free r
       by_block Inside is r = next_stays Inside is (λ x. absurd (cc)) r
       by_block Failed is r = next_stays Failed is (λ x. absurd (cc)) r
-  next_well commands.Commit same going free runs ends = closed s.blocks.block true runs (λ is. none_alone (subst (RunsBy facts o s) is runs) (not_begun (ap ends_block same))) ends
-  next_well commands.Rollback same going free runs ends = closed s.blocks.block false runs (λ is. none_alone (subst (RunsBy facts o s) is runs) (not_begun (ap ends_block same))) ends
-  next_well c same going free runs ends = by_block s.blocks.block refl runs ends
+  next_well commands.Commit same allowed going free runs ends = closed s.blocks.block true runs (λ is. none_alone (subst (RunsBy facts o s) is runs) (not_begun (ap ends_block same))) ends
+  next_well commands.Rollback same allowed going free runs ends = closed s.blocks.block false runs (λ is. none_alone (subst (RunsBy facts o s) is runs) (not_begun (ap ends_block same))) ends
+  next_well (commands.Savepoint name) same allowed going free runs ends = by_block s.blocks.block refl runs ends
+    where
+      own : HasOutermost s.blocks.levels
+      own = has_outermost s.blocks levels.opens (block_open s.blocks (commands.Savepoint name) refl allowed)
+
+      saved : List Level
+      saved = s.blocks.levels ++ record { first = number_of s; savepoint = Some name } ∷ []
+
+      by_block : (block : Block) → s.blocks.block ≡ block → RunsBy facts o s block → ◌≡◌ {A = End} (elim block [ Outside ↦ Commits (number_of s) | other ↦ Ends ]) Ends → RunsIn facts (record { block = s.blocks.block; levels = saved })
+      by_block Outside is r e = absurd (cc e)
+      by_block Inside is r e = subst (RunsAt facts saved) (sym is) (runs_cut facts s.blocks.levels saved own.outer own.more (own.more ++ record { first = number_of s; savepoint = Some name } ∷ []) own.are (ap (λ l. l ++ record { first = number_of s; savepoint = Some name } ∷ []) own.are) r)
+      by_block Failed is r e = absurd (failed_refuses (commands.Savepoint name) is refl allowed)
+  next_well (commands.Release name) same allowed going free runs ends = by_block s.blocks.block refl runs ends
+    where
+      found : IsWithin name s.blocks.levels
+      found = within name s.blocks.levels levels.plain (place_there s.blocks (commands.Release name) allowed)
+
+      by_block : (block : Block) → s.blocks.block ≡ block → RunsBy facts o s block → ◌≡◌ {A = End} (elim block [ Outside ↦ Commits (number_of s) | other ↦ Ends ]) Ends → RunsIn facts (record { block = s.blocks.block; levels = levels_around name s.blocks.levels })
+      by_block Outside is r e = absurd (cc e)
+      by_block Inside is r e = subst (RunsAt facts (levels_around name s.blocks.levels)) (sym is) (runs_cut facts s.blocks.levels (levels_around name s.blocks.levels) found.outer (found.inner ∷ found.more) (take found.at (found.inner ∷ found.more)) found.are found.around r)
+      by_block Failed is r e = absurd (failed_refuses (commands.Release name) is refl allowed)
+  next_well (commands.RollbackTo name) same allowed going free runs ends = absurd (cc ends)
+  next_well c same allowed going free runs ends = by_block s.blocks.block refl runs ends
     where
       by_block : (block : Block) → s.blocks.block ≡ block → RunsBy facts o s block → ◌≡◌ {A = End} (elim block [ Outside ↦ Commits (number_of s) | other ↦ Ends ]) Ends → RunsIn facts s.blocks
       by_block Outside is r e = absurd (cc)
@@ -163,10 +246,10 @@ module _ (facts : Facts) (o : Option Command) (s : Session) (command : Command) 
 
   -- the transaction after a command that ends with no entry
   pub next_silent : s.ended ≡ false → is_settled (outcome_of s.left) ≡ true → owed_at_start facts command s ≡ [] → RunsBy facts o s s.blocks.block → end_of facts command s ≡ Ends → RunsIn facts (blocks_after command s)
-  next_silent going out free runs ends = by_outcome (outcome_of s.left) out ends
+  next_silent going out free runs ends = by_outcome (outcome_of s.left) refl out ends
     where
-      by_outcome : (x : Outcome) → is_settled x ≡ true → ◌≡◌ {A = End} (elim x [ Well ↦ end_well facts command s | Badly ↦ end_badly s | Unsettled ↦ Ends ]) Ends
+      by_outcome : (x : Outcome) → outcome_of s.left ≡ x → is_settled x ≡ true → ◌≡◌ {A = End} (elim x [ Well ↦ end_well facts command s | Badly ↦ end_badly s | Unsettled ↦ Ends ]) Ends
           → RunsIn facts (blocks_out command s x)
-      by_outcome Well is e = next_well command refl going free runs e
-      by_outcome Badly is e = next_badly runs e
-      by_outcome Unsettled is e = absurd (cc)
+      by_outcome Well came is e = next_well command refl (admitted came) going free runs e
+      by_outcome Badly came is e = next_badly runs e
+      by_outcome Unsettled came is e = absurd (cc)

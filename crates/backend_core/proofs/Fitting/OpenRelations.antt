@@ -1,22 +1,23 @@
 -- The relations that a session has open: their descriptors are among those that are held, from command to command.
-use Rattle.std.proofs.Common.{◌≡◌, ◌∙◌, ℕ, zero, suc, Bool, true, false, Option, Some, None, List, [], ◌∷◌, ◌++◌, ◌+◌, ◌||◌, refl, sym, ap, subst, map, length, take, drop, slice_get, is_some}
+use Rattle.std.proofs.Common.{◌≡◌, ◌∙◌, ℕ, zero, suc, Bool, true, false, Option, Some, None, List, [], ◌∷◌, ◌++◌, ◌+◌, ◌||◌, ◌≤◌, cond, filter, arith, refl, sym, ap, subst, map, length, take, drop, slice_get}
+use Rattle.std.specs.Prelude.{nat_lt}
 use Rattle.std.specs.List.{list_any}
-use Rattle.std.proofs.lemmas.Bool.{both_ways, false_from_ne_true}
+use Rattle.std.proofs.lemmas.Bool.{both_ways, false_from_ne_true, le-ltb}
 use Rattle.std.proofs.lemmas.List.Folds.{list_any-append}
 use Rattle.std.proofs.lemmas.Map.Keys.{any_passes_from_place}
 use Rattle.base_types.specs.declared.command.Command.TheVariants as commands
 use Rattle.command_answers.specs.declared.error.CommandError.TheVariants as errors
-use Rattle.event_kinds.specs.declared.entry.Event.TheVariants as events
-use Rattle.ddl_effect.specs.Opens.{place_latest, without_latest}
-use Rattle.ddl_effect.specs.Plans.{Plan, Fails}
-use Rattle.txn_blocks.specs.Blocks.{Block, Outside, Inside, Failed, Blocks, refused_in, refused_by, blocks_begun, blocks_well, blocks_badly}
-use Rattle.cacheless.specs.Ends.{End, Ends, Commits, TakesBack, next_of_end, end_of, end_well, end_badly}
+use Rattle.ddl_effect.specs.Opens.{place_latest, without_latest, opens_before}
+use Rattle.txn_blocks.specs.Blocks.{Block, Level, Outside, Inside, Failed, Blocks, refused_in, refused_by, innermost, levels_up_to, blocks_begun, blocks_well, blocks_badly}
+use Rattle.cacheless.specs.Ends.{End, Ends, Commits, TakesBack, end_of_block, end_of, end_well, end_badly}
 use Rattle.cacheless.specs.Facts.{Facts}
-use Rattle.cacheless.specs.Session.{Session, Outcome, Well, Badly, Unsettled, opening_of, number_of, outcome_of, is_settled, plan_admitted, plan_first}
-use Rattle.cacheless.specs.Settled.{opens_with, opens_well, opens_passed, opens_after, blocks_after, next_session}
-use Rattle.cacheless.specs.Types.{CommandError, OpenRelation}
-use Rattle.backend_core.specs.Types.{Command, Event, Opening, OwnLock}
-use Rattle.backend_core.specs.Fits.{OpensIn, AreHeld, OpensFit}
+use Rattle.cacheless.specs.Session.{Session, Outcome, Well, Badly, Unsettled, opening_of, held_in, number_of, outcome_of, is_settled, plan_first}
+use Rattle.cacheless.specs.Settled.{opens_with, opens_well, opens_badly, opens_passed, opens_after, blocks_after, next_session}
+use Rattle.cacheless.specs.Types.{OpenRelation}
+use Rattle.backend_core.specs.Types.{Command, Opening}
+use Rattle.backend_core.specs.Fits.{first_at, OpensIn, AreHeld, OpensFit}
+use Rattle.backend_core.proofs.Choosing.EndsNow.{end_from, from_block}
+use Rattle.backend_core.proofs.Fitting.NextTransaction.{block_open, well_admitted}
 
 neither : (a b : Bool) → (a || b) ≡ false → (a ≡ false) × (b ≡ false)
 neither true b none = absurd (cc none)
@@ -41,15 +42,19 @@ any_opening p [] = refl
 any_opening p (o ∷ opens) = ap (λ t. p (opening_of o) || t) (any_opening p opens)
 
 -- what is held still, and more
-pub held_front : (held more : List Opening) (opens : List OpenRelation) → AreHeld held opens → AreHeld (held ++ more) opens
-held_front held more opens are p none = are p (neither (list_any p held) (list_any p more) (sym (list_any-append p held more) ∙ none)).0
+pub held_front : (held more those : List Opening) → AreHeld held those → AreHeld (held ++ more) those
+held_front held more those are p none = are p (neither (list_any p held) (list_any p more) (sym (list_any-append p held more) ∙ none)).0
 
--- all that is held are they
-pub held_all : (opens : List OpenRelation) → AreHeld (map opening_of opens) opens
-held_all opens p none = none
+any_kept : {X : Type 0} (p keeps : X → Bool) (xs : List X) → list_any p xs ≡ false → list_any p (filter keeps xs) ≡ false
+any_kept p keeps [] none = refl
+any_kept p keeps (x ∷ xs) none = let both = neither (p x) (list_any p xs) none in by_test (keeps x) both.0 (any_kept p keeps xs both.1)
+  where
+    by_test : (t : Bool) → p x ≡ false → list_any p (filter keeps xs) ≡ false → list_any p (cond t (x ∷ filter keeps xs) (filter keeps xs)) ≡ false
+    by_test true first rest = λ i. first i || rest i
+    by_test false first rest = rest
 
 -- what is so of none of the held descriptors is so of none of the relations that are open after the command
-module _ (p : Opening → Bool) (held : List Opening) (opens : List OpenRelation) (are : AreHeld held opens) (none : list_any p held ≡ false) where
+module _ (p : Opening → Bool) (held : List Opening) (opens : List OpenRelation) (are : AreHeld held (map opening_of opens)) (none : list_any p held ≡ false) where
   before_none : list_any (λ o. p (opening_of o)) opens ≡ false
   before_none = sym (any_opening p opens) ∙ are p none
 
@@ -69,47 +74,29 @@ module _ (p : Opening → Bool) (held : List Opening) (opens : List OpenRelation
       by_place None = are p none
       by_place (Some at) = any_opening p (take at opens ++ drop (at + 1) opens) ∙ any_both (λ o. p (opening_of o)) (take at opens) (drop (at + 1) opens) (any_take (λ o. p (opening_of o)) at opens before_none) (any_drop (λ o. p (opening_of o)) (at + 1) opens before_none)
 
-  well_none : (number : ℕ) (command : Command) → list_any p (map opening_of (opens_well number command held opens)) ≡ false
-  well_none number (commands.OpenRel name) = with_none number name
-  well_none number (commands.CloseRel name) = without_none name
-  well_none number commands.Commit = refl
-  well_none number commands.Rollback = refl
-  well_none number command = are p none
+  kept_none : (from : ℕ) → list_any p (map opening_of (opens_before from opens)) ≡ false
+  kept_none from = any_opening p (opens_before from opens) ∙ any_kept (λ o. p (opening_of o)) (λ o. nat_lt o.command from) opens before_none
 
-  pub passed_none : (plan : Plan) (number : ℕ) (command : Command) → list_any p (map opening_of (opens_passed plan number command held opens)) ≡ false
-  passed_none plan number command = by_outcome (outcome_of plan)
-    where
-      by_outcome : (x : Outcome) → list_any p (map opening_of (elim x as (λ y. List OpenRelation) [ Well ↦ opens_well number command held opens | outcome ↦ [] ])) ≡ false
-      by_outcome Well = well_none number command
-      by_outcome Badly = refl
-      by_outcome Unsettled = refl
+  pub well_none : (number : ℕ) (command : Command) (levels : List Level) → list_any p (map opening_of (opens_well number command levels held opens)) ≡ false
+  well_none number (commands.OpenRel name) levels = with_none number name
+  well_none number (commands.CloseRel name) levels = without_none name
+  well_none number (commands.RollbackTo name) levels = kept_none (innermost number (levels_up_to name levels))
+  well_none number commands.Commit levels = refl
+  well_none number commands.Rollback levels = refl
+  well_none number command levels = are p none
 
-none_in : (block : Block) → OpensIn block []
-none_in Outside = refl
-none_in Inside = tt
-none_in Failed = refl
-
--- a command that came out well wasn't refused by the blocks
-well_admitted : (o : Option Command) (s : Session) (command : Command) → o ≡ Some command → (is_settled (outcome_of (plan_first s.blocks s.opens o)) ≡ true → s.left ≡ plan_first s.blocks s.opens o) → outcome_of s.left ≡ Well → refused_by s.blocks command ≡ None
-well_admitted o s command at settled well = by_error (refused_by s.blocks command) refl
-  where
-    by_error : (error : Option CommandError) → refused_by s.blocks command ≡ error → error ≡ None
-    by_error None is = refl
-    by_error (Some error) is = absurd (let first : plan_first s.blocks s.opens o ≡ Fails error = ap (plan_first s.blocks s.opens) at ∙ ap (λ e. plan_admitted s.opens e command) is in
-        let both : Well ≡ Badly = sym well ∙ ap outcome_of (settled (ap (λ p. is_settled (outcome_of p)) first) ∙ first) in cc both)
-
--- none is open after it, but in a block that goes on
+-- none is open after it, but in a block
 pub inside_next : (o : Option Command) (s : Session) (command : Command) → o ≡ Some command → (is_settled (outcome_of (plan_first s.blocks s.opens o)) ≡ true → s.left ≡ plan_first s.blocks s.opens o) → OpensIn s.blocks.block s.opens → OpensIn (blocks_after command s).block (opens_after command s)
 inside_next o s command at settled inside = by_outcome (outcome_of s.left) refl
   where
-    -- a command that needs a block has one that goes on
-    in_block : (opens : List OpenRelation) (c : Command) → refused_in Outside c ≡ Some errors.NoBlock → refused_in Failed c ≡ Some errors.BlockFailed → refused_by s.blocks c ≡ None → OpensIn s.blocks.block opens
-    in_block opens c no_block failed admitted = by_block s.blocks.block refl
+    -- a command that needs a block has one
+    in_block : (opens : List OpenRelation) (c : Command) → refused_in Outside c ≡ Some errors.NoBlock → refused_by s.blocks c ≡ None → OpensIn s.blocks.block opens
+    in_block opens c needs admitted = by_block s.blocks.block (block_open s.blocks c needs admitted)
       where
-        by_block : (block : Block) → s.blocks.block ≡ block → OpensIn block opens
+        by_block : (block : Block) → elim block as (λ x. Bool) [ Outside ↦ false | other ↦ true ] ≡ true → OpensIn block opens
         by_block Inside is = tt
-        by_block Outside is = absurd (let both : None ≡ Some errors.NoBlock = sym admitted ∙ ap (λ b. refused_in b c) is ∙ no_block in cc both)
-        by_block Failed is = absurd (let both : None ≡ Some errors.BlockFailed = sym admitted ∙ ap (λ b. refused_in b c) is ∙ failed in cc both)
+        by_block Failed is = tt
+        by_block Outside is = absurd (cc is)
 
     begun : (number : ℕ) → OpensIn (blocks_begun number s.blocks).block s.opens
     begun number = by_block s.blocks.block
@@ -119,54 +106,152 @@ inside_next o s command at settled inside = by_outcome (outcome_of s.left) refl
         by_block Inside = inside
         by_block Failed = inside
 
-    by_command : (c : Command) → refused_by s.blocks c ≡ None → OpensIn (blocks_well (number_of s) c s.blocks).block (opens_well (number_of s) c s.opened s.opens)
+    by_command : (c : Command) → refused_by s.blocks c ≡ None → OpensIn (blocks_well (number_of s) c s.blocks).block (opens_well (number_of s) c s.blocks.levels s.opened s.opens)
     by_command commands.Begin admitted = begun (number_of s)
     by_command commands.Commit admitted = refl
     by_command commands.Rollback admitted = refl
-    by_command (commands.OpenRel name) admitted = in_block (opens_with (number_of s) name s.opened s.opens) (commands.OpenRel name) refl refl admitted
-    by_command (commands.CloseRel name) admitted = in_block (without_latest name s.opens) (commands.CloseRel name) refl refl admitted
+    by_command (commands.RollbackTo name) admitted = tt
+    by_command (commands.OpenRel name) admitted = in_block (opens_with (number_of s) name s.opened s.opens) (commands.OpenRel name) refl admitted
+    by_command (commands.CloseRel name) admitted = in_block (without_latest name s.opens) (commands.CloseRel name) refl admitted
     by_command c admitted = inside
 
-    by_outcome : (x : Outcome) → outcome_of s.left ≡ x → OpensIn (elim x as (λ y. Blocks) [ Well ↦ blocks_well (number_of s) command s.blocks | outcome ↦ blocks_badly s.blocks ]).block (elim x as (λ y. List OpenRelation) [ Well ↦ opens_well (number_of s) command s.opened s.opens | outcome ↦ [] ])
+    badly : (block : Block) → s.blocks.block ≡ block → OpensIn (elim block as (λ x. Blocks) [ Outside ↦ s.blocks | other ↦ record { block = Failed; levels = s.blocks.levels } ]).block (opens_badly (number_of s) s.blocked s.blocks.levels s.opens)
+    badly Outside is = subst (λ b. OpensIn b (opens_badly (number_of s) s.blocked s.blocks.levels s.opens)) (sym is) (by_blocked s.blocked)
+      where
+        none : s.opens ≡ []
+        none = subst (λ b. OpensIn b s.opens) is inside
+
+        by_blocked : (t : Bool) → opens_badly (number_of s) t s.blocks.levels s.opens ≡ []
+        by_blocked true = none
+        by_blocked false = ap (opens_before (innermost (number_of s) s.blocks.levels)) none
+    badly Inside is = tt
+    badly Failed is = tt
+
+    by_outcome : (x : Outcome) → outcome_of s.left ≡ x
+        → OpensIn (elim x as (λ y. Blocks) [ Well ↦ blocks_well (number_of s) command s.blocks | outcome ↦ blocks_badly s.blocks ]).block (elim x as (λ y. List OpenRelation) [ Well ↦ opens_well (number_of s) command s.blocks.levels s.opened s.opens | outcome ↦ opens_badly (number_of s) s.blocked s.blocks.levels s.opens ])
     by_outcome Well is = by_command command (well_admitted o s command at settled is)
-    by_outcome Badly is = none_in (blocks_badly s.blocks).block
-    by_outcome Unsettled is = none_in (blocks_badly s.blocks).block
+    by_outcome Badly is = badly s.blocks.block refl
+    by_outcome Unsettled is = badly s.blocks.block refl
 
 -- so it is at the next command
 pub opens_next : (o next : Option Command) (s : Session) (command : Command) → o ≡ Some command → (is_settled (outcome_of (plan_first s.blocks s.opens o)) ≡ true → s.left ≡ plan_first s.blocks s.opens o) → OpensFit o s → OpensFit next (next_session command next s)
 opens_next o next s command at settled fits = record {
   inside = inside_next o s command at settled fits.inside;
-  held = λ going. held_all (opens_after command s);
+  held = λ going p none. none;
   over = λ ended. absurd (cc ended);
 }
 
--- once the release of a command is made, which holds no descriptor any more, none is open
-pub opens_over : (facts : Facts) (s : Session) (command : Command) (event : Event) → next_of_end facts (end_of facts command s) ≡ Some event → OpensIn s.blocks.block s.opens → opens_passed s.left (number_of s) command [] s.opens ≡ []
-opens_over facts s command event comes inside = by_outcome (outcome_of s.left) comes
+-- after a command that failed nothing is held
+pub held_badly : (s : Session) (opens : List OpenRelation) → OpensIn s.blocks.block s.opens → (s.opens ≡ [] → opens ≡ []) → held_in (blocks_badly s.blocks).block opens ≡ []
+held_badly s opens inside none = by_block s.blocks.block refl
   where
-    none_well : (c : Command) → opens_well (number_of s) c [] [] ≡ []
+    by_block : (block : Block) → s.blocks.block ≡ block → held_in (elim block as (λ x. Blocks) [ Outside ↦ s.blocks | other ↦ record { block = Failed; levels = s.blocks.levels } ]).block opens ≡ []
+    by_block Outside is = ap (λ b. held_in b opens) is ∙ ap (map opening_of) (none (subst (λ b. OpensIn b s.opens) is inside))
+    by_block Inside is = refl
+    by_block Failed is = refl
+
+-- the relations of a transaction are of commands from its first one on
+since_push : (from : ℕ) (opens : List OpenRelation) (o : OpenRelation) → from ≤ o.command → opens_before from opens ≡ [] → opens_before from (opens ++ o ∷ []) ≡ []
+since_push from [] o late none = ap (λ t. cond t (o ∷ []) []) (le-ltb o.command from late)
+since_push from (x ∷ opens) o late none = by_test (nat_lt x.command from) none (since_push from opens o late)
+  where
+    by_test : (t : Bool) → cond t (x ∷ opens_before from opens) (opens_before from opens) ≡ [] → (opens_before from opens ≡ [] → opens_before from (opens ++ o ∷ []) ≡ []) → cond t (x ∷ opens_before from (opens ++ o ∷ [])) (opens_before from (opens ++ o ∷ [])) ≡ []
+    by_test true some rest = absurd (cc some)
+    by_test false without rest = rest without
+
+-- none of some of them is earlier, where none of all is
+since_any : (from : ℕ) (opens : List OpenRelation) → opens_before from opens ≡ [] → list_any (λ o. nat_lt o.command from) opens ≡ false
+since_any from [] none = refl
+since_any from (x ∷ opens) none = by_test (nat_lt x.command from) none (since_any from opens)
+  where
+    by_test : (t : Bool) → cond t (x ∷ opens_before from opens) (opens_before from opens) ≡ [] → (opens_before from opens ≡ [] → list_any (λ o. nat_lt o.command from) opens ≡ false) → (t || list_any (λ o. nat_lt o.command from) opens) ≡ false
+    by_test true some rest = absurd (cc some)
+    by_test false without rest = rest without
+
+any_since : (from : ℕ) (opens : List OpenRelation) → list_any (λ o. nat_lt o.command from) opens ≡ false → opens_before from opens ≡ []
+any_since from [] none = refl
+any_since from (x ∷ opens) none = let both = neither (nat_lt x.command from) (list_any (λ o. nat_lt o.command from) opens) none in
+    ap (λ t. cond t (x ∷ opens_before from opens) (opens_before from opens)) both.0 ∙ any_since from opens both.1
+
+-- so it is of those that are open after a command
+pub since_next : (from : ℕ) (s : Session) (command : Command) → from ≤ number_of s → opens_before from s.opens ≡ [] → opens_before from (opens_after command s) ≡ []
+since_next from s command late none = by_outcome (outcome_of s.left)
+  where
+    kept : (n : ℕ) → opens_before from (opens_before n s.opens) ≡ []
+    kept n = any_since from (opens_before n s.opens) (any_kept (λ o. nat_lt o.command from) (λ o. nat_lt o.command n) s.opens (since_any from s.opens none))
+
+    opened : (name : List ℕ) (o : Option Opening) → opens_before from (elim o as (λ x. List OpenRelation) [ Some x ↦ s.opens ++ record { name = name; rel = x.rel; kind = x.kind; command = number_of s } ∷ [] | None ↦ s.opens ]) ≡ []
+    opened name None = none
+    opened name (Some x) = since_push from s.opens (record { name = name; rel = x.rel; kind = x.kind; command = number_of s }) late none
+
+    closed : (o : Option ℕ) → opens_before from (elim o as (λ x. List OpenRelation) [ Some at ↦ take at s.opens ++ drop (at + 1) s.opens | None ↦ s.opens ]) ≡ []
+    closed None = none
+    closed (Some at) = any_since from (take at s.opens ++ drop (at + 1) s.opens)
+        (any_both (λ o. nat_lt o.command from) (take at s.opens) (drop (at + 1) s.opens) (any_take (λ o. nat_lt o.command from) at s.opens (since_any from s.opens none)) (any_drop (λ o. nat_lt o.command from) (at + 1) s.opens (since_any from s.opens none)))
+
+    by_command : (c : Command) → opens_before from (opens_well (number_of s) c s.blocks.levels s.opened s.opens) ≡ []
+    by_command (commands.OpenRel name) = opened name (slice_get s.opened (length s.opens))
+    by_command (commands.CloseRel name) = closed (place_latest name s.opens)
+    by_command (commands.RollbackTo name) = kept (innermost (number_of s) (levels_up_to name s.blocks.levels))
+    by_command commands.Commit = refl
+    by_command commands.Rollback = refl
+    by_command c = none
+
+    by_blocked : (t : Bool) → opens_before from (opens_badly (number_of s) t s.blocks.levels s.opens) ≡ []
+    by_blocked true = none
+    by_blocked false = kept (innermost (number_of s) s.blocks.levels)
+
+    by_outcome : (x : Outcome) → opens_before from (elim x as (λ y. List OpenRelation) [ Well ↦ opens_well (number_of s) command s.blocks.levels s.opened s.opens | outcome ↦ opens_badly (number_of s) s.blocked s.blocks.levels s.opens ]) ≡ []
+    by_outcome Well = by_command command
+    by_outcome Badly = by_blocked s.blocked
+    by_outcome Unsettled = by_blocked s.blocked
+
+-- before the first command none was opened
+pub since_none : (opens : List OpenRelation) → opens_before 0 opens ≡ []
+since_none [] = refl
+since_none (o ∷ opens) = ap (λ t. cond t (o ∷ opens_before 0 opens) (opens_before 0 opens)) (le-ltb o.command 0 (omega arith)) ∙ since_none opens
+
+-- once the release of a command is made, those are open that were opened before what it took back, or none, where it ended its transaction
+pub opens_over : (facts : Facts) (s : Session) (command : Command) (from : ℕ) → end_from (end_of facts command s) ≡ Some from → OpensIn s.blocks.block s.opens → opens_before (first_at facts) s.opens ≡ []
+    → opens_before from s.opens ≡ opens_passed s.left (number_of s) command s.blocked s.blocks.levels (map opening_of (opens_before from s.opens)) s.opens
+opens_over facts s command from comes inside since = by_outcome (outcome_of s.left) comes
+  where
+    held : List Opening
+    held = map opening_of (opens_before from s.opens)
+
+    ended : (commits : Bool) → end_from (end_of_block facts s.blocks.block commits) ≡ Some from → opens_before from s.opens ≡ []
+    ended commits is = ap (λ n. opens_before n s.opens) (sym (from_block facts s.blocks.block commits 0 from is)) ∙ since
+
+    none_well : (c : Command) → opens_well (number_of s) c s.blocks.levels [] [] ≡ []
     none_well (commands.OpenRel name) = refl
     none_well (commands.CloseRel name) = refl
+    none_well (commands.RollbackTo name) = refl
     none_well commands.Commit = refl
     none_well commands.Rollback = refl
     none_well c = refl
 
     -- outside a block none is open before it, and inside one it has no release
-    alone : (c : Command) → next_of_end facts (elim s.blocks.block as (λ x. End) [ Outside ↦ Commits (number_of s) | block ↦ Ends ]) ≡ Some event → opens_well (number_of s) c [] s.opens ≡ []
+    alone : (c : Command) → end_from (elim s.blocks.block as (λ x. End) [ Outside ↦ Commits (number_of s) | block ↦ Ends ]) ≡ Some from → opens_before from s.opens ≡ opens_well (number_of s) c s.blocks.levels held s.opens
     alone c ends = by_block s.blocks.block inside ends
       where
-        by_block : (block : Block) → OpensIn block s.opens → next_of_end facts (elim block as (λ x. End) [ Outside ↦ Commits (number_of s) | other ↦ Ends ]) ≡ Some event → opens_well (number_of s) c [] s.opens ≡ []
-        by_block Outside none is = ap (opens_well (number_of s) c []) none ∙ none_well c
+        by_block : (block : Block) → OpensIn block s.opens → end_from (elim block as (λ x. End) [ Outside ↦ Commits (number_of s) | other ↦ Ends ]) ≡ Some from → opens_before from s.opens ≡ opens_well (number_of s) c s.blocks.levels held s.opens
+        by_block Outside none is = ap (opens_before from) none ∙ sym (none_well c) ∙ (λ i. opens_well (number_of s) c s.blocks.levels (map opening_of (opens_before from (sym none i))) (sym none i))
         by_block Inside none is = absurd (cc is)
         by_block Failed none is = absurd (cc is)
 
-    by_command : (c : Command) → next_of_end facts (end_well facts c s) ≡ Some event → opens_well (number_of s) c [] s.opens ≡ []
+    by_command : (c : Command) → end_from (end_well facts c s) ≡ Some from → opens_before from s.opens ≡ opens_well (number_of s) c s.blocks.levels held s.opens
     by_command commands.Begin is = absurd (cc is)
-    by_command commands.Commit is = refl
-    by_command commands.Rollback is = refl
+    by_command commands.Commit is = ended true is
+    by_command commands.Rollback is = ended false is
+    by_command (commands.RollbackTo name) is = ap (λ n. opens_before n s.opens) (let same : Some (innermost (number_of s) (levels_up_to name s.blocks.levels)) ≡ Some from = is in sym (cc same))
     by_command c is = alone c is
 
-    by_outcome : (x : Outcome) → next_of_end facts (elim x as (λ y. End) [ Well ↦ end_well facts command s | Badly ↦ end_badly s | Unsettled ↦ Ends ]) ≡ Some event → elim x as (λ y. List OpenRelation) [ Well ↦ opens_well (number_of s) command [] s.opens | outcome ↦ [] ] ≡ []
+    by_blocked : (t : Bool) → end_from (elim t as (λ x. End) [ true ↦ Ends | false ↦ TakesBack (innermost (number_of s) s.blocks.levels) ]) ≡ Some from → opens_before from s.opens ≡ opens_badly (number_of s) t s.blocks.levels s.opens
+    by_blocked true is = absurd (cc is)
+    by_blocked false is = ap (λ n. opens_before n s.opens) (let same : Some (innermost (number_of s) s.blocks.levels) ≡ Some from = is in sym (cc same))
+
+    by_outcome : (x : Outcome) → end_from (elim x as (λ y. End) [ Well ↦ end_well facts command s | Badly ↦ end_badly s | Unsettled ↦ Ends ]) ≡ Some from
+        → opens_before from s.opens ≡ elim x as (λ y. List OpenRelation) [ Well ↦ opens_well (number_of s) command s.blocks.levels held s.opens | outcome ↦ opens_badly (number_of s) s.blocked s.blocks.levels s.opens ]
     by_outcome Well is = by_command command is
-    by_outcome Badly is = refl
-    by_outcome Unsettled is = refl
+    by_outcome Badly is = by_blocked s.blocked is
+    by_outcome Unsettled is = absurd (cc is)

@@ -9,7 +9,7 @@ use Rattle.cacheless.specs.Holds.{FactsFit}
 use Rattle.cacheless.specs.May.{lacks_opened}
 use Rattle.cacheless.specs.Owed.{OwesScan, owed_at_start, owed_after, unusable, builds_owed, act_owed, scans_owed, owed_of}
 use Rattle.cacheless.specs.Session.{Session, Outcome, Well, Badly, Unsettled, outcome_of}
-use Rattle.cacheless.specs.State.{kept_at, is_kept}
+use Rattle.cacheless.specs.State.{kept_at, is_kept, is_absent}
 use Rattle.cacheless.proofs.Plans.SilentActs.{both_empty}
 use Rattle.backend_core.specs.Types.{Purpose, Command, Opening, Frame, Progress}
 use Rattle.backend_core.specs.Fits.{keeps_whole, FramesFit}
@@ -92,7 +92,7 @@ same_fits facts later o s now frames usable opened left ended last fits = record
 }
   where
     same : keeps_whole later now ≡ keeps_whole facts s
-    same = λ i. not (last i) && not (ended i) && not (has_error (left i))
+    same = λ i. not (last i) && not (ended i && is_absent (left i)) && not (has_error (left i))
 
 -- by what the code holds
 pub usable_is : (facts : Facts) (s : Progress) → FactsFit facts s → facts.usable ≡ is_kept (kept_at s)
