@@ -81,7 +81,7 @@ pub rebuilt_table_plays : Plays rebuilt_table ended
 rebuilt_table_plays = (((at_least_1, at_most_1), tt), (((at_least_1, at_most_1), (refl, refl)), (((at_least_1, at_most_1), (refl, (refl, refl))), (((at_least_1, at_most_1), (refl, (refl, refl))), (((at_least_1, at_most_1), (refl, (refl, refl))), (((at_least_1, at_most_1), (refl, (refl, refl))), (((at_least_1, at_most_1), (refl, (refl, refl))), (((at_least_1, at_most_1), (refl, refl)), (((at_least_1, at_most_1), (refl, tt)), (((at_least_1, at_most_1), (refl, refl)), (((at_least_1, at_most_1), (refl, (refl, refl, refl))), (((at_least_1, at_most_1), (refl, (refl, refl, (refl, refl)))), (((at_least_1, at_most_1), (refl, refl)), (((at_least_1, at_most_1), (refl, refl)), (((at_least_1, at_most_1), (refl, (refl, refl, refl))), (((at_least_1, at_most_1), (refl, refl)), (((at_least_1, at_most_1), (refl, (refl, refl, refl))), (((at_least_1, at_most_1), (refl, refl)), (((at_least_1, at_most_1), (refl, (refl, refl, refl))), (((at_least_1, at_most_1), (refl, refl)), (((at_least_1, at_most_1), (refl, (refl, refl, refl))), (((at_least_1, at_most_1), (refl, refl)), (((at_least_1, at_most_1), (refl, (refl, refl, refl))), (((at_least_1, at_most_1), (refl, refl)), (((at_least_1, at_most_1), (refl, (refl, refl, refl))), (((at_least_1, at_most_1), (refl, refl)), (((at_least_1, at_most_1), (refl, (refl, refl, refl))), (((at_least_1, at_most_1), (refl, refl)), (((at_least_2, at_most_2), tt), (((at_least_2, at_most_2), (refl, refl)), (((at_least_2, at_most_2), (refl, refl)), (((at_least_2, at_most_2), (refl, (refl, refl, refl))), (((at_least_2, at_most_2), (refl, (refl, refl, (refl, refl)))), (((at_least_2, at_most_2), (refl, refl)), (((at_least_2, at_most_2), (refl, refl)), (((at_least_2, at_most_2), (refl, (refl, refl, refl))), (((at_least_2, at_most_2), (refl, refl)), (((at_least_2, at_most_2), (refl, (refl, refl, refl))), (((at_least_2, at_most_2), (refl, refl)), (((at_least_2, at_most_2), (refl, (refl, refl, refl))), (((at_least_2, at_most_2), (refl, refl)), (((at_least_2, at_most_2), (refl, (refl, refl, refl))), (((at_least_2, at_most_2), (refl, refl)), (((at_least_2, at_most_2), (refl, (refl, refl, refl))), (((at_least_2, at_most_2), (refl, refl)), (((at_least_2, at_most_2), (refl, (refl, refl, refl))), (((at_least_2, at_most_2), (refl, refl)), (((at_least_2, at_most_2), (refl, (refl, refl, refl))), (((at_least_2, at_most_2), (refl, (refl, refl))), (((at_least_2, at_most_2), (refl, (refl, refl))), (((at_least_2, at_most_2), (refl, (refl, refl))), (((at_least_2, at_most_2), (refl, (refl, refl))), (((at_least_2, at_most_2), (refl, (refl, refl))), (((at_least_2, at_most_2), (refl, refl)), (((at_least_1, at_most_1), (refl, (refl, refl))), (((at_least_1, at_most_1), (refl, refl)), (((at_least_1, at_most_1), (refl, tt)), (((at_least_1, at_most_1), (refl, (refl, refl))), (((at_least_1, at_most_1), (refl, (refl, refl, refl))), (((at_least_1, at_most_1), (refl, refl)), (((at_least_1, at_most_1), (refl, (refl, refl, refl))), (((at_least_1, at_most_1), (refl, refl)), (((at_least_1, at_most_1), (refl, (refl, refl, refl))), (((at_least_1, at_most_1), (refl, refl)), (((at_least_1, at_most_1), (refl, (refl, refl, refl))), (((at_least_1, at_most_1), (refl, refl)), (((at_least_1, at_most_1), (refl, (refl, refl, refl))), (((at_least_1, at_most_1), (refl, refl)), (((at_least_1, at_most_1), (refl, (refl, refl, refl))), (((at_least_1, at_most_1), (refl, (refl, refl))), (((at_least_1, at_most_1), (refl, refl)), tt)))))))))))))))))))))))))))))))))))))))))))))))))))))))))))))))))))))))
 
 pub rebuilt_table_sound : IsSound ended
-rebuilt_table_sound = (record { follows = record { life = refl; visible = tt; gone = tt; event = tt }; orderly = tt }, (record { follows = record { life = omega arith; visible = tt; gone = tt; event = refl }; orderly = tt }, (record { follows = record { life = omega arith; visible = tt; gone = tt; event = record { xid_is = refl; oids = refl; keys = refl; there = refl; kinds = refl; only = refl; free = refl; guarded = refl; covered = refl } }; orderly = record { fresh = refl; keeps = refl; named = refl } }, (record { follows = record { life = omega arith; visible = tt; gone = tt; event = (refl, refl) }; orderly = tt }, (record { follows = record { life = omega arith; visible = tt; gone = tt; event = (refl, omega arith, refl) }; orderly = tt }, (record { follows = record { life = omega arith; visible = tt; gone = tt; event = (refl, omega arith, refl) }; orderly = tt }, (record { follows = record { life = omega arith; visible = tt; gone = tt; event = (omega arith, (refl, refl)) }; orderly = tt }, (record { follows = record { life = omega arith; visible = tt; gone = tt; event = refl }; orderly = tt }, (record { follows = record { life = omega arith; visible = tt; gone = tt; event = (refl, refl) }; orderly = tt }, (record { follows = record { life = omega arith; visible = tt; gone = tt; event = refl }; orderly = tt }, (record { follows = record { life = omega arith; visible = tt; gone = tt; event = refl }; orderly = tt }, (record { follows = record { life = omega arith; visible = tt; gone = tt; event = (refl, refl) }; orderly = omega arith }, (record { follows = record { life = omega arith; visible = tt; gone = tt; event = refl }; orderly = tt }, (record { follows = record { life = omega arith; visible = tt; gone = tt; event = refl }; orderly = tt }, (record { follows = record { life = omega arith; visible = tt; gone = tt; event = refl }; orderly = tt }, (record { follows = record { life = omega arith; visible = tt; gone = tt; event = refl }; orderly = tt }, (record { follows = record { life = omega arith; visible = tt; gone = tt; event = refl }; orderly = tt }, (record { follows = record { life = omega arith; visible = tt; gone = tt; event = refl }; orderly = tt }, (record { follows = record { life = omega arith; visible = tt; gone = tt; event = refl }; orderly = tt }, (record { follows = record { life = omega arith; visible = tt; gone = tt; event = refl }; orderly = tt }, (record { follows = record { life = omega arith; visible = tt; gone = tt; event = refl }; orderly = tt }, (record { follows = record { life = omega arith; visible = tt; gone = tt; event = refl }; orderly = tt }, (record { follows = record { life = omega arith; visible = tt; gone = tt; event = refl }; orderly = tt }, (record { follows = record { life = omega arith; visible = tt; gone = tt; event = refl }; orderly = tt }, (record { follows = record { life = omega arith; visible = tt; gone = tt; event = refl }; orderly = tt }, (record { follows = record { life = omega arith; visible = tt; gone = tt; event = refl }; orderly = tt }, (record { follows = record { life = omega arith; visible = tt; gone = tt; event = refl }; orderly = tt }, (record { follows = record { life = omega arith; visible = tt; gone = tt; event = refl }; orderly = tt }, (record { follows = record { life = refl; visible = tt; gone = tt; event = tt }; orderly = tt }, (record { follows = record { life = omega arith; visible = tt; gone = tt; event = refl }; orderly = tt }, (record { follows = record { life = omega arith; visible = tt; gone = tt; event = refl }; orderly = tt }, (record { follows = record { life = omega arith; visible = tt; gone = tt; event = refl }; orderly = tt }, (record { follows = record { life = omega arith; visible = tt; gone = tt; event = (refl, refl) }; orderly = omega arith }, (record { follows = record { life = omega arith; visible = tt; gone = tt; event = refl }; orderly = tt }, (record { follows = record { life = omega arith; visible = tt; gone = tt; event = refl }; orderly = tt }, (record { follows = record { life = omega arith; visible = tt; gone = tt; event = refl }; orderly = tt }, (record { follows = record { life = omega arith; visible = tt; gone = tt; event = refl }; orderly = tt }, (record { follows = record { life = omega arith; visible = tt; gone = tt; event = refl }; orderly = tt }, (record { follows = record { life = omega arith; visible = tt; gone = tt; event = refl }; orderly = tt }, (record { follows = record { life = omega arith; visible = tt; gone = tt; event = refl }; orderly = tt }, (record { follows = record { life = omega arith; visible = tt; gone = tt; event = refl }; orderly = tt }, (record { follows = record { life = omega arith; visible = tt; gone = tt; event = refl }; orderly = tt }, (record { follows = record { life = omega arith; visible = tt; gone = tt; event = refl }; orderly = tt }, (record { follows = record { life = omega arith; visible = tt; gone = tt; event = refl }; orderly = tt }, (record { follows = record { life = omega arith; visible = tt; gone = tt; event = refl }; orderly = tt }, (record { follows = record { life = omega arith; visible = tt; gone = tt; event = refl }; orderly = tt }, (record { follows = record { life = omega arith; visible = tt; gone = tt; event = refl }; orderly = tt }, (record { follows = record { life = omega arith; visible = tt; gone = tt; event = refl }; orderly = tt }, (record { follows = record { life = omega arith; visible = tt; gone = tt; event = record { xid_is = refl; oids = refl; keys = refl; there = refl; kinds = refl; only = refl; free = refl; guarded = refl; covered = refl } }; orderly = record { fresh = refl; keeps = refl; named = refl } }, (record { follows = record { life = omega arith; visible = tt; gone = tt; event = (refl, refl) }; orderly = tt }, (record { follows = record { life = omega arith; visible = tt; gone = tt; event = (refl, omega arith, refl) }; orderly = tt }, (record { follows = record { life = omega arith; visible = tt; gone = tt; event = (refl, omega arith, refl) }; orderly = tt }, (record { follows = record { life = omega arith; visible = tt; gone = tt; event = (omega arith, (refl, refl)) }; orderly = tt }, (record { follows = record { life = omega arith; visible = tt; gone = tt; event = refl }; orderly = tt }, (record { follows = record { life = omega arith; visible = tt; gone = tt; event = (omega arith, refl) }; orderly = tt }, (record { follows = record { life = omega arith; visible = tt; gone = tt; event = refl }; orderly = tt }, (record { follows = record { life = omega arith; visible = tt; gone = tt; event = (refl, refl) }; orderly = tt }, (record { follows = record { life = omega arith; visible = tt; gone = tt; event = (omega arith, refl) }; orderly = tt }, (record { follows = record { life = omega arith; visible = tt; gone = tt; event = refl }; orderly = tt }, (record { follows = record { life = omega arith; visible = tt; gone = tt; event = refl }; orderly = tt }, (record { follows = record { life = omega arith; visible = tt; gone = tt; event = refl }; orderly = tt }, (record { follows = record { life = omega arith; visible = tt; gone = tt; event = refl }; orderly = tt }, (record { follows = record { life = omega arith; visible = tt; gone = tt; event = refl }; orderly = tt }, (record { follows = record { life = omega arith; visible = tt; gone = tt; event = refl }; orderly = tt }, (record { follows = record { life = omega arith; visible = tt; gone = tt; event = refl }; orderly = tt }, (record { follows = record { life = omega arith; visible = tt; gone = tt; event = refl }; orderly = tt }, (record { follows = record { life = omega arith; visible = tt; gone = tt; event = refl }; orderly = tt }, (record { follows = record { life = omega arith; visible = tt; gone = tt; event = refl }; orderly = tt }, (record { follows = record { life = omega arith; visible = tt; gone = tt; event = refl }; orderly = tt }, (record { follows = record { life = omega arith; visible = tt; gone = tt; event = (omega arith, refl) }; orderly = tt }, (record { follows = record { life = omega arith; visible = tt; gone = tt; event = refl }; orderly = tt }, tt)))))))))))))))))))))))))))))))))))))))))))))))))))))))))))))))))))))))
+rebuilt_table_sound = (record { follows = record { life = refl; visible = tt; gone = tt; event = tt }; orderly = tt }, (record { follows = record { life = omega arith; visible = tt; gone = tt; event = refl }; orderly = tt }, (record { follows = record { life = omega arith; visible = tt; gone = tt; event = record { xid_is = refl; oids = refl; keys = refl; there = refl; kinds = refl; only = refl; free = refl; guarded = refl; covered = refl } }; orderly = record { fresh = refl; keeps = refl; told = refl } }, (record { follows = record { life = omega arith; visible = tt; gone = tt; event = (refl, refl) }; orderly = tt }, (record { follows = record { life = omega arith; visible = tt; gone = tt; event = (refl, omega arith, refl) }; orderly = tt }, (record { follows = record { life = omega arith; visible = tt; gone = tt; event = (refl, omega arith, refl) }; orderly = tt }, (record { follows = record { life = omega arith; visible = tt; gone = tt; event = (omega arith, (refl, refl)) }; orderly = tt }, (record { follows = record { life = omega arith; visible = tt; gone = tt; event = refl }; orderly = tt }, (record { follows = record { life = omega arith; visible = tt; gone = tt; event = (refl, refl) }; orderly = tt }, (record { follows = record { life = omega arith; visible = tt; gone = tt; event = refl }; orderly = tt }, (record { follows = record { life = omega arith; visible = tt; gone = tt; event = refl }; orderly = tt }, (record { follows = record { life = omega arith; visible = tt; gone = tt; event = (refl, refl) }; orderly = omega arith }, (record { follows = record { life = omega arith; visible = tt; gone = tt; event = refl }; orderly = tt }, (record { follows = record { life = omega arith; visible = tt; gone = tt; event = refl }; orderly = tt }, (record { follows = record { life = omega arith; visible = tt; gone = tt; event = refl }; orderly = tt }, (record { follows = record { life = omega arith; visible = tt; gone = tt; event = refl }; orderly = tt }, (record { follows = record { life = omega arith; visible = tt; gone = tt; event = refl }; orderly = tt }, (record { follows = record { life = omega arith; visible = tt; gone = tt; event = refl }; orderly = tt }, (record { follows = record { life = omega arith; visible = tt; gone = tt; event = refl }; orderly = tt }, (record { follows = record { life = omega arith; visible = tt; gone = tt; event = refl }; orderly = tt }, (record { follows = record { life = omega arith; visible = tt; gone = tt; event = refl }; orderly = tt }, (record { follows = record { life = omega arith; visible = tt; gone = tt; event = refl }; orderly = tt }, (record { follows = record { life = omega arith; visible = tt; gone = tt; event = refl }; orderly = tt }, (record { follows = record { life = omega arith; visible = tt; gone = tt; event = refl }; orderly = tt }, (record { follows = record { life = omega arith; visible = tt; gone = tt; event = refl }; orderly = tt }, (record { follows = record { life = omega arith; visible = tt; gone = tt; event = refl }; orderly = tt }, (record { follows = record { life = omega arith; visible = tt; gone = tt; event = refl }; orderly = tt }, (record { follows = record { life = omega arith; visible = tt; gone = tt; event = refl }; orderly = tt }, (record { follows = record { life = refl; visible = tt; gone = tt; event = tt }; orderly = tt }, (record { follows = record { life = omega arith; visible = tt; gone = tt; event = refl }; orderly = tt }, (record { follows = record { life = omega arith; visible = tt; gone = tt; event = refl }; orderly = tt }, (record { follows = record { life = omega arith; visible = tt; gone = tt; event = refl }; orderly = tt }, (record { follows = record { life = omega arith; visible = tt; gone = tt; event = (refl, refl) }; orderly = omega arith }, (record { follows = record { life = omega arith; visible = tt; gone = tt; event = refl }; orderly = tt }, (record { follows = record { life = omega arith; visible = tt; gone = tt; event = refl }; orderly = tt }, (record { follows = record { life = omega arith; visible = tt; gone = tt; event = refl }; orderly = tt }, (record { follows = record { life = omega arith; visible = tt; gone = tt; event = refl }; orderly = tt }, (record { follows = record { life = omega arith; visible = tt; gone = tt; event = refl }; orderly = tt }, (record { follows = record { life = omega arith; visible = tt; gone = tt; event = refl }; orderly = tt }, (record { follows = record { life = omega arith; visible = tt; gone = tt; event = refl }; orderly = tt }, (record { follows = record { life = omega arith; visible = tt; gone = tt; event = refl }; orderly = tt }, (record { follows = record { life = omega arith; visible = tt; gone = tt; event = refl }; orderly = tt }, (record { follows = record { life = omega arith; visible = tt; gone = tt; event = refl }; orderly = tt }, (record { follows = record { life = omega arith; visible = tt; gone = tt; event = refl }; orderly = tt }, (record { follows = record { life = omega arith; visible = tt; gone = tt; event = refl }; orderly = tt }, (record { follows = record { life = omega arith; visible = tt; gone = tt; event = refl }; orderly = tt }, (record { follows = record { life = omega arith; visible = tt; gone = tt; event = refl }; orderly = tt }, (record { follows = record { life = omega arith; visible = tt; gone = tt; event = refl }; orderly = tt }, (record { follows = record { life = omega arith; visible = tt; gone = tt; event = record { xid_is = refl; oids = refl; keys = refl; there = refl; kinds = refl; only = refl; free = refl; guarded = refl; covered = refl } }; orderly = record { fresh = refl; keeps = refl; told = refl } }, (record { follows = record { life = omega arith; visible = tt; gone = tt; event = (refl, refl) }; orderly = tt }, (record { follows = record { life = omega arith; visible = tt; gone = tt; event = (refl, omega arith, refl) }; orderly = tt }, (record { follows = record { life = omega arith; visible = tt; gone = tt; event = (refl, omega arith, refl) }; orderly = tt }, (record { follows = record { life = omega arith; visible = tt; gone = tt; event = (omega arith, (refl, refl)) }; orderly = tt }, (record { follows = record { life = omega arith; visible = tt; gone = tt; event = refl }; orderly = tt }, (record { follows = record { life = omega arith; visible = tt; gone = tt; event = (omega arith, refl) }; orderly = tt }, (record { follows = record { life = omega arith; visible = tt; gone = tt; event = refl }; orderly = tt }, (record { follows = record { life = omega arith; visible = tt; gone = tt; event = (refl, refl) }; orderly = tt }, (record { follows = record { life = omega arith; visible = tt; gone = tt; event = (omega arith, refl) }; orderly = tt }, (record { follows = record { life = omega arith; visible = tt; gone = tt; event = refl }; orderly = tt }, (record { follows = record { life = omega arith; visible = tt; gone = tt; event = refl }; orderly = tt }, (record { follows = record { life = omega arith; visible = tt; gone = tt; event = refl }; orderly = tt }, (record { follows = record { life = omega arith; visible = tt; gone = tt; event = refl }; orderly = tt }, (record { follows = record { life = omega arith; visible = tt; gone = tt; event = refl }; orderly = tt }, (record { follows = record { life = omega arith; visible = tt; gone = tt; event = refl }; orderly = tt }, (record { follows = record { life = omega arith; visible = tt; gone = tt; event = refl }; orderly = tt }, (record { follows = record { life = omega arith; visible = tt; gone = tt; event = refl }; orderly = tt }, (record { follows = record { life = omega arith; visible = tt; gone = tt; event = refl }; orderly = tt }, (record { follows = record { life = omega arith; visible = tt; gone = tt; event = refl }; orderly = tt }, (record { follows = record { life = omega arith; visible = tt; gone = tt; event = refl }; orderly = tt }, (record { follows = record { life = omega arith; visible = tt; gone = tt; event = (omega arith, refl) }; orderly = tt }, (record { follows = record { life = omega arith; visible = tt; gone = tt; event = refl }; orderly = tt }, tt)))))))))))))))))))))))))))))))))))))))))))))))))))))))))))))))))))))))
 
 pub rebuilt_table_queue : FollowsQueue 4096 ended
 rebuilt_table_queue = (tt, (tt, (tt, (tt, (tt, (tt, (tt, (tt, (refl, (tt, (tt, (tt, (tt, (tt, (tt, (tt, (tt, (tt, (tt, (tt, (tt, (tt, (tt, (tt, (tt, (tt, (tt, (tt, (tt, (tt, (tt, (tt, (tt, (tt, (tt, (tt, (tt, (tt, (tt, (tt, (tt, (tt, (tt, (tt, (tt, (tt, (tt, (tt, (tt, (tt, (tt, (tt, (tt, (tt, (tt, (tt, (refl, (tt, (tt, (tt, (tt, (tt, (tt, (tt, (tt, (tt, (tt, (tt, (tt, (tt, (tt, tt)))))))))))))))))))))))))))))))))))))))))))))))))))))))))))))))))))))))

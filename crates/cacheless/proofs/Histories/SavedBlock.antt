@@ -70,7 +70,7 @@ pub saved_block_plays : Plays saved_block ended
 saved_block_plays = (((at_least_1, at_most_1), tt), (((at_least_1, at_most_1), (refl, refl)), (((at_least_1, at_most_1), (refl, (refl, refl))), (((at_least_1, at_most_1), (refl, (refl, refl))), (((at_least_1, at_most_1), (refl, refl)), (((at_least_1, at_most_1), (refl, (refl, refl, refl))), (((at_least_1, at_most_1), (refl, refl)), (((at_least_1, at_most_1), (refl, (refl, refl))), (((at_least_1, at_most_1), (refl, (refl, refl))), (((at_least_1, at_most_1), (refl, (refl, refl))), (((at_least_1, at_most_1), (refl, (refl, refl))), (((at_least_1, at_most_1), (refl, (refl, refl))), (((at_least_1, at_most_1), (refl, (refl, refl))), (((at_least_1, at_most_1), (refl, refl)), tt))))))))))))))
 
 pub saved_block_sound : IsSound ended
-saved_block_sound = (record { follows = record { life = refl; visible = tt; gone = tt; event = tt }; orderly = tt }, (record { follows = record { life = omega arith; visible = tt; gone = tt; event = refl }; orderly = tt }, (record { follows = record { life = omega arith; visible = tt; gone = tt; event = record { xid_is = refl; oids = refl; keys = refl; there = refl; kinds = refl; only = refl; free = refl; guarded = refl; covered = refl } }; orderly = record { fresh = refl; keeps = refl; named = refl } }, (record { follows = record { life = omega arith; visible = tt; gone = tt; event = record { xid_is = refl; oids = refl; keys = refl; there = refl; kinds = refl; only = refl; free = refl; guarded = refl; covered = refl } }; orderly = record { fresh = refl; keeps = refl; named = refl } }, (record { follows = record { life = omega arith; visible = tt; gone = tt; event = refl }; orderly = tt }, (record { follows = record { life = omega arith; visible = tt; gone = tt; event = refl }; orderly = tt }, (record { follows = record { life = omega arith; visible = tt; gone = tt; event = refl }; orderly = tt }, (record { follows = record { life = omega arith; visible = tt; gone = tt; event = refl }; orderly = tt }, (record { follows = record { life = omega arith; visible = tt; gone = refl; event = (omega arith, refl) }; orderly = tt }, (record { follows = record { life = omega arith; visible = tt; gone = tt; event = (omega arith, refl) }; orderly = tt }, (record { follows = record { life = omega arith; visible = tt; gone = tt; event = record { xid_is = refl; oids = refl; keys = refl; there = refl; kinds = refl; only = refl; free = refl; guarded = refl; covered = refl } }; orderly = record { fresh = refl; keeps = refl; named = refl } }, (record { follows = record { life = omega arith; visible = tt; gone = tt; event = refl }; orderly = tt }, (record { follows = record { life = omega arith; visible = tt; gone = refl; event = (omega arith, refl) }; orderly = tt }, (record { follows = record { life = omega arith; visible = tt; gone = tt; event = refl }; orderly = tt }, tt))))))))))))))
+saved_block_sound = (record { follows = record { life = refl; visible = tt; gone = tt; event = tt }; orderly = tt }, (record { follows = record { life = omega arith; visible = tt; gone = tt; event = refl }; orderly = tt }, (record { follows = record { life = omega arith; visible = tt; gone = tt; event = record { xid_is = refl; oids = refl; keys = refl; there = refl; kinds = refl; only = refl; free = refl; guarded = refl; covered = refl } }; orderly = record { fresh = refl; keeps = refl; told = refl } }, (record { follows = record { life = omega arith; visible = tt; gone = tt; event = record { xid_is = refl; oids = refl; keys = refl; there = refl; kinds = refl; only = refl; free = refl; guarded = refl; covered = refl } }; orderly = record { fresh = refl; keeps = refl; told = refl } }, (record { follows = record { life = omega arith; visible = tt; gone = tt; event = refl }; orderly = tt }, (record { follows = record { life = omega arith; visible = tt; gone = tt; event = refl }; orderly = tt }, (record { follows = record { life = omega arith; visible = tt; gone = tt; event = refl }; orderly = tt }, (record { follows = record { life = omega arith; visible = tt; gone = tt; event = refl }; orderly = tt }, (record { follows = record { life = omega arith; visible = tt; gone = refl; event = (omega arith, refl) }; orderly = tt }, (record { follows = record { life = omega arith; visible = tt; gone = tt; event = (omega arith, refl) }; orderly = tt }, (record { follows = record { life = omega arith; visible = tt; gone = tt; event = record { xid_is = refl; oids = refl; keys = refl; there = refl; kinds = refl; only = refl; free = refl; guarded = refl; covered = refl } }; orderly = record { fresh = refl; keeps = refl; told = refl } }, (record { follows = record { life = omega arith; visible = tt; gone = tt; event = refl }; orderly = tt }, (record { follows = record { life = omega arith; visible = tt; gone = refl; event = (omega arith, refl) }; orderly = tt }, (record { follows = record { life = omega arith; visible = tt; gone = tt; event = refl }; orderly = tt }, tt))))))))))))))
 
 pub saved_block_queue : FollowsQueue 4096 ended
 saved_block_queue = (tt, (tt, (tt, (tt, (tt, (tt, (tt, (tt, (tt, (tt, (tt, (tt, (tt, (tt, tt))))))))))))))
