@@ -1,11 +1,12 @@
 -- A step: an entry, and then what needs none.
-use Rattle.std.proofs.Common.{◌≡◌, ◌∙◌, ℕ, List, Result, Ok, Err, OnOk, OnErr, sym, subst}
+use Rattle.std.proofs.Common.{◌≡◌, ◌∙◌, ℕ, false, List, [], Result, Ok, Err, OnOk, OnErr, sym, subst}
 use Rattle.backend_core.specs.Types.{Scenario, Entry, Backend}
 use Rattle.backend_core.specs.declared.life.Life.TheVariants as lives
 use Rattle.history_model.specs.Legal.{IsLegal}
 use Rattle.cacheless.specs.Plays.{Plays}
 use Rattle.cacheless.proofs.Allowed.AllowedHistories.{plays_on_course}
 use Rattle.backend_core.specs.Agrees.{AreSpelled, IsPlayed, AwaitsEntry, HasNotJoined, HasLeft, Stands, IsReady}
+use Rattle.backend_core.specs.Noted.{noted_of, nothing_noted, Settles, Stays, Passes, NotesStep, NotesAtStep}
 use Rattle.backend_core.specs.Steps.{MakesEntry, Enters, Steps, IsRefused, After}
 use Rattle.backend_core.proofs.Coherent.{stands_coherent}
 use Rattle.backend_core.proofs.Played.{IsPlayed-more}
@@ -45,3 +46,24 @@ stepped_on scenario later old new had has was now done (Err e) same played enter
 pub refused_after : {E : Type 0} (scenario : Scenario) (old new : List Entry) (had has : ℕ → ℕ) (was now : Backend) (result : Result (Unit {0}) E) → Enters scenario old new had has was now → OnErr result (IsRefused scenario old new had has was.progress.id)
 refused_after scenario old new had has was now (Ok x) enters = tt
 refused_after scenario old new had has was now (Err e) enters = After enters.makes
+
+-- a backend that stands and hasn't joined has nothing noted
+not_joined : (scenario : Scenario) (seen : List Entry) (s : Backend) → Stands scenario seen s → s.life ≡ lives.Unstarted → HasNotJoined scenario seen s
+not_joined scenario seen s stands life = subst (λ life. elim life as (λ x. Type 0) [ lives.Unstarted ↦ HasNotJoined scenario seen s | lives.Alive ↦ AwaitsEntry scenario seen s | lives.Stopped ↦ HasLeft scenario seen s ]) life stands
+
+new_noted : (s : Backend) → s.looked ≡ false → s.frames ≡ [] → s.told ≡ false → noted_of s ≡ nothing_noted
+new_noted s looked frames told = λ i. record { looked = looked i; frames = frames i; told = told i }
+
+-- where nothing is noted nothing is after it goes on
+settles_nothing : (was now : Backend) → noted_of was ≡ nothing_noted → Settles was now → noted_of now ≡ nothing_noted
+settles_nothing was now none (Stays at same) = same ∙ none
+settles_nothing was now none (Passes less nothing) = nothing
+
+-- what is noted once it has joined, and once a backend that had joined has made its entry
+pub joined_notes : {E : Type 0} (scenario : Scenario) (seen old new : List Entry) (was entered now : Backend) (result : Result (Unit {0}) E) → Stands scenario seen was → was.life ≡ lives.Unstarted → noted_of entered ≡ noted_of was → OnOk result (Settles entered now) → OnOk result (NotesAtStep old new was now)
+joined_notes scenario seen old new was entered now (Ok x) stands life same settles = let fresh = (not_joined scenario seen was stands life).new in subst (λ l. elim l as (λ y. Type 0) [ lives.Unstarted ↦ noted_of now ≡ nothing_noted | other ↦ NotesStep old new was now ]) (sym life) (settles_nothing entered now (same ∙ new_noted was fresh.looked fresh.frames fresh.told) settles)
+joined_notes scenario seen old new was entered now (Err e) stands life same settles = tt
+
+pub entered_notes : {E : Type 0} (old new : List Entry) (was now : Backend) (result : Result (Unit {0}) E) → was.life ≡ lives.Alive → OnOk result (NotesStep old new was now) → OnOk result (NotesAtStep old new was now)
+entered_notes old new was now (Ok x) life notes = subst (λ l. elim l as (λ y. Type 0) [ lives.Unstarted ↦ noted_of now ≡ nothing_noted | other ↦ NotesStep old new was now ]) (sym life) notes
+entered_notes old new was now (Err e) life notes = tt

@@ -8,6 +8,7 @@ use Rattle.cacheless.specs.May.{has_failed}
 use Rattle.cacheless.specs.Session.{opening_of, held_in}
 use Rattle.cacheless.specs.State.{kept_at, kept_spared, is_kept}
 use Rattle.backend_core.specs.Types.{Message, Entry, Event, Frame, Next, Backend}
+use Rattle.backend_core.specs.declared.life.Life.TheVariants as lives
 use Rattle.backend_core.specs.declared.next.Next.TheVariants as nexts
 use Rattle.backend_core.specs.Frames.{unless, with_rest, frames_after}
 use Rattle.backend_core.specs.Steps.{IsNextOf}
@@ -82,3 +83,7 @@ pub record NotesStep (old new : List Entry) (was now : Backend) : Type 0 where
   pub entered : Backend
   pub noted : IsNoted old new was next entered
   pub settled : Settles entered now
+
+-- what a step leaves noted: of a backend that hadn't joined nothing, of any other what its entry makes of it
+abbrev pub NotesAtStep : List Entry → List Entry → Backend → Backend → Type 0
+NotesAtStep old new was now = elim was.life [ lives.Unstarted ↦ noted_of now ≡ nothing_noted | life ↦ NotesStep old new was now ]

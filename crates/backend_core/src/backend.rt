@@ -40,6 +40,7 @@ impl Backend {
     ghost use Rattle.history_model.specs.Legal.{IsLegal};
     ghost use Rattle.cacheless.specs.Plays.{Plays};
     ghost use Rattle.backend_core.specs.Agrees.{IsNew, AreSpelled, Stands};
+    ghost use Rattle.backend_core.specs.Noted.{NotesAtStep};
     ghost use Rattle.backend_core.specs.Steps.{Steps, IsRefused};
 
     /// The backend of this number with its commands in order, which hasn't joined.
@@ -85,6 +86,7 @@ impl Backend {
         requires alive { has_left self.old.life ≡ false }
         ensures script { L.script seg.new ≡ L.script seg.old }
         ensures steps { OnOk result (Steps (L.script seg.old) (L.history seg.old) (L.history seg.new) (L.promised seg.old) (L.promised seg.new) self.old self.new) }
+        ensures noted { OnOk result (NotesAtStep (L.history seg.old) (L.history seg.new) self.old self.new) }
         ensures refused { OnErr result (IsRefused (L.script seg.old) (L.history seg.old) (L.history seg.new) (L.promised seg.old) (L.promised seg.new) self.old.progress.id) }
     {
         match self.life {
