@@ -12,8 +12,9 @@
 //! their place: all scans are dropped, a build that has made its first scan starts over with another look,
 //! and the held descriptors are rebuilt in the order of their oids before the command goes on. A command that
 //! has come out is answered, and then ended: a transaction of its own is committed or taken back, a block goes
-//! on, fails or ends
-//! (`src/backend/access/transam/xact.c`). A commit publishes the messages of its writes between its
+//! on, fails or ends, and a rollback to a savepoint takes back that level of it
+//! (`src/backend/access/transam/xact.c`); after its release the backend holds what outer levels have open, and
+//! rebuilds what that lacks as after a reset. A commit publishes the messages of its writes between its
 //! visibility step and its release, at most 64 at a time, all for the catalog caches before all for
 //! descriptors; what a rollback takes back is never published. One step makes exactly one entry;
 //! what needs no entry (to go on by rows that are there, to open a descriptor whose scans are made,
