@@ -13,7 +13,7 @@ pub(crate) struct Frame {
     pub(crate) opening: Opening,
     // the look for its next scan is made
     pub(crate) looked: bool,
-    // a reset put it on, and goes on after it
+    // a reset, or a rollback to a savepoint, put it on, and goes on after it
     pub(crate) of_reset: bool,
 }
 
