@@ -7,14 +7,17 @@ use Rattle.std.proofs.Math.Dec.{leb}
 use Rattle.std.proofs.lemmas.Bool.Decides.{leb_tells, Decides-eqb}
 use Rattle.std.proofs.lemmas.List.Elements.{All-from_recursion}
 use Rattle.base_types.specs.Scenario.{IsBackend}
+use Rattle.event_kinds.specs.Entries.{IsLine}
 use Rattle.event_kinds.specs.Texts.{entries_text, lines_text}
 use Rattle.history_ledger.specs.Longest.{IsLongest}
 use Rattle.history_model.specs.Prefixes.{EachFrom}
 use Rattle.history_model.proofs.Prefixes.{EachEntry-prefix}
 use Rattle.cacheless.specs.Lines.{lines_of}
 use Rattle.cacheless.specs.Output.{IsAllowed}
+use Rattle.cacheless.specs.Played.{AreSpelled}
 use Rattle.cacheless.specs.Plays.{IsNext}
 use Rattle.cacheless.specs.Schedule.{FollowsSchedule, AreLooksTrue, IsComplete}
+use Rattle.cacheless.proofs.Allowed.AllowedHistories.{allowed_sound}
 use Rattle.history_lines.specs.Answered.{IsAnswered}
 use Rattle.check_tool.specs.Types.{Scenario, Entry, Line}
 use Rattle.check_tool.specs.Leading.{Leads}
@@ -63,9 +66,10 @@ both-prefix : (scenario : Scenario) (history rest : List Entry) → IsAllowed sc
 both-prefix scenario history rest both = (allowed-prefix scenario history rest both.0, EachEntry-prefix _ history rest both.1)
 
 -- of what the script allows the looks are judged, and of that the turns
-pub walked_far : (scenario : Scenario) (entries : List Entry) (allowed looks followed : ℕ) (lines : List Line) (follows_whole is_whole : Bool) → IsAnswered scenario entries allowed lines → IsLongest AreLooksTrue (take allowed entries) looks
+pub walked_far : (scenario : Scenario) (entries : List Entry) (allowed looks followed : ℕ) (lines : List Line) (follows_whole is_whole : Bool) → AreSpelled scenario → IsAnswered scenario entries allowed lines → IsLongest AreLooksTrue (take allowed entries) looks
     → HaveFollowed scenario (take looks (take allowed entries)) followed follows_whole → Decides is_whole ((follows_whole ≡ true) × (looks ≡ length entries)) → HaveWalked scenario entries followed is_whole lines
-walked_far scenario entries allowed looks followed lines follows_whole is_whole answered looked turns decides = record {
+walked_far scenario entries allowed looks followed lines follows_whole is_whole spelled answered looked turns decides = record {
+  spelled = spelled;
   longest = record { within = longest.within; holds = record { allowed = longest.holds.0.0; follows = longest.holds.1; looks = longest.holds.0.1 }; most = λ less more. longest.most less ((more.allowed, more.looks), more.follows) };
   whole = (
     λ whole. let parts = decides.0 whole in let ended = turns.whole.0 parts.0 in (ended.0 ∙ ap length (all parts.1), subst (IsComplete scenario) (all parts.1) ended.1),
@@ -107,9 +111,9 @@ output_parts scenario text entries rest leads o = leads_once text entries o.is.h
 })
 
 -- all that the text begins with is a whole walk, and its lines follow
-pub is_output : (scenario : Scenario) (text : List ℕ) (entries : List Entry) (rest : List ℕ) (count : ℕ) (whole : Bool) (lines : List Line) → Leads text entries rest → HaveWalked scenario entries count whole lines → whole ≡ true → rest ≡ lines_text lines ++ codes "end\n"
+pub is_output : (scenario : Scenario) (text : List ℕ) (entries : List Entry) (rest : List ℕ) (count : ℕ) (whole : Bool) (lines : List Line) → Leads text entries rest → HaveWalked scenario entries count whole lines → whole ≡ true → All IsLine lines → rest ≡ lines_text lines ++ codes "end\n"
     → IsOutputOf scenario text count
-is_output scenario text entries rest count whole lines leads far ended same =
+is_output scenario text entries rest count whole lines leads far ended typed same =
     let end = far.whole.0 ended in
     let walked : MayBeWalked scenario entries = subst (MayBeWalked scenario) (take_all count entries (omega (arith, end.0))) far.longest.holds in
     record {
@@ -124,6 +128,9 @@ is_output scenario text entries rest count whole lines leads far ended same =
         };
         entries = leads.entries_are;
       };
+      sound = allowed_sound scenario entries far.spelled walked.allowed;
+      commands = far.spelled;
+      answers = subst (All IsLine) (far.lines_are end.0) typed;
       count_is = end.0;
     }
 

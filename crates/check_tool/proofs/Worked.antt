@@ -3,7 +3,7 @@ use Rattle.std.specs.Fmt.{digits}
 use Rattle.std.proofs.Common.{◌≤◌, ◌<◌, ℕ, true, false, List, [], ◌∷◌, codes, refl, arith}
 use Rattle.std.proofs.lemmas.List.Elements.{All-from_recursion}
 use Rattle.event_kinds.specs.declared.entry.Event.TheVariants.{Start, Stop}
-use Rattle.event_kinds.specs.Entries.{IsEntry}
+use Rattle.event_kinds.specs.Entries.{IsEntry, IsLine}
 use Rattle.check_tool.specs.Leading.{Leads}
 use Rattle.check_tool.specs.Types.{Scenario, Entry, Event}
 use Rattle.check_tool.specs.Verdicts.{IsOutputOf, DiffersAt}
@@ -66,6 +66,7 @@ stopped_leads = record { text_is = refl; entries_are = All-from_recursion IsEntr
 
 stopped_far : HaveWalked idle stopped 2 true []
 stopped_far = record {
+  spelled = tt;
   longest = record { within = omega arith; holds = stopped_walked; most = λ less more. absurd (omega (arith, less)) };
   whole = (λ all. (refl, refl), λ all. refl);
   lines_are = λ all. refl;
@@ -73,7 +74,7 @@ stopped_far = record {
 
 -- it is one, with two entries
 pub whole_output : IsOutputOf idle (codes "h 1 0 start\nh 1 1 stop\nend\n") 2
-whole_output = is_output idle (codes "h 1 0 start\nh 1 1 stop\nend\n") stopped (codes "end\n") 2 true [] stopped_leads stopped_far refl refl
+whole_output = is_output idle (codes "h 1 0 start\nh 1 1 stop\nend\n") stopped (codes "end\n") 2 true [] stopped_leads stopped_far refl (All-from_recursion IsLine [] tt) refl
 
 blank_leads : Leads (codes "h 1 0 start\nh 1 1 stop\nend\n ") stopped (codes "end\n ")
 unfolding digits
@@ -91,6 +92,7 @@ cut_leads = record { text_is = refl; entries_are = All-from_recursion IsEntry st
 
 started_far : HaveWalked idle started 1 false []
 started_far = record {
+  spelled = tt;
   longest = record { within = omega arith; holds = started_walked; most = λ less more. absurd (omega (arith, less)) };
   whole = (λ all. absurd cc, λ all. let never = all.1 in absurd cc);
   lines_are = λ all. refl;
@@ -103,6 +105,7 @@ cut_off = differs_at idle (codes "h 1 0 start\nh 1 1 sto") started (codes "h 1 1
 -- nothing at all
 pub empty_output : DiffersAt idle [] 1
 empty_output = differs_at idle [] [] [] 0 false [] (record { text_is = refl; entries_are = All-from_recursion IsEntry [] tt; ends = λ e more is same. absurd cc }) (record {
+  spelled = tt;
   longest = record { within = omega arith; holds = record { allowed = record { legal = tt; queue = tt; plays = tt; economical = tt }; follows = tt; looks = tt }; most = λ less more. absurd (omega (arith, less)) };
   whole = (λ all. absurd cc, λ all. let never = all.1 in absurd cc);
   lines_are = λ all. refl;

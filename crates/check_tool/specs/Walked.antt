@@ -4,6 +4,7 @@ use Rattle.std.specs.Bool.{Decides}
 use Rattle.history_ledger.specs.Longest.{IsLongest}
 use Rattle.cacheless.specs.Lines.{lines_of}
 use Rattle.cacheless.specs.Output.{IsAllowed}
+use Rattle.cacheless.specs.Played.{AreSpelled}
 use Rattle.cacheless.specs.Schedule.{FollowsSchedule, AreLooksTrue, IsComplete}
 use Rattle.check_tool.specs.Types.{Scenario, Entry, Line}
 
@@ -18,8 +19,9 @@ pub record HaveFollowed (scenario : Scenario) (entries : List Entry) (count : �
   pub longest : IsLongest (FollowsSchedule scenario) entries count
   pub whole : Decides is_whole ((count ≡ length entries) × IsComplete scenario entries)
 
--- a walk may have come to so many entries, from the first on; whether it may have come to all of them and ended there; and then the lines
+-- a walk may have come to so many entries, from the first on; whether it may have come to all of them and ended there; and then the lines. The script's commands have forms that lines may have
 pub record HaveWalked (scenario : Scenario) (entries : List Entry) (count : ℕ) (is_whole : Bool) (lines : List Line) : Type 0 where
+  pub spelled : AreSpelled scenario
   pub longest : IsLongest (MayBeWalked scenario) entries count
   pub whole : Decides is_whole ((count ≡ length entries) × IsComplete scenario entries)
   pub lines_are : count ≡ length entries → lines ≡ lines_of scenario entries

@@ -9,7 +9,7 @@ true_looks-requires-clause-backends c = allowed_backends c.args.script.now (take
 pub returns : goal.returns
 returns c =
     walked_far c.args.script.now c.args.entries.now c.in_ok-answered.answered.entries c.in_ok-looks.looks c.in_ok-followed.followed.entries c.in_ok-answered.answered.lines c.in_ok-followed.followed.is_whole c.if-followed.result
-    c.in_ok-answered.ensures c.in_ok-looks.ensures c.in_ok-followed.ensures
+    c.backends.ensures.kept.spelled c.in_ok-answered.ensures c.in_ok-looks.ensures c.in_ok-followed.ensures
     (elim c.if-followed.branch [
       | then-followed w ↦ both_told c.in_ok-followed.followed.is_whole c.if-followed.result c.in_ok-looks.looks (length c.args.entries.now) w.if-followed.true w.result-is
       | else-followed w ↦ not_both_told c.in_ok-followed.followed.is_whole c.if-followed.result c.in_ok-looks.looks (length c.args.entries.now) w.if-followed.false (w.result-is ∙ w.if-followed.false)
