@@ -14,13 +14,15 @@ use std::alloc::Global;
 pub enum Checked {
     /// An output of the script, with so many entries.
     Output { entries: u64 },
-    /// Something else. The number, from 1, of the first of its leading entries that a walk may not make there;
-    /// the number after the last where a walk may make all of them.
+    /// No output whose entries have texts. The number, from 1, of the first of its leading entries that a walk may
+    /// not make there; the number after the last where a walk may make all of them, and one is missing or what
+    /// follows them differs.
     Differs { entry: u64 },
 }
 
-/// Whether the bytes are an output of `walk` for the script. Condition: the script's commands can be run.
-/// `NoMemory` comes where memory is short, or a number can't be counted.
+/// Whether the bytes are an output of `walk` for the script. Outputs are meant whose entries have texts, as all
+/// that `walk` writes do: numbers of four bytes, names as they may be, and at least one change in a write.
+/// Condition: the script's commands can be run. `NoMemory` comes where memory is short, or a number can't be counted.
 pub fn check(alloc: Global, script: &Script, output: &[u8]) -> Result<Checked, NoMemory>
     requires { is_built script.now ≡ true }
     ensures { IfOk result (IsVerdict script.now output.now) }
