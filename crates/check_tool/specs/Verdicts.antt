@@ -1,12 +1,12 @@
 -- What a check finds.
 use Rattle.std.specs.Prelude.{◌≡◌, ◌+◌, ℕ, List, length}
-use Rattle.std.specs.List.{All}
+use Rattle.std.specs.List.{All, AllByRecursion}
+use Rattle.base_types.specs.Commands.{IsCommand}
 use Rattle.event_kinds.specs.Entries.{IsEntry, IsLine}
 use Rattle.history_ledger.specs.Longest.{IsLongest}
 use Rattle.history_model.specs.Orderly.{IsSound}
 use Rattle.cacheless.specs.Lines.{lines_of}
 use Rattle.cacheless.specs.Output.{IsOutput}
-use Rattle.cacheless.specs.Played.{AreSpelled}
 use Rattle.check_tool.specs.Leading.{Leads}
 use Rattle.check_tool.specs.Types.{Scenario, Entry}
 use Rattle.check_tool.specs.Walked.{MayBeWalked}
@@ -22,7 +22,7 @@ pub record IsTypedOutput (scenario : Scenario) (text : List ℕ) : Type 0 where
 pub record IsOutputOf (scenario : Scenario) (text : List ℕ) (count : ℕ) : Type 0 where
   pub is : IsTypedOutput scenario text
   pub sound : IsSound is.is.history
-  pub commands : AreSpelled scenario
+  pub commands : AllByRecursion (λ p. IsCommand p.command) scenario.commands
   pub answers : All IsLine (lines_of scenario is.is.history)
   pub count_is : count ≡ length is.is.history
 

@@ -21,8 +21,8 @@ pub(crate) fn are_lines(bytes: &[u8], lines: &[Line]) -> bool
     left == b"end\n".as_slice()
 }
 
-// What comes after an answer line, where the bytes begin with it.
-fn after_line<'a>(bytes: &'a [u8], line: &Line) -> Option<&'a [u8]>
+/// What comes after an answer line, where the bytes begin with it and its line's end.
+pub fn after_line<'a>(bytes: &'a [u8], line: &Line) -> Option<&'a [u8]>
     ensures rest { MatchOption result ((rest : List ℕ) → bytes.now ≡ ended (line_text line.now) ++ rest → ⊥) (λ rest. bytes.now ≡ ended (line_text line.now) ++ rest.now) }
     ensures typed { IfSome result (λ rest. IsLine line.now) }
 {

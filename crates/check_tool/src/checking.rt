@@ -1,10 +1,11 @@
-ghost use Rattle.std.specs.Prelude.{◌≡◌, true, IfOk};
+ghost use Rattle.std.specs.Prelude.{◌≡◌, true, None, IfOk};
+ghost use Rattle.std.specs.Bool.{Decides};
 ghost use Rattle.by_backend.specs.Built.{is_built};
 ghost use Rattle.check_tool.specs.Verdicts.{IsVerdict};
 
 use crate::answer_lines::are_lines;
 use crate::leading::leading_entries;
-use crate::walked::walked_prefix;
+use crate::walked::{Walked, walked_prefix};
 use base_types::NoMemory;
 use script_text::Script;
 use std::alloc::Global;
@@ -30,7 +31,7 @@ pub fn check(alloc: Global, script: &Script, output: &[u8]) -> Result<Checked, N
     let leading = leading_entries(alloc, output)?;
     let far = walked_prefix(alloc, script, &leading.entries)?;
     let rest = &output[leading.size..];
-    if far.is_whole && are_lines(rest, far.lines.as_slice()) {
+    if is_at_end(&far, leading.entries.len()) && are_lines(rest, far.lines.as_slice()) {
         Ok(Checked::Output {
             entries: far.entries as u64,
         })
@@ -38,5 +39,15 @@ pub fn check(alloc: Global, script: &Script, output: &[u8]) -> Result<Checked, N
         Ok(Checked::Differs {
             entry: far.entries as u64 + 1,
         })
+    }
+}
+
+// Whether a walk may have made so many entries, which are all, and no turn is left.
+fn is_at_end(far: &Walked, entries: usize) -> bool
+    ensures { Decides result ((far.now.entries ≡ entries) × (far.now.turn ≡ None)) }
+{
+    match far.turn {
+        Some(_) => false,
+        None => far.entries == entries,
     }
 }
