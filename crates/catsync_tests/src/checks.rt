@@ -111,39 +111,44 @@ const FORGED: &[(&str, &str, u64, &str)] = &[
         "h 1 2 stop\n",
         "",
         22,
-        "l 1 1 ok: an entry of backend 1 should stand here",
+        "there is none, and it is backend 1's turn: l 1 1 ok",
     ),
     (
         "h 1 1 publish 64\n",
         "h 1 1 publish  64\n",
         11,
-        "h 1 1 publish  64: an entry of backend 1 should stand here",
+        "there is none, and it is backend 1's turn: h 1 1 publish  64",
     ),
     (
         "l 1 1 ok\n",
         "l 2 1 ok\n",
         23,
-        "line 23 of the output should be 'l 1 1 ok' and is 'l 2 1 ok'",
+        "there are 22 entries, and line 23 of the output should be 'l 1 1 ok' and is 'l 2 1 ok'",
     ),
     (
         "as of 18",
         "as of 4",
         23,
-        "line 25 of the output should be 'l 2 2 error 42P01 relation u does not exist as of 18' and is 'l 2 2 error 42P01 relation u does not exist as of 4'",
+        "there are 22 entries, and line 25 of the output should be 'l 2 2 error 42P01 relation u does not exist as of 18' and is 'l 2 2 error 42P01 relation u does not exist as of 4'",
     ),
     (
         "end\n",
         "",
         23,
-        "line 26 of the output should be 'end' and is ' (without a line's end)'",
+        "there are 22 entries, and line 26 of the output should be 'end', and the output ends",
     ),
     (
         "end\n",
         "end",
         23,
-        "line 26 of the output should be 'end' and is 'end (without a line's end)'",
+        "there are 22 entries, and line 26 of the output should be 'end' and is 'end (without a line's end)'",
     ),
-    ("end\n", "end\n ", 23, "something follows the line 'end'"),
+    (
+        "end\n",
+        "end\n ",
+        23,
+        "there are 22 entries, and something follows the line 'end'",
+    ),
 ];
 
 // What `check walk` makes of the script with this after it.
@@ -181,7 +186,7 @@ fn differs(alloc: Global, output: &str, entry: u64, why: &str) -> Result<bool, N
     let Status::Differs { entry: found } = outcome.status else {
         return Ok(false);
     };
-    let said = difference(alloc, input_of(alloc, output)?.as_bytes(), found)?;
+    let said = difference(alloc, input_of(alloc, output)?.as_bytes())?;
     Ok(
         found == entry
             && outcome.sent().is_empty()

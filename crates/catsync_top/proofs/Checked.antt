@@ -7,6 +7,7 @@ use Rattle.check_tool.specs.Verdicts.{IsOutputOf, DiffersAt}
 use Rattle.script_text.specs.Grammar.{Reading, script_of}
 use Rattle.script_text.specs.declared.fault.Rest.TheVariants.{Given}
 use Rattle.catsync_top.specs.Top.{IsChecked, HasFound, HasDiffered, checked_text}
+use Rattle.catsync_top.proofs.Readable.{output_only}
 
 -- a script that was read and can be walked
 abbrev is_checked : (left rest : Option (List ℕ)) (items input : List ℕ) (reading : Reading) (built : Bool) → ReadsAll left rest 268435456 items → length items ≤ 268435456 → input ≡ items → script_of Given input ≡ Ok reading → built ≡ is_built reading.script → built ≡ true → IsChecked left rest
@@ -27,12 +28,15 @@ left_over items input at size from same long is =
 pub has_found : (left rest taken now : Option (List ℕ)) (Writes : Option (List ℕ) → Option (List ℕ) → List ℕ → Type 0) (items input : List ℕ) (reading : Reading) (built : Bool) (size from count : ℕ)
     → ReadsAll left rest 268435456 items → length items ≤ 268435456 → input ≡ items → script_of Given input ≡ Ok reading → built ≡ is_built reading.script → built ≡ true → size ≡ length items → from ≡ min reading.rest_at size
     → IsOutputOf reading.script (take (length input - from) (drop from input)) count → Writes taken now (checked_text count) → HasFound left rest taken now Writes
-has_found left rest taken now Writes items input reading built size from count all short same spelled are test long at output written = record {
-  is = is_checked left rest items input reading built all short same spelled are test;
-  count = count;
-  output = subst (λ text. IsOutputOf reading.script text count) (left_over items input reading.rest_at size from same long at) output;
-  written = written;
-}
+has_found left rest taken now Writes items input reading built size from count all short same spelled are test long at output written =
+    let found : IsOutputOf reading.script (drop reading.rest_at items) count = subst (λ text. IsOutputOf reading.script text count) (left_over items input reading.rest_at size from same long at) output in
+    record {
+      is = is_checked left rest items input reading built all short same spelled are test;
+      count = count;
+      output = found;
+      only = output_only reading.script (drop reading.rest_at items) count found;
+      written = written;
+    }
 
 -- something else
 pub has_differed : (left rest : Option (List ℕ)) (items input : List ℕ) (reading : Reading) (built : Bool) (size from entry : ℕ)

@@ -1,13 +1,17 @@
--- The entries of an allowed history that their types allow are those that a reader of texts takes.
-use Rattle.std.proofs.Common.{List, [], ◌∷◌, ◌++◌, All}
+-- The entries of an allowed history that their types allow are those that a reader of texts takes, and the other way round.
+use Rattle.std.proofs.Common.{ℕ, List, [], ◌∷◌, ◌++◌, All}
 use Rattle.std.specs.List.{AllByRecursion}
-use Rattle.std.proofs.lemmas.List.Elements.{All-from_recursion, recursion_from_All}
+use Rattle.std.proofs.lemmas.List.Elements.{All-from_recursion, All-weaker, recursion_from_All}
 use Rattle.event_kinds.specs.declared.entry.Entry.{Entry}
 use Rattle.event_kinds.specs.declared.entry.Event.{Event}
 use Rattle.event_kinds.specs.declared.entry.Event.TheVariants as events
 use Rattle.event_kinds.specs.Texts.{changes_of}
 use Rattle.event_kinds.specs.Entries.{IsItem, IsEvent, IsHead, HasChange, IsEntry}
-use Rattle.out_text.specs.Typed.{IsTyped}
+use Rattle.out_text.specs.Typed.{IsTyped, SpellsOnly}
+use Rattle.out_text.proofs.OneHistory.{spells_only}
+use Rattle.cacheless.specs.Lines.{lines_of}
+use Rattle.check_tool.specs.Types.{Scenario}
+use Rattle.check_tool.specs.Verdicts.{IsOutputOf}
 use Rattle.history_model.specs.Prefixes.{EachFrom, EachEntry}
 
 -- an event with a change in each write
@@ -24,3 +28,19 @@ each_read before (e ∷ history) typed some = (entry_read e typed.0 some.0, each
 
 pub all_read : (history : List Entry) → All IsTyped history → EachEntry (λ before e. HasChange e.event) history → All IsEntry history
 all_read history typed some = All-from_recursion IsEntry history (each_read [] history (recursion_from_All IsTyped history typed) some)
+
+-- ---- the other way round
+
+event_typed : (event : Event) → IsEvent event → IsHead event × All IsItem (changes_of event)
+event_typed (events.Write xid changes) is = (is.0, All-from_recursion IsItem changes is.1.1)
+event_typed event is = (is, All-from_recursion IsItem [] tt)
+
+entry_typed : (e : Entry) → IsEntry e → IsTyped e
+entry_typed e is =
+    let parts = event_typed e.event is.event in
+    record { head = record { backend = is.backend; command = is.command; event = parts.0 }; changes = parts.1 }
+
+-- an output that was found spells its history and its answer lines alone
+pub output_only : (scenario : Scenario) (text : List ℕ) (count : ℕ) (output : IsOutputOf scenario text count) → SpellsOnly text output.is.is.history (lines_of scenario output.is.is.history)
+output_only scenario text count output =
+    spells_only text output.is.is.history (lines_of scenario output.is.is.history) output.is.is.text_is (All-weaker IsEntry IsTyped entry_typed output.is.is.history output.is.entries) output.answers

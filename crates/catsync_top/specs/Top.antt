@@ -99,11 +99,12 @@ pub record IsChecked (left rest : Option (List ℕ)) : Type 0 where
   pub spelled : script_of Given input ≡ Ok reading
   pub built : is_built reading.script ≡ true
 
--- what follows the script is an output of it, and the number of its entries was written, or a prefix of that line
+-- what follows the script is an output of it, of a sound history, and spells that history and its answer lines alone (`IsOutputOf` has the rest of what `Ran` says of a history); and the number of its entries was written, or a prefix of that line
 pub record HasFound (left rest : Option (List ℕ)) (taken now : Option (List ℕ)) (Writes : Option (List ℕ) → Option (List ℕ) → List ℕ → Type 0) : Type 0 where
   pub is : IsChecked left rest
   pub count : ℕ
   pub output : IsOutputOf is.reading.script (drop is.reading.rest_at is.input) count
+  pub only : SpellsOnly (drop is.reading.rest_at is.input) output.is.is.history (lines_of is.reading.script output.is.is.history)
   pub written : Writes taken now (checked_text count)
 
 -- what follows the script is no output of it, and a walk may make the entries before this one and not one more

@@ -29,8 +29,10 @@ pub enum Status {
     /// Out of memory.
     #[error("want of memory")]
     NoMemory,
-    /// The bytes after the script are none of its outputs. The first entry, from 1, that a walk may not make there;
-    /// the number after the last where a walk may make all.
+    /// The bytes after the script are none of its outputs, as far as the entries of these have texts: numbers of
+    /// four bytes, names as they may be, and at least one change in a write. The first entry, from 1, that a walk
+    /// may not make there; the number after the last where a walk may make all, and one is missing or what follows
+    /// them differs.
     #[error("entry {entry} differs")]
     Differs { entry: u64 },
     /// The input is a script, with a command that isn't built yet.

@@ -41,7 +41,8 @@ pub const MOST_CHECKED: usize = 268_435_456;
 /// - `NotYet`: exactly where the input is a script, or begins with one, with a command that isn't
 ///   built yet.
 /// - `NoMemory`: at any point before writing.
-/// - `Differs`: of `check walk`, exactly where what follows the script isn't an output of it.
+/// - `Differs`: of `check walk`, exactly where what follows the script isn't an output of it whose
+///   entries have texts.
 /// - `Done`: the input was read to its end, and the whole output was written; for `check walk`, what
 ///   follows the script is an output of it.
 pub fn catsync<S: Source, K: Sink, G: Gate>(

@@ -1,7 +1,10 @@
 -- Whether bytes are answer lines, one line after the other.
-use Rattle.std.proofs.Common.{◌≡◌, ◌≤◌, ◌<◌, ◌+◌, ◌∙◌, ℕ, Option, Some, None, MatchOption, Bor, Bool, List, ◌∷◌, ◌++◌, length, drop, get_or, sym, ap, codes, append_assoc}
+use Rattle.std.proofs.Common.{◌≡◌, ◌≤◌, ◌<◌, ◌+◌, ◌∙◌, ℕ, Option, Some, None, MatchOption, IfSome, Bor, Bool, List, [], ◌∷◌, ◌++◌, length, take, drop, get_or, sym, ap, subst, codes, append_assoc}
 use Rattle.std.specs.Bool.{Decides}
-use Rattle.std.proofs.lemmas.List.{append_cancel_left, drop_more, drop_all}
+use Rattle.std.specs.List.{All}
+use Rattle.std.proofs.lemmas.List.{append_cancel_left, drop_more, drop_all, take_all}
+use Rattle.std.proofs.lemmas.List.Elements.{All-from_recursion, All-more}
+use Rattle.event_kinds.specs.Entries.{IsLine}
 use Rattle.event_kinds.specs.Texts.{line_text, line_head, lines_text, ended}
 use Rattle.check_tool.specs.Types.{Line}
 
@@ -41,26 +44,33 @@ pub line_ends : (line : Line) (bytes head text given end : List ℕ) (found : Op
 line_ends line bytes head text given end None front middle first second never = no_end line bytes head text given end front middle first second never
 line_ends line bytes head text given end (Some rest) front middle first second last = line_is line bytes head text given end rest.now front middle first second last
 
+-- a line that was read is what its type says
+pub read_line : (line : Line) (found : Option (Bor (List ℕ))) → IsLine line → IfSome found (λ rest. IsLine line)
+read_line line None typed = tt
+read_line line (Some rest) typed = typed
+
 -- ---- all lines
 
 -- the lines of those that are left, where so many have come
 lines_left : (lines : List Line) (i : ℕ) (line d : Line) → i < length lines → line ≡ get_or lines i d → lines_text (drop i lines) ≡ ended (line_text line) ++ lines_text (drop (i + 1) lines)
 lines_left lines i line d within is = ap lines_text (drop_more lines i d within ∙ ap (λ x. x ∷ drop (i + 1) lines) (sym is))
 
--- what is left has to be the lines that are left
+-- what is left has to be the lines that are left; those that have come are what their types say
 pub record IsLeft (bytes : List ℕ) (lines : List Line) (i : ℕ) (left : List ℕ) : Type 0 where
   pub there : left ≡ lines_text (drop i lines) ++ codes "end\n" → bytes ≡ lines_text lines ++ codes "end\n"
   pub back : bytes ≡ lines_text lines ++ codes "end\n" → left ≡ lines_text (drop i lines) ++ codes "end\n"
+  pub typed : All IsLine (take i lines)
 
 -- no line yet
 pub left_first : (bytes : List ℕ) (lines : List Line) → IsLeft bytes lines 0 bytes
-left_first bytes lines = record { there = λ same. same; back = λ same. same }
+left_first bytes lines = record { there = λ same. same; back = λ same. same; typed = All-from_recursion IsLine [] tt }
 
 -- one line more
-pub left_more : (bytes : List ℕ) (lines : List Line) (i : ℕ) (left rest : List ℕ) (line d : Line) → i < length lines → line ≡ get_or lines i d → IsLeft bytes lines i left → left ≡ ended (line_text line) ++ rest → IsLeft bytes lines (i + 1) rest
-left_more bytes lines i left rest line d within is held begins = record {
+pub left_more : (bytes : List ℕ) (lines : List Line) (i : ℕ) (left rest : List ℕ) (line d : Line) → i < length lines → line ≡ get_or lines i d → IsLeft bytes lines i left → left ≡ ended (line_text line) ++ rest → IsLine line → IsLeft bytes lines (i + 1) rest
+left_more bytes lines i left rest line d within is held begins typed = record {
   there = λ same. held.there (begins ∙ ap (λ t. ended (line_text line) ++ t) same ∙ sym parts);
   back = λ same. append_cancel_left (ended (line_text line)) rest (lines_text (drop (i + 1) lines) ++ codes "end\n") (sym begins ∙ held.back same ∙ parts);
+  typed = All-more IsLine lines i d within held.typed (subst IsLine is typed);
 }
   where
     parts : lines_text (drop i lines) ++ codes "end\n" ≡ ended (line_text line) ++ (lines_text (drop (i + 1) lines) ++ codes "end\n")
@@ -78,3 +88,7 @@ left_last bytes lines i left same past held decides = (λ yes. held.there (decid
   where
     none : lines_text (drop i lines) ++ codes "end\n" ≡ codes "end\n"
     none = ap (λ rest. lines_text rest ++ codes "end\n") (drop_all i lines past)
+
+-- and all are what their types say
+pub left_typed : (bytes : List ℕ) (lines : List Line) (i : ℕ) (left : List ℕ) → length lines ≤ i → IsLeft bytes lines i left → All IsLine lines
+left_typed bytes lines i left past held = subst (All IsLine) (take_all i lines past) held.typed

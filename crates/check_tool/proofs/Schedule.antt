@@ -185,17 +185,17 @@ follows_more scenario entries at e d stopped later turn within is held first own
 
 -- the next entry isn't of that backend
 pub follows_here : (scenario : Scenario) (entries : List Entry) (at : ℕ) (e d : Entry) (turn : Option ℕ) → at < length entries → e ≡ get_or entries at d → FollowsSchedule scenario (take at entries)
-    → slice_get (turns_left scenario (take at entries)) 0 ≡ turn → (turn ≡ Some e.backend → ⊥) → HaveFollowed scenario entries at false
+    → slice_get (turns_left scenario (take at entries)) 0 ≡ turn → (turn ≡ Some e.backend → ⊥) → HaveFollowed scenario entries at turn
 follows_here scenario entries at e d turn within is follows first never = record {
   longest = longest_here (TakesTurn scenario) entries at e d within is follows (λ takes. never (sym first ∙ takes));
-  whole = (λ is-whole. absurd cc, λ all. absurd (omega (arith, within, all.0)));
+  turn_is = first;
 }
 
 -- all entries follow
-pub follows_whole : (scenario : Scenario) (entries : List Entry) (at : ℕ) (is_whole : Bool) → length entries ≤ at → FollowsSchedule scenario (take at entries) → Decides is_whole (IsComplete scenario (take at entries)) → HaveFollowed scenario entries (length entries) is_whole
-follows_whole scenario entries at is_whole past follows decides = record {
+pub follows_whole : (scenario : Scenario) (entries : List Entry) (at : ℕ) (turn : Option ℕ) → length entries ≤ at → FollowsSchedule scenario (take at entries) → slice_get (turns_left scenario (take at entries)) 0 ≡ turn → HaveFollowed scenario entries (length entries) turn
+follows_whole scenario entries at turn past follows first = record {
   longest = longest_all (FollowsSchedule scenario) entries at past follows;
-  whole = (λ whole. (refl, subst (IsComplete scenario) (take_all at entries past) (decides.0 whole)), λ all. decides.1 (subst (IsComplete scenario) (sym (take_all at entries past)) all.1));
+  turn_is = ap (λ seen. slice_get (turns_left scenario seen) 0) (take_all (length entries) entries (omega arith) ∙ sym (take_all at entries past)) ∙ first;
 }
 
 -- ---- without lines of steps
@@ -206,16 +206,11 @@ pub turn_in_order : (scenario : Scenario) (seen : List Entry) (stopped given : L
 turn_in_order scenario seen stopped given turn none held same first =
     ap (λ turns. slice_get turns 0) (turns_by-none scenario seen scenario.steps none) ∙ ap (λ n. slice_get (filter (runs_in seen) (range_with_len 1 n)) 0) (sym (ap length same ∙ held.count)) ∙ sym (first seen (subst (TellStopped seen) (sym same) held.tell))
 
--- whether no turn comes
-pub none_told : (turn : Option ℕ) (told : Bool) → is_some turn ≡ not told → Decides told (turn ≡ None)
-none_told None true is = (λ none. refl, λ none. refl)
-none_told None false is = absurd cc
-none_told (Some b) true is = absurd cc
-none_told (Some b) false is = (λ none. absurd cc, λ none. absurd cc)
+-- ---- whether none is left
 
--- none is left where no turn comes
-pub ended_in_order : (scenario : Scenario) (seen : List Entry) (turn : Option ℕ) (is_none : Bool) → slice_get (turns_left scenario seen) 0 ≡ turn → Decides is_none (turn ≡ None) → Decides is_none (IsComplete scenario seen)
-ended_in_order scenario seen turn is_none first decides = (λ none. no_first (turns_left scenario seen) (first ∙ decides.0 none), λ complete. decides.1 (sym first ∙ no_first_of (turns_left scenario seen) complete))
+-- no turn comes where none is left
+pub none_left : (scenario : Scenario) (seen : List Entry) (turn : Option ℕ) → slice_get (turns_left scenario seen) 0 ≡ turn → (turn ≡ None → IsComplete scenario seen) × (IsComplete scenario seen → turn ≡ None)
+none_left scenario seen turn first = (λ none. no_first (turns_left scenario seen) (first ∙ none), λ complete. sym first ∙ no_first_of (turns_left scenario seen) complete)
 
 -- ---- by lines of steps
 
@@ -257,15 +252,6 @@ taken_more scenario seen e steps taken next some held passed within = record {
   left = turns_by-some scenario (seen ++ e ∷ []) scenario.steps some ∙ ap (pass_stopped (seen ++ e ∷ []))
       (along-more (λ before left y. drop 1 (pass_stopped before left)) (schedule_of scenario) seen e ∙ ap (drop 1) (sym (turns_by-some scenario seen scenario.steps some) ∙ held.left ∙ passed) ∙ drop-drop 1 next steps);
 }
-
--- none is left at the end
-pub ended_by_steps : (scenario : Scenario) (seen : List Entry) (steps : List ℕ) (taken next : ℕ) → HasTaken scenario seen steps taken → pass_stopped seen (drop taken steps) ≡ drop next steps → next ≤ length steps
-    → (size : ℕ) → size ≡ length steps → Decides (next == size) (IsComplete scenario seen)
-ended_by_steps scenario seen steps taken next held passed within size same = subst (λ n. Decides (next == n) (IsComplete scenario seen)) (sym same) (of (eqb_tells next (length steps)))
-  where
-    of : (((next == length steps) ≡ true) × (next ≡ length steps)) ⊎ (((next == length steps) ≡ false) × (next ≢ length steps)) → Decides (next == length steps) (IsComplete scenario seen)
-    of (inl same) = let n = same.1 in (λ end. held.left ∙ passed ∙ drop_all next steps (omega arith), λ complete. same.0)
-    of (inr apart) = let ne = apart.1 in (λ end. absurd (let never : true ≡ false = sym end ∙ apart.0 in cc), λ complete. absurd (let n : 0 ≡ length steps - next = ap length (sym complete ∙ held.left ∙ passed) ∙ length-drop next steps in ne (omega (arith, n, within))))
 
 -- there is a step where a turn comes
 pub step_within : (steps : List ℕ) (at b : ℕ) (turn : Option ℕ) → turn ≡ slice_get steps at → turn ≡ Some b → at < length steps

@@ -1,26 +1,29 @@
 -- What a check finds, of the parts that it looks at.
-use Rattle.std.proofs.Common.{◌≡◌, ◌≤◌, ◌<◌, ◌+◌, ◌∙◌, ◌⊎◌, ◌==◌, inl, inr, ℕ, Bool, true, false, List, [], ◌∷◌, ◌++◌, length, take, refl, sym, ap, subst, codes, arith}
-use Rattle.std.specs.Bool.{Decides}
+use Rattle.std.proofs.Common.{◌≡◌, ◌≤◌, ◌<◌, ◌+◌, ◌∙◌, ◌⊎◌, inl, inr, ℕ, true, false, Option, None, List, [], ◌∷◌, ◌++◌, length, take, slice_get, refl, sym, ap, subst, codes, arith}
 use Rattle.std.specs.List.{All, AllByRecursion}
 use Rattle.std.proofs.lemmas.List.{take_all, take-take, length-take-le, append_assoc}
 use Rattle.std.proofs.Math.Dec.{leb}
-use Rattle.std.proofs.lemmas.Bool.Decides.{leb_tells, Decides-eqb}
+use Rattle.std.proofs.lemmas.Bool.Decides.{leb_tells}
 use Rattle.std.proofs.lemmas.List.Elements.{All-from_recursion}
 use Rattle.base_types.specs.Scenario.{IsBackend}
+use Rattle.event_kinds.specs.Entries.{IsLine}
 use Rattle.event_kinds.specs.Texts.{entries_text, lines_text}
 use Rattle.history_ledger.specs.Longest.{IsLongest}
 use Rattle.history_model.specs.Prefixes.{EachFrom}
 use Rattle.history_model.proofs.Prefixes.{EachEntry-prefix}
 use Rattle.cacheless.specs.Lines.{lines_of}
 use Rattle.cacheless.specs.Output.{IsAllowed}
+use Rattle.cacheless.specs.Played.{AreSpelled}
 use Rattle.cacheless.specs.Plays.{IsNext}
-use Rattle.cacheless.specs.Schedule.{FollowsSchedule, AreLooksTrue, IsComplete}
+use Rattle.cacheless.specs.Schedule.{FollowsSchedule, AreLooksTrue, IsComplete, turns_left}
+use Rattle.cacheless.proofs.Allowed.AllowedHistories.{allowed_sound}
 use Rattle.history_lines.specs.Answered.{IsAnswered}
 use Rattle.check_tool.specs.Types.{Scenario, Entry, Line}
 use Rattle.check_tool.specs.Leading.{Leads}
 use Rattle.check_tool.specs.Walked.{MayBeWalked, HaveFollowed, HaveWalked}
 use Rattle.check_tool.specs.Verdicts.{IsTypedOutput, IsOutputOf, DiffersAt}
 use Rattle.check_tool.proofs.Longest.{longest_both, holds_shorter}
+use Rattle.check_tool.proofs.Schedule.{none_left}
 use Rattle.check_tool.proofs.FirstLines.{leads_once, none_in_lines}
 
 -- ---- how far a walk may have come
@@ -49,28 +52,16 @@ pub allowed_backends : (scenario : Scenario) (history : List Entry) (backends : 
 allowed_backends scenario history backends same allowed =
     subst (λ n. All (λ e. IsBackend n e.backend) history) (sym same) (All-from_recursion (λ e. IsBackend scenario.backends e.backend) history (backends_from scenario [] history allowed.plays))
 
--- whether two tests hold, where the second is asked after the first
-pub both_told : (first both : Bool) (n m : ℕ) → first ≡ true → both ≡ (n == m) → Decides both ((first ≡ true) × (n ≡ m))
-both_told first both n m yes-first is = subst (λ b. Decides b ((first ≡ true) × (n ≡ m))) (sym is) (of (Decides-eqb n m))
-  where
-    of : Decides (n == m) (n ≡ m) → Decides (n == m) ((first ≡ true) × (n ≡ m))
-    of tells = (λ same. (yes-first, tells.0 same), λ parts. tells.1 parts.1)
-
-pub not_both_told : (first both : Bool) (n m : ℕ) → first ≡ false → both ≡ false → Decides both ((first ≡ true) × (n ≡ m))
-not_both_told first both n m not-first is = (λ all. absurd (let never : true ≡ false = sym all ∙ is in cc), λ parts. absurd (let never : true ≡ false = sym parts.0 ∙ not-first in cc))
-
 both-prefix : (scenario : Scenario) (history rest : List Entry) → IsAllowed scenario (history ++ rest) × AreLooksTrue (history ++ rest) → IsAllowed scenario history × AreLooksTrue history
 both-prefix scenario history rest both = (allowed-prefix scenario history rest both.0, EachEntry-prefix _ history rest both.1)
 
 -- of what the script allows the looks are judged, and of that the turns
-pub walked_far : (scenario : Scenario) (entries : List Entry) (allowed looks followed : ℕ) (lines : List Line) (follows_whole is_whole : Bool) → IsAnswered scenario entries allowed lines → IsLongest AreLooksTrue (take allowed entries) looks
-    → HaveFollowed scenario (take looks (take allowed entries)) followed follows_whole → Decides is_whole ((follows_whole ≡ true) × (looks ≡ length entries)) → HaveWalked scenario entries followed is_whole lines
-walked_far scenario entries allowed looks followed lines follows_whole is_whole answered looked turns decides = record {
+pub walked_far : (scenario : Scenario) (entries : List Entry) (allowed looks followed : ℕ) (lines : List Line) (turn : Option ℕ) → AreSpelled scenario → IsAnswered scenario entries allowed lines → IsLongest AreLooksTrue (take allowed entries) looks
+    → HaveFollowed scenario (take looks (take allowed entries)) followed turn → HaveWalked scenario entries followed turn lines
+walked_far scenario entries allowed looks followed lines turn spelled answered looked turns = record {
+  spelled = spelled;
   longest = record { within = longest.within; holds = record { allowed = longest.holds.0.0; follows = longest.holds.1; looks = longest.holds.0.1 }; most = λ less more. longest.most less ((more.allowed, more.looks), more.follows) };
-  whole = (
-    λ whole. let parts = decides.0 whole in let ended = turns.whole.0 parts.0 in (ended.0 ∙ ap length (all parts.1), subst (IsComplete scenario) (all parts.1) ended.1),
-    λ whole. let last : looks ≡ length entries = omega (arith, whole.0, few, fewer, least) in decides.1 (turns.whole.1 (whole.0 ∙ ap length (sym (all last)), subst (IsComplete scenario) (sym (all last)) whole.1), last),
-  );
+  turn_is = ap (λ seen. slice_get (turns_left scenario seen) 0) (sym (take-take followed looks entries (omega (arith, few, fewer))) ∙ ap (take followed) (sym nested)) ∙ turns.turn_is;
   lines_are = λ last. answered.lines_are ∙ ap (lines_of scenario) (take_all allowed entries (omega (arith, last, few, fewer, least)));
 }
   where
@@ -89,9 +80,6 @@ walked_far scenario entries allowed looks followed lines follows_whole is_whole 
     nested : take looks (take allowed entries) ≡ take looks entries
     nested = take-take looks allowed entries least
 
-    all : looks ≡ length entries → take looks (take allowed entries) ≡ entries
-    all last = nested ∙ take_all looks entries (omega (arith, last))
-
     longest : IsLongest (λ history. (IsAllowed scenario history × AreLooksTrue history) × FollowsSchedule scenario history) entries followed
     longest = longest_both (λ history. IsAllowed scenario history × AreLooksTrue history) (FollowsSchedule scenario) (both-prefix scenario) entries looks followed
         (longest_both (IsAllowed scenario) AreLooksTrue (allowed-prefix scenario) entries allowed looks answered.longest looked) (subst (λ history. IsLongest (FollowsSchedule scenario) history followed) nested turns.longest)
@@ -107,11 +95,11 @@ output_parts scenario text entries rest leads o = leads_once text entries o.is.h
 })
 
 -- all that the text begins with is a whole walk, and its lines follow
-pub is_output : (scenario : Scenario) (text : List ℕ) (entries : List Entry) (rest : List ℕ) (count : ℕ) (whole : Bool) (lines : List Line) → Leads text entries rest → HaveWalked scenario entries count whole lines → whole ≡ true → rest ≡ lines_text lines ++ codes "end\n"
-    → IsOutputOf scenario text count
-is_output scenario text entries rest count whole lines leads far ended same =
-    let end = far.whole.0 ended in
-    let walked : MayBeWalked scenario entries = subst (MayBeWalked scenario) (take_all count entries (omega (arith, end.0))) far.longest.holds in
+pub is_output : (scenario : Scenario) (text : List ℕ) (entries : List Entry) (rest : List ℕ) (count : ℕ) (turn : Option ℕ) (lines : List Line) → Leads text entries rest → HaveWalked scenario entries count turn lines → (count ≡ length entries) × (turn ≡ None) → All IsLine lines
+    → rest ≡ lines_text lines ++ codes "end\n" → IsOutputOf scenario text count
+is_output scenario text entries rest count turn lines leads far end typed same =
+    let all : take count entries ≡ entries = take_all count entries (omega (arith, end.0)) in
+    let walked : MayBeWalked scenario entries = subst (MayBeWalked scenario) all far.longest.holds in
     record {
       is = record {
         is = record {
@@ -119,11 +107,14 @@ is_output scenario text entries rest count whole lines leads far ended same =
           allowed = walked.allowed;
           follows = walked.follows;
           looks = walked.looks;
-          complete = end.1;
+          complete = subst (IsComplete scenario) all ((none_left scenario (take count entries) turn far.turn_is).0 end.1);
           text_is = leads.text_is ∙ ap (λ t. entries_text entries ++ t) (same ∙ ap (λ ls. lines_text ls ++ codes "end\n") (far.lines_are end.0)) ∙ sym (append_assoc (entries_text entries) (lines_text (lines_of scenario entries)) (codes "end\n"));
         };
         entries = leads.entries_are;
       };
+      sound = allowed_sound scenario entries far.spelled walked.allowed;
+      commands = far.spelled;
+      answers = subst (All IsLine) (far.lines_are end.0) typed;
       count_is = end.0;
     }
 
@@ -137,20 +128,21 @@ all_of scenario entries count longest walked = by_order (leb_tells (count + 1) (
     by_order (inr more) = omega (arith, more.1, longest.within)
 
 -- an output would have ended so
-no_output : (scenario : Scenario) (text : List ℕ) (entries : List Entry) (rest : List ℕ) (count : ℕ) (whole : Bool) (lines : List Line) → Leads text entries rest → HaveWalked scenario entries count whole lines → (whole ≡ true → rest ≡ lines_text lines ++ codes "end\n" → ⊥)
-    → IsTypedOutput scenario text → ⊥
-no_output scenario text entries rest count whole lines leads far never o =
+no_output : (scenario : Scenario) (text : List ℕ) (entries : List Entry) (rest : List ℕ) (count : ℕ) (turn : Option ℕ) (lines : List Line) → Leads text entries rest → HaveWalked scenario entries count turn lines
+    → ((count ≡ length entries) × (turn ≡ None) → rest ≡ lines_text lines ++ codes "end\n" → ⊥) → IsTypedOutput scenario text → ⊥
+no_output scenario text entries rest count turn lines leads far never o =
     let parts = output_parts scenario text entries rest leads o in
     let walked : MayBeWalked scenario entries = subst (MayBeWalked scenario) (sym parts.0) (record { allowed = o.is.allowed; follows = o.is.follows; looks = o.is.looks }) in
     let last : count ≡ length entries = all_of scenario entries count far.longest walked in
-    never (far.whole.1 (last, subst (IsComplete scenario) (sym parts.0) o.is.complete))
+    let all : take count entries ≡ entries = take_all count entries (omega (arith, last)) in
+    never (last, (none_left scenario (take count entries) turn far.turn_is).1 (subst (IsComplete scenario) (sym parts.0 ∙ sym all) o.is.complete))
     (parts.1 ∙ ap (λ h. lines_text (lines_of scenario h) ++ codes "end\n") (sym parts.0) ∙ ap (λ ls. lines_text ls ++ codes "end\n") (sym (far.lines_are last)))
 
 -- something is missing
-pub differs_at : (scenario : Scenario) (text : List ℕ) (entries : List Entry) (rest : List ℕ) (count : ℕ) (whole : Bool) (lines : List Line) → Leads text entries rest → HaveWalked scenario entries count whole lines → (whole ≡ true → rest ≡ lines_text lines ++ codes "end\n" → ⊥)
-    → DiffersAt scenario text (count + 1)
-differs_at scenario text entries rest count whole lines leads far never = record {
-  differs = no_output scenario text entries rest count whole lines leads far never;
+pub differs_at : (scenario : Scenario) (text : List ℕ) (entries : List Entry) (rest : List ℕ) (count : ℕ) (turn : Option ℕ) (lines : List Line) → Leads text entries rest → HaveWalked scenario entries count turn lines
+    → ((count ≡ length entries) × (turn ≡ None) → rest ≡ lines_text lines ++ codes "end\n" → ⊥) → DiffersAt scenario text (count + 1)
+differs_at scenario text entries rest count turn lines leads far never = record {
+  differs = no_output scenario text entries rest count turn lines leads far never;
   entries = entries;
   rest = rest;
   leads = leads;

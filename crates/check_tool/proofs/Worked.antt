@@ -1,9 +1,9 @@
 -- Worked examples: one backend without commands, and what a check finds of some texts.
 use Rattle.std.specs.Fmt.{digits}
-use Rattle.std.proofs.Common.{◌≤◌, ◌<◌, ℕ, true, false, List, [], ◌∷◌, codes, refl, arith}
+use Rattle.std.proofs.Common.{◌≤◌, ◌<◌, ℕ, Some, None, List, [], ◌∷◌, codes, refl, arith}
 use Rattle.std.proofs.lemmas.List.Elements.{All-from_recursion}
 use Rattle.event_kinds.specs.declared.entry.Event.TheVariants.{Start, Stop}
-use Rattle.event_kinds.specs.Entries.{IsEntry}
+use Rattle.event_kinds.specs.Entries.{IsEntry, IsLine}
 use Rattle.check_tool.specs.Leading.{Leads}
 use Rattle.check_tool.specs.Types.{Scenario, Entry, Event}
 use Rattle.check_tool.specs.Verdicts.{IsOutputOf, DiffersAt}
@@ -64,16 +64,17 @@ stopped_leads : Leads (codes "h 1 0 start\nh 1 1 stop\nend\n") stopped (codes "e
 unfolding digits
 stopped_leads = record { text_is = refl; entries_are = All-from_recursion IsEntry stopped (started_typed, (stopped_typed, tt)); ends = none_in_lines [] }
 
-stopped_far : HaveWalked idle stopped 2 true []
+stopped_far : HaveWalked idle stopped 2 None []
 stopped_far = record {
+  spelled = tt;
   longest = record { within = omega arith; holds = stopped_walked; most = λ less more. absurd (omega (arith, less)) };
-  whole = (λ all. (refl, refl), λ all. refl);
+  turn_is = refl;
   lines_are = λ all. refl;
 }
 
 -- it is one, with two entries
 pub whole_output : IsOutputOf idle (codes "h 1 0 start\nh 1 1 stop\nend\n") 2
-whole_output = is_output idle (codes "h 1 0 start\nh 1 1 stop\nend\n") stopped (codes "end\n") 2 true [] stopped_leads stopped_far refl refl
+whole_output = is_output idle (codes "h 1 0 start\nh 1 1 stop\nend\n") stopped (codes "end\n") 2 None [] stopped_leads stopped_far (refl, refl) (All-from_recursion IsLine [] tt) refl
 
 blank_leads : Leads (codes "h 1 0 start\nh 1 1 stop\nend\n ") stopped (codes "end\n ")
 unfolding digits
@@ -81,7 +82,7 @@ blank_leads = record { text_is = refl; entries_are = All-from_recursion IsEntry 
 
 -- a blank after it
 pub something_follows : DiffersAt idle (codes "h 1 0 start\nh 1 1 stop\nend\n ") 3
-something_follows = differs_at idle (codes "h 1 0 start\nh 1 1 stop\nend\n ") stopped (codes "end\n ") 2 true [] blank_leads stopped_far (λ all same. absurd cc)
+something_follows = differs_at idle (codes "h 1 0 start\nh 1 1 stop\nend\n ") stopped (codes "end\n ") 2 None [] blank_leads stopped_far (λ all same. absurd cc)
 
 -- ---- the stop is cut off in its middle
 
@@ -89,21 +90,23 @@ cut_leads : Leads (codes "h 1 0 start\nh 1 1 sto") started (codes "h 1 1 sto")
 unfolding digits
 cut_leads = record { text_is = refl; entries_are = All-from_recursion IsEntry started (started_typed, tt); ends = none_without_end (codes "h 1 1 sto") 9 refl refl }
 
-started_far : HaveWalked idle started 1 false []
+started_far : HaveWalked idle started 1 (Some 1) []
 started_far = record {
+  spelled = tt;
   longest = record { within = omega arith; holds = started_walked; most = λ less more. absurd (omega (arith, less)) };
-  whole = (λ all. absurd cc, λ all. let never = all.1 in absurd cc);
+  turn_is = refl;
   lines_are = λ all. refl;
 }
 
 -- the second entry is missing
 pub cut_off : DiffersAt idle (codes "h 1 0 start\nh 1 1 sto") 2
-cut_off = differs_at idle (codes "h 1 0 start\nh 1 1 sto") started (codes "h 1 1 sto") 1 false [] cut_leads started_far (λ all same. absurd cc)
+cut_off = differs_at idle (codes "h 1 0 start\nh 1 1 sto") started (codes "h 1 1 sto") 1 (Some 1) [] cut_leads started_far (λ all same. let never = all.1 in absurd cc)
 
 -- nothing at all
 pub empty_output : DiffersAt idle [] 1
-empty_output = differs_at idle [] [] [] 0 false [] (record { text_is = refl; entries_are = All-from_recursion IsEntry [] tt; ends = λ e more is same. absurd cc }) (record {
+empty_output = differs_at idle [] [] [] 0 (Some 1) [] (record { text_is = refl; entries_are = All-from_recursion IsEntry [] tt; ends = λ e more is same. absurd cc }) (record {
+  spelled = tt;
   longest = record { within = omega arith; holds = record { allowed = record { legal = tt; queue = tt; plays = tt; economical = tt }; follows = tt; looks = tt }; most = λ less more. absurd (omega (arith, less)) };
-  whole = (λ all. absurd cc, λ all. let never = all.1 in absurd cc);
+  turn_is = refl;
   lines_are = λ all. refl;
-}) (λ all same. absurd cc)
+}) (λ all same. let never = all.1 in absurd cc)

@@ -1,8 +1,11 @@
 -- What a check finds.
 use Rattle.std.specs.Prelude.{◌≡◌, ◌+◌, ℕ, List, length}
-use Rattle.std.specs.List.{All}
-use Rattle.event_kinds.specs.Entries.{IsEntry}
+use Rattle.std.specs.List.{All, AllByRecursion}
+use Rattle.base_types.specs.Commands.{IsCommand}
+use Rattle.event_kinds.specs.Entries.{IsEntry, IsLine}
 use Rattle.history_ledger.specs.Longest.{IsLongest}
+use Rattle.history_model.specs.Orderly.{IsSound}
+use Rattle.cacheless.specs.Lines.{lines_of}
 use Rattle.cacheless.specs.Output.{IsOutput}
 use Rattle.check_tool.specs.Leading.{Leads}
 use Rattle.check_tool.specs.Types.{Scenario, Entry}
@@ -15,9 +18,12 @@ pub record IsTypedOutput (scenario : Scenario) (text : List ℕ) : Type 0 where
   pub is : IsOutput scenario text
   pub entries : All IsEntry is.history
 
--- an output of the script, with so many entries
+-- an output of the script, with so many entries; its history is sound, and the script's commands have forms that lines may have, so that each law of such histories is one of it; and its answer lines are such as a reader of texts takes
 pub record IsOutputOf (scenario : Scenario) (text : List ℕ) (count : ℕ) : Type 0 where
   pub is : IsTypedOutput scenario text
+  pub sound : IsSound is.is.history
+  pub commands : AllByRecursion (λ p. IsCommand p.command) scenario.commands
+  pub answers : All IsLine (lines_of scenario is.is.history)
   pub count_is : count ≡ length is.is.history
 
 -- no output of the script; a walk of it may have come to the entries before this one of those that the text begins with, and not to one more

@@ -7,15 +7,17 @@ use base_types::NoMemory;
 use event_kinds::{Entry, EntryFault, read_entry};
 use std::alloc::Global;
 
-// The entries that a text begins with, and how many bytes their lines have.
+/// The entries that a text begins with.
 #[derive(Drop)]
-pub(crate) struct Leading {
-    pub(crate) entries: Vec<Entry>,
-    pub(crate) size: usize,
+pub struct Leading {
+    /// The entries, each on a line of its own.
+    pub entries: Vec<Entry>,
+    /// How many bytes their lines have.
+    pub size: usize,
 }
 
-// The entries that a text begins with, each on a line of its own.
-pub(crate) fn leading_entries(alloc: Global, text: &[u8]) -> Result<Leading, NoMemory>
+/// The entries that a text begins with, each on a line of its own. `NoMemory` comes where memory is short.
+pub fn leading_entries(alloc: Global, text: &[u8]) -> Result<Leading, NoMemory>
     ensures leads { IfOk result (λ l. Leads text.now l.entries.items (drop l.size text.now)) }
     ensures within { IfOk result (λ l. l.size ≤ length text.now) }
 {

@@ -12,11 +12,11 @@ use event_kinds::{Entry, Event};
 use script_text::Script;
 use std::alloc::Global;
 
-// How many entries, from the first on, follow a schedule, and whether all do and take all of its turns.
+// How many entries, from the first on, follow a schedule, and the backend whose turn comes after these, if one does.
 #[derive(Drop)]
 pub(crate) struct Followed {
     pub(crate) entries: usize,
-    pub(crate) is_whole: bool,
+    pub(crate) turn: Option<u32>,
 }
 
 // How far these entries follow the script's schedule.
@@ -25,7 +25,7 @@ pub(crate) fn follow(
     script: &Script,
     entries: &[Entry],
 ) -> Result<Followed, NoMemory>
-    ensures { IfOk result (λ f. HaveFollowed script.now entries.now f.entries f.is_whole) }
+    ensures { IfOk result (λ f. HaveFollowed script.now entries.now f.entries f.turn) }
 {
     if script.steps().is_empty() {
         in_turn(alloc, script, entries)
@@ -37,39 +37,35 @@ pub(crate) fn follow(
 // The same without lines of steps: each backend runs to its stop.
 fn in_turn(alloc: Global, script: &Script, entries: &[Entry]) -> Result<Followed, NoMemory>
     requires { script.now.steps ≡ [] }
-    ensures { IfOk result (λ f. HaveFollowed script.now entries.now f.entries f.is_whole) }
+    ensures { IfOk result (λ f. HaveFollowed script.now entries.now f.entries f.turn) }
 {
     let mut stopped = all_running(alloc, script.backends())?;
     for (at, e) in entries.iter().enumerate() {
-        if !is_turn_of(first_running(&stopped), e.backend) {
-            return Ok(Followed {
-                entries: at,
-                is_whole: false,
-            });
+        let turn = first_running(&stopped);
+        if !is_turn_of(turn, e.backend) {
+            return Ok(Followed { entries: at, turn });
         }
         note(&mut stopped, e);
     }
     Ok(Followed {
         entries: entries.len(),
-        is_whole: first_running(&stopped).is_none(),
+        turn: first_running(&stopped),
     })
 }
 
 // The same by lines of steps.
 fn by_steps(alloc: Global, script: &Script, entries: &[Entry]) -> Result<Followed, NoMemory>
     requires { 1 ≤ length script.now.steps }
-    ensures { IfOk result (λ f. HaveFollowed script.now entries.now f.entries f.is_whole) }
+    ensures { IfOk result (λ f. HaveFollowed script.now entries.now f.entries f.turn) }
 {
     let steps = all_steps(alloc, script)?;
     let mut stopped = all_running(alloc, script.backends())?;
     let mut taken = 0usize;
     for (at, e) in entries.iter().enumerate() {
         taken = pass(&steps, taken, &stopped);
-        if !is_turn_of(step_at(&steps, taken), e.backend) {
-            return Ok(Followed {
-                entries: at,
-                is_whole: false,
-            });
+        let turn = step_at(&steps, taken);
+        if !is_turn_of(turn, e.backend) {
+            return Ok(Followed { entries: at, turn });
         }
         taken += 1;
         note(&mut stopped, e);
@@ -77,7 +73,7 @@ fn by_steps(alloc: Global, script: &Script, entries: &[Entry]) -> Result<Followe
     let left = pass(&steps, taken, &stopped);
     Ok(Followed {
         entries: entries.len(),
-        is_whole: left == steps.len(),
+        turn: step_at(&steps, left),
     })
 }
 

@@ -10,23 +10,22 @@ use history_lines::lines;
 use script_text::Script;
 use std::alloc::Global;
 
-// How many entries, from the first on, a walk of the script may have made; whether that is all of them, and the
-// walk may have ended there; and the lines where it is all of them.
+/// How far a walk may have made the entries of a list.
 #[derive(Drop)]
-pub(crate) struct Walked {
-    pub(crate) entries: usize,
-    pub(crate) is_whole: bool,
-    pub(crate) lines: Listed<Line>,
+pub struct Walked {
+    /// How many of them, from the first on.
+    pub entries: usize,
+    /// The backend whose turn comes after these, from 1; `None` where the schedule is at its end.
+    pub turn: Option<u32>,
+    /// The answer lines, where a walk may have made all entries.
+    pub lines: Listed<Line>,
 }
 
-// How far a walk of the script may have made these entries.
-pub(crate) fn walked_prefix(
-    alloc: Global,
-    script: &Script,
-    entries: &[Entry],
-) -> Result<Walked, NoMemory>
+/// How far a walk of the script may have made these entries. Condition: the script's commands can be run.
+/// `NoMemory` comes where memory is short, or a number can't be counted.
+pub fn walked_prefix(alloc: Global, script: &Script, entries: &[Entry]) -> Result<Walked, NoMemory>
     requires { is_built script.now ≡ true }
-    ensures { IfOk result (λ w. HaveWalked script.now entries.now w.entries w.is_whole w.lines) }
+    ensures { IfOk result (λ w. HaveWalked script.now entries.now w.entries w.turn w.lines) }
 {
     let answered = lines(alloc, script, entries)?;
     let allowed = &entries[..answered.entries as usize];
@@ -34,7 +33,7 @@ pub(crate) fn walked_prefix(
     let followed = follow(alloc, script, &allowed[..looks])?;
     Ok(Walked {
         entries: followed.entries,
-        is_whole: followed.is_whole && looks == entries.len(),
+        turn: followed.turn,
         lines: answered.lines,
     })
 }

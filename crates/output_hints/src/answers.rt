@@ -1,41 +1,34 @@
 use crate::differing::push_line;
 use base_types::{LineBuffer, NoMemory};
-use by_backend::is_built;
-use event_kinds::{Entry, Line, push_line_head};
-use history_lines::lines;
-use script_text::Script;
+use check_tool::after_line;
+use event_kinds::{Line, push_line_head};
 use std::alloc::Global;
 use std::fmt::Write;
 
-// What should stand in the place of the first answer line that differs, where all entries may stand.
+// What should come in the place of the first line that differs, after so many entries and none left to come.
 pub(crate) fn wrong_line(
     alloc: Global,
-    script: &Script,
-    entries: &[Entry],
+    entries: usize,
+    lines: &[Line],
     rest: &[u8],
-) -> Result<Option<String>, NoMemory> {
-    if !is_built(script) {
-        return Ok(None);
-    }
-    let answered = lines(alloc, script, entries)?;
+) -> Result<String, NoMemory> {
+    let mut text = String::new(alloc);
+    write!(text, "there are {entries} entries, and ")?;
+    let mut number = entries.saturating_add(1);
     let mut left = rest;
-    for (at, line) in answered.lines.as_slice().iter().enumerate() {
-        let expected = text_of(alloc, line)?;
-        match left.strip_prefix(expected.as_slice()) {
-            Some(after) => left = after,
-            None => return Ok(Some(expects(alloc, number(entries, at), &expected, left)?)),
-        }
+    for line in lines {
+        let Some(after) = after_line(left, line) else {
+            push_expected(&mut text, number, &text_of(alloc, line)?, left)?;
+            return Ok(text);
+        };
+        left = after;
+        number = number.saturating_add(1);
     }
-    let last = number(entries, answered.lines.as_slice().len());
     match left.strip_prefix(b"end\n".as_slice()) {
-        Some(_) => Ok(Some(String::from_str(alloc, "something follows the line 'end'")?)),
-        None => Ok(Some(expects(alloc, last, b"end\n", left)?)),
+        Some(_) => text.push_str("something follows the line 'end'")?,
+        None => push_expected(&mut text, number, b"end\n", left)?,
     }
-}
-
-// The number of the line that comes after all entries and so many answer lines.
-fn number(entries: &[Entry], lines: usize) -> usize {
-    entries.len().saturating_add(lines).saturating_add(1)
+    Ok(text)
 }
 
 // An answer line with its end.
@@ -49,17 +42,21 @@ fn text_of(alloc: Global, line: &Line) -> Result<Vec<u8>, NoMemory> {
     Ok(text)
 }
 
-fn expects(
-    alloc: Global,
+// Puts to the end what the line of this number should be, and what is there.
+fn push_expected(
+    text: &mut String,
     number: usize,
     expected: &[u8],
     found: &[u8],
-) -> Result<String, NoMemory> {
-    let mut text = String::new(alloc);
+) -> Result<(), NoMemory> {
     write!(text, "line {number} of the output should be '")?;
-    push_line(&mut text, expected)?;
+    push_line(text, expected)?;
+    if found.is_empty() {
+        text.push_str("', and the output ends")?;
+        return Ok(());
+    }
     text.push_str("' and is '")?;
-    push_line(&mut text, found)?;
+    push_line(text, found)?;
     text.push('\'')?;
-    Ok(text)
+    Ok(())
 }

@@ -1,23 +1,26 @@
+ghost use Rattle.std.specs.Prelude.{◌≡◌, true};
+ghost use Rattle.by_backend.specs.Built.{is_built};
+
 use crate::answers::wrong_line;
 use crate::reasons::reason;
-use crate::turns::whose_turn;
 use base_types::NoMemory;
 use by_backend::is_built;
-use event_kinds::{Entry, EntryFault, read_entry};
+use check_tool::{leading_entries, walked_prefix};
+use event_kinds::Entry;
 use script_text::{Rest, Script, ScriptFault, read_script};
 use std::alloc::Global;
 use std::fmt::Write;
 
-// The most bytes of an input that is read.
-const MOST_BYTES: usize = 4_000_000_000;
+// The most bytes that a script is read of.
+const MOST_READ: usize = 4_294_967_294;
 
 // How much of a line is shown.
 const MOST_SHOWN: usize = 200;
 
-/// Why the output that the input has after its script isn't one of it, where `entry` is the number that the
-/// checker gave. `None` where the input isn't one that is checked.
-pub fn difference(alloc: Global, input: &[u8], entry: u64) -> Result<Option<String>, NoMemory> {
-    if input.len() > MOST_BYTES {
+/// Why the output that the input has after its script isn't one of it, at the entry that the checker names.
+/// `None` where the input isn't one that is checked.
+pub fn difference(alloc: Global, input: &[u8]) -> Result<Option<String>, NoMemory> {
+    if input.len() > MOST_READ {
         return Ok(None);
     }
     let read = match read_script(alloc, input, Rest::Given) {
@@ -29,66 +32,48 @@ pub fn difference(alloc: Global, input: &[u8], entry: u64) -> Result<Option<Stri
         return Ok(None);
     }
     let output = input.get(read.rest_at..).unwrap_or(&[]);
-    let place = usize::try_from(entry).unwrap_or(0).saturating_sub(1);
-    let front = front_of(alloc, output, place)?;
-    let rest = output.get(front.size..).unwrap_or(&[]);
-    match next_entry(alloc, rest)? {
-        Some(e) => Ok(Some(wrong_entry(alloc, &read.script, &front.entries, &e, rest)?)),
-        None => match whose_turn(alloc, &read.script, &front.entries)? {
-            Some(b) => Ok(Some(missing_entry(alloc, b, rest)?)),
-            None => wrong_line(alloc, &read.script, &front.entries, rest),
-        },
-    }
+    Ok(Some(of_output(alloc, &read.script, output)?))
 }
 
-// Entries, and how many bytes their lines have.
-#[derive(Drop)]
-struct Front {
-    entries: Vec<Entry>,
-    size: usize,
-}
-
-// The first entries of an output, so many at most.
-fn front_of(alloc: Global, output: &[u8], most: usize) -> Result<Front, NoMemory> {
-    let mut entries = Vec::new(alloc);
-    let mut size: usize = 0;
-    for line in output.split_inclusive(|byte| *byte == b'\n') {
-        if entries.len() >= most {
-            break;
+// The same of a script whose commands can be run, and an output.
+fn of_output(alloc: Global, script: &Script, output: &[u8]) -> Result<String, NoMemory>
+    requires { is_built script.now ≡ true }
+{
+    let leading = leading_entries(alloc, output)?;
+    let entries = leading.entries.as_slice();
+    let walked = walked_prefix(alloc, script, entries)?;
+    let rest = output.get(leading.size..).unwrap_or(&[]);
+    match (entries.get(walked.entries), walked.turn) {
+        (Some(e), turn) => {
+            let before = entries.get(..walked.entries).unwrap_or(entries);
+            let line = line_at(output, walked.entries);
+            wrong_entry(alloc, script, before, e, turn, line)
         }
-        match next_entry(alloc, line)? {
-            Some(e) => entries.push(e)?,
-            None => break,
-        }
-        size = size.saturating_add(line.len());
-    }
-    Ok(Front { entries, size })
-}
-
-// The entry whose line comes first, if there is one.
-fn next_entry(alloc: Global, text: &[u8]) -> Result<Option<Entry>, NoMemory> {
-    let Some(end) = text.iter().position(|byte| *byte == b'\n') else {
-        return Ok(None);
-    };
-    match read_entry(alloc, text.get(..end).unwrap_or(&[])) {
-        Ok(e) => Ok(Some(e)),
-        Err(EntryFault::Bad) => Ok(None),
-        Err(EntryFault::NoMemory) => Err(NoMemory),
+        (None, Some(b)) => missing_entry(alloc, b, rest),
+        (None, None) => wrong_line(alloc, entries.len(), walked.lines.as_slice(), rest),
     }
 }
 
-// An entry that a walk may not make there.
+// The line of this number, from 0, with its end.
+fn line_at(text: &[u8], number: usize) -> &[u8] {
+    text.split_inclusive(|byte| *byte == b'\n')
+        .nth(number)
+        .unwrap_or(&[])
+}
+
+// An entry that a walk may not make after these, where this is the backend whose turn it is.
 fn wrong_entry(
     alloc: Global,
     script: &Script,
     before: &[Entry],
     e: &Entry,
-    rest: &[u8],
+    turn: Option<u32>,
+    line: &[u8],
 ) -> Result<String, NoMemory> {
     let mut text = String::new(alloc);
-    push_line(&mut text, rest)?;
+    push_line(&mut text, line)?;
     text.push_str(": ")?;
-    match whose_turn(alloc, script, before)? {
+    match turn {
         Some(b) if b == e.backend => reason(alloc, &mut text, script, before, e)?,
         Some(b) => write!(text, "it is backend {b}'s turn")?,
         None => text.push_str("no turn is left")?,
@@ -96,15 +81,15 @@ fn wrong_entry(
     Ok(text)
 }
 
-// No entry, where one should stand.
+// No entry, where one of this backend should come.
 fn missing_entry(alloc: Global, b: u32, rest: &[u8]) -> Result<String, NoMemory> {
     let mut text = String::new(alloc);
+    write!(text, "there is none, and it is backend {b}'s turn: ")?;
     if rest.is_empty() {
         text.push_str("the output ends")?;
     } else {
         push_line(&mut text, rest)?;
     }
-    write!(text, ": an entry of backend {b} should stand here")?;
     Ok(text)
 }
 

@@ -6,10 +6,13 @@ use script_text::Script;
 use std::alloc::Global;
 use std::fmt::Write;
 
-// The most messages that are counted.
-const MOST_COUNTED: u32 = 1_000_000_000;
+// As many messages as a fetch can name.
+const ALL_MESSAGES: u32 = u32::MAX;
 
-// Why an entry of the backend whose turn it is may not stand after these.
+// The most messages that one fetch takes.
+const MOST_FETCHED: usize = 32;
+
+// Why an entry of the backend whose turn it is may not come after these.
 pub(crate) fn reason(
     alloc: Global,
     text: &mut String,
@@ -18,7 +21,7 @@ pub(crate) fn reason(
     e: &Entry,
 ) -> Result<(), NoMemory> {
     let Some(ledger) = held(alloc, script.size(), before)? else {
-        return Ok(text.push_str("it may not stand here")?);
+        return Ok(text.push_str("it may not come here")?);
     };
     if of_event(text, &ledger, script.size(), e)? {
         return Ok(());
@@ -55,7 +58,7 @@ fn of_event(text: &mut String, ledger: &Ledger, size: u32, e: &Entry) -> Result<
 
 // How many messages wait for a backend.
 fn waiting(ledger: &Ledger, b: u32) -> usize {
-    ledger.fetched(b, MOST_COUNTED).len()
+    ledger.fetched(b, ALL_MESSAGES).len()
 }
 
 fn of_look(text: &mut String, ledger: &Ledger, b: u32, yes: bool) -> Result<bool, NoMemory> {
@@ -75,7 +78,7 @@ fn of_fetch(
     fetched: u32,
 ) -> Result<bool, NoMemory> {
     let count = waiting(ledger, b);
-    let differs = count > size as usize || count.min(32) != fetched as usize;
+    let differs = count > size as usize || count.min(MOST_FETCHED) != fetched as usize;
     if differs {
         push_waiting(text, count)?;
         push_room(text, count, size)?;
@@ -130,11 +133,11 @@ fn rule(event: &Event) -> &'static str {
         Event::Unlock { .. } => "the lock isn't one that this command took",
         Event::Write { .. } => "what is read, locked or running doesn't allow the write",
         Event::ClashRow { .. } | Event::ClashRunning { .. } => "the name isn't in use so",
-        Event::Visible { .. } => "the transaction has no write that stands, or another number",
+        Event::Visible { .. } => "the transaction has nothing to make visible, or another number",
         Event::Publish { .. } => "so many messages aren't the next to send",
         Event::Release { .. } =>
-            "messages are still to send, a write stands, or another command was the first",
-        Event::Gone { .. } => "no write stands that is taken back",
+            "messages are still to send, a write is still open, or another command was the first",
+        Event::Gone { .. } => "there is no write to take back",
         Event::Fail => "no command runs out of memory in a walk",
         _ => "the entries before don't allow it",
     }

@@ -1,6 +1,5 @@
-use Rattle.std.proofs.Common.{◌∙◌, take, length}
-use Rattle.check_tool.proofs.Verdicts.{allowed_backends, both_told, not_both_told, walked_far}
-use Rattle.check_tool.proofs.walked.walked_prefix.Goals.{then-followed, else-followed}
+use Rattle.std.proofs.Common.{take}
+use Rattle.check_tool.proofs.Verdicts.{allowed_backends, walked_far}
 use Rattle.check_tool.proofs.walked.walked_prefix.Goals as goal
 
 pub true_looks-requires-clause-backends : goal.true_looks-requires-clause-backends
@@ -8,9 +7,5 @@ true_looks-requires-clause-backends c = allowed_backends c.args.script.now (take
 
 pub returns : goal.returns
 returns c =
-    walked_far c.args.script.now c.args.entries.now c.in_ok-answered.answered.entries c.in_ok-looks.looks c.in_ok-followed.followed.entries c.in_ok-answered.answered.lines c.in_ok-followed.followed.is_whole c.if-followed.result
-    c.in_ok-answered.ensures c.in_ok-looks.ensures c.in_ok-followed.ensures
-    (elim c.if-followed.branch [
-      | then-followed w ↦ both_told c.in_ok-followed.followed.is_whole c.if-followed.result c.in_ok-looks.looks (length c.args.entries.now) w.if-followed.true w.result-is
-      | else-followed w ↦ not_both_told c.in_ok-followed.followed.is_whole c.if-followed.result c.in_ok-looks.looks (length c.args.entries.now) w.if-followed.false (w.result-is ∙ w.if-followed.false)
-    ])
+    walked_far c.args.script.now c.args.entries.now c.in_ok-answered.answered.entries c.in_ok-looks.looks c.in_ok-followed.followed.entries c.in_ok-answered.answered.lines c.in_ok-followed.followed.turn
+    c.backends.ensures.kept.spelled c.in_ok-answered.ensures c.in_ok-looks.ensures c.in_ok-followed.ensures
