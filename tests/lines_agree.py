@@ -93,8 +93,9 @@ class Oracle:
         return list(itertools.takewhile(lambda entry: entry is not None, map(self.entry, lines)))
 
     def read_entry(self, line):
-        """The entry of a line, if it is one. For the program a number of more than 32 bits is none."""
-        large = any(int(number) >= 2 ** 32 for number in re.findall(r"(?<![a-z0-9_])\d{10,}", line))
+        """The entry of a line, if it is one. For the program a number of more than 32 bits is none; one below 0 has a sign."""
+        numbers = [int(number) for number in re.findall(r"(?<![a-z0-9_-])-?\d{10,}", line)]
+        large = any(number >= 2 ** 32 or number < -2 ** 31 for number in numbers)
         return None if large else self.rules.read_entry(line)
 
     def checker(self, script):
