@@ -51,14 +51,18 @@ fn admitted(blocks: &TxnBlocks, command: &Command) -> &'static str {
     }
 }
 
-// The same outside a block, inside one, and in a failed one.
-fn admitted_anywhere(alloc: Global, command: &Command) -> Result<[&'static str; 3], NoMemory> {
+// Whether this is said of a command outside a block, inside one, and in a failed one.
+fn is_said_of(
+    alloc: Global,
+    command: &Command,
+    wanted: [&'static str; 3],
+) -> Result<bool, NoMemory> {
     let mut blocks = TxnBlocks::new(alloc);
     let outside = admitted(&blocks, command);
     blocks.begin(1, true)?;
     let inside = admitted(&blocks, command);
     blocks.fail();
-    Ok([outside, inside, admitted(&blocks, command)])
+    Ok([outside, inside, admitted(&blocks, command)] == wanted)
 }
 
 // Whether this is said of the one command of a script.
@@ -73,7 +77,7 @@ fn is_one_admitted(
     wanted: [&'static str; 3],
 ) -> Result<bool, NoMemory> {
     match commands {
-        [placed] => Ok(admitted_anywhere(alloc, &placed.command)? == wanted),
+        [placed] => is_said_of(alloc, &placed.command, wanted),
         _ => Ok(false),
     }
 }
