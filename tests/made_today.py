@@ -40,7 +40,7 @@ UNTOLD = ("`columns NAME:TYPE NAME:TYPE ..`",)
 
 def pattern(form):
     """A regular expression of a form: words in capitals stand for values, and ' ..' for more of the same."""
-    pieces = re.split(r"([A-Z]+2?)(?![a-z])", form.replace(" ..", "\0"))
+    pieces = re.split(r"(?<!\d)([A-Z]+2?)(?![a-z\d])", form.replace(" ..", "\0"))
     known = (WORDS.get(piece, re.escape(piece)) for piece in pieces)
     return "".join(known).replace(re.escape("\0"), "(?: .*)?").replace("\0", "(?: .*)?")
 
