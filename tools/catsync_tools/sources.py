@@ -172,7 +172,7 @@ class Reader:
 def read_source(data):
     """The script of an input; a Fault names the line that has none of its forms."""
     if len(data) > MOST_BYTES:
-        raise Fault("the script has more than %d bytes" % MOST_BYTES)
+        raise Fault("the input has more than %d bytes, or 268435456 for check" % MOST_BYTES)
     reader = Reader()
     for line in data.split(b"\n"):
         reader.read(line)

@@ -15,6 +15,9 @@ _MODE = "(access share|row share|row exclusive|share update exclusive|share|shar
 # The forms of commands, tokens joined by one blank each, and their SQL. Names are quoted: some are SQL's own words.
 FORMS = [(re.compile(pattern), sql) for pattern, sql in (
     ("(begin|commit|rollback)", r"\1"),
+    ("savepoint %s" % _NAME, r'savepoint "\1"'),
+    ("release(?: savepoint)? %s" % _NAME, r'release savepoint "\1"'),
+    ("rollback to(?: savepoint)? %s" % _NAME, r'rollback to savepoint "\1"'),
     ("lock table %s in %s mode" % (_NAME, _MODE), r'lock table "\1" in \2 mode'),
     ("drop table %s" % _NAME, r'drop table "\1"'),
     ("alter table %s rename to %s" % (_NAME, _NAME), r'alter table "\1" rename to "\2"'),
