@@ -1,16 +1,17 @@
--- What the writes of commands keep of tables: a column is taken away only with its relation, columns are numbered from 1, no two columns of a relation have one name, and a write gives no name to two relations.
-use Rattle.std.specs.Prelude.{◌≡◌, ⊤, ◌⊎◌, ℕ, Bool, true, false, List, [], ◌∷◌, ◌==◌, ◌-◌, ◌||◌, ◌&&◌, nat_lt}
+-- What the writes of commands keep of tables: a column is taken away only with its relation, columns are numbered from 1, no two columns of a relation have one name, an index's own row and its index row come and go together, and a write gives no name to two relations.
+use Rattle.std.specs.Prelude.{◌≡◌, ⊤, ◌⊎◌, ℕ, Bool, true, false, not, Option, Some, List, [], ◌∷◌, ◌==◌, ◌-◌, ◌||◌, ◌&&◌, nat_lt}
 use Rattle.std.specs.List.{AllByRecursion, list_any, list_all}
 use Rattle.std.specs.Option.{IfSome, option_map_or}
 use Rattle.base_types.specs.Names.{IsName, IsDropped}
 use Rattle.base_types.specs.RowKeys.{key_of, same_key}
 use Rattle.base_types.specs.Scans.{same_oid}
+use Rattle.base_types.specs.declared.kind.Kind.TheVariants.{Index}
 use Rattle.base_types.specs.declared.row.Row.TheVariants as rows
 use Rattle.base_types.specs.declared.row_key.RowKey.{RowKey}
 use Rattle.base_types.specs.declared.row_key.RowKey.TheVariants as keys
 use Rattle.event_kinds.specs.declared.entry.Event.TheVariants as events
 use Rattle.event_kinds.specs.declared.entry.Item.TheVariants as forms
-use Rattle.history_model.specs.Versions.{added_row, rows_of}
+use Rattle.history_model.specs.Versions.{added_row, rows_of, row_with}
 use Rattle.history_model.specs.Writes.{has_row}
 use Rattle.cacheless.specs.Types.{Oid, Row, Entry, Event, Item}
 
@@ -72,6 +73,47 @@ KeepsColumnsBy before b event = ⊤
 -- the entry keeps the columns of tables
 abbrev pub WritesColumns : List Entry → Entry → Type 0
 WritesColumns before e = KeepsColumnsBy before e.backend e.event
+
+-- a change makes the index's own row
+abbrev pub makes_index : Oid → Item → Bool
+makes_index rel (forms.Add (rows.Class oid name Index fill)) = same_oid oid rel
+makes_index rel item = false
+
+-- a change adds the index row of the relation
+abbrev pub adds_index_row : Oid → Item → Bool
+adds_index_row rel (forms.Add (rows.Ind index table state nums)) = same_oid index rel
+adds_index_row rel item = false
+
+-- a change takes the index row of the relation away
+abbrev pub takes_index_row : Oid → Item → Bool
+takes_index_row rel (forms.Remove (keys.Ind of)) = same_oid of rel
+takes_index_row rel item = false
+
+-- the row is an index's own
+abbrev pub is_of_index : Option Row → Bool
+is_of_index (Some (rows.Class oid name Index fill)) = true
+is_of_index row = false
+
+-- an index's own row comes in one write with its index row, and goes in one with it
+abbrev pub goes_together : List Entry → ℕ → List Item → Item → Bool
+goes_together before b items (forms.Add (rows.Class oid name Index fill)) = list_any (adds_index_row oid) items
+goes_together before b items (forms.Add (rows.Ind index table state nums)) = list_any (makes_index index) items
+goes_together before b items (forms.Remove (keys.Class rel)) = not (is_of_index (row_with before b (keys.Class rel))) || list_any (takes_index_row rel) items
+goes_together before b items (forms.Remove (keys.Ind index)) = list_any (takes_relation index) items
+goes_together before b items item = true
+
+-- a write keeps indexes whole
+pub record KeepsIndexes (before : List Entry) (b : ℕ) (items : List Item) : Type 0 where
+  pub together : list_all (goes_together before b items) items ≡ true
+
+-- if the event is a write, it keeps indexes whole
+abbrev pub KeepsIndexesBy : List Entry → ℕ → Event → Type 0
+KeepsIndexesBy before b (events.Write xid items) = KeepsIndexes before b items
+KeepsIndexesBy before b event = ⊤
+
+-- the entry keeps indexes whole
+abbrev pub WritesIndexes : List Entry → Entry → Type 0
+WritesIndexes before e = KeepsIndexesBy before e.backend e.event
 
 -- two rows are of relations that have one name
 abbrev pub ShareName : Row → Row → Type 0
