@@ -29,8 +29,9 @@ use Rattle.history_model.proofs.Every.{every, every-weaker, any-filter}
 use Rattle.history_model.proofs.Lawful.{IsPlain, IsLawful}
 use Rattle.history_model.proofs.Lives.{Begun, begun_at}
 use Rattle.history_model.proofs.Markings.{TellsIn, told_marks}
-use Rattle.history_model.proofs.MaskedRows.{Masking, ShowSame, LeavesMask, KeepsMask, passing, passing_down, show-trans, show-sym, counted_all, write_leaves, gone_leaves, sound_steady}
-use Rattle.history_model.proofs.MaskedScans.{masked_answer, masked_visible}
+use Rattle.history_model.proofs.MaskedRows.{Masking, LeavesMask, KeepsMask}
+use Rattle.history_model.proofs.MaskedOwn.{write_masked, gone_masked}
+use Rattle.history_model.proofs.MaskedScans.{masked_visible}
 use Rattle.history_model.proofs.Ordered.{Ordered, Ordered-more, if_some, lawful_of, early_at, covers_items, write_lawful, write_keyed, sound_ordered}
 use Rattle.history_model.proofs.Reading.{running_transaction_of-own as running-own, versions_of-more as versions-more}
 use Rattle.history_model.proofs.RowMasks.{counted_mask, counted_apart, ToldOf, told_changes, told_masks}
@@ -61,43 +62,6 @@ plain_or : (d : Purpose) → IsPlain d ⊎ IsOfConstraints d
 plain_or (scans.Constraint rel) = inr (rel, refl)
 plain_or d = inl (λ row is. is)
 
--- all that a backend did counts for it
-all_counts : (m : Masking) (history : List Entry) (b : ℕ) (x : Row) (vs : List Version) → ShowSame m x (counts history b) vs (counts_at history b every_command) vs
-all_counts m history b x vs = counted_all m x (counts history b) (counts_at history b every_command) vs (every (OfStamps (λ s row. counts history b s ≡ counts_at history b every_command s)) (λ v. (same v.by, of v.ended)) vs)
-  where
-    and_true : (t : Bool) → t ≡ (t && true)
-    and_true true = refl
-    and_true false = refl
-
-    same : (s : Stamp) → counts history b s ≡ counts_at history b every_command s
-    same s = ap (λ t. is_committed history s.xid.0 || t) (and_true (runs_as history b s.xid.0))
-
-    of : (o : Option Stamp) → IfSome o (λ s. counts history b s ≡ counts_at history b every_command s)
-    of None = tt
-    of (Some s) = same s
-
--- an own entry leaves a relation's constraints, where with all that it did the backend sees the same masked rows
-own_shown : (rel : Oid) (history : List Entry) (e : Entry) → OneVersion history → OneVersion (history ++ e ∷ [])
-    → ((x : Row) → (counted_mask rel).concerns x → ShowSame (counted_mask rel) x (counts_at (history ++ e ∷ []) e.backend every_command) (versions_by history e.backend e.command e.event (versions_of history)) (counts_at history e.backend every_command) (versions_of history))
-    → counted (scans.Constraint rel) (answer_of (history ++ e ∷ []) e.backend (scans.Constraint rel)) ≡ counted (scans.Constraint rel) (answer_of history e.backend (scans.Constraint rel))
-own_shown rel history e one one' shows = masked_answer m (scans.Constraint rel) (counted_apart rel) history e b one one'
-    (λ x cx. subst (λ vs. ShowSame m x (counts after b) vs (counts history b) (versions_of history)) (sym (versions-more history e))
-    (show-trans m x (counts after b) (counts_at after b every_command) (counts history b) now now (versions_of history) (all_counts m after b x now)
-    (show-trans m x (counts_at after b every_command) (counts_at history b every_command) (counts history b) now (versions_of history) (versions_of history) (shows x cx)
-    (show-sym m x (counts history b) (counts_at history b every_command) (versions_of history) (versions_of history) (all_counts m history b x (versions_of history))))))
-  where
-    m : Masking
-    m = counted_mask rel
-
-    b : ℕ
-    b = e.backend
-
-    after : List Entry
-    after = history ++ e ∷ []
-
-    now : List Version
-    now = versions_by history e.backend e.command e.event (versions_of history)
-
 -- what a write needs but that it covers what it changes, and that its new names are free
 pub record IsAllowedWrite (history : List Entry) (b c : ℕ) (xid : Xid) (items : List Item) : Type 0 where
   pub hidden : is_visible (running_transaction_of history b) ≡ false
@@ -127,13 +91,10 @@ lawful_write history b c xid items k may = write_lawful history b c xid items ma
 
 write_counted : (rel : Oid) (history : List Entry) (b c : ℕ) (xid : Xid) (items : List Item) → Ordered history → IsAllowedWrite history b c xid items → is_covered (messages_written history b items) (scans.Constraint rel) ≡ false
     → counted (scans.Constraint rel) (answer_of (history ++ entry_of b c (events.Write xid items) ∷ []) b (scans.Constraint rel)) ≡ counted (scans.Constraint rel) (answer_of history b (scans.Constraint rel))
-write_counted rel history b c xid items k may none = own_shown rel history e k.one
-    (OneVersion-more history e lawful (write_keyed history b c xid items may.keys may.there may.orderly k.rels begun) k.runs k.locks k.touched k.guards k.rels k.one)
-    (λ x cx. write_leaves m history b c xid items lawful k may.keys
+write_counted rel history b c xid items k may none = write_masked m (scans.Constraint rel) (counted_apart rel) history b c xid items k lawful
+    (OneVersion-more history e lawful (write_keyed history b c xid items may.keys may.there may.orderly k.rels (begun_at history e may.life k.lives)) k.runs k.locks k.touched k.guards k.rels k.one) may.life may.keys
     (every-weaker (λ item. IfSome (added_row item) (ToldOf rel history b items item) × IfSome (old_row history b item) (ToldOf rel history b items item)) (λ item. IfSome (added_row item) (LeavesMask m history b item) × IfSome (old_row history b item) (LeavesMask m history b item))
     (λ item h. (if_some (ToldOf rel history b items item) (LeavesMask m history b item) (on item) (added_row item) h.0, if_some (ToldOf rel history b items item) (LeavesMask m history b item) (on item) (old_row history b item) h.1)) items (told_changes rel history b c xid items may.guarded may.orderly (early_at history e k may.life)))
-    begun.low every_command x cx (λ i j low is. refl) refl
-    (or_right (is_committed (history ++ e ∷ []) xid.0) (runs_as (history ++ e ∷ []) b xid.0 && true) (ap (λ t. t && true) (ap (has_xid xid.0) (running-own history e b (eq-eqb b b refl)) ∙ eq-eqb xid.0 xid.0 refl))))
   where
     m : Masking
     m = counted_mask rel
@@ -143,9 +104,6 @@ write_counted rel history b c xid items k may none = own_shown rel history e k.o
 
     lawful : IsLawful history e
     lawful = lawful_write history b c xid items k may
-
-    begun : Begun c (running_transaction_of history b) (lists_of history b)
-    begun = begun_at history e may.life k.lives
 
     on : (item : Item) (row : Row) → ToldOf rel history b items item row → LeavesMask m history b item row
     on item row told concerned = of (told concerned)
@@ -167,44 +125,14 @@ counted_write history b c xid items d k may none = write_by history b c xid item
 
 gone_counted : (rel : Oid) (history : List Entry) (b c from : ℕ) → IsSound history → MayComeNext history (entry_of b c (events.Gone from)) → is_covered (taken_back history b from) (scans.Constraint rel) ≡ false
     → counted (scans.Constraint rel) (answer_of (history ++ entry_of b c (events.Gone from) ∷ []) b (scans.Constraint rel)) ≡ counted (scans.Constraint rel) (answer_of history b (scans.Constraint rel))
-gone_counted rel history b c from sound comes none = own_shown rel history e k.one (Ordered-more history e k comes).one
-    (λ x cx. show-trans m x (counts_at (history ++ e ∷ []) b every_command) (counts_at history b left) (counts_at history b every_command) (versions_by history b c (events.Gone from) vs) vs vs
-    (gone_leaves m history b c from (lawful_of history e k comes) k b every_command x (λ i j low is. refl))
-    (show-sym m x (counts_at history b every_command) (counts_at history b left) vs vs
-    (sound_steady m (told_marks d) (told_masks rel) history sound b every_command left x cx (λ i j low is. refl) left_down (λ i is. refl) unmarked)))
+gone_counted rel history b c from sound comes none = gone_masked (counted_mask rel) (told_marks d) (told_masks rel) d (counted_apart rel) history b c from sound comes unmarked
   where
-    m : Masking
-    m = counted_mask rel
-
     d : Purpose
     d = scans.Constraint rel
 
-    e : Entry
-    e = entry_of b c (events.Gone from)
-
-    k : Ordered history
-    k = sound_ordered history sound
-
-    vs : List Version
-    vs = versions_of history
-
-    left : ℕ → Bool
-    left = passing (b == b) every_command from
-
-    left_down : (i j : ℕ) → i ≤ j → left j ≡ true → left i ≡ true
-    left_down = passing_down (b == b) every_command from (λ i j low is. refl)
-
-    taken : (t : Bool) (i : ℕ) → t ≡ true → passing t every_command from i ≡ false → nat_le from i ≡ true
-    taken true i own not' = not_false (nat_le from i) not'
-      where
-        not_false : (u : Bool) → not u ≡ false → u ≡ true
-        not_false true is = refl
-        not_false false is = absurd (cc)
-    taken false i own not' = absurd (cc)
-
-    unmarked : (i : ℕ) → every_command i ≡ true → left i ≡ false → TellsIn d history b i → ⊥
-    unmarked i is not' told = both_ways _ none (sent-covered d i (lists_from from (lists_of history b))
-        (any-filter (covers_at i d) (λ w. nat_le from w.command) (λ w here. ap (nat_le from) (eqb-true w.command i (and_parts (is_of i w) (is_covered (of_write w) d) here).0) ∙ taken (b == b) i (eq-eqb b b refl) not') (lists_of history b) told))
+    unmarked : (i : ℕ) → nat_le from i ≡ true → TellsIn d history b i → ⊥
+    unmarked i above told = both_ways _ none (sent-covered d i (lists_from from (lists_of history b))
+        (any-filter (covers_at i d) (λ w. nat_le from w.command) (λ w here. ap (nat_le from) (eqb-true w.command i (and_parts (is_of i w) (is_covered (of_write w) d) here).0) ∙ above) (lists_of history b) told))
 
 -- what becomes visible
 visible_counted : (rel : Oid) (history : List Entry) (a c : ℕ) (xid : Xid) (b : ℕ) → (a == b) ≡ false → IsSound history → MayComeNext history (entry_of a c (events.Visible xid)) → is_covered (sent_of history a) (scans.Constraint rel) ≡ false

@@ -17,7 +17,7 @@ use Rattle.event_kinds.specs.declared.entry.Item.TheVariants as forms
 use Rattle.lock_modes.specs.declared.grant.Grant.{Grant}
 use Rattle.history_model.specs.Covered.{same_row}
 use Rattle.history_model.specs.Orderly.{main_rel, is_apart}
-use Rattle.history_model.specs.Writes.{relations_changed, is_validation, update_where, mode_to_add, mode_to_replace, mode_to_remove, weaker_mode, enough_with, modes_enough}
+use Rattle.history_model.specs.Writes.{relations_changed, is_validation, update_where, name_allowed, mode_to_add, mode_to_replace, mode_to_remove, weaker_mode, enough_with, modes_enough}
 use Rattle.history_model.proofs.Every.{every-weaker, every, every-both}
 use Rattle.history_model.proofs.Guards.{is_changing, is_exclusive, exclusive_changes, IsHeldIn, held_in-weaker, IsGuarded}
 
@@ -132,7 +132,7 @@ no_mode row = every (λ k. IfSome None (λ (mode : Mode). k.1 mode ≡ true)) (�
 
 replaced_in : (old new : Row) → ReplacesIn (Some old) new old × ReplacesIn (Some old) new new
 replaced_in (rows.Class oid own kind old) (rows.Class to name kind' fill) =
-    let one = update_in under_update (same_row (rows.Class oid own kind fill) (rows.Class to name kind' fill)) refl in ((one, tt), (one, tt))
+    let one = update_in under_update (same_row (rows.Class oid (name_allowed kind own name) kind fill) (rows.Class to name kind' fill)) refl in ((one, tt), (one, tt))
 replaced_in (rows.Att rel num own col_type old live) (rows.Att to num' name col_type' stat live') =
     let one = update_in under_update (same_row (rows.Att rel num own col_type stat live) (rows.Att to num' name col_type' stat live')) refl in ((one, tt), (one, tt))
 replaced_in (rows.Con oid rel own old what) (rows.Con to of name valid what') =

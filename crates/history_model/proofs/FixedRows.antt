@@ -1,5 +1,5 @@
 -- What a change under a weak mode leaves of a row.
-use Rattle.std.proofs.Common.{◌≡◌, ◌∙◌, ℕ, Bool, true, false, Option, None, List, ◌==◌, ◌&&◌, refl, ap, negsuc, ℤ}
+use Rattle.std.proofs.Common.{◌≡◌, ◌∙◌, ℕ, Bool, true, false, Option, None, List, [], ◌==◌, ◌&&◌, refl, ap, negsuc, ℤ}
 use Rattle.std.specs.Str.{bytes_eq}
 use Rattle.std.specs.Ordering.{int_eq}
 use Rattle.std.specs.Option.{option_eq}
@@ -13,11 +13,17 @@ use Rattle.base_types.specs.declared.col_type.ColType.TheVariants as types
 use Rattle.base_types.specs.declared.row.Row.TheVariants as rows
 use Rattle.base_types.specs.Words.{kind_word, type_word, live_word}
 use Rattle.base_types.specs.Scans.{same_oid}
+use Rattle.history_model.specs.Writes.{name_allowed}
 use Rattle.history_model.proofs.Asking.{bytes_same, oid_eq}
 
--- a row but for what a weak mode may change: a relation's fillfactor, a column's statistics target
+-- the name of a relation, but for that of an index, which a weak mode may change
+abbrev pub firm_name : Kind → List ℕ → List ℕ
+firm_name Table own = own
+firm_name Index own = []
+
+-- a row but for what a weak mode may change: a relation's fillfactor, an index's name, a column's statistics target
 abbrev pub fixed : Row → Row
-fixed (rows.Class oid own kind fill) = rows.Class oid own kind None
+fixed (rows.Class oid own kind fill) = rows.Class oid (firm_name kind own) kind None
 fixed (rows.Att rel num own col_type stat live) = rows.Att rel num own col_type (negsuc 0) live
 fixed row = row
 
@@ -48,12 +54,17 @@ type_same types.Date types.Date is = refl
 type_same types.Timestamptz types.Timestamptz is = refl
 type_same a b is = absurd (cc)
 
-pub class_fixed : (a b : Oid) (own name : List ℕ) (k l : Kind) (fill fill' : Option ℕ) → (same_oid a b && bytes_eq own name && bytes_eq (kind_word k) (kind_word l) && option_eq (λ x y. x == y) fill fill') ≡ true → rows.Class a own k None ≡ rows.Class b name l None
+firm_same : (k : Kind) (own name : List ℕ) → name_allowed k own name ≡ name → firm_name k own ≡ firm_name k name
+firm_same Table own name same = same
+firm_same Index own name same = refl
+
+pub class_fixed : (a b : Oid) (own name : List ℕ) (k l : Kind) (fill fill' : Option ℕ) → (same_oid a b && bytes_eq (name_allowed k own name) name && bytes_eq (kind_word k) (kind_word l) && option_eq (λ x y. x == y) fill fill') ≡ true
+    → rows.Class a (firm_name k own) k None ≡ rows.Class b (firm_name l name) l None
 class_fixed a b own name k l fill fill' is =
-    let p = and_parts (same_oid a b && bytes_eq own name && bytes_eq (kind_word k) (kind_word l)) (option_eq (λ x y. x == y) fill fill') is in
-    let q = and_parts (same_oid a b && bytes_eq own name) (bytes_eq (kind_word k) (kind_word l)) p.0 in
-    let r = and_parts (same_oid a b) (bytes_eq own name) q.0 in
-    ap (λ o. rows.Class o own k None) (oid_eq a b r.0) ∙ ap (λ n. rows.Class b n k None) (bytes_same own name r.1) ∙ ap (λ x. rows.Class b name x None) (kind_same k l q.1)
+    let p = and_parts (same_oid a b && bytes_eq (name_allowed k own name) name && bytes_eq (kind_word k) (kind_word l)) (option_eq (λ x y. x == y) fill fill') is in
+    let q = and_parts (same_oid a b && bytes_eq (name_allowed k own name) name) (bytes_eq (kind_word k) (kind_word l)) p.0 in
+    let r = and_parts (same_oid a b) (bytes_eq (name_allowed k own name) name) q.0 in
+    ap (λ o. rows.Class o (firm_name k own) k None) (oid_eq a b r.0) ∙ ap (λ n. rows.Class b n k None) (firm_same k own name (bytes_same (name_allowed k own name) name r.1)) ∙ ap (λ x. rows.Class b (firm_name x name) x None) (kind_same k l q.1)
 
 pub column_fixed : (a b : Oid) (n m : ℕ) (own name : List ℕ) (s t : ColType) (stat stat' : ℤ) (l l' : Bool)
     → (same_oid a b && (n == m) && bytes_eq own name && bytes_eq (type_word s) (type_word t) && int_eq stat stat' && bytes_eq (live_word l) (live_word l')) ≡ true → rows.Att a n own s (negsuc 0) l ≡ rows.Att b m name t (negsuc 0) l'

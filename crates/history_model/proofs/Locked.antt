@@ -5,6 +5,7 @@ use Rattle.std.specs.List.{AllByRecursion, list_any, list_all}
 use Rattle.std.proofs.lemmas.Bool.{eqb-true, eq-eqb, and_parts, and_from}
 use Rattle.base_types.specs.declared.ids.Oid.{Oid}
 use Rattle.base_types.specs.declared.kind.Kind.{Kind}
+use Rattle.base_types.specs.declared.kind.Kind.TheVariants.{Table}
 use Rattle.base_types.specs.declared.mode.Mode.{Mode}
 use Rattle.base_types.specs.declared.mode.Mode.TheVariants.{AccessShare, RowShare, RowExclusive, ShareUpdateExclusive, Share, ShareRowExclusive, Exclusive, AccessExclusive}
 use Rattle.base_types.specs.declared.row.Row.{Row}
@@ -30,7 +31,7 @@ use Rattle.history_model.proofs.Every.{every-weaker, any-weaker, some-weaker, so
 use Rattle.history_model.proofs.Asking.{oid_eq}
 use Rattle.history_model.proofs.Touched.{entry_of}
 use Rattle.history_model.proofs.Guards.{any_with}
-use Rattle.history_model.proofs.FixedRows.{fixed}
+use Rattle.history_model.proofs.FixedRows.{firm_name, fixed}
 use Rattle.history_model.proofs.Exclude.{Agree, AllAgree}
 use Rattle.history_model.proofs.SparedGrants.{SparesGrants, grant_spared}
 use Rattle.history_model.proofs.Granted.{lock_parts}
@@ -253,45 +254,70 @@ stays_undisturbed history (e ∷ more) b rel modes barred idle = ((barred, λ ow
 abbrev pub IsSeenAs : List Entry → ℕ → Oid → List ℕ → Kind → Type 0
 IsSeenAs history b rel name kind = (fill : Option ℕ) × (answer_of history b (scans.Class rel) ≡ rows.Class rel name kind fill ∷ [])
 
-abbrev refilled : Option ℕ → Row → Row
-refilled fill (rows.Class oid own kind old) = rows.Class oid own kind fill
-refilled fill row = row
+-- and with this kind, whatever its name
+abbrev pub IsSeenOf : List Entry → ℕ → Oid → Kind → Type 0
+IsSeenOf history b rel kind = (name : List ℕ) × IsSeenAs history b rel name kind
 
--- a row that is this but for what a weak mode may change
-pub class_of : (row : Row) (rel : Oid) (name : List ℕ) (kind : Kind) → fixed row ≡ rows.Class rel name kind None → (fill : Option ℕ) × (row ≡ rows.Class rel name kind fill)
-class_of (rows.Class oid own kind' fill) rel name kind is = (fill, ap (refilled fill) is)
-class_of (rows.Att of num own col_type stat live) rel name kind is = absurd (cc)
-class_of row rel name kind is = absurd (cc)
+-- it shows one relation with this kind, and with this name unless it is an index
+abbrev pub IsFirm : List Entry → ℕ → Oid → List ℕ → Kind → Type 0
+IsFirm history b rel name kind = map fixed (answer_of history b (scans.Class rel)) ≡ rows.Class rel (firm_name kind name) kind None ∷ []
 
-one_class : (given : List Row) (rel : Oid) (name : List ℕ) (kind : Kind) → map fixed given ≡ rows.Class rel name kind None ∷ [] → (fill : Option ℕ) × (given ≡ rows.Class rel name kind fill ∷ [])
-one_class [] rel name kind is = absurd (cc)
-one_class (row ∷ []) rel name kind is =
-    let same : fixed row ≡ rows.Class rel name kind None = cc in
-    let of = class_of row rel name kind same in
-    (of.0, ap (λ r. r ∷ []) of.1)
-one_class (row ∷ other ∷ given) rel name kind is = absurd (cc)
+pub seen_firm : (history : List Entry) (b : ℕ) (rel : Oid) (name : List ℕ) (kind : Kind) → IsSeenAs history b rel name kind → IsFirm history b rel name kind
+seen_firm history b rel name kind seen = ap (map fixed) seen.1
 
-other_found : (history : List Entry) (a c : ℕ) (event : Event) (b : ℕ) (rel : Oid) (name : List ℕ) (kind : Kind) → IsSound history → MayComeNext history (entry_of a c event) → (a == b) ≡ false → IsBarred (held_of history) b rel AccessExclusive
-    → IsSeenAs history b rel name kind → IsSeenAs (history ++ entry_of a c event ∷ []) b rel name kind
-other_found history a c (events.Visible xid) b rel name kind sound comes other barred seen =
-    one_class (answer_of (history ++ entry_of a c (events.Visible xid) ∷ []) b (scans.Class rel)) rel name kind
-    (fixed_visible history a c xid b rel (scans.Class rel) (class_apart rel) sound comes other (barred_free (held_of history) b a rel AccessExclusive (locks_exclude history sound).agree other barred) ∙ ap (map fixed) seen.1)
-other_found history a c event b rel name kind sound comes other barred seen = (seen.0, other_answers history (entry_of a c event) b (scans.Class rel) sound comes other tt ∙ seen.1)
+-- the row of a relation of this kind, with a name that is this one but for what a weak mode may change
+record IsRowOf (rel : Oid) (name : List ℕ) (kind : Kind) (row : Row) : Type 0 where
+  own : List ℕ
+  fill : Option ℕ
+  is : row ≡ rows.Class rel own kind fill
+  firm : firm_name kind own ≡ firm_name kind name
 
--- a relation on which the backend holds any mode, and which it sees, it still sees after any entry that is no change of its own: with the same name and kind
-pub found_stays : (history : List Entry) (e : Entry) (b : ℕ) (rel : Oid) (name : List ℕ) (kind : Kind) → IsSound history → MayComeNext history e → IsUndisturbed b rel (AccessExclusive ∷ []) history e → IsSeenAs history b rel name kind
-    → IsSeenAs (history ++ e ∷ []) b rel name kind
-found_stays history e b rel name kind sound comes still seen = by_owner (e.backend == b) refl
+row_of : (row : Row) (rel : Oid) (name : List ℕ) (kind : Kind) → fixed row ≡ rows.Class rel (firm_name kind name) kind None → IsRowOf rel name kind row
+row_of (rows.Class oid own kind' fill) rel name kind is =
+    let one : oid ≡ rel = cc in
+    let alike : kind' ≡ kind = cc in
+    let named : firm_name kind' own ≡ firm_name kind name = cc in
+    record { own = own; fill = fill; is = ap (λ o. rows.Class o own kind' fill) one ∙ ap (λ k. rows.Class rel own k fill) alike; firm = ap (λ k. firm_name k own) (sym alike) ∙ named }
+row_of (rows.Att of num own col_type stat live) rel name kind is = absurd (cc)
+row_of row rel name kind is = absurd (cc)
+
+one_row : (given : List Row) (rel : Oid) (name : List ℕ) (kind : Kind) → map fixed given ≡ rows.Class rel (firm_name kind name) kind None ∷ [] → (row : Row) × ((given ≡ row ∷ []) × IsRowOf rel name kind row)
+one_row [] rel name kind is = absurd (cc)
+one_row (row ∷ []) rel name kind is = (let same : fixed row ≡ rows.Class rel (firm_name kind name) kind None = cc in (row, (refl, row_of row rel name kind same)))
+one_row (row ∷ other ∷ given) rel name kind is = absurd (cc)
+
+-- so the relation is seen with this kind
+pub firm_seen : (history : List Entry) (b : ℕ) (rel : Oid) (name : List ℕ) (kind : Kind) → IsFirm history b rel name kind → IsSeenOf history b rel kind
+firm_seen history b rel name kind firm =
+    let one = one_row (answer_of history b (scans.Class rel)) rel name kind firm in
+    (one.1.1.own, (one.1.1.fill, one.1.0 ∙ ap (λ r. r ∷ []) one.1.1.is))
+
+-- and a table with this name
+pub firm_table : (history : List Entry) (b : ℕ) (rel : Oid) (name : List ℕ) → IsFirm history b rel name Table → IsSeenAs history b rel name Table
+firm_table history b rel name firm =
+    let one = one_row (answer_of history b (scans.Class rel)) rel name Table firm in
+    (one.1.1.fill, one.1.0 ∙ ap (λ r. r ∷ []) (one.1.1.is ∙ ap (λ n. rows.Class rel n Table one.1.1.fill) one.1.1.firm))
+
+other_firm : (history : List Entry) (a c : ℕ) (event : Event) (b : ℕ) (rel : Oid) (name : List ℕ) (kind : Kind) → IsSound history → MayComeNext history (entry_of a c event) → (a == b) ≡ false → IsBarred (held_of history) b rel AccessExclusive
+    → IsFirm history b rel name kind → IsFirm (history ++ entry_of a c event ∷ []) b rel name kind
+other_firm history a c (events.Visible xid) b rel name kind sound comes other barred firm =
+    fixed_visible history a c xid b rel (scans.Class rel) (class_apart rel) sound comes other (barred_free (held_of history) b a rel AccessExclusive (locks_exclude history sound).agree other barred) ∙ firm
+other_firm history a c event b rel name kind sound comes other barred firm = ap (map fixed) (other_answers history (entry_of a c event) b (scans.Class rel) sound comes other tt) ∙ firm
+
+-- a relation on which the backend holds any mode, and which it sees, it still sees after any entry that is no change of its own: with the same kind, and with the same name unless it is an index
+pub firm_stays : (history : List Entry) (e : Entry) (b : ℕ) (rel : Oid) (name : List ℕ) (kind : Kind) → IsSound history → MayComeNext history e → IsUndisturbed b rel (AccessExclusive ∷ []) history e → IsFirm history b rel name kind
+    → IsFirm (history ++ e ∷ []) b rel name kind
+firm_stays history e b rel name kind sound comes still firm = by_owner (e.backend == b) refl
   where
-    by_owner : (t : Bool) → (e.backend == b) ≡ t → IsSeenAs (history ++ e ∷ []) b rel name kind
-    by_owner true own = (seen.0, unchanged_answers history e b (scans.Class rel) sound comes own (still.1 own) ∙ seen.1)
-    by_owner false other = other_found history e.backend e.command e.event b rel name kind sound comes other still.0.0 seen
+    by_owner : (t : Bool) → (e.backend == b) ≡ t → IsFirm (history ++ e ∷ []) b rel name kind
+    by_owner true own = ap (map fixed) (unchanged_answers history e b (scans.Class rel) sound comes own (still.1 own)) ∙ firm
+    by_owner false other = other_firm history e.backend e.command e.event b rel name kind sound comes other still.0.0 firm
 
 -- and so after all entries between two places
-pub found_between : (history more : List Entry) (b : ℕ) (rel : Oid) (name : List ℕ) (kind : Kind) → IsSound (history ++ more) → EachFrom (IsUndisturbed b rel (AccessExclusive ∷ [])) history more → IsSeenAs history b rel name kind
-    → IsSeenAs (history ++ more) b rel name kind
-found_between history more b rel name kind sound still seen =
-    between (λ h. IsSeenAs h b rel name kind) (IsUndisturbed b rel (AccessExclusive ∷ [])) (λ before e well comes one was. found_stays before e b rel name kind well comes one was) history more sound seen still
+pub firm_between : (history more : List Entry) (b : ℕ) (rel : Oid) (name : List ℕ) (kind : Kind) → IsSound (history ++ more) → EachFrom (IsUndisturbed b rel (AccessExclusive ∷ [])) history more → IsFirm history b rel name kind
+    → IsFirm (history ++ more) b rel name kind
+firm_between history more b rel name kind sound still firm =
+    between (λ h. IsFirm h b rel name kind) (IsUndisturbed b rel (AccessExclusive ∷ [])) (λ before e well comes one was. firm_stays before e b rel name kind well comes one was) history more sound firm still
 
 one_number : (n : ℕ) (row : Row) (given : List Row) → IsIn row given → Pairwise Differ given → AllByRecursion (λ r. row_number r ≡ n) given → given ≡ row ∷ []
 one_number n row [] there apart all = absurd there

@@ -310,7 +310,7 @@ read_other read d rel modes leaves history a c event b other sound comes lawful 
     inl (leaves.0 (answer_of (history ++ entry_of a c event ∷ []) b d) (answer_of history b d) (counted-other history a c event b d other sound comes tt) ∙ was ∙ ap read (sym (rows_read-other history (entry_of a c event) b d other)))
 
 -- and of a change that may be unknown
-dirty_other : (history : List Entry) (e : Entry) (b : ℕ) (rel : Oid) (modes : List Mode) (d : Purpose) → (e.backend == b) ≡ false → IsSound history → MayComeNext history e → IsLawful history e → IsDirty history b rel modes d → IsDirty (history ++ e ∷ []) b rel modes d
+pub dirty_other : (history : List Entry) (e : Entry) (b : ℕ) (rel : Oid) (modes : List Mode) (d : Purpose) → (e.backend == b) ≡ false → IsSound history → MayComeNext history e → IsLawful history e → IsDirty history b rel modes d → IsDirty (history ++ e ∷ []) b rel modes d
 dirty_other history e b rel modes d other sound comes lawful (inr behind) = inr (behind-more history e b rel modes d (sound_placed history sound) (position-other history e b other) behind)
 dirty_other history e b rel modes d other sound comes lawful (inl writing) = by_owner (e.backend == writing.writer) refl
   where
@@ -325,7 +325,7 @@ differ : (x y : ℕ) → (x == y) ≡ false → (y == x) ≡ false
 differ x y not' = false_from_ne_true (y == x) (λ is. both_ways _ not' (eq-eqb x y (sym (eqb-true y x is))))
 
 -- an own entry that leaves the scan usable
-dirty_own : (history : List Entry) (b c : ℕ) (event : Event) (rel : Oid) (modes : List Mode) (d : Purpose) → IsSound history → FollowsLife (life_of history b) c event → is_usable history b d ≡ true → spares_by history b c d event ≡ true
+pub dirty_own : (history : List Entry) (b c : ℕ) (event : Event) (rel : Oid) (modes : List Mode) (d : Purpose) → IsSound history → FollowsLife (life_of history b) c event → is_usable history b d ≡ true → spares_by history b c d event ≡ true
     → IsDirty history b rel modes d → IsDirty (history ++ entry_of b c event ∷ []) b rel modes d
 dirty_own history b c (events.Fetch count) rel modes d sound life was spared (inl writing) =
     inl (writing-other history (entry_of b c (events.Fetch count)) b rel modes d writing (differ writing.writer b writing.other) (past-fetch history b c count d (spared_is d (fetched_by history b count) spared)))

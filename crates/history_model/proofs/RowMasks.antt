@@ -31,7 +31,7 @@ use Rattle.history_model.specs.Covered.{is_covered, same_demand, same_row, count
 use Rattle.history_model.specs.Sent.{messages_written, written_by, lists_of}
 use Rattle.history_model.specs.Drawn.{made_by}
 use Rattle.history_model.specs.Orderly.{main_rel, scans_told, IsOrderlyWrite}
-use Rattle.history_model.specs.Writes.{rows_named, is_guarded, relations_changed, is_validation, update_where, mode_to_add, weaker_mode}
+use Rattle.history_model.specs.Writes.{rows_named, is_guarded, relations_changed, is_validation, update_where, name_allowed, mode_to_add, weaker_mode}
 use Rattle.history_model.proofs.Every.{every-weaker, every-both, any-right}
 use Rattle.history_model.proofs.Asking.{bytes_same, oid_eq, scan_in}
 use Rattle.history_model.proofs.Touched.{entry_of, covers_at}
@@ -76,7 +76,7 @@ masks_of m rel strong exclusive change history w c xid items k comes =
 same_self : (rel : Oid) (rels : List Oid) → list_any (same_oid rel) (rel ∷ rels) ≡ true
 same_self rel rels = or_left (same_oid rel rel) (list_any (same_oid rel) rels) (eq-eqb rel.0 rel.0 refl)
 
--- a relation's rows and its columns, but for a fillfactor and statistics targets
+-- a relation's rows and its columns, but for a fillfactor, an index's name and statistics targets
 pub main-fixed : (row : Row) → main_rel (fixed row) ≡ main_rel row
 main-fixed (rows.Class oid own kind fill) = refl
 main-fixed (rows.Att rel num own col_type stat live) = refl
@@ -124,7 +124,8 @@ fixed_strong (Some old) (forms.Put new) rel row named loose = of old new (either
     none (inr is) = absurd (cc)
 
     of : (a b : Row) → (is_loose a ≡ true) ⊎ (is_loose b ≡ true) → (fixed a ≡ fixed b) ⊎ (weaker_mode (Some a) (forms.Put b) rel ≡ None)
-    of (rows.Class oid own kind old) (rows.Class to name kind' fill) is = by_test (rows.Class oid own kind None ≡ rows.Class to name kind' None) (same_row (rows.Class oid own kind fill) (rows.Class to name kind' fill)) (class_fixed oid to own name kind kind' fill fill)
+    of (rows.Class oid own kind old) (rows.Class to name kind' fill) is = by_test (fixed (rows.Class oid own kind old) ≡ fixed (rows.Class to name kind' fill)) (same_row (rows.Class oid (name_allowed kind own name) kind fill) (rows.Class to name kind' fill))
+        (class_fixed oid to own name kind kind' fill fill)
     of (rows.Att rel num own col_type old live) (rows.Att to num' name col_type' stat live') is = by_test (fixed (rows.Att rel num own col_type stat live) ≡ fixed (rows.Att to num' name col_type' stat live')) (same_row (rows.Att rel num own col_type stat live) (rows.Att to num' name col_type' stat live'))
         (column_fixed rel to num num' own name col_type col_type' stat stat live live')
     of (rows.Con oid rel own old what) (rows.Con to of' name valid what') is = absurd (none is)

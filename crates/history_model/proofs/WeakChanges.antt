@@ -1,5 +1,6 @@
--- What becomes visible leaves the text of a field, where its backend holds none of the modes of the field's writers.
+-- What becomes visible leaves the text of a field, where its backend holds none of the modes of the field's writers; a table's name is left as long as its row is, but for what a weak mode changes.
 use Rattle.std.proofs.Common.{◌≡◌, ◌∙◌, inl, inr, ℕ, Bool, true, false, Some, None, List, [], ◌∷◌, ◌++◌, ◌==◌, ◌&&◌, if◌then◌else◌, refl, sym, ap, map, filter, codes}
+use Rattle.std.specs.Prelude.{⊤}
 use Rattle.std.specs.List.{AllByRecursion, list_any, filter_map, cons_option, join_by}
 use Rattle.std.proofs.Math.Bool.{or-false}
 use Rattle.std.proofs.lemmas.Bool.{eqb-true}
@@ -175,10 +176,36 @@ items_masked mask f rel same (row ∷ given) = ap (λ o. cons_option o (filter_m
 text_masked : (mask : Row → Row) (f : Field) (rel : Oid) → ((row : Row) → item_of f rel (mask row) ≡ item_of f rel row) → (given others : List Row) → map mask given ≡ map mask others → field_text f rel given ≡ field_text f rel others
 text_masked mask f rel same given others alike = ap (λ items. or_dash (join_by (λ item. item) (codes " ") items)) (sym (items_masked mask f rel same given) ∙ ap (filter_map (item_of f rel)) alike ∙ items_masked mask f rel same others)
 
-name_fixed : (rel : Oid) (row : Row) → item_of fields.Name rel (fixed row) ≡ item_of fields.Name rel row
-name_fixed rel (rows.Class oid own kind fill) = refl
-name_fixed rel (rows.Att of num own col_type stat live) = refl
-name_fixed rel row = refl
+-- a table's own row
+abbrev pub IsOfTable : Row → Type 0
+IsOfTable (rows.Class oid own Table fill) = ⊤
+IsOfTable row = ⊥
+
+table_item : (rel : Oid) (row other : Row) → IsOfTable row → fixed row ≡ fixed other → item_of fields.Name rel row ≡ item_of fields.Name rel other
+table_item rel (rows.Class oid own Table fill) (rows.Class to name Table fill') table alike = (let same : own ≡ name = cc in ap Some same)
+table_item rel (rows.Class oid own Table fill) (rows.Class to name Index fill') table alike = absurd (cc)
+table_item rel (rows.Class oid own Table fill) (rows.Att of num name col_type stat live) table alike = absurd (cc)
+table_item rel (rows.Class oid own Table fill) other table alike = absurd (cc)
+table_item rel (rows.Class oid own Index fill) other table alike = absurd table
+table_item rel row other table alike = absurd table
+
+-- the name of a table: the same where its row is, but for what a weak mode changes
+pub table_named : (rel : Oid) (given others : List Row) → AllByRecursion IsOfTable given → map fixed given ≡ map fixed others → field_text fields.Name rel given ≡ field_text fields.Name rel others
+table_named rel given others tables alike = ap (λ items. or_dash (join_by (λ item. item) (codes " ") items)) (items given others tables alike)
+  where
+    items : (xs ys : List Row) → AllByRecursion IsOfTable xs → map fixed xs ≡ map fixed ys → filter_map (item_of fields.Name rel) xs ≡ filter_map (item_of fields.Name rel) ys
+    items [] [] all same = refl
+    items [] (y ∷ ys) all same = absurd (cc)
+    items (x ∷ xs) [] all same = absurd (cc)
+    items (x ∷ xs) (y ∷ ys) all same =
+        let first : fixed x ≡ fixed y = cc in
+        let rest : map fixed xs ≡ map fixed ys = cc in
+        ap (λ o. cons_option o (filter_map (item_of fields.Name rel) xs)) (table_item rel x y all.0 first) ∙ ap (λ l. cons_option (item_of fields.Name rel y) l) (items xs ys all.1 rest)
+
+-- the name of a table, which as a field of its own has to be told apart: an index's may change under ShareUpdateExclusive
+abbrev pub is_table_name : Kind → Field → Bool
+is_table_name Table fields.Name = true
+is_table_name kind field = false
 
 columns_fixed : (rel : Oid) (row : Row) → item_of fields.Columns rel (fixed row) ≡ item_of fields.Columns rel row
 columns_fixed rel (rows.Class oid own kind fill) = refl
@@ -204,9 +231,9 @@ constraints_counted rel (rows.Con oid of own valid (demands.Foreign num refrel r
 constraints_counted rel (rows.Con oid of own valid (demands.Check text)) = refl
 constraints_counted rel row = refl
 
--- what becomes visible leaves the text of a field for others, where its backend holds on the relation none of the modes of the field's writers
+-- what becomes visible leaves the text of a field for others, but for a table's name, where its backend holds on the relation none of the modes of the field's writers
 pub weak_visible : (history : List Entry) (a c : ℕ) (xid : Xid) (b : ℕ) (kind : Kind) (f : Field) (rel : Oid) → IsSound history → MayComeNext history (entry_of a c (events.Visible xid)) → (a == b) ≡ false
-    → has_field kind f ≡ true → list_any (holds (held_of history) a rel) (writers_of kind f) ≡ false
+    → has_field kind f ≡ true → is_table_name kind f ≡ false → list_any (holds (held_of history) a rel) (writers_of kind f) ≡ false
     → field_text f rel (answer_of (history ++ entry_of a c (events.Visible xid) ∷ []) b (read_by f rel)) ≡ field_text f rel (answer_of history b (read_by f rel))
 weak_visible history a c xid b kind f rel sound comes other = of kind f
   where
@@ -214,26 +241,26 @@ weak_visible history a c xid b kind f rel sound comes other = of kind f
     after = history ++ entry_of a c (events.Visible xid) ∷ []
 
     Goal : Kind → Field → Type 0
-    Goal k g = has_field k g ≡ true → list_any (holds (held_of history) a rel) (writers_of k g) ≡ false → field_text g rel (answer_of after b (read_by g rel)) ≡ field_text g rel (answer_of history b (read_by g rel))
+    Goal k g = has_field k g ≡ true → is_table_name k g ≡ false → list_any (holds (held_of history) a rel) (writers_of k g) ≡ false → field_text g rel (answer_of after b (read_by g rel)) ≡ field_text g rel (answer_of history b (read_by g rel))
 
     masked : (mask : Row → Row) (g : Field) → ((row : Row) → item_of g rel (mask row) ≡ item_of g rel row) → map mask (answer_of after b (read_by g rel)) ≡ map mask (answer_of history b (read_by g rel))
         → field_text g rel (answer_of after b (read_by g rel)) ≡ field_text g rel (answer_of history b (read_by g rel))
     masked mask g same alike = text_masked mask g rel same (answer_of after b (read_by g rel)) (answer_of history b (read_by g rel)) alike
 
     of : (k : Kind) (g : Field) → Goal k g
-    of Table fields.Name has none = masked fixed fields.Name (name_fixed rel) ((fixed_leaves rel (scans.Class rel) (class_apart rel) (λ row. refl)).1 history a c xid b sound comes other none)
-    of Table fields.Columns has none = masked fixed fields.Columns (columns_fixed rel) ((fixed_leaves rel (scans.Attribute rel) (column_apart rel) (λ row. refl)).1 history a c xid b sound comes other none)
-    of Table fields.Defaults has none = ap (field_text fields.Defaults rel) (unheld_visible history a c xid b rel (scans.AttrDef rel) (AccessExclusive ∷ []) sound comes other (changed_under (scans.AttrDef rel) rel refl) none)
-    of Table fields.Statistics has none = ap (field_text fields.Statistics rel) (unheld_visible history a c xid b rel (scans.Attribute rel) (ShareUpdateExclusive ∷ AccessExclusive ∷ []) sound comes other (changed_under (scans.Attribute rel) rel refl) none)
-    of Table fields.Fillfactor has none = ap (field_text fields.Fillfactor rel) (unheld_visible history a c xid b rel (scans.Class rel) (ShareUpdateExclusive ∷ AccessExclusive ∷ []) sound comes other (changed_under (scans.Class rel) rel refl) none)
-    of Table fields.Constraints has none = masked (counted_for (scans.Constraint rel)) fields.Constraints (constraints_counted rel) ((counted_leaves rel).1 history a c xid b sound comes other none)
-    of Table fields.Referenced has none = masked unvalidated fields.Referenced (referenced_unvalidated rel) ((unvalidated_leaves rel).1 history a c xid b sound comes other none)
-    of Table fields.Indexes has none = ap (field_text fields.Indexes rel) (unheld_visible history a c xid b rel (scans.Index rel) (writers_of Table fields.Indexes) sound comes other (changed_under (scans.Index rel) rel refl) none)
-    of Table fields.Triggers has none = ap (field_text fields.Triggers rel) (unheld_visible history a c xid b rel (scans.Trigger rel) (ShareRowExclusive ∷ AccessExclusive ∷ []) sound comes other (changed_under (scans.Trigger rel) rel refl) none)
-    of Index fields.Name has none = ap (field_text fields.Name rel) (unheld_visible history a c xid b rel (scans.Class rel) (ShareUpdateExclusive ∷ AccessExclusive ∷ []) sound comes other (changed_under (scans.Class rel) rel refl) none)
-    of Index fields.Of has none = ap (field_text fields.Of rel) (unheld_visible history a c xid b rel (scans.IndexRow rel) (AccessExclusive ∷ []) sound comes other (changed_under (scans.IndexRow rel) rel refl) none)
-    of Index fields.Valid has none = ap (field_text fields.Valid rel) (unheld_visible history a c xid b rel (scans.IndexRow rel) (AccessExclusive ∷ []) sound comes other (changed_under (scans.IndexRow rel) rel refl) none)
-    of k g has none = absurd (cc)
+    of Table fields.Name has apart none = absurd (cc)
+    of Table fields.Columns has apart none = masked fixed fields.Columns (columns_fixed rel) ((fixed_leaves rel (scans.Attribute rel) (column_apart rel) (λ row. refl)).1 history a c xid b sound comes other none)
+    of Table fields.Defaults has apart none = ap (field_text fields.Defaults rel) (unheld_visible history a c xid b rel (scans.AttrDef rel) (AccessExclusive ∷ []) sound comes other (changed_under (scans.AttrDef rel) rel refl) none)
+    of Table fields.Statistics has apart none = ap (field_text fields.Statistics rel) (unheld_visible history a c xid b rel (scans.Attribute rel) (ShareUpdateExclusive ∷ AccessExclusive ∷ []) sound comes other (changed_under (scans.Attribute rel) rel refl) none)
+    of Table fields.Fillfactor has apart none = ap (field_text fields.Fillfactor rel) (unheld_visible history a c xid b rel (scans.Class rel) (ShareUpdateExclusive ∷ AccessExclusive ∷ []) sound comes other (changed_under (scans.Class rel) rel refl) none)
+    of Table fields.Constraints has apart none = masked (counted_for (scans.Constraint rel)) fields.Constraints (constraints_counted rel) ((counted_leaves rel).1 history a c xid b sound comes other none)
+    of Table fields.Referenced has apart none = masked unvalidated fields.Referenced (referenced_unvalidated rel) ((unvalidated_leaves rel).1 history a c xid b sound comes other none)
+    of Table fields.Indexes has apart none = ap (field_text fields.Indexes rel) (unheld_visible history a c xid b rel (scans.Index rel) (writers_of Table fields.Indexes) sound comes other (changed_under (scans.Index rel) rel refl) none)
+    of Table fields.Triggers has apart none = ap (field_text fields.Triggers rel) (unheld_visible history a c xid b rel (scans.Trigger rel) (ShareRowExclusive ∷ AccessExclusive ∷ []) sound comes other (changed_under (scans.Trigger rel) rel refl) none)
+    of Index fields.Name has apart none = ap (field_text fields.Name rel) (unheld_visible history a c xid b rel (scans.Class rel) (ShareUpdateExclusive ∷ AccessExclusive ∷ []) sound comes other (changed_under (scans.Class rel) rel refl) none)
+    of Index fields.Of has apart none = ap (field_text fields.Of rel) (unheld_visible history a c xid b rel (scans.IndexRow rel) (AccessExclusive ∷ []) sound comes other (changed_under (scans.IndexRow rel) rel refl) none)
+    of Index fields.Valid has apart none = ap (field_text fields.Valid rel) (unheld_visible history a c xid b rel (scans.IndexRow rel) (AccessExclusive ∷ []) sound comes other (changed_under (scans.IndexRow rel) rel refl) none)
+    of k g has apart none = absurd (cc)
 
 -- and the text goes by the rows as they count
 text_goes : (kind : Kind) (f : Field) (rel : Oid) → has_field kind f ≡ true → GoesByCounted (field_text f rel) (read_by f rel)
@@ -241,6 +268,6 @@ text_goes kind fields.Constraints rel has given others alike = text_masked (coun
 text_goes kind fields.Referenced rel has given others alike = text_masked (counted_for (scans.Constraint rel)) fields.Referenced rel (referenced_counted rel) given others alike
 text_goes kind f rel has given others alike = plain_goes (field_text f rel) (read_by f rel) (λ row. refl) given others alike
 
--- so it is left, as are all fields
-pub field_leaves : (kind : Kind) (f : Field) (rel : Oid) → has_field kind f ≡ true → Leaves f rel (writers_of kind f)
-field_leaves kind f rel has = (text_goes kind f rel has, λ history a c xid b sound comes other none. weak_visible history a c xid b kind f rel sound comes other has none)
+-- so it is left, as are all fields but a table's name
+pub field_leaves : (kind : Kind) (f : Field) (rel : Oid) → has_field kind f ≡ true → is_table_name kind f ≡ false → Leaves f rel (writers_of kind f)
+field_leaves kind f rel has apart = (text_goes kind f rel has, λ history a c xid b sound comes other none. weak_visible history a c xid b kind f rel sound comes other has apart none)

@@ -3,6 +3,7 @@ pub use Rattle.base_types.specs.declared.ids.Oid.{Oid}
 pub use Rattle.base_types.specs.declared.ids.Xid.{Xid}
 pub use Rattle.base_types.specs.declared.mode.Mode.{Mode}
 pub use Rattle.base_types.specs.declared.mode.Mode.TheVariants.{ShareUpdateExclusive, Share, ShareRowExclusive, AccessExclusive}
+pub use Rattle.base_types.specs.declared.kind.Kind.{Kind}
 pub use Rattle.base_types.specs.declared.kind.Kind.TheVariants.{Table, Index}
 pub use Rattle.base_types.specs.declared.field.Field.{Field}
 pub use Rattle.base_types.specs.declared.row.Row.{Row}

@@ -8,7 +8,7 @@ use Rattle.base_types.specs.declared.row.ConKind.TheVariants as demands
 use Rattle.base_types.specs.declared.row.Row.TheVariants as rows
 use Rattle.base_types.specs.declared.scan.Purpose.TheVariants as scans
 use Rattle.lock_modes.specs.Grants.{holds}
-use Rattle.history_model.specs.Types.{Oid, Xid, Mode, ShareUpdateExclusive, Share, ShareRowExclusive, AccessExclusive, Table, Index, Row, RowKey, Item, Add, Put, Remove, Force, Entry, Event, Write}
+use Rattle.history_model.specs.Types.{Oid, Xid, Mode, ShareUpdateExclusive, Share, ShareRowExclusive, AccessExclusive, Kind, Table, Index, Row, RowKey, Item, Add, Put, Remove, Force, Entry, Event, Write}
 use Rattle.history_model.specs.Transactions.{xid_for}
 use Rattle.history_model.specs.Versions.{ended_key, added_row, old_row, row_with, answer_of}
 use Rattle.history_model.specs.Held.{held_of}
@@ -86,9 +86,14 @@ mode_to_add (rows.Con oid of name valid (demands.Foreign num refrel refnum)) rel
 mode_to_add (rows.Trg oid of name on) rel = Some ShareRowExclusive
 mode_to_add row rel = None
 
--- to replace one: ShareRowExclusive for a trigger, and ShareUpdateExclusive where nothing but a fillfactor, a statistics target or whether a constraint is known to hold changes
+-- the name that the row of a relation may be given without AccessExclusive, by its own name and the new one: of an index any, of a table its own
+abbrev pub name_allowed : Kind → List ℕ → List ℕ → List ℕ
+name_allowed Table own name = own
+name_allowed Index own name = name
+
+-- to replace one: ShareRowExclusive for a trigger, and ShareUpdateExclusive where nothing but a fillfactor, an index's name, a statistics target or whether a constraint is known to hold changes
 abbrev pub mode_to_replace : Option Row → Row → Option Mode
-mode_to_replace (Some (rows.Class oid own kind old)) (rows.Class to name kind' fill) = update_where (same_row (rows.Class oid own kind fill) (rows.Class to name kind' fill))
+mode_to_replace (Some (rows.Class oid own kind old)) (rows.Class to name kind' fill) = update_where (same_row (rows.Class oid (name_allowed kind own name) kind fill) (rows.Class to name kind' fill))
 mode_to_replace (Some (rows.Att rel num own col_type old live)) (rows.Att to num' name col_type' stat live') = update_where (same_row (rows.Att rel num own col_type stat live) (rows.Att to num' name col_type' stat live'))
 mode_to_replace (Some (rows.Con oid rel own old what)) (rows.Con to of name valid what') = update_where (same_row (rows.Con oid rel own valid what) (rows.Con to of name valid what'))
 mode_to_replace (Some (rows.Trg oid rel own old)) (rows.Trg to of name on) = Some ShareRowExclusive
