@@ -7,7 +7,7 @@ ghost use Rattle.lock_modes.specs.Grants.{holds as do_hold};
 ghost use Rattle.history_model.specs.Drawn.{made_by};
 ghost use Rattle.history_model.specs.Names.{new_name as names_changed};
 ghost use Rattle.history_model.specs.Versions.{added_row as row_added};
-ghost use Rattle.history_model.specs.Writes.{modes_enough, enough_with, update_where as update_if, weaker_mode as mode_weaker, mode_to_add as mode_for_added, mode_to_replace as mode_for_replaced, mode_to_remove as mode_for_removed, validates as does_validate, is_validation as is_validated, same_kind as kinds_match};
+ghost use Rattle.history_model.specs.Writes.{modes_enough, enough_with, update_where as update_if, weaker_mode as mode_weaker, mode_to_add as mode_for_added, mode_to_replace as mode_for_replaced, mode_to_remove as mode_for_removed, refills as does_refill, name_allowed as allowed_name, retargets as does_retarget, validates as does_validate, is_validation as is_validated, same_kind as kinds_match};
 ghost use Rattle.history_ledger.specs.Writing.{is_there as finds_old, leaves_kind as does_leave_kind, frees_names as does_free_names, guards_row as does_guard_row, guards_rows as does_guard_rows, may_change as may_be_changed, old_at};
 ghost use Rattle.history_ledger.specs.Follows.{reader_at};
 ghost use Rattle.history_ledger.specs.Standing.{standing_of, xid_in};
@@ -286,25 +286,57 @@ fn mode_to_replace(old: &Option<Row>, row: &Row) -> Option<Mode>
     ensures { result ≡ mode_for_replaced old.now row.now }
 {
     match (old, row) {
+        (Some(Row::Class { .. }), Row::Class { .. }) => update_where(refills(old, row)),
+        (Some(Row::Att { .. }), Row::Att { .. }) => update_where(retargets(old, row)),
+        (Some(Row::Con { .. }), Row::Con { .. }) => update_where(validates(old, row)),
+        (Some(Row::Trg { .. }), Row::Trg { .. }) => Some(Mode::ShareRowExclusive),
+        _ => None,
+    }
+}
+
+// Whether nothing but a fillfactor, and the name of an index, differs between two rows of a relation.
+fn refills(old: &Option<Row>, row: &Row) -> bool
+    ensures { result ≡ does_refill old.now row.now }
+{
+    match (old, row) {
         (
             Some(
                 Row::Class {
                     oid,
-                    name,
+                    name: own,
                     kind,
                     ..
                 },
             ),
-            Row::Class { fill, .. },
-        ) => update_where(same_row(
+            Row::Class { name, fill, .. },
+        ) => same_row(
             &Row::Class {
                 oid: *oid,
-                name: *name,
+                name: name_allowed(*kind, *own, *name),
                 kind: *kind,
                 fill: *fill,
             },
             row,
-        )),
+        ),
+        _ => false,
+    }
+}
+
+// The name that the row of a relation may be given without AccessExclusive: of an index any, of a table its own.
+fn name_allowed(kind: Kind, own: Name, name: Name) -> Name
+    ensures { result ≡ allowed_name kind own name }
+{
+    match kind {
+        Kind::Table => own,
+        Kind::Index => name,
+    }
+}
+
+// Whether nothing but a statistics target differs between two rows of a column.
+fn retargets(old: &Option<Row>, row: &Row) -> bool
+    ensures { result ≡ does_retarget old.now row.now }
+{
+    match (old, row) {
         (
             Some(
                 Row::Att {
@@ -317,7 +349,7 @@ fn mode_to_replace(old: &Option<Row>, row: &Row) -> Option<Mode>
                 },
             ),
             Row::Att { stat, .. },
-        ) => update_where(same_row(
+        ) => same_row(
             &Row::Att {
                 rel: *rel,
                 num: *num,
@@ -327,10 +359,8 @@ fn mode_to_replace(old: &Option<Row>, row: &Row) -> Option<Mode>
                 live: *live,
             },
             row,
-        )),
-        (Some(Row::Con { .. }), Row::Con { .. }) => update_where(validates(old, row)),
-        (Some(Row::Trg { .. }), Row::Trg { .. }) => Some(Mode::ShareRowExclusive),
-        _ => None,
+        ),
+        _ => false,
     }
 }
 

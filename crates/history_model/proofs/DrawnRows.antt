@@ -83,7 +83,7 @@ rows_drawn history sound = every-weaker (OfStamps (IsDrawnAt (next_oid history))
     (λ before e k comes. (EachEntry-more MayComeNext before e k.0 comes, subst (AllByRecursion (OfStamps (IsDrawnAt (next_oid (before ++ e ∷ []))))) (sym (versions_of-more before e)) (drawn_by_event before e.backend e.command e.event k.0 comes k.1))) history sound).1
 
 -- what holds of the rows of all versions holds of those that are seen
-seen_rows : (P : Row → Type 0) (g : Version → Bool) (vs : List Version) → AllByRecursion (λ v. P v.row) vs → AllByRecursion P (map (λ v. v.row) (filter g vs))
+pub seen_rows : (P : Row → Type 0) (g : Version → Bool) (vs : List Version) → AllByRecursion (λ v. P v.row) vs → AllByRecursion P (map (λ v. v.row) (filter g vs))
 seen_rows P g vs all = every-map P (λ v. v.row) (filter g vs) (every-filter (λ v. P v.row) g vs (every-weaker (λ v. P v.row) (λ v. g v ≡ true → P v.row) (λ v is seen. is) vs all))
 
 -- and so is what a scan gives

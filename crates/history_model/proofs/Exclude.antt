@@ -129,7 +129,7 @@ granted_new : (b c low high : ℕ) (item : Item) → AllByRecursion (λ n. (low 
 granted_new b c low high (items.Add (rows.Class oid own kind fill)) drawn = (record { by = refl; above = drawn.0.0; below = drawn.0.1 }, tt)
 granted_new b c low high item drawn = tt
 
-every-parts : (P : ℕ → Type 0) (xs ys : List ℕ) → AllByRecursion P (xs ++ ys) → AllByRecursion P xs × AllByRecursion P ys
+pub every-parts : (P : ℕ → Type 0) (xs ys : List ℕ) → AllByRecursion P (xs ++ ys) → AllByRecursion P xs × AllByRecursion P ys
 every-parts P [] ys all = (tt, all)
 every-parts P (x ∷ xs) ys all = let rest = every-parts P xs ys all.1 in ((all.0, rest.0), rest.1)
 

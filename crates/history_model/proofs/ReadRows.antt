@@ -17,7 +17,7 @@ use Rattle.history_model.proofs.GivenRows.{given_asked}
 use Rattle.history_model.proofs.DrawnRows.{given_drawn}
 
 -- what holds of each answer, and goes on to hold, holds of what was read
-read_keeps : (P : List Entry → Row → Type 0) (d : Purpose) (b : ℕ) → ((before : List Entry) (e : Entry) (row : Row) → P before row → P (before ++ e ∷ []) row) → ((h : List Entry) → IsSound h → AllByRecursion (P h) (answer_of h b d))
+pub read_keeps : (P : List Entry → Row → Type 0) (d : Purpose) (b : ℕ) → ((before : List Entry) (e : Entry) (row : Row) → MayComeNext before e → P before row → P (before ++ e ∷ []) row) → ((h : List Entry) → IsSound h → AllByRecursion (P h) (answer_of h b d))
     → (history : List Entry) → IsSound history → AllByRecursion (P history) (rows_read history b d)
 read_keeps P d b on given history sound = (each-keeps MayComeNext Inv (tt, tt) keeps history sound).1
   where
@@ -31,7 +31,7 @@ read_keeps P d b on given history sound = (each-keeps MayComeNext Inv (tt, tt) k
         after = before ++ e ∷ []
 
         later : (rows : List Row) → AllByRecursion (P before) rows → AllByRecursion (P after) rows
-        later rows all = every-weaker (P before) (P after) (λ row is. on before e row is) rows all
+        later rows all = every-weaker (P before) (P after) (λ row is. on before e row comes is) rows all
 
         by_scan : (t : Bool) → AllByRecursion (P after) (elim t as (λ x. List Row) [ true ↦ answer_of before b d | false ↦ rows_read before b d ])
         by_scan true = later (answer_of before b d) (given before k.0)
@@ -43,8 +43,8 @@ read_keeps P d b on given history sound = (each-keeps MayComeNext Inv (tt, tt) k
 
 -- each row that was read is one for which the scan asked
 pub read_asked : (history : List Entry) (b : ℕ) (d : Purpose) → IsSound history → AllByRecursion (λ row. selects d row ≡ true) (rows_read history b d)
-read_asked history b d sound = read_keeps (λ h row. selects d row ≡ true) d b (λ before e row is. is) (λ h well. given_asked h b d) history sound
+read_asked history b d sound = read_keeps (λ h row. selects d row ≡ true) d b (λ before e row comes is. is) (λ h well. given_asked h b d) history sound
 
 -- and of a relation whose oid is drawn
 pub read_drawn : (history : List Entry) (b : ℕ) (d : Purpose) → IsSound history → AllByRecursion (λ row. (main_rel row).0 < next_oid history) (rows_read history b d)
-read_drawn history b d sound = read_keeps (λ h row. (main_rel row).0 < next_oid h) d b (λ before e row low. omega (arith, low, next_rises before e)) (λ h well. given_drawn h b d well) history sound
+read_drawn history b d sound = read_keeps (λ h row. (main_rel row).0 < next_oid h) d b (λ before e row comes low. omega (arith, low, next_rises before e)) (λ h well. given_drawn h b d well) history sound

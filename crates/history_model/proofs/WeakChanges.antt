@@ -127,7 +127,7 @@ same_map f same (row ∷ given) = ap (λ r. r ∷ map f given) (same row) ∙ ap
 pub plain_goes : {X : Type 0} (read : List Row → X) (d : Purpose) → ((row : Row) → counted_for d row ≡ row) → GoesByCounted read d
 plain_goes read d same given others alike = ap read (sym (same_map (counted_for d) same given) ∙ alike ∙ same_map (counted_for d) same others)
 
-exclusive_only : (mode : Mode) → is_exclusive mode ≡ true → list_any (same_mode mode) (AccessExclusive ∷ []) ≡ true
+pub exclusive_only : (mode : Mode) → is_exclusive mode ≡ true → list_any (same_mode mode) (AccessExclusive ∷ []) ≡ true
 exclusive_only AccessExclusive is = refl
 exclusive_only mode is = absurd (cc)
 

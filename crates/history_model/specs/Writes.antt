@@ -91,11 +91,21 @@ abbrev pub name_allowed : Kind → List ℕ → List ℕ → List ℕ
 name_allowed Table own name = own
 name_allowed Index own name = name
 
+-- nothing but a fillfactor, and the name of an index, differs between two rows of a relation
+abbrev pub refills : Option Row → Row → Bool
+refills (Some (rows.Class oid own kind old)) (rows.Class to name kind' fill) = same_row (rows.Class oid (name_allowed kind own name) kind fill) (rows.Class to name kind' fill)
+refills old row = false
+
+-- nothing but a statistics target differs between two rows of a column
+abbrev pub retargets : Option Row → Row → Bool
+retargets (Some (rows.Att rel num own col_type old live)) (rows.Att to num' name col_type' stat live') = same_row (rows.Att rel num own col_type stat live) (rows.Att to num' name col_type' stat live')
+retargets old row = false
+
 -- to replace one: ShareRowExclusive for a trigger, and ShareUpdateExclusive where nothing but a fillfactor, an index's name, a statistics target or whether a constraint is known to hold changes
 abbrev pub mode_to_replace : Option Row → Row → Option Mode
-mode_to_replace (Some (rows.Class oid own kind old)) (rows.Class to name kind' fill) = update_where (same_row (rows.Class oid (name_allowed kind own name) kind fill) (rows.Class to name kind' fill))
-mode_to_replace (Some (rows.Att rel num own col_type old live)) (rows.Att to num' name col_type' stat live') = update_where (same_row (rows.Att rel num own col_type stat live) (rows.Att to num' name col_type' stat live'))
-mode_to_replace (Some (rows.Con oid rel own old what)) (rows.Con to of name valid what') = update_where (same_row (rows.Con oid rel own valid what) (rows.Con to of name valid what'))
+mode_to_replace (Some (rows.Class oid own kind old)) (rows.Class to name kind' fill) = update_where (refills (Some (rows.Class oid own kind old)) (rows.Class to name kind' fill))
+mode_to_replace (Some (rows.Att rel num own col_type old live)) (rows.Att to num' name col_type' stat live') = update_where (retargets (Some (rows.Att rel num own col_type old live)) (rows.Att to num' name col_type' stat live'))
+mode_to_replace (Some (rows.Con oid rel own old what)) (rows.Con to of name valid what') = update_where (validates (Some (rows.Con oid rel own old what)) (rows.Con to of name valid what'))
 mode_to_replace (Some (rows.Trg oid rel own old)) (rows.Trg to of name on) = Some ShareRowExclusive
 mode_to_replace old row = None
 
