@@ -22,6 +22,7 @@ use Rattle.history_model.specs.Log.{log_of, position_of, is_waiting, waited_by, 
 use Rattle.history_model.specs.Held.{granted_by, held_by, held_of}
 use Rattle.history_model.specs.Legal.{MayRelease}
 use Rattle.history_model.specs.Orderly.{MayComeNext, IsSound}
+use Rattle.history_model.specs.Prefixes.{EachEntry}
 use Rattle.history_model.specs.Writes.{is_empty}
 use Rattle.history_model.proofs.Prefixes.{EachEntry-more, EachEntry-weaker, EachFrom-both, each-keeps}
 use Rattle.history_model.proofs.Reading.{held_of-more, life_of-own, last_event_of-own, last_event_of-other, running_transaction_of-own, log_of-more, position_of-own}
@@ -46,7 +47,7 @@ use Rattle.cacheless.proofs.HeldLocks.{is_of, locks_of, settled-locks, counted-l
 use Rattle.cacheless.proofs.Allowed.Patient.{IsNoFetch, IsPatient, patient}
 
 -- what is known while so much is owed: nothing while a fetch is; where a look is, only if nothing waited
-abbrev Known : List Owes → Bool → Type 0 → Type 0
+abbrev pub Known : List Owes → Bool → Type 0 → Type 0
 Known (OwesFetch ∷ more) waited P = ⊤
 Known (OwesLook ∷ more) waited P = waited ≡ false → P
 Known owed waited P = P
@@ -65,11 +66,11 @@ known-looked (OwesScan scan ∷ more) waited P no_fetch none known = known
 known-looked [] waited P no_fetch none known = known
 
 -- a grant of the backend, by the history after it
-abbrev KnowsOf : List Entry → ℕ → List Owes → Bool → Grant → Type 0
+abbrev pub KnowsOf : List Entry → ℕ → List Owes → Bool → Grant → Type 0
 KnowsOf history b owed waited g = (g.backend == b) ≡ true → Known owed waited (IsPast history b g.rel g.mode)
 
 -- with each grant that a backend holds it is past what others changed, if it owes nothing
-abbrev Comes : List Entry → ℕ → Type 0
+abbrev pub Comes : List Entry → ℕ → Type 0
 Comes history b = AllByRecursion (KnowsOf history b (owed_after (last_event_of history b)) (has_waited history b)) (held_of history)
 
 ended_all : (c from : ℕ) (r : Option Running) → option_map (λ t. t.first) r ≡ Some from → after_release from (begun c r) ≡ None
@@ -336,6 +337,11 @@ carried-more scenario history e k may = record { sound = sound_after; comes = co
         by_owner : (t : Bool) → (e.backend == b) ≡ t → Cleared scenario (history ++ e ∷ []) b
         by_owner true own = subst (Cleared scenario (history ++ e ∷ [])) (eqb-true e.backend b own) (cleared_own scenario history e.backend e.command e.event k.sound sound_after (comes_after e.backend) (k.cleared e.backend))
         by_owner false other = cleared_other scenario history e b other k.sound (k.cleared b)
+
+-- of a sound history in which backends do what their commands say: what holds of each entry before which grants are known so holds of it
+pub each_known : (scenario : Scenario) (P : List Entry → Entry → Type 0) → ((before : List Entry) (e : Entry) → IsSound before → Comes before e.backend → IsNext scenario before e → P before e) → (history : List Entry) → IsSound history → Plays scenario history → EachEntry P history
+each_known scenario P of history sound plays = (each-keeps (MayComeAndPlay scenario) (λ h. Carried scenario h × EachEntry P h) (record { sound = tt; comes = λ o. tt; cleared = λ o. tt }, tt)
+    (λ before e k may. (carried-more scenario before e k.0 may, EachEntry-more P before e k.1 (of before e k.0.sound (k.0.comes e.backend) may.1))) history (EachFrom-both MayComeNext (IsNext scenario) [] history sound plays)).1
 
 -- of a sound history in which backends do what their commands say: with each lock that is clear a backend is past what visible holders of modes in its way had changed as they last let the relation go
 pub clear_reached : (scenario : Scenario) (history : List Entry) (b : ℕ) → IsSound history → Plays scenario history

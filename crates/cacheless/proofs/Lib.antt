@@ -18,6 +18,7 @@ pub mod HeldLocks
 pub mod Allowed
 pub mod Clear
 pub mod ProtectedFields
+pub mod KnownChanges
 pub mod FoundKept
 pub mod Histories
 pub mod Answers

@@ -83,13 +83,14 @@ rows_drawn history sound = every-weaker (OfStamps (IsDrawnAt (next_oid history))
     (λ before e k comes. (EachEntry-more MayComeNext before e k.0 comes, subst (AllByRecursion (OfStamps (IsDrawnAt (next_oid (before ++ e ∷ []))))) (sym (versions_of-more before e)) (drawn_by_event before e.backend e.command e.event k.0 comes k.1))) history sound).1
 
 -- what holds of the rows of all versions holds of those that are seen
-pub seen_rows : (P : Row → Type 0) (g : Version → Bool) (vs : List Version) → AllByRecursion (λ v. P v.row) vs → AllByRecursion P (map (λ v. v.row) (filter g vs))
+seen_rows : (P : Row → Type 0) (g : Version → Bool) (vs : List Version) → AllByRecursion (λ v. P v.row) vs → AllByRecursion P (map (λ v. v.row) (filter g vs))
 seen_rows P g vs all = every-map P (λ v. v.row) (filter g vs) (every-filter (λ v. P v.row) g vs (every-weaker (λ v. P v.row) (λ v. g v ≡ true → P v.row) (λ v is seen. is) vs all))
 
--- and so is what a scan gives
+-- and of those that a scan gives
+pub given_each : (P : Row → Type 0) (history : List Entry) (b : ℕ) (d : Purpose) → AllByRecursion (λ v. P v.row) (versions_of history) → AllByRecursion P (answer_of history b d)
+given_each P history b d all = every_given P d [] (filter (selects d) (rows_of history b)) tt
+    (every-filter P (selects d) (rows_of history b) (every-weaker P (λ row. selects d row ≡ true → P row) (λ row is asked. is) (rows_of history b) (seen_rows P (sees history b) (versions_of history) all)))
+
+-- so what a scan gives is of drawn relations
 pub given_drawn : (history : List Entry) (b : ℕ) (d : Purpose) → IsSound history → AllByRecursion (λ row. (main_rel row).0 < next_oid history) (answer_of history b d)
-given_drawn history b d sound = every_given IsDrawn d [] (filter (selects d) (rows_of history b)) tt
-    (every-filter IsDrawn (selects d) (rows_of history b) (every-weaker IsDrawn (λ row. selects d row ≡ true → IsDrawn row) (λ row is asked. is) (rows_of history b) (seen_rows IsDrawn (sees history b) (versions_of history) (rows_drawn history sound))))
-  where
-    IsDrawn : Row → Type 0
-    IsDrawn row = (main_rel row).0 < next_oid history
+given_drawn history b d sound = given_each (λ row. (main_rel row).0 < next_oid history) history b d (rows_drawn history sound)

@@ -27,10 +27,9 @@ use Rattle.history_model.specs.Read.{rows_read}
 use Rattle.history_model.specs.Versions.{versions_of, versions_by, ended_key, added_row, old_row, ends, is_back, sees, rows_of, answer_of}
 use Rattle.history_model.specs.Writes.{changed_key, has_row, same_kind, keeps_kind}
 use Rattle.history_model.proofs.Asking.{oid_eq}
-use Rattle.history_model.proofs.DrawnRows.{rows_drawn, seen_rows}
+use Rattle.history_model.proofs.DrawnRows.{rows_drawn, given_each}
 use Rattle.history_model.proofs.Every.{every, every-weaker, every-filter, every-both, from_some}
 use Rattle.history_model.proofs.Exclude.{in_range, every-parts}
-use Rattle.history_model.proofs.InOrder.{every_given}
 use Rattle.history_model.proofs.MaskedRows.{find_some}
 use Rattle.history_model.proofs.OneVersion.{distinct_split, differ_from, added_key}
 use Rattle.history_model.proofs.Ordered.{all_each, all_kept, find_passes}
@@ -277,8 +276,7 @@ kinds_told history sound = every-weaker (OfStamps (λ s row. TellsKind history r
 
 -- and so does each that a scan gives
 pub given_kinds : (history : List Entry) (b : ℕ) (d : Purpose) → IsSound history → AllByRecursion (TellsKind history) (answer_of history b d)
-given_kinds history b d sound = every_given (TellsKind history) d [] (filter (selects d) (rows_of history b)) tt
-    (every-filter (TellsKind history) (selects d) (rows_of history b) (every-weaker (TellsKind history) (λ row. selects d row ≡ true → TellsKind history row) (λ row is asked. is) (rows_of history b) (seen_rows (TellsKind history) (sees history b) (versions_of history) (kinds_told history sound))))
+given_kinds history b d sound = given_each (TellsKind history) history b d (kinds_told history sound)
 
 -- and each that a backend has read
 pub read_kinds : (history : List Entry) (b : ℕ) (d : Purpose) → IsSound history → AllByRecursion (TellsKind history) (rows_read history b d)

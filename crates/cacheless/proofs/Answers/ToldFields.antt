@@ -10,6 +10,7 @@ use Rattle.base_types.specs.declared.kind.Kind.TheVariants.{Table, Index}
 use Rattle.lock_modes.specs.Own.{clear_modes}
 use Rattle.history_model.specs.Read.{place_read, rows_read, is_usable}
 use Rattle.history_model.specs.Versions.{fresh_text}
+use Rattle.history_model.proofs.OneKind.{IsOfKind}
 use Rattle.cacheless.specs.Types.{Oid, Kind, Field, Purpose, Shown, Opening, OwnLock, Scenario, Entry}
 use Rattle.cacheless.specs.Facts.{Facts, facts_of}
 use Rattle.cacheless.specs.Lines.{read_field, shown_field}
@@ -60,10 +61,11 @@ one_owes_none facts opened o has none = ap (λ l. l ++ []) (All-contains Owes op
     Owes : Opening → Type 0
     Owes d = unusable facts (build_scans d.kind d.rel) ≡ []
 
--- a backend in a played history, which has these locks and may rely on all scans for the descriptor of a relation
+-- a backend in a played history, which has these locks and may rely on all scans for the descriptor of a relation, which is of its kind
 pub record CanTell (scenario : Scenario) (seen : List Entry) (b : ℕ) (locks : List OwnLock) (o : Opening) : Type 0 where
   pub has : HasSession scenario seen b locks
   pub builds : builds_owed (facts_of seen b) (o ∷ []) ≡ []
+  pub kind : IsOfKind seen o.rel o.kind
 
 -- a field of the relation: as it was read, and where it is protected, as it is now
 pub field_told : (scenario : Scenario) (seen : List Entry) (b : ℕ) (locks : List OwnLock) (o : Opening) (field : Field) → CanTell scenario seen b locks o → has_field o.kind field ≡ true
@@ -81,7 +83,7 @@ field_told scenario seen b locks o field can has =
     usable = field_among (λ d. is_usable seen b d ≡ true) o.kind o.rel field has (none_unusable (facts_of seen b) (build_scans o.kind o.rel) (both_empty (unusable (facts_of seen b) (build_scans o.kind o.rel)) [] can.builds).0)
 
     now : is_protected scenario seen b o.rel o.kind field ≡ true → fresh_text seen b o.rel field ≡ field_text field o.rel (rows_read seen b scan)
-    now protected = protected_fresh scenario seen b o.rel o.kind field can.has.played.sound can.has.played.plays has protected usable
+    now protected = protected_fresh scenario seen b o.rel o.kind field can.kind can.has.played.sound can.has.played.plays has protected usable
 
     by_guard : (t : Bool) → is_protected scenario seen b o.rel o.kind field ≡ t → ◌≡◌ {A = Shown} (elim t [ true ↦ record { field = field; value = fresh_text seen b o.rel field; at = None } | false ↦ read_field seen b o.rel field ])
         (record { field = field; value = field_text field o.rel (rows_read seen b scan); at = if t then None else Some (place_read seen b scan) })

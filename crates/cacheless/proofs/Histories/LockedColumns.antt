@@ -10,7 +10,7 @@ use Rattle.history_model.specs.Versions.{answer_of}
 use Rattle.history_model.specs.Held.{held_of}
 use Rattle.history_model.specs.Orderly.{IsSound}
 use Rattle.history_model.specs.Read.{rows_read}
-use Rattle.history_model.proofs.Locked.{changing_modes, changed_anyhow, IsIdle, IsSeenAs, stays_undisturbed, held_bars_all, held_bars_exclusive, locked_between, read_between, found_between}
+use Rattle.history_model.proofs.Locked.{changing_modes, changed_anyhow, IsIdle, IsSeenAs, stays_undisturbed, held_bars_all, held_bars_exclusive, locked_between, read_between, firm_table, firm_between}
 use Rattle.cacheless.proofs.Plans.Given.{oid, xid, entry, new_table, wide_table}
 
 -- the table is locked, and its columns are read
@@ -40,4 +40,5 @@ columns_read = read_between locked others 1 (oid 16384) (scans.Attribute (oid 16
 
 -- and the table is still seen
 pub table_stays : IsSeenAs (locked ++ others) 1 (oid 16384) (codes "t") Table
-table_stays = found_between locked others 1 (oid 16384) (codes "t") Table sound (stays_undisturbed locked others 1 (oid 16384) (AccessExclusive ∷ []) (held_bars_exclusive (held_of locked) 1 (oid 16384) ShareUpdateExclusive refl) idle) (None, refl)
+table_stays = firm_table (locked ++ others) 1 (oid 16384) (codes "t")
+    (firm_between locked others 1 (oid 16384) (codes "t") Table sound (stays_undisturbed locked others 1 (oid 16384) (AccessExclusive ∷ []) (held_bars_exclusive (held_of locked) 1 (oid 16384) ShareUpdateExclusive refl) idle) refl)

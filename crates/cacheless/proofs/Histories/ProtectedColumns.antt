@@ -9,6 +9,7 @@ use Rattle.history_model.specs.Orderly.{MayComeNext, IsSound}
 use Rattle.history_model.specs.Versions.{fresh_text}
 use Rattle.history_model.specs.Read.{rows_read}
 use Rattle.history_model.proofs.Prefixes.{EachEntry-prefix}
+use Rattle.history_model.proofs.OneKind.{read_kinds}
 use Rattle.cacheless.specs.Protected.{is_protected}
 use Rattle.cacheless.specs.Plays.{IsNext, Plays}
 use Rattle.cacheless.proofs.Plans.Given.{oid, entry}
@@ -28,4 +29,4 @@ pub statistics_not : is_protected show_of_anothers_table trigger_scanned 2 (oid 
 statistics_not = refl
 
 pub columns_fresh : fresh_text trigger_scanned 2 (oid 16384) fields.Columns ≡ field_text fields.Columns (oid 16384) (rows_read trigger_scanned 2 (scans.Attribute (oid 16384)))
-columns_fresh = protected_fresh show_of_anothers_table trigger_scanned 2 (oid 16384) Table fields.Columns sound plays refl columns_protected refl
+columns_fresh = protected_fresh show_of_anothers_table trigger_scanned 2 (oid 16384) Table fields.Columns (read_kinds trigger_scanned 2 (scans.Class (oid 16384)) sound).0 sound plays refl columns_protected refl

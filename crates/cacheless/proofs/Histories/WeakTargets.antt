@@ -31,7 +31,7 @@ visible_comes = search arith
 
 -- the columns stay, by the law
 pub columns_stay : fresh_text (changed ++ entry 1 3 (Visible (xid 2)) ∷ []) 2 (oid 16384) fields.Columns ≡ fresh_text changed 2 (oid 16384) fields.Columns
-columns_stay = weak_visible changed 1 3 (xid 2) 2 Table fields.Columns (oid 16384) changed_sound visible_comes refl refl refl
+columns_stay = weak_visible changed 1 3 (xid 2) 2 Table fields.Columns (oid 16384) changed_sound visible_comes refl refl refl refl
 
 -- the targets don't
 pub targets_before : fresh_text changed 2 (oid 16384) fields.Statistics ≡ codes "1:-1 2:-1"

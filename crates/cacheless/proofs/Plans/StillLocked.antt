@@ -17,7 +17,7 @@ use Rattle.history_model.proofs.Every.{every-weaker}
 use Rattle.history_model.proofs.FixedRows.{fixed}
 use Rattle.history_model.proofs.Granted.{lock_parts}
 use Rattle.history_model.proofs.HeldRows.{IsChangedUnder}
-use Rattle.history_model.proofs.Locked.{changing_modes, changed_anyhow, held_bars_all, held_bars_exclusive, none_held, locked_answers, IsNoChange, IsIdle, quiet_keeps, unchanged_answers, grant_kept, found_stays, found_first}
+use Rattle.history_model.proofs.Locked.{changing_modes, changed_anyhow, held_bars_all, held_bars_exclusive, none_held, locked_answers, IsNoChange, IsIdle, quiet_keeps, unchanged_answers, grant_kept, seen_firm, firm_seen, firm_stays, found_first}
 use Rattle.history_model.proofs.Ordered.{locks_exclude}
 use Rattle.history_model.proofs.Prefixes.{EachEntry-more}
 use Rattle.history_model.proofs.Reading.{held_of-more as held-more}
@@ -61,9 +61,10 @@ columns_held history a c event b rel mode sound comes other held = ap (map fixed
 rows_stay : (history : List Entry) (e : Entry) (b : ℕ) (o : LockedRelation) → MayCome history e → IsIdle b history e → IsHeld history b o → RowsStay (answer_of history b) (answer_of (history ++ e ∷ []) b) o
 rows_stay history e b o may idle held = record {
   relation = λ begins.
-      let seen = found_stays history e b o.rel begins.name o.kind may.sound may.comes (held_bars_exclusive (held_of history) b o.rel o.mode held, unchanged)
-      (found_first history b (scans.Class o.rel) o.rel begins.name o.kind begins.fill begins.more may.sound begins.are) in
-      record { name = begins.name; fill = seen.0; more = []; are = seen.1 };
+      let firm = firm_stays history e b o.rel begins.name o.kind may.sound may.comes (held_bars_exclusive (held_of history) b o.rel o.mode held, unchanged)
+      (seen_firm history b o.rel begins.name o.kind (found_first history b (scans.Class o.rel) o.rel begins.name o.kind begins.fill begins.more may.sound begins.are)) in
+      let seen = firm_seen (history ++ e ∷ []) b o.rel begins.name o.kind firm in
+      record { name = seen.0; fill = seen.1.0; more = []; are = seen.1.1 };
   columns = λ scan of. columns_by scan of (e.backend == b) refl;
   rows_of = λ alone scan of. by_owner alone scan (changed_anyhow scan o.rel of) (e.backend == b) refl;
 }
