@@ -29,10 +29,9 @@ use Rattle.cacheless.specs.Types.{Oid, Row, Purpose, Entry}
 use Rattle.cacheless.specs.TableWrites.{AreNamesakes, WritesColumns}
 use Rattle.cacheless.proofs.WholeColumns.{whole_apart}
 
-name_fixed : (row : Row) → row_name (fixed row) ≡ row_name row
-name_fixed (rows.Class own called kind fill) = refl
-name_fixed (rows.Att own num called col_type stat live) = refl
-name_fixed row = refl
+name_fixed : (rel : Oid) (row : Row) → selects (scans.Attribute rel) row ≡ true → row_name (fixed row) ≡ row_name row
+name_fixed rel (rows.Att own num called col_type stat live) asked = refl
+name_fixed rel row asked = absurd (cc asked)
 
 -- neither of two names comes before the other: they are one
 names_tie : (name other : List ℕ) → is_lt (slice_cmp nat_cmp name other) ≡ false → is_lt (slice_cmp nat_cmp other name) ≡ false → name ≡ other
@@ -53,10 +52,10 @@ rows_tie rel scan (inl (name, is)) row other asks also first second = named row 
 rows_tie rel scan (inr is) row other asks also first second =
     names_tie (row_name row) (row_name other) (ap (λ d. goes_before d row other) (sym is) ∙ first) (ap (λ d. goes_before d other row) (sym is) ∙ second)
 
-before_fixed : (rel : Oid) (scan : Purpose) → IsOfColumns rel scan → (row other : Row) → goes_before scan (fixed row) (fixed other) ≡ goes_before scan row other
-before_fixed rel scan (inl (name, is)) row other = ap (λ d. goes_before d (fixed row) (fixed other)) is ∙ ap (λ d. goes_before d row other) (sym is)
-before_fixed rel scan (inr is) row other =
-    ap (λ d. goes_before d (fixed row) (fixed other)) is ∙ (λ i. is_lt (slice_cmp nat_cmp (name_fixed row i) (name_fixed other i))) ∙ ap (λ d. goes_before d row other) (sym is)
+before_fixed : (rel : Oid) (scan : Purpose) → IsOfColumns rel scan → (row other : Row) → selects (scans.Attribute rel) row ≡ true → selects (scans.Attribute rel) other ≡ true → goes_before scan (fixed row) (fixed other) ≡ goes_before scan row other
+before_fixed rel scan (inl (name, is)) row other asked also = ap (λ d. goes_before d (fixed row) (fixed other)) is ∙ ap (λ d. goes_before d row other) (sym is)
+before_fixed rel scan (inr is) row other asked also =
+    ap (λ d. goes_before d (fixed row) (fixed other)) is ∙ (λ i. is_lt (slice_cmp nat_cmp (name_fixed rel row asked i) (name_fixed rel other also i))) ∙ ap (λ d. goes_before d row other) (sym is)
 
 -- two rows have different names
 abbrev NamesDiffer : Row → Row → Type 0
@@ -128,13 +127,18 @@ given_named history b rel scan of sound writes = pair_given NamesDiffer (λ row 
 
 -- in the order of the columns' names
 in_order : (history : List Entry) (b : ℕ) (rel : Oid) (scan : Purpose) → IsOfColumns rel scan → IsInOrder (goes_before scan) (map fixed (answer_of history b scan))
-in_order history b rel scan of = mapped (answer_of history b scan) (scan_of-answers scan (rows_of history b)).order
+in_order history b rel scan of = mapped (answer_of history b scan) (every-weaker (λ row. selects scan row ≡ true) (λ row. selects (scans.Attribute rel) row ≡ true) (λ row asked. column_asks rel scan of row asked) (answer_of history b scan) (given_asked history b scan))
+    (scan_of-answers scan (rows_of history b)).order
   where
-    mapped : (given : List Row) → IsInOrder (goes_before scan) given → IsInOrder (goes_before scan) (map fixed given)
-    mapped [] order = tt
-    mapped (row ∷ given) order = (
-      every-map (λ other. goes_before scan other (fixed row) ≡ false) fixed given (every-weaker (λ other. goes_before scan other row ≡ false) (λ other. goes_before scan (fixed other) (fixed row) ≡ false) (λ other is. before_fixed rel scan of other row ∙ is) given order.0),
-      mapped given order.1,
+    IsAsked : Row → Type 0
+    IsAsked row = selects (scans.Attribute rel) row ≡ true
+
+    mapped : (given : List Row) → AllByRecursion IsAsked given → IsInOrder (goes_before scan) given → IsInOrder (goes_before scan) (map fixed given)
+    mapped [] asked order = tt
+    mapped (row ∷ given) asked order = (
+      every-map (λ other. goes_before scan other (fixed row) ≡ false) fixed given (every-weaker (λ other. IsAsked other × (goes_before scan other row ≡ false)) (λ other. goes_before scan (fixed other) (fixed row) ≡ false)
+          (λ other h. before_fixed rel scan of other row h.0 asked.0 ∙ h.1) given (every-both IsAsked (λ other. goes_before scan other row ≡ false) given asked.1 order.0)),
+      mapped given asked.1 order.1,
     )
 
 -- two histories' answers of such a scan that have the same columns are one, but for what a weak mode may change
@@ -148,8 +152,8 @@ among_same history later b rel scan of sound writes sound' writes' among also =
     asked h = every-map (λ row. selects scan row ≡ true) fixed (answer_of h b scan) (every-weaker (λ row. selects scan row ≡ true) (λ row. selects scan (fixed row) ≡ true) (λ row is. column_fixes rel scan of row ∙ is) (answer_of h b scan) (given_asked h b scan))
 
     named : (h : List Entry) → IsSound h → EachEntry WritesColumns h → Pairwise NamesDiffer (map fixed (answer_of h b scan))
-    named h well keeps = pair-map NamesDiffer fixed (answer_of h b scan) (pair-weaker (λ row. ⊤) NamesDiffer (λ row other. NamesDiffer (fixed row) (fixed other))
-        (λ row other _ _ differ same. differ (sym (name_fixed row) ∙ same ∙ name_fixed other)) (answer_of h b scan) (every (λ row. ⊤) (λ row. tt) (answer_of h b scan)) (given_named h b rel scan of well keeps))
+    named h well keeps = pair-map NamesDiffer fixed (answer_of h b scan) (pair-weaker (λ row. selects scan row ≡ true) NamesDiffer (λ row other. NamesDiffer (fixed row) (fixed other))
+        (λ row other asks also differ same. differ (sym (name_fixed rel row (column_asks rel scan of row asks)) ∙ same ∙ name_fixed rel other (column_asks rel scan of other also))) (answer_of h b scan) (given_asked h b scan) (given_named h b rel scan of well keeps))
 
     in_other : (given others : List Row) → AreAmong given others → AllByRecursion (λ row. IsIn row (map fixed others)) (map fixed given)
     in_other given others all = every-map (λ row. IsIn row (map fixed others)) fixed given (every-weaker (λ row. SomeOf (λ other. fixed row ≡ fixed other) others) (λ row. IsIn (fixed row) (map fixed others)) (λ row is. some-map (λ other. fixed row ≡ other) fixed others is) given all)

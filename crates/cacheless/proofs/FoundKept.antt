@@ -25,6 +25,7 @@ use Rattle.cacheless.specs.Session.{Session}
 use Rattle.cacheless.specs.Sessions.{session_of}
 use Rattle.cacheless.specs.Settled.{if_locked, has_taken_no_other, has_accepted, looked_up}
 use Rattle.cacheless.specs.TableWrites.{WritesNamesApart}
+use Rattle.cacheless.proofs.WholeIndexes.{index_whole}
 use Rattle.cacheless.proofs.OneName.{seen_by_name}
 use Rattle.cacheless.proofs.Plans.AloneLocks.{lock_keeps_out, session_holds}
 use Rattle.cacheless.proofs.KnownChanges.{changes_known}

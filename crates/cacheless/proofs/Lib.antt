@@ -10,6 +10,7 @@ pub mod Dropped
 pub mod OneOfAKind
 pub mod NamedColumns
 pub mod WholeColumns
+pub mod WholeIndexes
 pub mod OneName
 pub mod OneOfKey
 pub mod ColumnAnswers

@@ -94,10 +94,11 @@ abbrev pub is_of_index : Option Row → Bool
 is_of_index (Some (rows.Class oid name Index fill)) = true
 is_of_index row = false
 
--- an index's own row comes in one write with its index row, and goes in one with it
+-- an index's own row comes in one write with its index row, and goes in one with it; the index row isn't replaced
 abbrev pub goes_together : List Entry → ℕ → List Item → Item → Bool
 goes_together before b items (forms.Add (rows.Class oid name Index fill)) = list_any (adds_index_row oid) items
 goes_together before b items (forms.Add (rows.Ind index table state nums)) = list_any (makes_index index) items
+goes_together before b items (forms.Put (rows.Ind index table state nums)) = false
 goes_together before b items (forms.Remove (keys.Class rel)) = not (is_of_index (row_with before b (keys.Class rel))) || list_any (takes_index_row rel) items
 goes_together before b items (forms.Remove (keys.Ind index)) = list_any (takes_relation index) items
 goes_together before b items item = true

@@ -12,7 +12,7 @@ use Rattle.base_types.specs.Scans.{same_oid, selects}
 use Rattle.base_types.specs.Words.{kind_word, type_word, live_word}
 use Rattle.base_types.specs.declared.col_type.ColType.{ColType}
 use Rattle.base_types.specs.declared.kind.Kind.{Kind}
-use Rattle.base_types.specs.declared.kind.Kind.TheVariants.{Table}
+use Rattle.base_types.specs.declared.kind.Kind.TheVariants.{Table, Index}
 use Rattle.base_types.specs.declared.mode.Mode.TheVariants.{ShareUpdateExclusive}
 use Rattle.base_types.specs.declared.row.ConKind.TheVariants as demands
 use Rattle.base_types.specs.declared.row.Row.TheVariants as rows
@@ -30,7 +30,7 @@ use Rattle.history_model.specs.Held.{held_of}
 use Rattle.history_model.specs.Orderly.{main_rel, has_key, is_fresh, keeps_relation, IsOrderlyWrite, IsSound}
 use Rattle.history_model.specs.Sent.{cats_by, rels_by, messages_written}
 use Rattle.history_model.specs.Versions.{ended_key, rows_of, old_row}
-use Rattle.history_model.specs.Writes.{changed_key, has_row, relations_of, relations_changed, is_validation, rows_named, update_where, weaker_mode, enough_with, modes_enough, is_guarded, same_kind, keeps_kind}
+use Rattle.history_model.specs.Writes.{changed_key, has_row, relations_of, relations_changed, is_validation, rows_named, update_where, name_allowed, weaker_mode, enough_with, modes_enough, is_guarded, same_kind, keeps_kind}
 use Rattle.history_model.proofs.Covering.{flat_all, named_told}
 use Rattle.history_model.proofs.Every.{every-weaker, any-right}
 use Rattle.history_model.proofs.InOrder.{IsIn}
@@ -160,11 +160,15 @@ weak_of : (p : Mode → Bool) (t : Bool) → t ≡ true → p ShareUpdateExclusi
 weak_of p true same is = or_left (p ShareUpdateExclusive) (p AccessExclusive || false) is
 weak_of p false same is = absurd (cc)
 
+same_allowed : (kind : Kind) (name : List ℕ) → name_allowed kind name name ≡ name
+same_allowed Table name = refl
+same_allowed Index name = refl
+
 -- ShareUpdateExclusive is enough for a change of the fillfactor
 pub weak_enough_fill : (p : Mode → Bool) (oid : Oid) (name : List ℕ) (kind : Kind) (old new : Option ℕ) (rel : Oid) → p ShareUpdateExclusive ≡ true → list_any p (modes_enough (Some (rows.Class oid name kind old)) (forms.Put (rows.Class oid name kind new)) rel) ≡ true
-weak_enough_fill p oid name kind old new rel is = weak_of p (same_row (rows.Class oid name kind new) (rows.Class oid name kind new))
+weak_enough_fill p oid name kind old new rel is = subst (λ n. list_any p (enough_with (update_where (same_row (rows.Class oid n kind new) (rows.Class oid name kind new)))) ≡ true) (sym (same_allowed kind name)) (weak_of p (same_row (rows.Class oid name kind new) (rows.Class oid name kind new))
     (and_from (same_oid oid oid && bytes_eq name name && bytes_eq (kind_word kind) (kind_word kind)) (option_eq (λ a b. a == b) new new)
-    (and_from (same_oid oid oid && bytes_eq name name) (bytes_eq (kind_word kind) (kind_word kind)) (and_from (same_oid oid oid) (bytes_eq name name) (eq-eqb oid.0 oid.0 refl) (same_bytes name)) (same_bytes (kind_word kind))) (same_fill new)) is
+    (and_from (same_oid oid oid && bytes_eq name name) (bytes_eq (kind_word kind) (kind_word kind)) (and_from (same_oid oid oid) (bytes_eq name name) (eq-eqb oid.0 oid.0 refl) (same_bytes name)) (same_bytes (kind_word kind))) (same_fill new)) is)
 
 -- and for one of a statistics target
 pub weak_enough_stat : (p : Mode → Bool) (rel : Oid) (num : ℕ) (name : List ℕ) (col_type : ColType) (old new : ℤ) (live : Bool) → p ShareUpdateExclusive ≡ true
