@@ -1,6 +1,7 @@
 -- How far a command is, by what its acts gave.
 pub mod Ways
 pub mod EffectAlong
+pub mod MadeAlong
 pub mod ActOrder
 pub mod StillAfter
 pub mod StillLocked

@@ -8,7 +8,6 @@ use Rattle.lock_modes.specs.Own.{has_lock, cleared}
 use Rattle.ddl_effect.specs.declared.told.Told.TheVariants as tells
 use Rattle.ddl_effect.specs.Plans.{Act, Lookup, Open, Search, Read, Lock, Write, Plan, Done, Fails, Absent, NotBuilt, Do}
 use Rattle.ddl_effect.specs.Commands.{plan_of}
-use Rattle.ddl_effect.specs.Effects.{effect_at}
 use Rattle.ddl_effect.proofs.HasPlan.{built_alike}
 use Rattle.history_model.specs.Read.{rows_read, is_usable}
 use Rattle.history_model.specs.Versions.{answer_of}
@@ -16,7 +15,7 @@ use Rattle.history_model.specs.Writes.{is_empty}
 use Rattle.history_model.proofs.Every.{every-append}
 use Rattle.history_model.proofs.FixedRows.{fixed}
 use Rattle.cacheless.specs.Types.{Mode, Row, Purpose, Opening, Scenario, Command, CommandError, OwnLock, Entry}
-use Rattle.cacheless.specs.ActsDone.{after_given, reached, made_in, made_first, opening_by, relation_by, locked_relation_by, IsHeld, ComeAlike, IsFirstStill}
+use Rattle.cacheless.specs.ActsDone.{after_given, reached, made_in, made_first, opening_by, relation_by, locked_relation_by, IsHeld, IsFirstStill}
 use Rattle.cacheless.specs.Facts.{Facts, facts_of}
 use Rattle.cacheless.specs.OnCourse.{is_absent, OnItsWay, Way, Begun, Wrote, Unbuilt, Over, GaveNow, NamedFits, WasSought, FollowsPlan}
 use Rattle.cacheless.specs.Owed.{builds_owed, act_owed}
@@ -128,8 +127,8 @@ passes_it facts s (Write draft) rest given gave = absurd (cc gave)
 passes_it facts s act rest given gave = refl
 
 -- where a scan gave the rows of now, the rest of a plan makes of them the same
-alike_now : (now : Purpose → List Row) (scan : Purpose) (rest : List Row → Plan) (given : List Row) → now scan ≡ given → ComeAlike (rest given) (rest (now scan))
-alike_now now scan rest given is = λ rows found. ap (λ l. effect_at rows found (rest l)) (sym is)
+alike_now : (now : Purpose → List Row) (scan : Purpose) (rest : List Row → Plan) (given : List Row) → now scan ≡ given → rest given ≡ rest (now scan)
+alike_now now scan rest given is = ap rest (sym is)
 
 -- what an act gave that is done here is so
 act_gave : (scenario : Scenario) (seen : List Entry) (b : ℕ) (s : Session) (command : Command) (act : Act) (rest : List Row → Plan) (given : List Row) → HoldsClear scenario seen b s.locks → (way : OnItsWay seen b s command) → s.left ≡ Do act rest
@@ -151,20 +150,19 @@ act_gave scenario seen b s command (Search scan) rest given holds way at done = 
     gave : rows_read seen b scan ≡ given
     gave = some_is (rows_read seen b scan) given done.gave
 
-    by_place : SearchesOpen relations opened scan ⊎ (SearchesFound relations scan rest ⊎ SearchesOid scan rest) → ComeAlike (rest given) (rest (answer_of seen b scan))
+    by_place : SearchesOpen relations opened scan ⊎ (SearchesFound relations scan rest ⊎ SearchesOid scan rest) → rest given ≡ rest (answer_of seen b scan)
     by_place (inl column) = alike_now (answer_of seen b) scan rest given (late ∙ gave)
       where
         late : answer_of seen b scan ≡ rows_read seen b scan
         late = late_answers scenario seen b holds.session way.gave (plan_of s.opens command) (Search scan) rest (record { rel = column.rel; kind = Table }) scan holds.played.sound holds.played.plays holds.is
             (subst (λ l. map cleared l ≡ l) (sym holds.holds) holds.clear) (its_order seen b s command way) way.holds (sym way.plan ∙ at) column.found_is column.opened_is (of_column column.rel scan column.of)
             (kept_already _ scan done.owed)
-    by_place (inr (inl columns)) = λ rows found. ap (effect_at rows found)
-        (ap rest (sym gave) ∙ columns.by_fixed (rows_read seen b scan) ∙ ap rest (sym same) ∙ sym (columns.by_fixed (answer_of seen b scan)))
+    by_place (inr (inl columns)) = ap rest (sym gave) ∙ columns.by_fixed (rows_read seen b scan) ∙ ap rest (sym same) ∙ sym (columns.by_fixed (answer_of seen b scan))
       where
         same : map fixed (answer_of seen b scan) ≡ map fixed (rows_read seen b scan)
         same = found_columns scenario seen b holds.session way.gave (plan_of s.opens command) (record { rel = columns.rel; kind = Table }) scan holds.played.sound holds.played.columns holds.played.plays holds.is
             (subst (λ l. map cleared l ≡ l) (sym holds.holds) holds.clear) way.holds columns.found_is columns.of (kept_already _ scan done.owed)
-    by_place (inr (inr oid)) = λ rows found. ap (effect_at rows found) (oid.told given ∙ sym (oid.told (answer_of seen b scan)))
+    by_place (inr (inr oid)) = oid.told given ∙ sym (oid.told (answer_of seen b scan))
 act_gave scenario seen b s command (Read scan) rest given holds way at done = record { locked = tt; still = alike_now (answer_of seen b) scan rest given (late ∙ gave) }
   where
     come : HasCome (made_in relation_by way.gave (plan_of s.opens command)) (made_in opening_by way.gave (plan_of s.opens command)) (Do (Read scan) rest)

@@ -6,12 +6,11 @@ use Rattle.base_types.specs.declared.row.Row.TheVariants as rows
 use Rattle.base_types.specs.declared.scan.Purpose.TheVariants as scans
 use Rattle.ddl_effect.specs.Plans.{Plan, Done, Fails, Absent, NotBuilt, Do, Lookup, Open, Search, Read, Lock, Write}
 use Rattle.ddl_effect.specs.Commands.{found}
-use Rattle.ddl_effect.specs.Effects.{effect_at}
 use Rattle.history_model.proofs.Every.{every-append}
 use Rattle.history_model.proofs.FixedRows.{fixed}
 use Rattle.history_model.proofs.HeldRows.{relation_kept}
 use Rattle.cacheless.specs.Types.{Oid, Mode, Kind, Row, Purpose, Opening}
-use Rattle.cacheless.specs.ActsDone.{LockedRelation, locked_relation_by, after_given, reached, made_first, made_in, relation_by, BeginWith, ComeAlike, IsStill, IsFirstStill, AreStill}
+use Rattle.cacheless.specs.ActsDone.{LockedRelation, locked_relation_by, after_given, reached, made_first, made_in, relation_by, BeginWith, IsStill, IsFirstStill, AreStill}
 use Rattle.history_model.proofs.ColumnsKept.{IsOfColumn, IsOfColumns}
 use Rattle.cacheless.proofs.Plans.EffectAlong.{plain_row}
 use Rattle.cacheless.proofs.Plans.Ways.{acts}
@@ -32,17 +31,13 @@ pub record RowsStay (now later : Purpose → List Row) (o : LockedRelation) : Ty
   pub rows_of : conflicts o.mode o.mode ≡ true → (scan : Purpose) → IsOf o.rel scan → later scan ≡ now scan
 
 -- where the rows of a scan stay, the rest of a plan makes of them what it made
-alike_later : (now later : Purpose → List Row) (scan : Purpose) (rest : List Row → Plan) (given : List Row) → later scan ≡ now scan → ComeAlike (rest given) (rest (now scan)) → ComeAlike (rest given) (rest (later scan))
-alike_later now later scan rest given same alike = subst (λ l. ComeAlike (rest given) (rest l)) (sym same) alike
+alike_later : (now later : Purpose → List Row) (scan : Purpose) (rest : List Row → Plan) (given : List Row) → later scan ≡ now scan → rest given ≡ rest (now scan) → rest given ≡ rest (later scan)
+alike_later now later scan rest given same alike = alike ∙ ap rest (sym same)
 
 -- and so where they stay but for what it doesn't go by
-alike_but : (now later : Purpose → List Row) (scan : Purpose) (rest : List Row → Plan) (given : List Row) → map fixed (later scan) ≡ map fixed (now scan) → ((given : List Row) → rest given ≡ rest (map fixed given)) → ComeAlike (rest given) (rest (now scan))
-    → ComeAlike (rest given) (rest (later scan))
-alike_but now later scan rest given same by_fixed alike = subst (ComeAlike (rest given)) (by_fixed (now scan) ∙ ap rest (sym same) ∙ sym (by_fixed (later scan))) alike
-
--- a plan that goes on whatever it is given
-alike_anyway : (later : Purpose → List Row) (scan : Purpose) (rest : List Row → Plan) (given : List Row) → rest given ≡ rest (later scan) → ComeAlike (rest given) (rest (later scan))
-alike_anyway later scan rest given same = λ rows found. ap (effect_at rows found) same
+alike_but : (now later : Purpose → List Row) (scan : Purpose) (rest : List Row → Plan) (given : List Row) → map fixed (later scan) ≡ map fixed (now scan) → ((given : List Row) → rest given ≡ rest (map fixed given)) → rest given ≡ rest (now scan)
+    → rest given ≡ rest (later scan)
+alike_but now later scan rest given same by_fixed alike = alike ∙ by_fixed (now scan) ∙ ap rest (sym same) ∙ sym (by_fixed (later scan))
 
 still_over : (later : Purpose → List Row) (gave : List (List Row)) (plan : Plan) → acts plan ≡ false → AreStill later plan gave
 still_over later [] plan over = tt
