@@ -40,8 +40,7 @@ class_read : (scenario : Scenario) (history : List Entry) (b : ℕ) (s : Session
     → builds_owed (facts_of history b) opened ≡ [] → AreReadAsNow history b (facts_of history b) opened
 class_read scenario history b s locked [] played is clear held kept none = tt
 class_read scenario history b s locked (o ∷ opened) played is clear held kept none =
-    let both = both_empty (unusable (facts_of history b) (build_scans o.kind o.rel)) (builds_owed (facts_of history b) opened) none in
-    (
+    let both = both_empty (unusable (facts_of history b) (build_scans o.kind o.rel)) (builds_owed (facts_of history b) opened) none in (
       sym (class_plain o.rel (rows_read history b (scans.Class o.rel))) ∙ sym (kept_now scenario history b s locked (scans.Class o.rel) played is clear held kept.0 (class_usable o.kind o.rel both.0)) ∙ class_plain o.rel (answer_of history b (scans.Class o.rel)),
       class_read scenario history b s locked opened played is clear held kept.1 both.1,
     )

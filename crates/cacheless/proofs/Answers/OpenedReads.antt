@@ -16,7 +16,7 @@ use Rattle.cacheless.specs.Session.{none_open, outcome_of, is_settled, plan_admi
 use Rattle.cacheless.specs.Settled.{opened_by}
 use Rattle.cacheless.proofs.Plans.ActOrder.{follows_order}
 use Rattle.cacheless.proofs.Plans.EffectAlong.{plain_row}
-use Rattle.cacheless.proofs.Plans.UnderLocks.{Footing, at_first, with_lock, with_open, with_rows, FollowsUnfound, FollowsOrder, unfound}
+use Rattle.cacheless.proofs.Plans.UnderLocks.{Footing, at_first, with_lock, with_found, with_open, with_rows, FollowsUnfound, FollowsOrder, unfound}
 use Rattle.cacheless.specs.Types.{Oid, Mode, Kind, Row, Purpose, Command, CommandError, OpenRelation, Opening}
 use Rattle.cacheless.specs.OpenedReads.{is_of_opened, ReadsOpened}
 
@@ -28,7 +28,7 @@ reads_out opened plan out = tt
 -- a plan under locks reads so
 reads_follows : (on : Footing) (plan : Plan) → FollowsUnfound on plan → ReadsOpened on.opened plan
 reads_follows on (Do (Lookup name mode) rest) follows = λ given. subst (λ o. ReadsOpened o (rest given)) (sym (append-nil on.opened))
-    (by_rows given (follows.0 given) (λ rel kind. reads_follows (with_lock rel mode on) (rest (plain_row rel kind)) (unfound (with_lock rel mode on) (rest (plain_row rel kind)) (follows.1 rel kind))))
+    (by_rows given (follows.0 given) (λ rel kind. reads_follows (with_found rel kind mode on) (rest (plain_row rel kind)) (unfound (with_found rel kind mode on) (rest (plain_row rel kind)) (follows.1 rel kind))))
   where
     by_rows : (given : List Row) → rest given ≡ found name (λ rel kind. rest (plain_row rel kind)) given → ((rel : Oid) (kind : Kind) → ReadsOpened on.opened (rest (plain_row rel kind))) → ReadsOpened on.opened (rest given)
     by_rows [] is further = subst (ReadsOpened on.opened) (sym is) tt

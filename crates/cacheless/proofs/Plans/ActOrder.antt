@@ -55,31 +55,31 @@ column_fixed column (rows.Att rel num own col_type stat live ∷ more) = refl
 column_fixed column (rows.Class rel own kind fill ∷ more) = refl
 column_fixed column (row ∷ more) = refl
 
-column_told : (rel : Oid) (mode : Mode) (column : List ℕ) (given : List Row) → Follows (on_found rel mode) (telling_column column given)
-column_told rel mode column [] = tt
-column_told rel mode column (rows.Att of num own col_type stat live ∷ more) = tt
-column_told rel mode column (row ∷ more) = tt
+column_told : (rel : Oid) (column : List ℕ) (given : List Row) → Follows (on_found rel Table AccessShare) (telling_column column given)
+column_told rel column [] = tt
+column_told rel column (rows.Att of num own col_type stat live ∷ more) = tt
+column_told rel column (row ∷ more) = tt
 
-listing_follows : (name : List ℕ) (rel : Oid) (kind : Kind) → Follows (on_found rel AccessShare) (listing_columns name rel kind)
+listing_follows : (name : List ℕ) (rel : Oid) (kind : Kind) → Follows (on_found rel kind AccessShare) (listing_columns name rel kind)
 listing_follows name rel Table = (inr (inr (inl (inr refl), λ given. ap (λ columns. Done (tells.Columns columns)) (columns_fixed given))), λ given. tt, refl)
 listing_follows name rel Index = tt
 
-finding_follows : (name column : List ℕ) (rel : Oid) (kind : Kind) → Follows (on_found rel AccessShare) (finding_column name column rel kind)
-finding_follows name column rel Table = (inr (inr (inl (inl (column, refl)), column_fixed column)), column_told rel AccessShare column, refl)
+finding_follows : (name column : List ℕ) (rel : Oid) (kind : Kind) → Follows (on_found rel kind AccessShare) (finding_column name column rel kind)
+finding_follows name column rel Table = (inr (inr (inl (inl (column, refl)), column_fixed column)), column_told rel column, refl)
 finding_follows name column rel Index = tt
 
 -- what is shown is open
 one_open : (o : Opening) → Contains (o ∷ []) o
 one_open o = (0, omega arith, refl)
 
-showing_follows : (rel : Oid) (kind : Kind) → Follows (on_found rel AccessShare) (showing None rel kind)
-showing_follows rel kind = f_opening (on_found rel AccessShare) rel kind (Done (tells.Relation rel kind)) (one_open (record { rel = rel; kind = kind }))
+showing_follows : (rel : Oid) (kind : Kind) → Follows (on_found rel kind AccessShare) (showing None rel kind)
+showing_follows rel kind = f_opening (on_found rel kind AccessShare) rel kind (Done (tells.Relation rel kind)) (inl refl) (one_open (record { rel = rel; kind = kind }))
 
-field_follows : (name : List ℕ) (field : Field) (rel : Oid) (kind : Kind) → Follows (on_found rel AccessShare) (showing_field name field rel kind)
+field_follows : (name : List ℕ) (field : Field) (rel : Oid) (kind : Kind) → Follows (on_found rel kind AccessShare) (showing_field name field rel kind)
 field_follows name field rel kind = by_test (has_field kind field) refl
   where
-    by_test : (t : Bool) → has_field kind field ≡ t → Follows (on_found rel AccessShare) (if_passes t (errors.NoField name field) (showing (Some field) rel kind))
-    by_test true has = f_opening (on_found rel AccessShare) rel kind (Done (tells.Field rel kind field)) (one_open (record { rel = rel; kind = kind }), has)
+    by_test : (t : Bool) → has_field kind field ≡ t → Follows (on_found rel kind AccessShare) (if_passes t (errors.NoField name field) (showing (Some field) rel kind))
+    by_test true has = f_opening (on_found rel kind AccessShare) rel kind (Done (tells.Field rel kind field)) (inl refl) (one_open (record { rel = rel; kind = kind }), has)
     by_test false has = tt
 
 order_creating : (passes : Bool) (twice : Option (List ℕ)) (draft : Draft) → FollowsOrder (if_passes passes errors.TooManyColumns (if_no_column twice (writing draft)))
@@ -157,7 +157,7 @@ follows_order opens (commands.Show name (Some field)) built = f_looking at_first
 follows_order opens (commands.Columns name) built = f_looking at_first name AccessShare (listing_columns name) (listing_follows name)
 follows_order opens (commands.Column name column) built = f_looking at_first name AccessShare (finding_column name column) (finding_follows name column)
 follows_order opens (commands.Regclass oid) built = (inl (λ given. refl), λ given. tt, refl)
-follows_order opens (commands.LockTable name mode) built = f_looking at_first name mode (locking name) (λ rel kind. f_passes (on_found rel mode) (is_table kind) (errors.NotTable name) (Done tells.Ok) tt)
+follows_order opens (commands.LockTable name mode) built = f_looking at_first name mode (locking name) (λ rel kind. f_passes (on_found rel kind mode) (is_table kind) (errors.NotTable name) (Done tells.Ok) tt)
 follows_order opens (commands.CreateTable name columns) built = order_creating (nat_le (length columns) MOST_COLUMNS) (first_twice [] (map (λ (c : NewColumn). c.name) columns)) (new_table name columns)
 follows_order opens (commands.DropTable name) built = f_altering opens name AccessExclusive drop_table drop_table_follows
 follows_order opens (commands.RenameTable name to) built = f_altering opens name AccessExclusive (rename_table to) (rename_table_follows to)
@@ -166,7 +166,7 @@ follows_order opens (commands.DropColumn name column) built = f_altering opens n
 follows_order opens (commands.RenameColumn name column to) built = f_altering opens name AccessExclusive (rename_column column to) (rename_column_follows column to)
 follows_order opens (commands.SetStatistics name column stat) built = f_altering opens name ShareUpdateExclusive (set_statistics column stat) (set_statistics_follows column stat)
 follows_order opens (commands.SetFillfactor name fill) built = f_altering opens name ShareUpdateExclusive (set_fillfactor fill) (set_fillfactor_follows fill)
-follows_order opens (commands.OpenRel name) built = f_looking at_first name AccessShare keeping (λ rel kind. f_opening (on_found rel AccessShare) rel kind (Done tells.Ok) tt)
+follows_order opens (commands.OpenRel name) built = f_looking at_first name AccessShare keeping (λ rel kind. f_opening (on_found rel kind AccessShare) rel kind (Done tells.Ok) (inl refl) tt)
 follows_order opens (commands.Peek name field) built = order_peeking name field (latest_open name opens)
 follows_order opens (commands.CloseRel name) built = order_closing name (latest_open name opens)
 follows_order opens command built = absurd (cc)

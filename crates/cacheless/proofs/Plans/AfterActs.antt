@@ -7,7 +7,7 @@ use Rattle.cacheless.specs.Types.{Oid, Mode, Kind, Purpose, Row}
 use Rattle.cacheless.specs.Settled.{class_oid}
 use Rattle.cacheless.specs.OnCourse.{is_absent}
 use Rattle.cacheless.proofs.Plans.EffectAlong.{plain_row}
-use Rattle.cacheless.proofs.Plans.UnderLocks.{Footing, with_lock, with_open, with_rows, Follows, follows_there}
+use Rattle.cacheless.proofs.Plans.UnderLocks.{Footing, with_lock, with_found, with_open, with_rows, Follows, follows_there}
 
 -- a plan hasn't failed to find a relation after an opening or a further lock, nor after it searched or read
 pub after_opening : (on : Footing) (rel : Oid) (kind : Kind) (rest : List Row → Plan) (given : List Row) → Follows on (Do (Open rel kind) rest) → is_absent (rest given) ≡ false
@@ -33,7 +33,7 @@ after_lookup on name mode rest given follows absent = by_rows given (follows.0 g
     by_rows : (l : List Row) → rest l ≡ found name (λ rel kind. rest (plain_row rel kind)) l → is_absent (rest l) ≡ true → IsUnfound name (rest l) l
     by_rows [] is unfound = record { is = is; none = refl }
     by_rows (rows.Class rel own kind fill ∷ more) is unfound =
-        absurd (let both : true ≡ false = sym unfound ∙ ap is_absent is ∙ follows_there (with_lock rel mode on) (rest (plain_row rel kind)) (follows.1 rel kind) in cc both)
+        absurd (let both : true ≡ false = sym unfound ∙ ap is_absent is ∙ follows_there (with_found rel kind mode on) (rest (plain_row rel kind)) (follows.1 rel kind) in cc both)
     by_rows (row ∷ more) is unfound = record { is = is; none = refl }
 
 -- where a lookup found none, the command says so

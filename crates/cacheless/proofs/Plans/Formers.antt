@@ -15,15 +15,15 @@ use Rattle.history_model.proofs.Every.{SomeOf}
 use Rattle.cacheless.specs.Types.{Oid, Mode, Kind, Row, Purpose, CommandError, OpenRelation, Draft, Opening}
 use Rattle.cacheless.specs.ActsDone.{LockOn}
 use Rattle.cacheless.specs.OpenedReads.{is_of_opened}
-use Rattle.cacheless.proofs.Plans.UnderLocks.{KeepsRows, GoesUnder, IsKeptBy, Footing, at_first, with_lock, with_open, with_rows, Follows}
+use Rattle.cacheless.proofs.Plans.UnderLocks.{KeepsRows, GoesUnder, IsKeptBy, Footing, at_first, with_found, with_open, with_rows, Follows}
 
 -- a command that has locked the relation which its lookup found
-abbrev pub on_found : Oid → Mode → Footing
-on_found rel mode = with_lock rel mode at_first
+abbrev pub on_found : Oid → Kind → Mode → Footing
+on_found rel kind mode = with_found rel kind mode at_first
 
 -- and opened its descriptor
 abbrev pub on_opened : Oid → Kind → Mode → Footing
-on_opened rel kind mode = with_open rel kind (on_found rel mode)
+on_opened rel kind mode = with_open rel kind (on_found rel kind mode)
 
 -- each row of such a scan counts as it is
 abbrev pub IsPlain : Purpose → Type 0
@@ -45,11 +45,11 @@ pub f_passes : (on : Footing) (passes : Bool) (error : CommandError) (plan : Pla
 f_passes on true error plan follows = follows
 f_passes on false error plan follows = tt
 
-pub f_looking : (on : Footing) (name : List ℕ) (mode : Mode) (further : Oid → Kind → Plan) → ((rel : Oid) (kind : Kind) → Follows (with_lock rel mode on) (further rel kind)) → Follows on (looking_up name mode further)
+pub f_looking : (on : Footing) (name : List ℕ) (mode : Mode) (further : Oid → Kind → Plan) → ((rel : Oid) (kind : Kind) → Follows (with_found rel kind mode on) (further rel kind)) → Follows on (looking_up name mode further)
 f_looking on name mode further follows = (λ given. refl, follows)
 
-pub f_opening : (on : Footing) (rel : Oid) (kind : Kind) (plan : Plan) → Follows (with_open rel kind on) plan → Follows on (opening rel kind plan)
-f_opening on rel kind plan follows = (λ given. refl, follows)
+pub f_opening : (on : Footing) (rel : Oid) (kind : Kind) (plan : Plan) → SomeOf (λ found. found ≡ record { rel = rel; kind = kind }) on.found → Follows (with_open rel kind on) plan → Follows on (opening rel kind plan)
+f_opening on rel kind plan some follows = (λ given. refl, follows, some)
 
 pub f_writing : (on : Footing) (draft : Draft) → AllByRecursion (IsKeptBy on.locked) on.opened → Follows on (writing draft)
 f_writing on draft kept = (λ given. refl, kept)
@@ -76,6 +76,6 @@ f_reading on scan rest plain of some follows = (goes_plain on.locked scan rest p
 pub f_altering : (opens : List OpenRelation) (name : List ℕ) (mode : Mode) (further : Oid → Plan) → ((rel : Oid) → Follows (on_opened rel Table mode) (further rel)) → Follows at_first (looking_up name mode (altering opens name further))
 f_altering opens name mode further follows = f_looking at_first name mode (altering opens name further) of
   where
-    of : (rel : Oid) (kind : Kind) → Follows (on_found rel mode) (altering opens name further rel kind)
-    of rel Table = f_passes (on_found rel mode) (not (has_open rel opens)) (errors.InUse rel) (opening rel Table (further rel)) (f_opening (on_found rel mode) rel Table (further rel) (follows rel))
+    of : (rel : Oid) (kind : Kind) → Follows (on_found rel kind mode) (altering opens name further rel kind)
+    of rel Table = f_passes (on_found rel Table mode) (not (has_open rel opens)) (errors.InUse rel) (opening rel Table (further rel)) (f_opening (on_found rel Table mode) rel Table (further rel) (inl refl) (follows rel))
     of rel Index = tt

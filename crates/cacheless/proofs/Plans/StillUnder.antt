@@ -95,8 +95,7 @@ still_later : (now later : Purpose → List Row) (on : Footing) (gave : List (Li
     → AreStill now plan gave → AreStill later plan gave
 still_later now later on [] plan follows stay new still = tt
 still_later now later on (given ∷ gave) plan follows stay new still =
-    let both = every_sides (StaysOn now later) (made_first locks_by given plan) (made_in locks_by gave (after_given given plan)) new in
-    (
+    let both = every_sides (StaysOn now later) (made_first locks_by given plan) (made_in locks_by gave (after_given given plan)) new in (
       first_later now later on given plan follows stay both.0 still.0,
       still_later now later (adds_first on given plan) gave (after_given given plan) (follows_after on given plan follows)
           (every-append (StaysOn now later) on.locked (made_first locks_by given plan) stay both.0) both.1 still.1,

@@ -18,7 +18,7 @@ use Rattle.history_model.proofs.Every.{SomeOf}
 use Rattle.history_model.proofs.FixedRows.{fixed}
 use Rattle.history_model.proofs.HeldRows.{relation_kept, modes_of}
 use Rattle.cacheless.specs.Types.{Oid, Mode, AccessExclusive, Kind, Row, Purpose, Opening, Told}
-use Rattle.cacheless.specs.ActsDone.{LockOn, locks_by, opening_by, named_by, after_given, reached, made_first, made_in}
+use Rattle.cacheless.specs.ActsDone.{LockOn, locks_by, opening_by, relation_by, named_by, after_given, reached, made_first, made_in}
 use Rattle.cacheless.specs.OnCourse.{is_absent}
 use Rattle.cacheless.specs.OpenedReads.{is_of_opened}
 use Rattle.cacheless.proofs.Plans.EffectAlong.{plain_row, GoesByRelation}
@@ -73,19 +73,24 @@ TellsOpen opened told = ⊤
 abbrev pub IsKeptBy : List LockOn → Opening → Type 0
 IsKeptBy locked o = SomeOf (KeepsRows (scans.Class o.rel)) locked
 
--- where a plan is: the locks under which it goes on, the descriptors that it has opened, and the relations that rows name which it has read
+-- where a plan is: the relations that its lookups found, the locks under which it goes on, the descriptors that it has opened, and the relations that rows name which it has read
 pub record Footing : Type 0 where
+  pub found : List Opening
   pub locked : List LockOn
   pub opened : List Opening
   pub named : List Oid
 
 -- at its beginning
 abbrev pub at_first : Footing
-at_first = record { locked = []; opened = []; named = [] }
+at_first = record { found = []; locked = []; opened = []; named = [] }
 
 -- with one more lock
 abbrev pub with_lock : Oid → Mode → Footing → Footing
 with_lock rel mode on = record on { locked = on.locked ++ record { rel = rel; mode = mode } ∷ [] }
+
+-- with the lock of a lookup on the relation that it found
+abbrev pub with_found : Oid → Kind → Mode → Footing → Footing
+with_found rel kind mode on = record on { found = on.found ++ record { rel = rel; kind = kind } ∷ []; locked = on.locked ++ record { rel = rel; mode = mode } ∷ [] }
 
 -- with one more descriptor
 abbrev pub with_open : Oid → Kind → Footing → Footing
@@ -96,19 +101,19 @@ abbrev pub with_rows : List Row → Footing → Footing
 with_rows given on = record on { named = on.named ++ flat_map relations_of given }
 
 -- after what these acts made
-abbrev pub footing_with : Footing → List LockOn → List Opening → List Oid → Footing
-footing_with on locked opened named = record { locked = on.locked ++ locked; opened = on.opened ++ opened; named = on.named ++ named }
+abbrev pub footing_with : Footing → List Opening → List LockOn → List Opening → List Oid → Footing
+footing_with on found locked opened named = record { found = on.found ++ found; locked = on.locked ++ locked; opened = on.opened ++ opened; named = on.named ++ named }
 
 -- after these acts of a plan
 abbrev pub footing_after : List (List Row) → Plan → Footing → Footing
-footing_after gave plan on = footing_with on (made_in locks_by gave plan) (made_in opening_by gave plan) (made_in named_by gave plan)
+footing_after gave plan on = footing_with on (made_in relation_by gave plan) (made_in locks_by gave plan) (made_in opening_by gave plan) (made_in named_by gave plan)
 
--- a plan under locks: only a lookup may fail to find a relation, a further lock is on a relation of which it has read, and what is open as it writes is locked in a mode that keeps its row
+-- a plan under locks: only a lookup may fail to find a relation, what is opened a lookup found, a further lock is on a relation of which it has read, and what is open as it writes is locked in a mode that keeps its row
 abbrev pub Follows : Footing → Plan → Type 0
 Follows on (Done told) = TellsOpen on.opened told
 Follows on (Fails error) = ⊤
-Follows on (Do (Lookup name mode) rest) = GoesByFound name rest × ((rel : Oid) (kind : Kind) → Follows (with_lock rel mode on) (rest (plain_row rel kind)))
-Follows on (Do (Open rel kind) rest) = GoesAnyhow rest × Follows (with_open rel kind on) (rest [])
+Follows on (Do (Lookup name mode) rest) = GoesByFound name rest × ((rel : Oid) (kind : Kind) → Follows (with_found rel kind mode on) (rest (plain_row rel kind)))
+Follows on (Do (Open rel kind) rest) = GoesAnyhow rest × Follows (with_open rel kind on) (rest []) × SomeOf (λ found. found ≡ record { rel = rel; kind = kind }) on.found
 Follows on (Do (Search scan) rest) = GoesUnder on.locked scan rest × ((given : List Row) → Follows on (rest given)) × (is_build_scan scan ≡ false)
 Follows on (Do (Read scan) rest) = GoesUnder on.locked scan rest × ((given : List Row) → Follows (with_rows given on) (rest given)) × (is_of_opened scan on.opened ≡ true)
 Follows on (Do (Lock rel mode) rest) = GoesAnyhow rest × Follows (with_lock rel mode on) (rest []) × SomeOf (λ named. named ≡ rel) on.named
@@ -134,11 +139,11 @@ unfound on (Do act rest) follows = follows
 
 -- what an act adds
 abbrev pub adds_first : Footing → List Row → Plan → Footing
-adds_first on given plan = footing_with on (made_first locks_by given plan) (made_first opening_by given plan) (made_first named_by given plan)
+adds_first on given plan = footing_with on (made_first relation_by given plan) (made_first locks_by given plan) (made_first opening_by given plan) (made_first named_by given plan)
 
 -- nothing is the same
-footing_none : (on : Footing) → footing_with on [] [] [] ≡ on
-footing_none on = λ i. record { locked = append-nil on.locked i; opened = append-nil on.opened i; named = append-nil on.named i }
+footing_none : (on : Footing) → footing_with on [] [] [] [] ≡ on
+footing_none on = λ i. record { found = append-nil on.found i; locked = append-nil on.locked i; opened = append-nil on.opened i; named = append-nil on.named i }
 
 -- the plan after an act is one where the act brings it
 pub follows_after : (on : Footing) (given : List Row) (plan : Plan) → FollowsUnfound on plan → FollowsUnfound (adds_first on given plan) (after_given given plan)
@@ -148,18 +153,18 @@ follows_after on given (Absent name) follows = tt
 follows_after on given NotBuilt follows = absurd follows
 follows_after on given (Do (Lookup name mode) rest) follows = by_rows given (follows.0 given)
   where
-    by_rows : (l : List Row) → rest l ≡ found name (λ rel kind. rest (plain_row rel kind)) l → FollowsUnfound (footing_with on (locks_by (Lookup name mode) l) [] []) (rest l)
-    by_rows [] is = subst (FollowsUnfound (footing_with on [] [] [])) (sym is) tt
-    by_rows (rows.Class rel own kind fill ∷ more) is = subst (FollowsUnfound (footing_with on (record { rel = rel; mode = mode } ∷ []) [] [])) (sym is)
-        (subst (λ f. FollowsUnfound f (rest (plain_row rel kind))) (λ i. record { locked = on.locked ++ record { rel = rel; mode = mode } ∷ []; opened = sym (append-nil on.opened) i; named = sym (append-nil on.named) i })
-        (unfound (with_lock rel mode on) (rest (plain_row rel kind)) (follows.1 rel kind)))
-    by_rows (row ∷ more) is = subst (FollowsUnfound (footing_with on [] [] [])) (sym is) tt
-follows_after on given (Do (Open rel kind) rest) follows = subst (λ f. FollowsUnfound f (rest given)) (λ i. record { locked = sym (append-nil on.locked) i; opened = on.opened ++ record { rel = rel; kind = kind } ∷ []; named = sym (append-nil on.named) i })
+    by_rows : (l : List Row) → rest l ≡ found name (λ rel kind. rest (plain_row rel kind)) l → FollowsUnfound (footing_with on (relation_by (Lookup name mode) l) (locks_by (Lookup name mode) l) [] []) (rest l)
+    by_rows [] is = subst (FollowsUnfound (footing_with on [] [] [] [])) (sym is) tt
+    by_rows (rows.Class rel own kind fill ∷ more) is = subst (FollowsUnfound (footing_with on (record { rel = rel; kind = kind } ∷ []) (record { rel = rel; mode = mode } ∷ []) [] [])) (sym is)
+        (subst (λ f. FollowsUnfound f (rest (plain_row rel kind))) (λ i. record { found = on.found ++ record { rel = rel; kind = kind } ∷ []; locked = on.locked ++ record { rel = rel; mode = mode } ∷ []; opened = sym (append-nil on.opened) i; named = sym (append-nil on.named) i })
+        (unfound (with_found rel kind mode on) (rest (plain_row rel kind)) (follows.1 rel kind)))
+    by_rows (row ∷ more) is = subst (FollowsUnfound (footing_with on [] [] [] [])) (sym is) tt
+follows_after on given (Do (Open rel kind) rest) follows = subst (λ f. FollowsUnfound f (rest given)) (λ i. record { found = sym (append-nil on.found) i; locked = sym (append-nil on.locked) i; opened = on.opened ++ record { rel = rel; kind = kind } ∷ []; named = sym (append-nil on.named) i })
     (subst (FollowsUnfound (with_open rel kind on)) (sym (follows.0 given)) (unfound (with_open rel kind on) (rest []) follows.1))
 follows_after on given (Do (Search scan) rest) follows = subst (λ f. FollowsUnfound f (rest given)) (sym (footing_none on)) (unfound on (rest given) (follows.1 given))
-follows_after on given (Do (Read scan) rest) follows = subst (λ f. FollowsUnfound f (rest given)) (λ i. record { locked = sym (append-nil on.locked) i; opened = sym (append-nil on.opened) i; named = on.named ++ flat_map relations_of given })
+follows_after on given (Do (Read scan) rest) follows = subst (λ f. FollowsUnfound f (rest given)) (λ i. record { found = sym (append-nil on.found) i; locked = sym (append-nil on.locked) i; opened = sym (append-nil on.opened) i; named = on.named ++ flat_map relations_of given })
     (unfound (with_rows given on) (rest given) (follows.1 given))
-follows_after on given (Do (Lock rel mode) rest) follows = subst (λ f. FollowsUnfound f (rest given)) (λ i. record { locked = on.locked ++ record { rel = rel; mode = mode } ∷ []; opened = sym (append-nil on.opened) i; named = sym (append-nil on.named) i })
+follows_after on given (Do (Lock rel mode) rest) follows = subst (λ f. FollowsUnfound f (rest given)) (λ i. record { found = sym (append-nil on.found) i; locked = on.locked ++ record { rel = rel; mode = mode } ∷ []; opened = sym (append-nil on.opened) i; named = sym (append-nil on.named) i })
     (subst (FollowsUnfound (with_lock rel mode on)) (sym (follows.0 given)) (unfound (with_lock rel mode on) (rest []) follows.1))
 follows_after on given (Do (Write draft) rest) follows = subst (λ f. FollowsUnfound f (Do (Write draft) rest)) (sym (footing_none on)) follows
 
@@ -168,6 +173,7 @@ pub follows_reached : (on : Footing) (gave : List (List Row)) (plan : Plan) → 
 follows_reached on [] plan follows = subst (λ f. FollowsUnfound f plan) (sym (footing_none on)) follows
 follows_reached on (given ∷ gave) plan follows = subst (λ f. FollowsUnfound f (reached gave (after_given given plan)))
     (λ i. record {
+      found = append_assoc on.found (made_first relation_by given plan) (made_in relation_by gave (after_given given plan)) i;
       locked = append_assoc on.locked (made_first locks_by given plan) (made_in locks_by gave (after_given given plan)) i;
       opened = append_assoc on.opened (made_first opening_by given plan) (made_in opening_by gave (after_given given plan)) i;
       named = append_assoc on.named (made_first named_by given plan) (made_in named_by gave (after_given given plan)) i;
@@ -210,7 +216,7 @@ goes_unfound on (Done told) follows = tt
 goes_unfound on (Fails error) follows = tt
 goes_unfound on (Absent name) follows = tt
 goes_unfound on NotBuilt follows = tt
-goes_unfound on (Do (Lookup name mode) rest) follows = (follows.0, λ given. by_rows given (follows.0 given) (λ rel kind. goes_unfound (with_lock rel mode on) (rest (plain_row rel kind)) (unfound (with_lock rel mode on) (rest (plain_row rel kind)) (follows.1 rel kind))))
+goes_unfound on (Do (Lookup name mode) rest) follows = (follows.0, λ given. by_rows given (follows.0 given) (λ rel kind. goes_unfound (with_found rel kind mode on) (rest (plain_row rel kind)) (unfound (with_found rel kind mode on) (rest (plain_row rel kind)) (follows.1 rel kind))))
   where
     by_rows : (l : List Row) → rest l ≡ found name (λ rel kind. rest (plain_row rel kind)) l → ((rel : Oid) (kind : Kind) → GoesByRelation (rest (plain_row rel kind))) → GoesByRelation (rest l)
     by_rows [] is further = subst GoesByRelation (sym is) tt
