@@ -21,7 +21,6 @@ use Rattle.history_model.specs.Log.{fetched_by}
 use Rattle.history_model.specs.Read.{is_usable, usable_by, spares_by}
 use Rattle.history_model.specs.Sent.{messages_written, lists_of}
 use Rattle.history_model.specs.Writes.{is_empty}
-use Rattle.history_model.proofs.ColumnsKept.{IsOfColumns}
 use Rattle.history_model.proofs.Prefixes.{each-keeps, along-keeps}
 use Rattle.history_model.proofs.Reading.{is_usable-own, is_usable-other}
 use Rattle.cacheless.specs.Types.{OpenRelation}
@@ -32,8 +31,9 @@ use Rattle.cacheless.specs.Session.{Session, Outcome, Unsettled, Well, Badly, ou
 use Rattle.cacheless.specs.Sessions.{written, resumed, noted, commands_left, entered, session_by, session_of}
 use Rattle.cacheless.specs.Settled.{act_done, done_here, acted_on, acted, is_finished, blocks_after, opens_after, next_session, settled}
 use Rattle.cacheless.proofs.Allowed.NextOnCourse.{entered_noted}
-use Rattle.cacheless.proofs.Plans.ActOrder.{IsEnded, FollowsOpen, FollowsFound, FollowsOrder, follows_order}
+use Rattle.cacheless.proofs.Plans.ActOrder.{follows_order}
 use Rattle.cacheless.proofs.Plans.EffectAlong.{plain_row}
+use Rattle.cacheless.proofs.Plans.UnderLocks.{Footing, at_first, with_lock, with_found, with_open, with_rows, FollowsUnfound, FollowsOrder, unfound}
 use Rattle.backend_core.specs.Types.{Oid, Kind, Mode, Row, Purpose, Command, CommandError, Message, Opening, Scenario, Entry, Event}
 use Rattle.backend_core.proofs.Stacking.Lacking.{each_of}
 
@@ -72,45 +72,23 @@ SearchesNamed (Do (Search scan) rest) = (is_build_scan scan ≡ false) × ((give
 SearchesNamed (Do act rest) = (given : List Row) → SearchesNamed (rest given)
 SearchesNamed plan = ⊤
 
-named_ended : (plan : Plan) → IsEnded plan → SearchesNamed plan
-named_ended (Do act rest) over = absurd over
-named_ended plan over = tt
-
-of_columns : (rel : Oid) (scan : Purpose) → IsOfColumns rel scan → is_build_scan scan ≡ false
-of_columns rel scan (inl of) = ap is_build_scan of.1
-of_columns rel scan (inr is) = ap is_build_scan is
-
--- a plan that keeps the order of acts searches so
-named_open : (most : ℕ) (rel : Oid) (kind : Kind) (plan : Plan) → FollowsOpen most rel kind plan → SearchesNamed plan
-named_open most rel kind (Do (Lookup name mode) rest) follows = absurd follows
-named_open most rel kind (Do (Open of as_kind) rest) follows = absurd follows
-named_open most rel kind (Do (Search scan) rest) follows = (of_columns rel scan (inl follows.1), λ given. named_open (most - 1) rel kind (rest given) (follows.3 given))
-named_open most rel kind (Do (Read scan) rest) follows = λ given. named_open (most - 1) rel kind (rest given) (follows.2 given)
-named_open most rel kind (Do (Lock of mode) rest) follows = absurd follows
-named_open most rel kind (Do (Write draft) rest) follows = λ given. subst SearchesNamed (sym (follows.3 given)) tt
-named_open most rel kind plan follows = tt
-
-named_found : (mode : Mode) (rel : Oid) (kind : Kind) (plan : Plan) → FollowsFound mode rel kind plan → SearchesNamed plan
-named_found mode rel kind (Do (Open of as_kind) rest) follows = λ given. subst SearchesNamed (sym (follows.2 given)) (named_open 3 rel kind (rest []) follows.3)
-named_found mode rel kind (Do (Lookup name as_mode) rest) follows = absurd follows
-named_found mode rel kind (Do (Search scan) rest) follows = (of_columns rel scan follows.0, λ given. named_ended (rest given) (follows.3 given))
-named_found mode rel kind (Do (Read scan) rest) follows = absurd follows
-named_found mode rel kind (Do (Lock of as_mode) rest) follows = absurd follows
-named_found mode rel kind (Do (Write draft) rest) follows = absurd follows
-named_found mode rel kind plan follows = tt
+-- a plan under locks searches so
+named_follows : (on : Footing) (plan : Plan) → FollowsUnfound on plan → SearchesNamed plan
+named_follows on (Do (Lookup name mode) rest) follows = λ given. by_rows given (follows.0 given) (λ rel kind. named_follows (with_found rel kind mode on) (rest (plain_row rel kind)) (unfound (with_found rel kind mode on) (rest (plain_row rel kind)) (follows.1 rel kind)))
+  where
+    by_rows : (given : List Row) → rest given ≡ found name (λ rel kind. rest (plain_row rel kind)) given → ((rel : Oid) (kind : Kind) → SearchesNamed (rest (plain_row rel kind))) → SearchesNamed (rest given)
+    by_rows [] is further = subst SearchesNamed (sym is) tt
+    by_rows (rows.Class rel own kind fill ∷ more) is further = subst SearchesNamed (sym is) (further rel kind)
+    by_rows (row ∷ more) is further = subst SearchesNamed (sym is) tt
+named_follows on (Do (Open rel kind) rest) follows = λ given. subst SearchesNamed (sym (follows.0 given)) (named_follows (with_open rel kind on) (rest []) (unfound (with_open rel kind on) (rest []) follows.1))
+named_follows on (Do (Search scan) rest) follows = (follows.2, λ given. named_follows on (rest given) (unfound on (rest given) (follows.1 given)))
+named_follows on (Do (Read scan) rest) follows = λ given. named_follows (with_rows given on) (rest given) (unfound (with_rows given on) (rest given) (follows.1 given))
+named_follows on (Do (Lock rel mode) rest) follows = λ given. subst SearchesNamed (sym (follows.0 given)) (named_follows (with_lock rel mode on) (rest []) (unfound (with_lock rel mode on) (rest []) follows.1))
+named_follows on (Do (Write draft) rest) follows = λ given. subst SearchesNamed (sym (follows.0 given)) tt
+named_follows on plan follows = tt
 
 named_order : (plan : Plan) → FollowsOrder plan → SearchesNamed plan
-named_order (Do (Lookup name mode) rest) follows = λ given. by_rows given (follows.0 given)
-  where
-    by_rows : (given : List Row) → rest given ≡ found name (λ rel kind. rest (plain_row rel kind)) given → SearchesNamed (rest given)
-    by_rows [] is = subst SearchesNamed (sym is) tt
-    by_rows (rows.Class rel own kind fill ∷ more) is = subst SearchesNamed (sym is) (named_found mode rel kind (rest (plain_row rel kind)) (follows.1 rel kind))
-    by_rows (row ∷ more) is = subst SearchesNamed (sym is) tt
-named_order (Do (Open of as_kind) rest) follows = absurd follows
-named_order (Do (Search scan) rest) follows = (ap is_build_scan follows.1, λ given. subst SearchesNamed (sym (follows.2 given)) tt)
-named_order (Do (Read scan) rest) follows = absurd follows
-named_order (Do (Lock of as_mode) rest) follows = absurd follows
-named_order (Do (Write draft) rest) follows = λ given. subst SearchesNamed (sym (follows.1 given)) tt
+named_order (Do act rest) follows = named_follows at_first (Do act rest) follows
 named_order plan follows = tt
 
 named_unbuilt : (plan : Plan) → is_built plan ≡ false → SearchesNamed plan

@@ -25,9 +25,8 @@ use Rattle.cacheless.specs.Session.{Session}
 use Rattle.cacheless.specs.Sessions.{session_of}
 use Rattle.cacheless.specs.Settled.{if_locked, has_taken_no_other, has_accepted, looked_up}
 use Rattle.cacheless.specs.TableWrites.{WritesNamesApart}
-use Rattle.cacheless.proofs.WholeIndexes.{index_whole}
 use Rattle.cacheless.proofs.OneName.{seen_by_name}
-use Rattle.cacheless.proofs.Plans.AloneLocks.{lock_keeps_out, session_holds}
+use Rattle.cacheless.proofs.Plans.ClearLocks.{lock_keeps_out, session_holds}
 use Rattle.cacheless.proofs.KnownChanges.{changes_known}
 use Rattle.cacheless.proofs.ProtectedFields.{AreKeptOut, kept_out, not_dirty}
 
@@ -69,7 +68,7 @@ lookup_ends scenario history b s t facts name mode rest given sound plays is sam
     if_ends false read gives' gave = absurd (cc gives')
 
     of : (read : List Row) → rows_read history b (scans.RelName name) ≡ read → looked_up facts t mode read ≡ Some given → Gave given
-    of [] gave gives' = if_ends (has_accepted facts t) [] gives' (record { locked = tt; still = tt })
+    of [] gave gives' = if_ends (has_accepted facts t) [] gives' (record { locked = tt; drawn = tt; still = tt })
     of (rows.Class rel own kind fill ∷ more) gave gives' = by_lock (has_lock t.locks rel mode) refl gives'
       where
         by_lock : (u : Bool) → has_lock t.locks rel mode ≡ u → if_locked (u && has_taken_no_other t.taken rel) (rows.Class rel own kind fill ∷ []) ≡ Some given → Gave given
@@ -78,10 +77,11 @@ lookup_ends scenario history b s t facts name mode rest given sound plays is sam
             let seen = found_kept_out scenario history b name rel own kind fill more sound plays (lock_keeps_out scenario history b s rel mode is (subst (λ l. map cleared l ≡ l) (sym same) clear) holds) usable gave in
             if_ends (has_taken_no_other t.taken rel) (rows.Class rel own kind fill ∷ []) gives'' (record {
               locked = (session_holds scenario history b s sound is rel mode ∙ holds, tt);
+              drawn = tt;
               still = record { name = seen.0; fill = seen.1.0; more = []; are = seen.1.1 };
             })
         by_lock false has gives'' = absurd (cc gives'')
-    of (row ∷ more) gave gives' = if_ends (has_accepted facts t) (row ∷ []) gives' (record { locked = tt; still = tt })
+    of (row ∷ more) gave gives' = if_ends (has_accepted facts t) (row ∷ []) gives' (record { locked = tt; drawn = tt; still = tt })
 
 -- the relation that a lookup asks to lock has a drawn oid, whether it is seen or not
 pub asked_drawn : (history : List Entry) (b : ℕ) (name : List ℕ) (rel : Oid) (own : List ℕ) (kind : Kind) (fill : Option ℕ) (more : List Row) → IsSound history → rows_read history b (scans.RelName name) ≡ rows.Class rel own kind fill ∷ more → rel.0 < next_oid history

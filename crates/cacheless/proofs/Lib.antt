@@ -1,6 +1,7 @@
 pub mod Reading
 pub mod Settling
 pub mod Plans
+pub mod NamedDrawn
 pub mod AlongSound
 pub mod Successors
 pub mod VersionsStay

@@ -1,11 +1,12 @@
 -- How far a command is, by what its acts gave.
 pub mod Ways
 pub mod EffectAlong
+pub mod MadeAlong
+pub mod UnderLocks
+pub mod Formers
 pub mod ActOrder
-pub mod StillAfter
-pub mod StillLocked
-pub mod LateActs
-pub mod AloneLocks
+pub mod StillUnder
+pub mod ClearLocks
 pub mod Given
 pub mod AfterActs
 pub mod ToldHeld

@@ -1,5 +1,5 @@
 -- How far a command is in what its plan says, by the session of its backend and the history.
-use Rattle.std.specs.Prelude.{◌≡◌, ◌<◌, ◌⊎◌, ⊤, ℕ, Bool, true, false, Option, Some, None, List, ◌++◌, map, length, slice_get}
+use Rattle.std.specs.Prelude.{◌≡◌, ◌<◌, ◌⊎◌, ⊤, ℕ, Bool, true, false, Option, Some, None, List, [], ◌∷◌, ◌++◌, map, length, slice_get}
 use Rattle.std.specs.List.{AllByRecursion}
 use Rattle.base_types.specs.declared.scan.Purpose.TheVariants as scans
 use Rattle.event_kinds.specs.declared.entry.Event.TheVariants as events
@@ -12,7 +12,7 @@ use Rattle.history_model.specs.Lives.{last_event_of}
 use Rattle.history_model.specs.Read.{rows_read}
 use Rattle.history_model.specs.Versions.{answer_of}
 use Rattle.history_model.specs.Writes.{has_written}
-use Rattle.cacheless.specs.Types.{Mode, Row, Command, CommandError, Opening, Draft, Told, Scenario, Entry, Event}
+use Rattle.cacheless.specs.Types.{Oid, Mode, Row, Command, CommandError, Opening, Draft, Told, Scenario, Entry, Event}
 use Rattle.cacheless.specs.Facts.{Facts, facts_of}
 use Rattle.cacheless.specs.Owed.{owes_accept}
 use Rattle.cacheless.specs.Runs.{runs}
@@ -20,12 +20,17 @@ use Rattle.cacheless.specs.Session.{Session, Well, held_before, number_of, outco
 use Rattle.cacheless.specs.Settled.{class_oid, found_by, is_finished}
 use Rattle.cacheless.specs.Sessions.{session_of}
 use Rattle.cacheless.specs.Told.{tells_of_scans}
-use Rattle.cacheless.specs.ActsDone.{reached, made_in, opening_by, locked_relation_by, IsHeld, IsStill, WayHolds}
+use Rattle.cacheless.specs.ActsDone.{LockOn, locks_by, named_by, IsDrawn, IsHeldOn, reached, made_in, opening_by, IsStill, WayHolds, IsOtherLock}
 
 -- the command failed to find a relation
 abbrev pub is_absent : Plan → Bool
 is_absent (Absent name) = true
 is_absent plan = false
+
+-- a lookup that has newly locked a relation has locked none under which its command goes on
+abbrev pub TakesNew : List LockOn → Plan → Option Oid → Type 0
+TakesNew locked (Do (Lookup name mode) rest) (Some rel) = AllByRecursion (IsOtherLock rel mode) locked
+TakesNew locked plan taken = ⊤
 
 -- a command that the program runs and that hasn't written, by what its acts gave so far
 pub record OnItsWay (seen : List Entry) (b : ℕ) (s : Session) (command : Command) : Type 0 where
@@ -35,6 +40,7 @@ pub record OnItsWay (seen : List Entry) (b : ℕ) (s : Session) (command : Comma
   pub opened : s.opened ≡ held_before s ++ made_in opening_by gave (plan_of s.opens command)
   pub runs : runs command ≡ true
   pub holds : WayHolds seen b gave (plan_of s.opens command)
+  pub newly : TakesNew (made_in locks_by gave (plan_of s.opens command)) s.left s.taken
   pub unwritten : has_written seen b (number_of s) ≡ false
 
 -- a command that has written, by what its acts before gave
@@ -67,9 +73,10 @@ pub data Way (seen : List Entry) (b : ℕ) (s : Session) (command : Command) : T
   Unbuilt : (unbuilt : IsNotBuilt s) → Way seen b s command
   Over : (over : IsOver seen b s) → Way seen b s command
 
--- what an act gave is so, as far as the rest of its plan goes, and the relation that it found is locked
+-- what an act gave is so, as far as the rest of its plan goes, the relations of which it read are drawn, and the lock under which it goes on is held
 pub record GaveNow (seen : List Entry) (b : ℕ) (act : Act) (rest : List Row → Plan) (gave : List Row) : Type 0 where
-  pub locked : AllByRecursion (IsHeld seen b) (locked_relation_by act gave)
+  pub locked : AllByRecursion (IsHeldOn seen b) (locks_by act gave)
+  pub drawn : AllByRecursion (IsDrawn seen) (named_by act gave)
   pub still : IsStill (answer_of seen b) act rest gave
 
 -- where the command failed to find a relation, the last scan of its name gave none
@@ -77,15 +84,18 @@ abbrev pub NamedFits : List Entry → ℕ → Plan → Type 0
 NamedFits seen b (Absent name) = class_oid (rows_read seen b (scans.RelName name)) ≡ None
 NamedFits seen b plan = ⊤
 
--- a command that found no relation has done only its lookup, which a fetch repeats, and has opened nothing before its release
+-- a command whose last lookup found no relation, by what its acts before gave; a fetch repeats the lookup
 pub record WasSought (seen : List Entry) (b : ℕ) (s : Session) (command : Command) (name : List ℕ) : Type 0 where
+  pub gave : List (List Row)
   pub mode : Mode
   pub rest : List Row → Plan
   pub looks : s.sought ≡ Do (Lookup name mode) rest
-  pub first : s.sought ≡ plan_of s.opens command
+  pub plan : s.sought ≡ reached gave (plan_of s.opens command)
   pub runs : runs command ≡ true
-  pub found : length s.found ≡ 1
-  pub opened : s.ended ≡ false → s.opened ≡ held_before s
+  pub found : s.found ≡ made_in found_by gave (plan_of s.opens command) ++ None ∷ []
+  pub opened : s.ended ≡ false → s.opened ≡ held_before s ++ made_in opening_by gave (plan_of s.opens command)
+  pub holds : is_over (last_event_of seen b) s ≡ false → WayHolds seen b gave (plan_of s.opens command)
+  pub taken : s.taken ≡ None
   pub unwritten : has_written seen b (number_of s) ≡ false
 
 -- a command that does no act has opened nothing, before its release, and if it hasn't failed its answer is left

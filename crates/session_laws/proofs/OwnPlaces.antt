@@ -30,7 +30,6 @@ use Rattle.cacheless.specs.State.{kept_at, lists_at, messages_in, session_at}
 use Rattle.cacheless.specs.Types.{Purpose, Row, Message, Item}
 use Rattle.cacheless.proofs.Answers.ReadPlaces.{place_read-more, place_read-scan}
 use Rattle.cacheless.proofs.Entries.EnteredFetches.{all-spared, never_absent}
-use Rattle.cacheless.proofs.Plans.ActOrder.{at_write}
 use Rattle.cacheless.proofs.Plans.SilentActs.{on_its_way, its_place}
 use Rattle.cacheless.proofs.Resting.{settled_at_rest}
 use Rattle.session_laws.specs.Awaiting.{AwaitsEntry, KeepsScans, HasTaken}
@@ -97,7 +96,7 @@ write_there : (next : ℕ) (seen : List Entry) (b : ℕ) (s : Session) (command 
 write_there next seen b s command items follows writes = by_plan s.left refl writes
   where
     by_plan : (p : Plan) → s.left ≡ p → IsWrite next p items → is_absent (written p s).left ≡ false
-    by_plan (Do (Write draft) rest) at writes = ap is_absent ((at_write _ _ draft rest (its_place seen b s command (Write draft) rest (on_its_way seen b s command (Write draft) rest follows at) at)).0 [])
+    by_plan (Do (Write draft) rest) at writes = ap is_absent ((its_place seen b s command (Write draft) rest (on_its_way seen b s command (Write draft) rest follows at) at).0 [])
     by_plan (Do (Lookup name mode) rest) at writes = absurd writes
     by_plan (Do (Open rel kind) rest) at writes = absurd writes
     by_plan (Do (Search scan) rest) at writes = absurd writes

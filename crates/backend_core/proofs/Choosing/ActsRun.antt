@@ -174,7 +174,7 @@ module _ (scenario : Scenario) (seen : List Entry) (s : Backend) (waits : Awaits
               both_ways _ (ap is_absent (waits.fits.settled (ap is_settled badly)) ∙ not_absent (waiting waits).blocks (waiting waits).opens (command_at s)) (ap is_absent says))
 
       acts : DoesSome (plan_of s.progress.opens command)
-      acts told none = let was = (follows scenario seen s waits courses command at).sought name says in let both : Do (Lookup name was.mode) was.rest ≡ Done told = sym was.looks ∙ was.first ∙ none in cc both
+      acts told none = let was = (follows scenario seen s waits courses command at).sought name says in none_reached was.gave (plan_of s.progress.opens command) (Lookup name was.mode) was.rest (ap acting none) (sym was.plan ∙ was.looks)
 
   -- before the look of a lookup that has found no relation
   pub find_runs : owed_first s.progress command ≡ [] → FindsNone s.progress command → is_some (facts_of seen s.progress.id).running ≡ true

@@ -25,7 +25,7 @@ use Rattle.cacheless.specs.Sessions.{entered}
 use Rattle.cacheless.specs.Settled.{if_locked, has_taken_no_other}
 use Rattle.cacheless.specs.Silently.{gives_next, looks_up_at}
 use Rattle.cacheless.specs.State.{kept_at, row_sought, is_absent}
-use Rattle.cacheless.proofs.Plans.AloneLocks.{session_holds}
+use Rattle.cacheless.proofs.Plans.ClearLocks.{session_holds}
 use Rattle.cacheless.proofs.Allowed.NextKeeps as keeping
 use Rattle.cacheless.proofs.SameRows.{oid_decides}
 use Rattle.backend_core.specs.Types.{Oid, Mode, Row, Scenario, Entry, Event, Progress, Backend}

@@ -36,7 +36,7 @@ use Rattle.cacheless.specs.Sessions.{written, entered}
 use Rattle.cacheless.specs.State.{lists_at, kept_at, kept_spared, is_kept, locks_made, messages_in, clash_event, error_of, one_if}
 use Rattle.cacheless.proofs.Allowed.NamesRead.{read_as_now}
 use Rattle.cacheless.proofs.Allowed.NextKeeps.{spelled_at}
-use Rattle.cacheless.proofs.Plans.AloneLocks.{session_holds}
+use Rattle.cacheless.proofs.Plans.ClearLocks.{session_holds}
 use Rattle.cacheless.proofs.Written.Listed.{lists_before_it}
 use Rattle.cacheless.proofs.Same.{owes_nothing_is}
 use Rattle.cacheless.proofs.Plans.SilentActs.{empty_list, on_its_way}

@@ -7,13 +7,14 @@ use Rattle.base_types.specs.declared.ids.Xid.{Xid}
 use Rattle.base_types.specs.declared.scan.Purpose.TheVariants as scans
 use Rattle.event_kinds.specs.declared.entry.Event.TheVariants as events
 use Rattle.ddl_effect.specs.Plans.{Act, Lookup, Open, Search, Read, Lock, Write, Plan, Done, Fails, Absent, NotBuilt, Do}
-use Rattle.ddl_effect.specs.Commands.{commands_of}
+use Rattle.ddl_effect.specs.Commands.{plan_of, commands_of}
 use Rattle.history_model.specs.Drawn.{next_oid}
 use Rattle.history_model.specs.Orderly.{IsOrderlyWrite, IsOrderlyEvent, IsSound}
 use Rattle.history_model.specs.Prefixes.{EachEntry}
 use Rattle.history_model.specs.Read.{rows_read}
-use Rattle.history_model.proofs.Every.{every-weaker, every-map, every-filter}
+use Rattle.history_model.proofs.Every.{every-weaker, every-map, every-filter, SomeOf, from_some}
 use Rattle.cacheless.specs.Types.{Oid, Mode, Row, Purpose, Item, Scenario, Command, Entry, Event}
+use Rattle.cacheless.specs.ActsDone.{named_by, IsDrawn, made_in}
 use Rattle.cacheless.specs.Facts.{Facts, facts_of}
 use Rattle.cacheless.specs.OnCourse.{FollowsPlan, IsOnCourse, CourseOf, AllOnCourse}
 use Rattle.cacheless.specs.Owed.{OwesScan, builds_owed, act_owed, scans_owed, owed_of}
@@ -23,7 +24,6 @@ use Rattle.cacheless.specs.Session.{Session, Badly, number_of, outcome_of}
 use Rattle.cacheless.specs.Sessions.{session_of}
 use Rattle.cacheless.specs.Settled.{class_oid}
 use Rattle.cacheless.specs.TableWrites.{KeepsColumnsBy, WritesColumns, NamesApartBy}
-use Rattle.cacheless.proofs.Plans.AfterActs.{no_lock}
 use Rattle.cacheless.proofs.FoundKept.{asked_drawn}
 use Rattle.cacheless.proofs.Plans.SilentActs.{both_empty, its_place, on_its_way}
 use Rattle.cacheless.proofs.Written.FitToWrite.{KeepsAll}
@@ -45,13 +45,18 @@ named_drawn : (history : List Entry) (b : ℕ) (name : List ℕ) (rel : Oid) (gi
 named_drawn history b name rel (rows.Class of own kind fill ∷ more) sound gave is = let same : of ≡ rel = cc is in subst (λ r. r.0 < next_oid history) same (asked_drawn history b name of own kind fill more sound gave)
 named_drawn history b name rel given sound gave is = absurd (cc is)
 
+-- a relation of which a command has read is drawn
+some_drawn : (history : List Entry) (rel : Oid) (named : List Oid) → AllByRecursion (IsDrawn history) named → SomeOf (λ o. o ≡ rel) named → rel.0 < next_oid history
+some_drawn history rel named drawn some = from_some (λ o. o ≡ rel) (rel.0 < next_oid history) named (every-weaker (IsDrawn history) (λ o. o ≡ rel → rel.0 < next_oid history) (λ o low same. subst (IsDrawn history) same low) named drawn) some
+
 -- a command asks for a lock on no relation that is still to be drawn
 pub lock_drawn : (history : List Entry) (b : ℕ) (s : Session) (command : Command) (rel : Oid) (mode : Mode) → IsSound history → FollowsPlan history b s command → IsLock (facts_of history b) s.left rel mode → rel.0 < next_oid history
 lock_drawn history b s command rel mode sound follows lock = by_plan s.left refl lock
   where
     by_plan : (p : Plan) → s.left ≡ p → IsLock (facts_of history b) p rel mode → rel.0 < next_oid history
     by_plan (Do (Lookup name wanted) rest) at asks = named_drawn history b name rel (rows_read history b (scans.RelName name)) sound refl asks.0
-    by_plan (Do (Lock on wanted) rest) at asks = absurd (no_lock _ _ on wanted rest (its_place history b s command (Lock on wanted) rest (on_its_way history b s command (Lock on wanted) rest follows at) at))
+    by_plan (Do (Lock on wanted) rest) at asks = let way = on_its_way history b s command (Lock on wanted) rest follows at in
+        subst (λ (o : Oid). o.0 < next_oid history) (sym asks.0) (some_drawn history on (made_in named_by way.gave (plan_of s.opens command)) way.holds.drawn (its_place history b s command (Lock on wanted) rest way at).2)
     by_plan (Do (Open of kind) rest) at asks = absurd asks
     by_plan (Do (Search scan) rest) at asks = absurd asks
     by_plan (Do (Read scan) rest) at asks = absurd asks

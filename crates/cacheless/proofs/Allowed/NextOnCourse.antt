@@ -44,6 +44,7 @@ entered_noted facts left at c event s = record {
     sought = ap (λ x. x.sought) same;
     finished = ap (λ x. x.finished) same;
     blocks = ap (λ x. x.blocks) same;
+    taken = ap (λ x. x.taken) same;
   };
   ended = ap (λ x. x.ended) same;
 }
@@ -90,7 +91,7 @@ pub other_stays : (scenario : Scenario) (history : List Entry) (e : Entry) (b : 
 other_stays scenario history e b None may other none = λ c. has_written-other history e b c other ∙ none c
 other_stays scenario history e b (Some s) may other course = record {
   follows = λ command at. follows-more history e b s s command may (λ own. absurd (both_ways _ other own)) (λ c. has_written-other history e b c other) (λ name. rows_read-other history e b (scans.RelName name) other)
-      (λ over. ap (λ last. is_over last s) (last_event_of-other history e b other) ∙ over) (record { left = refl; refused = refl; opens = refl; opened = refl; found = refl; sought = refl; finished = refl; blocks = refl }) refl (course.follows command at);
+      (λ over. ap (λ last. is_over last s) (last_event_of-other history e b other) ∙ over) (record { left = refl; refused = refl; opens = refl; opened = refl; found = refl; sought = refl; finished = refl; blocks = refl; taken = refl }) refl (course.follows command at);
   going = λ command at over. let alone = course.going command at over in record { told = alone.told; plan = alone.plan; left = alone.left; alone = alone.alone; unwritten = has_written-other history e b (number_of s) other ∙ alone.unwritten };
   later = λ c after. has_written-other history e b c other ∙ course.later c after;
   clear = subst (λ facts. ClearUnlessOwed facts (slice_get (commands_of scenario b) (length s.finished)) s) (sym (facts_of-other history e b other)) course.clear;

@@ -1,37 +1,43 @@
 -- An entry of a backend keeps its running command on its course.
-use Rattle.std.proofs.Common.{◌≡◌, ◌+◌, ◌-◌, ◌∙◌, ℕ, Bool, true, false, Option, Some, None, List, [], ◌∷◌, ◌++◌, ◌&&◌, ◌||◌, refl, sym, ap, subst, append-nil, length, take}
-use Rattle.std.specs.List.{flat_map, list_any}
+use Rattle.std.proofs.Common.{◌≡◌, ◌+◌, ◌-◌, ◌∙◌, ℕ, Bool, true, false, Option, Some, None, List, [], ◌∷◌, ◌++◌, ◌&&◌, ◌||◌, refl, sym, ap, subst, append-nil, length, take, arith}
+use Rattle.std.specs.List.{AllByRecursion, flat_map, list_any}
 use Rattle.std.proofs.Math.Bool.{or-true}
+use Rattle.std.proofs.Math.Seq.{take-append_seam}
 use Rattle.std.proofs.lemmas.Bool.{eq-eqb}
+use Rattle.std.proofs.lemmas.List.{length-append}
 use Rattle.base_types.specs.Scans.{same_scan, build_scans}
 use Rattle.base_types.specs.declared.ids.Xid.{Xid}
 use Rattle.base_types.specs.declared.scan.Purpose.TheVariants as scans
 use Rattle.event_kinds.specs.declared.entry.Event.TheVariants as events
 use Rattle.command_answers.specs.declared.error.CommandError.TheVariants as errors
 use Rattle.ddl_effect.specs.declared.told.Told.TheVariants as tells
-use Rattle.ddl_effect.specs.Plans.{Lookup, Open, Search, Read, Lock, Write, Plan, Done, Fails, Absent, NotBuilt, Do}
+use Rattle.ddl_effect.specs.Plans.{Act, Lookup, Open, Search, Read, Lock, Write, Plan, Done, Fails, Absent, NotBuilt, Do}
 use Rattle.txn_blocks.specs.Blocks.{refused_by}
 use Rattle.history_model.specs.Drawn.{next_oid}
+use Rattle.lock_modes.specs.Grants.{holds}
+use Rattle.ddl_effect.proofs.HasPlan.{built_alike}
+use Rattle.history_model.specs.Held.{held_of}
 use Rattle.history_model.specs.Lives.{last_event_of}
 use Rattle.history_model.specs.Read.{is_scan_of}
 use Rattle.history_model.specs.Writes.{has_written, is_write}
+use Rattle.history_model.proofs.Every.{every-weaker}
 use Rattle.history_model.proofs.Locked.{IsQuiet}
 use Rattle.history_model.proofs.Reading.{has_written-more, last_event_of-own}
 use Rattle.history_model.proofs.Touched.{entry_of}
-use Rattle.cacheless.specs.Types.{Oid, Mode, Purpose, Item, Opening, Command, CommandError, Told, Entry, Event}
-use Rattle.cacheless.specs.ActsDone.{reached, made_in, opening_by}
+use Rattle.cacheless.specs.Types.{Oid, Mode, Row, Purpose, Item, Opening, Command, CommandError, Told, Entry, Event}
+use Rattle.cacheless.specs.ActsDone.{LockOn, locks_by, IsHeldOn, reached, made_in, opening_by, WayHolds, IsOtherLock}
 use Rattle.cacheless.specs.Ends.{End, Ends, end_of, next_of_end, end_left, end_well, end_badly}
 use Rattle.cacheless.specs.Facts.{Facts, facts_of}
-use Rattle.cacheless.specs.OnCourse.{is_absent, OnItsWay, is_over, Begun, Wrote, Over, NamedFits, WasSought, DoesNoAct, StillHolds, TellsAlone, FollowsPlan}
+use Rattle.cacheless.specs.OnCourse.{is_absent, TakesNew, OnItsWay, is_over, Begun, Wrote, Over, NamedFits, WasSought, DoesNoAct, StillHolds, TellsAlone, FollowsPlan}
 use Rattle.cacheless.specs.Owed.{unusable, act_next, is_next_scan}
-use Rattle.cacheless.specs.Plays.{IsWrite, IsUnlock, MayPlay}
-use Rattle.cacheless.specs.Session.{Session, Outcome, Unsettled, Well, Badly, held_before, number_of, outcome_of, is_settled}
+use Rattle.cacheless.specs.Plays.{IsLock, IsWrite, IsUnlock, MayPlay}
+use Rattle.cacheless.specs.Session.{Session, none_open, Outcome, Unsettled, Well, Badly, held_before, number_of, outcome_of, is_settled}
 use Rattle.cacheless.specs.Sessions.{refused_with, written, resumed, noted}
 use Rattle.cacheless.specs.Settled.{found_by}
-use Rattle.cacheless.proofs.Plans.ActOrder.{at_write}
-use Rattle.cacheless.proofs.Plans.AfterActs.{lookup_first}
-use Rattle.cacheless.proofs.Plans.SilentActs.{on_its_way, its_place, unrefused, its_order, named_there}
-use Rattle.cacheless.proofs.Allowed.StaysOnCourse.{has_written-quiet, rows_read-unscanned, IsAfter, IsAfterEnd, before_end, plan_same, MayCome, held_same, named-more, way-more, sought-more, plain-more, admitted-more, holds-more, follows-more, over_stays}
+use Rattle.cacheless.proofs.Plans.ActOrder.{follows_order}
+use Rattle.cacheless.proofs.Plans.StillUnder.{way_stays, way_unlocked}
+use Rattle.cacheless.proofs.Plans.SilentActs.{on_its_way, its_place, unrefused, its_order, named_there, takes_none}
+use Rattle.cacheless.proofs.Allowed.StaysOnCourse.{has_written-quiet, rows_read-unscanned, IsAfter, IsAfterTaking, IsAfterEnd, before_end, begun-more, HoldsOn, over_before, plan_same, MayCome, held_same, named-more, way-more, sought-more, plain-more, admitted-more, holds-more, follows-more, over_stays}
 use Rattle.cacheless.proofs.Plans.Ways.{acts, none_reached}
 use Rattle.ddl_effect.specs.Commands.{plan_of}
 
@@ -59,9 +65,87 @@ quiet_follows : (history : List Entry) (b : ℕ) (s later : Session) (command : 
 quiet_follows history b s later command event own quiet unwritten unread noted = follows-more history (entry_of b (number_of s) event) b s later command own.may (λ mine. quiet) (λ c. has_written-quiet history (entry_of b (number_of s) event) b c unwritten)
     (λ name. rows_read-unscanned history (entry_of b (number_of s) event) b (scans.RelName name) (unread name)) (own_over history b s later command event own quiet noted.ended) noted.after noted.ended own.follows
 
--- what a lookup has taken is no part of how far the command is
-as_noted : (t s later : Session) → IsNoted t later → IsNoted (record t { taken = s.taken }) later
-as_noted t s later noted = let a = noted.after in record { after = record { left = a.left; refused = a.refused; opens = a.opens; opened = a.opened; found = a.found; sought = a.sought; finished = a.finished; blocks = a.blocks }; ended = noted.ended }
+-- an entry that locks a relation or gives a lock back: an act is left before it and after it
+taking_follows : (history : List Entry) (b : ℕ) (s later : Session) (command : Command) (event : Event) (act : Act) (rest : List Row → Plan) → OwnEntry history b s command event → is_write event ≡ false → s.left ≡ Do act rest → IsAfterTaking s later → later.refused ≡ s.refused → later.ended ≡ s.ended
+    → (way : OnItsWay history b s command) → WayHolds (with_own history b s event) b way.gave (plan_of s.opens command) → TakesNew (made_in locks_by way.gave (plan_of s.opens command)) s.left later.taken → FollowsPlan (with_own history b s event) b later command
+taking_follows history b s later command event act rest own unwritten at after refused ended way holds newly = record {
+  refused = λ error is. after.left ∙ own.follows.refused error (sym refused ∙ is);
+  way = λ none. Begun (begun-more history e b s later command (λ c. has_written-quiet history e b c unwritten) after way holds newly);
+  named = subst (NamedFits new b) (sym (after.left ∙ at)) tt;
+  sought = λ name is. absurd (let both : Do act rest ≡ Absent name = sym (after.left ∙ at) ∙ is in cc both);
+  plain = λ told none. absurd (none_reached way.gave (plan_of s.opens command) act rest (ap acts (plan_same s later command after.opens ∙ none)) (sym way.plan ∙ at));
+  admitted = λ none. ap (λ b. refused_by b command) after.blocks ∙ own.follows.admitted (sym refused ∙ none);
+  held = λ going. let was = own.follows.held (sym ended ∙ going) in record { more = was.more; opened = after.opened ∙ was.opened ∙ ap (λ l. l ++ was.more) (held_same s later after.opens after.blocks) };
+  unwritten = λ told none. ap (λ l. has_written new b (length l + 1)) after.finished ∙ has_written-quiet history e b (number_of s) unwritten ∙ own.follows.unwritten told (plan_same s later command after.opens ∙ none);
+}
+  where
+    e : Entry
+    e = entry_of b (number_of s) event
+
+    new : List Entry
+    new = history ++ e ∷ []
+
+-- the session after it but for what is newly locked
+after_taking : (s later : Session) (taken : Option Oid) → IsAfter (record s { taken = taken }) later → IsAfterTaking s later
+after_taking s later taken after = record { left = after.left; opens = after.opens; opened = after.opened; found = after.found; finished = after.finished; blocks = after.blocks }
+
+-- a lock that isn't held is another than those that are
+others_held : (history : List Entry) (b : ℕ) (rel : Oid) (mode : Mode) (locked : List LockOn) → holds (held_of history) b rel mode ≡ false → AllByRecursion (IsHeldOn history b) locked → AllByRecursion (IsOtherLock rel mode) locked
+others_held history b rel mode locked free held = every-weaker (IsHeldOn history b) (IsOtherLock rel mode)
+    (λ o is same_rel same_mode. let both : true ≡ false = sym is ∙ (λ i. holds (held_of history) b (same_rel i) (same_mode i)) ∙ free in cc both) locked held
+
+-- a lock that is granted: none under which the command goes on
+lock_follows : (history : List Entry) (b : ℕ) (s later : Session) (command : Command) (rel : Oid) (mode : Mode) → OwnEntry history b s command (events.LockOk rel mode) → IsNoted (record s { taken = Some rel }) later → FollowsPlan (with_own history b s (events.LockOk rel mode)) b later command
+lock_follows history b s later command rel mode own noted = by_plan s.left refl own.plays.2
+  where
+    Newly : (act : Act) (rest : List Row → Plan) → OnItsWay history b s command → Type 0
+    Newly act rest way = TakesNew (made_in locks_by way.gave (plan_of s.opens command)) (Do act rest) (Some rel)
+
+    goes : (act : Act) (rest : List Row → Plan) → s.left ≡ Do act rest → ((way : OnItsWay history b s command) → Newly act rest way) → FollowsPlan (with_own history b s (events.LockOk rel mode)) b later command
+    goes act rest at newly = taking_follows history b s later command (events.LockOk rel mode) act rest own refl at (after_taking s later (Some rel) noted.after) noted.after.refused noted.ended way
+        (way_stays history (entry_of b (number_of s) (events.LockOk rel mode)) b way.gave (plan_of s.opens command) own.may (λ mine. tt) (its_order history b s command way) way.holds)
+        (subst (λ p. TakesNew (made_in locks_by way.gave (plan_of s.opens command)) p later.taken) (sym at) (subst (TakesNew (made_in locks_by way.gave (plan_of s.opens command)) (Do act rest)) (sym noted.after.taken) (newly way)))
+      where
+        way : OnItsWay history b s command
+        way = on_its_way history b s command act rest own.follows at
+
+    by_plan : (p : Plan) → s.left ≡ p → IsLock (facts_of history b) p rel mode → FollowsPlan (with_own history b s (events.LockOk rel mode)) b later command
+    by_plan (Do (Lookup name wanted) rest) at asks = goes (Lookup name wanted) rest at (λ way. subst (λ m. AllByRecursion (IsOtherLock rel m) (made_in locks_by way.gave (plan_of s.opens command))) asks.1
+        (others_held history b rel mode (made_in locks_by way.gave (plan_of s.opens command)) own.may.comes.follows.event.0 way.holds.locked))
+    by_plan (Do (Lock on wanted) rest) at asks = goes (Lock on wanted) rest at (λ way. tt)
+    by_plan (Do (Open of kind) rest) at asks = absurd asks
+    by_plan (Do (Search scan) rest) at asks = absurd asks
+    by_plan (Do (Read scan) rest) at asks = absurd asks
+    by_plan (Do (Write draft) rest) at asks = absurd asks
+    by_plan (Done told) at asks = absurd asks
+    by_plan (Fails error) at asks = absurd asks
+    by_plan (Absent name) at asks = absurd asks
+    by_plan NotBuilt at asks = absurd asks
+
+-- a lock that is given back: a lookup has newly taken it, so it is none under which the command goes on
+unlock_follows : (history : List Entry) (b : ℕ) (s later : Session) (command : Command) (rel : Oid) (mode : Mode) → OwnEntry history b s command (events.Unlock rel mode) → IsNoted (record s { taken = None }) later → FollowsPlan (with_own history b s (events.Unlock rel mode)) b later command
+unlock_follows history b s later command rel mode own noted = by_plan s.left refl own.plays.1
+  where
+    by_plan : (p : Plan) → s.left ≡ p → IsUnlock (facts_of history b) s.taken p rel mode → FollowsPlan (with_own history b s (events.Unlock rel mode)) b later command
+    by_plan (Do (Lookup name wanted) rest) at asks = taking_follows history b s later command (events.Unlock rel mode) (Lookup name wanted) rest own refl at (after_taking s later None noted.after) noted.after.refused noted.ended way
+        (way_unlocked history b (number_of s) rel mode way.gave (plan_of s.opens command) own.may (its_order history b s command way) way.holds
+        (subst (λ m. AllByRecursion (IsOtherLock rel m) locked) (sym asks.1) (subst (TakesNew locked (Do (Lookup name wanted) rest)) asks.0 (subst (λ p. TakesNew locked p s.taken) at way.newly))))
+        (subst (TakesNew locked s.left) (sym noted.after.taken) (takes_none locked s.left))
+      where
+        way : OnItsWay history b s command
+        way = on_its_way history b s command (Lookup name wanted) rest own.follows at
+
+        locked : List LockOn
+        locked = made_in locks_by way.gave (plan_of s.opens command)
+    by_plan (Do (Open of kind) rest) at asks = absurd asks
+    by_plan (Do (Search scan) rest) at asks = absurd asks
+    by_plan (Do (Read scan) rest) at asks = absurd asks
+    by_plan (Do (Lock of wanted) rest) at asks = absurd asks
+    by_plan (Do (Write draft) rest) at asks = absurd asks
+    by_plan (Done told) at asks = absurd asks
+    by_plan (Fails error) at asks = absurd asks
+    by_plan (Absent name) at asks = absurd asks
+    by_plan NotBuilt at asks = absurd asks
 
 -- an entry that shows an error
 error_follows : (seen : List Entry) (b : ℕ) (s later : Session) (command : Command) (error : CommandError) → ((told : Told) → plan_of s.opens command ≡ Done told → DoesNoAct s told) → (s.ended ≡ false → StillHolds s) → ((told : Told) → plan_of s.opens command ≡ Done told → has_written seen b (number_of s) ≡ false) → IsNoted (refused_with error s) later → FollowsPlan seen b later command
@@ -114,25 +198,30 @@ not_released history b s command plan at undone going = by_ended s.ended refl
     by_ended false is = is
     by_ended true is = let alone = going is in absurd (undone alone.told (sym at ∙ alone.left))
 
--- a fetch brings a command that failed to find a relation back to its lookup
-brought_back : (history : List Entry) (b : ℕ) (s later : Session) (command : Command) (name : List ℕ) (event : Event) → OwnEntry history b s command event → is_write event ≡ false → ((own : List ℕ) → is_scan_of (scans.RelName own) event ≡ false) → s.left ≡ Absent name
+-- all but the last
+but_last : {X : Type 0} (xs : List X) (x : X) → take (length (xs ++ x ∷ []) - 1) (xs ++ x ∷ []) ≡ xs
+but_last xs x = ap (λ n. take n (xs ++ x ∷ [])) (let more = length-append xs (x ∷ []) in omega (arith, more)) ∙ take-append_seam xs (x ∷ [])
+
+-- a fetch brings a command that failed to find a relation back to its last lookup
+brought_back : (history : List Entry) (b : ℕ) (s later : Session) (command : Command) (name : List ℕ) (event : Event) → OwnEntry history b s command event → IsQuiet event → is_write event ≡ false → ((own : List ℕ) → is_scan_of (scans.RelName own) event ≡ false) → s.left ≡ Absent name
     → IsNoted (record s { left = s.sought; found = take (length s.found - 1) s.found }) later → FollowsPlan (with_own history b s event) b later command
-brought_back history b s later command name event own unwritten unread at noted = record {
+brought_back history b s later command name event own quiet unwritten unread at noted = record {
   refused = λ error is. absurd (let both : Absent name ≡ Fails error = sym at ∙ own.follows.refused error (sym after.refused ∙ is) in cc both);
   way = λ none. Begun (record {
-    gave = [];
-    plan = after.left ∙ was.first ∙ plan_same s later command after.opens;
-    found = after.found ∙ ap (λ n. take (n - 1) s.found) was.found;
-    opened = after.opened ∙ was.opened going ∙ held_same s later after.opens after.blocks ∙ sym (append-nil (held_before later));
+    gave = was.gave;
+    plan = after.left ∙ was.plan ∙ ap (reached was.gave) same;
+    found = after.found ∙ ap (λ l. take (length l - 1) l) was.found ∙ but_last (made_in found_by was.gave (plan_of s.opens command)) None ∙ ap (made_in found_by was.gave) same;
+    opened = after.opened ∙ was.opened going ∙ (λ i. held_same s later after.opens after.blocks i ++ made_in opening_by was.gave (same i));
     runs = was.runs;
-    holds = record { locked = tt; still = tt };
+    holds = subst (WayHolds new b was.gave) same (way_stays history e b was.gave (plan_of s.opens command) own.may (λ mine. quiet) (follows_order s.opens command (built_alike s.opens none_open command ∙ was.runs)) (was.holds not_over));
+    newly = subst (TakesNew (made_in locks_by was.gave (plan_of later.opens command)) later.left) (sym (after.taken ∙ was.taken)) (takes_none (made_in locks_by was.gave (plan_of later.opens command)) later.left);
     unwritten = ap (λ l. has_written new b (length l + 1)) after.finished ∙ has_written-quiet history e b (number_of s) unwritten ∙ was.unwritten;
   });
   named = subst (NamedFits new b) (sym (after.left ∙ was.looks)) tt;
   sought = λ other is. absurd (let both : Do (Lookup name was.mode) was.rest ≡ Absent other = sym (after.left ∙ was.looks) ∙ is in cc both);
-  plain = λ told none. absurd (let both : Do (Lookup name was.mode) was.rest ≡ Done told = sym was.looks ∙ was.first ∙ plan_same s later command after.opens ∙ none in cc both);
+  plain = λ told none. absurd (none_reached was.gave (plan_of s.opens command) (Lookup name was.mode) was.rest (ap acts (same ∙ none)) (sym was.plan ∙ was.looks));
   admitted = λ none. ap (λ b. refused_by b command) after.blocks ∙ own.follows.admitted (sym after.refused ∙ none);
-  held = λ on. record { more = []; opened = after.opened ∙ was.opened going ∙ held_same s later after.opens after.blocks ∙ sym (append-nil (held_before later)) };
+  held = λ on. record { more = made_in opening_by was.gave (plan_of s.opens command); opened = after.opened ∙ was.opened going ∙ ap (λ l. l ++ made_in opening_by was.gave (plan_of s.opens command)) (held_same s later after.opens after.blocks) };
   unwritten = λ told none. ap (λ l. has_written new b (length l + 1)) after.finished ∙ has_written-quiet history e b (number_of s) unwritten ∙ was.unwritten;
 }
   where
@@ -148,56 +237,18 @@ brought_back history b s later command name event own unwritten unread at noted 
     was : WasSought history b s command name
     was = own.follows.sought name at
 
+    same : plan_of s.opens command ≡ plan_of later.opens command
+    same = plan_same s later command after.opens
+
     going : s.ended ≡ false
     going = not_released history b s command (Absent name) at (λ told is. cc is) own.going
 
--- a lock that is given back: the lookup that took it is the command's first act
-unlock_follows : (history : List Entry) (b : ℕ) (s later : Session) (command : Command) (rel : Oid) (mode : Mode) → OwnEntry history b s command (events.Unlock rel mode) → IsNoted (record s { taken = None }) later → FollowsPlan (with_own history b s (events.Unlock rel mode)) b later command
-unlock_follows history b s later command rel mode own noted = by_plan s.left refl own.plays.1
-  where
-    e : Entry
-    e = entry_of b (number_of s) (events.Unlock rel mode)
-
-    new : List Entry
-    new = history ++ e ∷ []
-
-    after : IsAfter s later
-    after = let a = noted.after in record { left = a.left; refused = a.refused; opens = a.opens; opened = a.opened; found = a.found; sought = a.sought; finished = a.finished; blocks = a.blocks }
-
-    by_plan : (p : Plan) → s.left ≡ p → IsUnlock (facts_of history b) s.taken p rel mode → FollowsPlan new b later command
-    by_plan (Do (Lookup name wanted) rest) at asks = record {
-      refused = λ error is. after.left ∙ own.follows.refused error (sym after.refused ∙ is);
-      way = λ none. Begun (record {
-        gave = [];
-        plan = after.left ∙ way.plan ∙ ap (λ g. reached g (plan_of s.opens command)) first ∙ plan_same s later command after.opens;
-        found = after.found ∙ way.found ∙ ap (λ g. made_in found_by g (plan_of s.opens command)) first;
-        opened = after.opened ∙ way.opened ∙ ap (λ g. held_before s ++ made_in opening_by g (plan_of s.opens command)) first ∙ ap (λ l. l ++ []) (held_same s later after.opens after.blocks);
-        runs = way.runs;
-        holds = record { locked = tt; still = tt };
-        unwritten = ap (λ l. has_written new b (length l + 1)) after.finished ∙ has_written-quiet history e b (number_of s) refl ∙ way.unwritten;
-      });
-      named = subst (NamedFits new b) (sym (after.left ∙ at)) tt;
-      sought = λ other is. absurd (let both : Do (Lookup name wanted) rest ≡ Absent other = sym (after.left ∙ at) ∙ is in cc both);
-      plain = λ told none. plain-more s later told (before_end s later after noted.ended) (own.follows.plain told (plan_same s later command after.opens ∙ none));
-      admitted = admitted-more s later command (before_end s later after noted.ended) own.follows.admitted;
-      held = holds-more s later (before_end s later after noted.ended) own.follows.held;
-      unwritten = λ told none. ap (λ l. has_written new b (length l + 1)) after.finished ∙ has_written-quiet history e b (number_of s) refl ∙ way.unwritten;
-    }
+    not_over : is_over (last_event_of history b) s ≡ false
+    not_over = by_test (is_over (last_event_of history b) s) refl
       where
-        way : OnItsWay history b s command
-        way = on_its_way history b s command (Lookup name wanted) rest own.follows at
-
-        first : way.gave ≡ []
-        first = lookup_first way.gave (plan_of s.opens command) name wanted rest (its_order history b s command way) (sym way.plan ∙ at)
-    by_plan (Do (Open of kind) rest) at asks = absurd asks
-    by_plan (Do (Search scan) rest) at asks = absurd asks
-    by_plan (Do (Read scan) rest) at asks = absurd asks
-    by_plan (Do (Lock of wanted) rest) at asks = absurd asks
-    by_plan (Do (Write draft) rest) at asks = absurd asks
-    by_plan (Done told) at asks = absurd asks
-    by_plan (Fails error) at asks = absurd asks
-    by_plan (Absent name) at asks = absurd asks
-    by_plan NotBuilt at asks = absurd asks
+        by_test : (t : Bool) → is_over (last_event_of history b) s ≡ t → is_over (last_event_of history b) s ≡ false
+        by_test false is = is
+        by_test true is = absurd (let both : true ≡ false = sym (over_before (last_event_of history b) event s own.may.comes.follows.gone quiet is) ∙ going in cc both)
 
 -- a fetch
 fetch_follows : (history : List Entry) (b : ℕ) (s later : Session) (command : Command) (event : Event) → OwnEntry history b s command event → IsQuiet event → is_write event ≡ false → ((name : List ℕ) → is_scan_of (scans.RelName name) event ≡ false) → IsNoted (resumed s.left s) later
@@ -205,7 +256,7 @@ fetch_follows : (history : List Entry) (b : ℕ) (s later : Session) (command : 
 fetch_follows history b s later command event own quiet unwritten unread noted = by_plan s.left refl noted
   where
     by_plan : (p : Plan) → s.left ≡ p → IsNoted (resumed p s) later → FollowsPlan (with_own history b s event) b later command
-    by_plan (Absent name) at is = brought_back history b s later command name event own unwritten unread at is
+    by_plan (Absent name) at is = brought_back history b s later command name event own quiet unwritten unread at is
     by_plan p at is = quiet_follows history b s later command event own quiet unwritten unread is
 
 -- the backend has written in the command, after its write
@@ -243,7 +294,7 @@ write_follows history b s later command xid items own noted = by_plan s.left ref
         way = on_its_way history b s command (Write draft) rest own.follows at
 
         done : later.left ≡ Done tells.Ok
-        done = is.after.left ∙ (at_write _ _ draft rest (its_place history b s command (Write draft) rest way at)).0 []
+        done = is.after.left ∙ (its_place history b s command (Write draft) rest way at).0 []
     by_plan (Do (Lookup name mode) rest) at writes is = absurd writes
     by_plan (Do (Open rel kind) rest) at writes is = absurd writes
     by_plan (Do (Search scan) rest) at writes is = absurd writes
@@ -274,7 +325,7 @@ over_follows history b s later command event own out unwritten unread over after
   refused = λ error is. after.left ∙ own.follows.refused error (sym after.refused ∙ is);
   way = λ none. Over (record { out = ap (λ p. is_settled (outcome_of p)) after.left ∙ out; over = ap (λ last. is_over last later) (last_event_of-own history e b (eq-eqb b b refl)) ∙ over });
   named = subst (NamedFits new b) (sym after.left) (named-more history e b s.left (λ name. rows_read-unscanned history e b (scans.RelName name) (unread name)) own.follows.named);
-  sought = λ name is. sought-more history e b s later command name (λ c. has_written-quiet history e b c unwritten) after (own.follows.sought name (sym after.left ∙ is));
+  sought = λ name is. sought-more history e b s later command name (λ c. has_written-quiet history e b c unwritten) after over_holds (own.follows.sought name (sym after.left ∙ is));
   plain = λ told none. plain-more s later told after (own.follows.plain told (plan_same s later command after.opens ∙ none));
   admitted = admitted-more s later command after own.follows.admitted;
   held = holds-more s later after own.follows.held;
@@ -287,13 +338,16 @@ over_follows history b s later command event own out unwritten unread over after
     new : List Entry
     new = history ++ e ∷ []
 
+    over_holds : HoldsOn history e b s later
+    over_holds gave opens c built holds going = absurd (let both : true ≡ false = sym (ap (λ last. is_over last later) (last_event_of-own history e b (eq-eqb b b refl)) ∙ over) ∙ going in cc both)
+
 -- whichever entry it is
 pub own_follows : (history : List Entry) (b : ℕ) (s later : Session) (command : Command) (event : Event) → OwnEntry history b s command event → IsNoted (noted event s) later → FollowsPlan (with_own history b s event) b later command
 own_follows history b s later command (events.Look some_wait) own noted = quiet_follows history b s later command (events.Look some_wait) own tt refl (λ name. refl) noted
 own_follows history b s later command (events.Fetch count) own noted = fetch_follows history b s later command (events.Fetch count) own tt refl (λ name. refl) noted
 own_follows history b s later command events.FetchReset own noted = fetch_follows history b s later command events.FetchReset own tt refl (λ name. refl) noted
 own_follows history b s later command (events.Scan scan count) own noted = scan_follows history b s later command scan count own noted
-own_follows history b s later command (events.LockOk rel mode) own noted = quiet_follows history b s later command (events.LockOk rel mode) own tt refl (λ name. refl) (as_noted (record s { taken = Some rel }) s later noted)
+own_follows history b s later command (events.LockOk rel mode) own noted = lock_follows history b s later command rel mode own noted
 own_follows history b s later command (events.Unlock rel mode) own noted = unlock_follows history b s later command rel mode own noted
 own_follows history b s later command (events.LockHeld rel mode holder held) own noted = error_follows (with_own history b s (events.LockHeld rel mode holder held)) b s later command (errors.Locked rel holder held) own.follows.plain own.follows.held (λ told none. has_written-quiet history (entry_of b (number_of s) (events.LockHeld rel mode holder held)) b (number_of s) refl ∙ own.follows.unwritten told none) noted
 own_follows history b s later command (events.Write xid items) own noted = write_follows history b s later command xid items own noted
@@ -305,5 +359,5 @@ own_follows history b s later command (events.Gone from) own noted =
     over_follows history b s later command (events.Gone from) own (ends_out (facts_of history b) command s (events.Gone from) own.plays.1) refl (λ name. refl) refl (before_end s later noted.after noted.ended)
 own_follows history b s later command (events.Release from) own noted =
     over_follows history b s later command (events.Release from) own (ends_out (facts_of history b) command s (events.Release from) own.plays.1) refl (λ name. refl) noted.ended
-    (let a = noted.after in record { left = a.left; refused = a.refused; opens = a.opens; opened = λ going. absurd (let both : true ≡ false = sym noted.ended ∙ going in cc both); found = a.found; sought = a.sought; finished = a.finished; blocks = a.blocks })
+    (let a = noted.after in record { left = a.left; refused = a.refused; opens = a.opens; opened = λ going. absurd (let both : true ≡ false = sym noted.ended ∙ going in cc both); found = a.found; sought = a.sought; finished = a.finished; blocks = a.blocks; taken = a.taken })
 own_follows history b s later command event own noted = absurd own.plays

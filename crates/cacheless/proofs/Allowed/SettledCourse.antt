@@ -20,9 +20,9 @@ use Rattle.cacheless.specs.Sessions.{session_of}
 use Rattle.cacheless.specs.Settled.{act_done, done_here, acted_on, acted, is_finished, blocks_after, opens_after, finished_as, next_session, settled}
 use Rattle.cacheless.specs.Ends.{end_left}
 use Rattle.cacheless.proofs.Plans.ActOrder.{follows_order}
-use Rattle.cacheless.proofs.Plans.AfterActs.{order_there}
+use Rattle.cacheless.proofs.Plans.UnderLocks.{order_there}
 use Rattle.cacheless.proofs.Settling.{acted-out}
-use Rattle.cacheless.proofs.Plans.SilentActs.{both_empty, empty_list, IsDoneHere, is_done_here, named_there, absent_name, act_follows}
+use Rattle.cacheless.proofs.Plans.SilentActs.{both_empty, empty_list, IsDoneHere, is_done_here, named_there, absent_name, takes_none, act_follows}
 
 -- whether its accept of messages is over doesn't change where an act is done here
 pub builds_done : (facts : Facts) (command : Command) (s : Session) → builds_owed facts s.opened ≡ [] → is_empty (owed_at_start facts command s ++ owed_after facts.last) ≡ true → owes_accept facts (Some command) s ≡ false
@@ -114,7 +114,7 @@ begins_plan seen b blocks opens finished locks last command unwritten = record {
 }
   where
     by_test : plan_admitted opens (refused_by blocks command) command ≡ plan_of opens command → (t : Bool) → runs command ≡ t → Way seen b (at_command blocks opens finished locks last (Some command)) command
-    by_test plan true is = Begun (record { gave = []; plan = plan; found = refl; opened = sym (append-nil (held_in blocks.block opens)); runs = is; holds = record { locked = tt; still = tt }; unwritten = unwritten })
+    by_test plan true is = Begun (record { gave = []; plan = plan; found = refl; opened = sym (append-nil (held_in blocks.block opens)); runs = is; holds = record { locked = tt; drawn = tt; still = tt }; newly = takes_none [] (plan_admitted opens (refused_by blocks command) command); unwritten = unwritten })
     by_test plan false is = Unbuilt (record { plan = plan ∙ not_built (plan_of opens command) (built_alike opens none_open command ∙ is) })
 
 pub first_left : (commands : List Command) (n : ℕ) → first_of (drop n commands) ≡ slice_get commands n

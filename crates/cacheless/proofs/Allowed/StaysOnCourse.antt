@@ -14,15 +14,16 @@ use Rattle.history_model.specs.Versions.{answer_of}
 use Rattle.history_model.specs.Writes.{has_written, is_write}
 use Rattle.history_model.proofs.Locked.{IsQuiet, IsIdle}
 use Rattle.history_model.proofs.Reading.{has_written-more, rows_read-own, rows_read-other}
-use Rattle.cacheless.specs.Types.{Purpose, Command, Told, Entry, Event}
-use Rattle.cacheless.specs.ActsDone.{reached, made_in, opening_by, WayHolds}
-use Rattle.cacheless.specs.OnCourse.{OnItsWay, is_over, Way, Begun, Wrote, Unbuilt, Over, NamedFits, WasSought, DoesNoAct, StillHolds, FollowsPlan}
+use Rattle.cacheless.specs.Types.{Row, Purpose, Command, OpenRelation, Told, Entry, Event}
+use Rattle.cacheless.specs.ActsDone.{locks_by, reached, made_in, opening_by, WayHolds}
+use Rattle.cacheless.specs.OnCourse.{TakesNew, OnItsWay, is_over, Way, Begun, Wrote, Unbuilt, Over, NamedFits, WasSought, DoesNoAct, StillHolds, FollowsPlan}
 use Rattle.txn_blocks.specs.Blocks.{refused_by}
 use Rattle.cacheless.specs.Session.{Session, none_open, held_in, held_before, number_of, outcome_of, is_settled}
+use Rattle.cacheless.specs.Runs.{runs}
 use Rattle.cacheless.specs.Settled.{class_oid, found_by}
 use Rattle.cacheless.proofs.Plans.ActOrder.{follows_order}
-pub use Rattle.cacheless.proofs.Plans.StillLocked.{MayCome}
-use Rattle.cacheless.proofs.Plans.StillLocked.{way_stays}
+pub use Rattle.cacheless.proofs.Plans.StillUnder.{MayCome}
+use Rattle.cacheless.proofs.Plans.StillUnder.{way_stays}
 
 -- the commands in which a backend has written, after an entry that is no write
 pub has_written-quiet : (history : List Entry) (e : Entry) (b c : ℕ) → is_write e.event ≡ false → has_written (history ++ e ∷ []) b c ≡ has_written history b c
@@ -55,6 +56,19 @@ pub record IsAfter (s later : Session) : Type 0 where
   pub sought : later.sought ≡ s.sought
   pub finished : later.finished ≡ s.finished
   pub blocks : later.blocks ≡ s.blocks
+  pub taken : later.taken ≡ s.taken
+
+-- the same but for what its lookup has newly locked
+pub record IsAfterTaking (s later : Session) : Type 0 where
+  pub left : later.left ≡ s.left
+  pub opens : later.opens ≡ s.opens
+  pub opened : later.opened ≡ s.opened
+  pub found : later.found ≡ s.found
+  pub finished : later.finished ≡ s.finished
+  pub blocks : later.blocks ≡ s.blocks
+
+pub but_taken : (s later : Session) → IsAfter s later → IsAfterTaking s later
+but_taken s later after = record { left = after.left; opens = after.opens; opened = after.opened; found = after.found; finished = after.finished; blocks = after.blocks }
 
 -- the same where its release may have closed what was open
 pub record IsAfterEnd (s later : Session) : Type 0 where
@@ -66,6 +80,7 @@ pub record IsAfterEnd (s later : Session) : Type 0 where
   pub sought : later.sought ≡ s.sought
   pub finished : later.finished ≡ s.finished
   pub blocks : later.blocks ≡ s.blocks
+  pub taken : later.taken ≡ s.taken
 
 pub before_end : (s later : Session) → IsAfter s later → later.ended ≡ s.ended → IsAfterEnd s later
 before_end s later after same = record {
@@ -77,6 +92,7 @@ before_end s later after same = record {
   sought = after.sought;
   finished = after.finished;
   blocks = after.blocks;
+  taken = after.taken;
 }
 
 -- what was held as its command began is the same
@@ -98,23 +114,30 @@ LeavesNames history e b = (name : List ℕ) → rows_read (history ++ e ∷ []) 
 number_same : (s later : Session) → IsAfter s later → number_of later ≡ number_of s
 number_same s later after = ap (λ l. length l + 1) after.finished
 
--- a command that has taken no writes back and released nothing
-begun-more : (history : List Entry) (e : Entry) (b : ℕ) (s later : Session) (command : Command) → MayCome history e → IsIdle b history e → LeavesWrites history e b → IsAfter s later → OnItsWay history b s command → OnItsWay (history ++ e ∷ []) b later command
-begun-more history e b s later command may idle writes after way = record {
+-- a command that has taken no writes back and released nothing, where what holds on its way holds, and what its lookup has newly locked is new
+pub begun-more : (history : List Entry) (e : Entry) (b : ℕ) (s later : Session) (command : Command) → LeavesWrites history e b → IsAfterTaking s later → (way : OnItsWay history b s command) → WayHolds (history ++ e ∷ []) b way.gave (plan_of s.opens command)
+    → TakesNew (made_in locks_by way.gave (plan_of s.opens command)) s.left later.taken → OnItsWay (history ++ e ∷ []) b later command
+begun-more history e b s later command writes after way holds newly = record {
   gave = way.gave;
   plan = after.left ∙ way.plan ∙ ap (reached way.gave) (plan_same s later command after.opens);
   found = after.found ∙ way.found ∙ ap (made_in found_by way.gave) (plan_same s later command after.opens);
   opened = after.opened ∙ way.opened ∙ (λ i. held_same s later after.opens after.blocks i ++ made_in opening_by way.gave (plan_same s later command after.opens i));
   runs = way.runs;
-  holds = subst (WayHolds (history ++ e ∷ []) b way.gave) (plan_same s later command after.opens)
-      (way_stays history e b way.gave (plan_of s.opens command) may idle (follows_order s.opens command (built_alike s.opens none_open command ∙ way.runs)) way.holds);
-  unwritten = ap (has_written (history ++ e ∷ []) b) (number_same s later after) ∙ writes (number_of s) ∙ way.unwritten;
+  holds = subst (WayHolds (history ++ e ∷ []) b way.gave) (plan_same s later command after.opens) holds;
+  newly = subst (λ p. TakesNew (made_in locks_by way.gave (plan_of later.opens command)) p later.taken) (sym after.left) (subst (λ p. TakesNew (made_in locks_by way.gave p) s.left later.taken) (plan_same s later command after.opens) newly);
+  unwritten = ap (λ l. has_written (history ++ e ∷ []) b (length l + 1)) after.finished ∙ writes (number_of s) ∙ way.unwritten;
 }
+
+-- after an entry that gives nothing back
+begun_idle : (history : List Entry) (e : Entry) (b : ℕ) (s later : Session) (command : Command) → MayCome history e → IsIdle b history e → LeavesWrites history e b → IsAfter s later → OnItsWay history b s command → OnItsWay (history ++ e ∷ []) b later command
+begun_idle history e b s later command may idle writes after way = begun-more history e b s later command writes (but_taken s later after) way
+    (way_stays history e b way.gave (plan_of s.opens command) may idle (follows_order s.opens command (built_alike s.opens none_open command ∙ way.runs)) way.holds)
+    (subst (TakesNew (made_in locks_by way.gave (plan_of s.opens command)) s.left) (sym after.taken) way.newly)
 
 -- how far it is
 pub way-more : (history : List Entry) (e : Entry) (b : ℕ) (s later : Session) (command : Command) → MayCome history e → IsIdle b history e → LeavesWrites history e b → (is_over (last_event_of history b) s ≡ true → is_over (last_event_of (history ++ e ∷ []) b) later ≡ true) → IsAfter s later
     → Way history b s command → Way (history ++ e ∷ []) b later command
-way-more history e b s later command may idle writes over after (Begun way) = Begun (begun-more history e b s later command may idle writes after way)
+way-more history e b s later command may idle writes over after (Begun way) = Begun (begun_idle history e b s later command may idle writes after way)
 way-more history e b s later command may idle writes over after (Wrote w) = Wrote (record {
   gave = w.gave;
   draft = w.draft;
@@ -131,18 +154,37 @@ pub named-more : (history : List Entry) (e : Entry) (b : ℕ) (plan : Plan) → 
 named-more history e b (Absent name) names fits = ap class_oid (names name) ∙ fits
 named-more history e b plan names fits = tt
 
+-- what held on the way of a command before its last lookup goes on to hold
+abbrev pub HoldsOn : List Entry → Entry → ℕ → Session → Session → Type 0
+HoldsOn history e b s later = (gave : List (List Row)) (opens : List OpenRelation) (command : Command) → runs command ≡ true → (is_over (last_event_of history b) s ≡ false → WayHolds history b gave (plan_of opens command))
+    → is_over (last_event_of (history ++ e ∷ []) b) later ≡ false → WayHolds (history ++ e ∷ []) b gave (plan_of opens command)
+
+-- so it does after an entry that takes nothing back
+pub idle_holds : (history : List Entry) (e : Entry) (b : ℕ) (s later : Session) → MayCome history e → IsIdle b history e → (is_over (last_event_of history b) s ≡ true → is_over (last_event_of (history ++ e ∷ []) b) later ≡ true) → HoldsOn history e b s later
+idle_holds history e b s later may idle over gave opens command built holds going = by_test (is_over (last_event_of history b) s) refl
+  where
+    by_test : (t : Bool) → is_over (last_event_of history b) s ≡ t → WayHolds (history ++ e ∷ []) b gave (plan_of opens command)
+    by_test true is = absurd (let both : true ≡ false = sym (over is) ∙ going in cc both)
+    by_test false is = way_stays history e b gave (plan_of opens command) may idle (follows_order opens command (built_alike opens none_open command ∙ built)) (holds is)
+
 -- a command that failed to find a relation
-pub sought-more : (history : List Entry) (e : Entry) (b : ℕ) (s later : Session) (command : Command) (name : List ℕ) → LeavesWrites history e b → IsAfterEnd s later → WasSought history b s command name → WasSought (history ++ e ∷ []) b later command name
-sought-more history e b s later command name writes after was = record {
+pub sought-more : (history : List Entry) (e : Entry) (b : ℕ) (s later : Session) (command : Command) (name : List ℕ) → LeavesWrites history e b → IsAfterEnd s later → HoldsOn history e b s later → WasSought history b s command name → WasSought (history ++ e ∷ []) b later command name
+sought-more history e b s later command name writes after holds was = record {
+  gave = was.gave;
   mode = was.mode;
   rest = was.rest;
   looks = after.sought ∙ was.looks;
-  first = after.sought ∙ was.first ∙ plan_same s later command after.opens;
+  plan = after.sought ∙ was.plan ∙ ap (reached was.gave) same;
   runs = was.runs;
-  found = ap length after.found ∙ was.found;
-  opened = λ going. let still = after.opened going in still.1 ∙ was.opened still.0 ∙ held_same s later after.opens after.blocks;
+  found = after.found ∙ was.found ∙ ap (λ p. made_in found_by was.gave p ++ None ∷ []) same;
+  opened = λ going. let still = after.opened going in still.1 ∙ was.opened still.0 ∙ (λ i. held_same s later after.opens after.blocks i ++ made_in opening_by was.gave (same i));
+  holds = λ going. subst (WayHolds (history ++ e ∷ []) b was.gave) same (holds was.gave s.opens command was.runs was.holds going);
+  taken = after.taken ∙ was.taken;
   unwritten = ap (λ l. has_written (history ++ e ∷ []) b (length l + 1)) after.finished ∙ writes (number_of s) ∙ was.unwritten;
 }
+  where
+    same : plan_of s.opens command ≡ plan_of later.opens command
+    same = plan_same s later command after.opens
 
 -- a command that does no act
 pub plain-more : (s later : Session) (told : Told) → IsAfterEnd s later → DoesNoAct s told → DoesNoAct later told
@@ -166,7 +208,7 @@ follows-more history e b s later command may idle writes names over after same f
   refused = λ error is. after.left ∙ follows.refused error (sym after.refused ∙ is);
   way = λ none. way-more history e b s later command may idle writes over after (follows.way (sym after.refused ∙ none));
   named = subst (NamedFits (history ++ e ∷ []) b) (sym after.left) (named-more history e b s.left names follows.named);
-  sought = λ name is. sought-more history e b s later command name writes (before_end s later after same) (follows.sought name (sym after.left ∙ is));
+  sought = λ name is. sought-more history e b s later command name writes (before_end s later after same) (idle_holds history e b s later may idle over) (follows.sought name (sym after.left ∙ is));
   plain = λ told none. plain-more s later told (before_end s later after same) (follows.plain told (plan_same s later command after.opens ∙ none));
   admitted = admitted-more s later command (before_end s later after same) follows.admitted;
   held = holds-more s later (before_end s later after same) follows.held;
@@ -174,7 +216,7 @@ follows-more history e b s later command may idle writes names over after same f
 }
 
 -- after a taking back only the release comes
-over_before : (last : Option Event) (event : Event) (s : Session) → FollowsGone last event → IsQuiet event → is_over last s ≡ true → s.ended ≡ true
+pub over_before : (last : Option Event) (event : Event) (s : Session) → FollowsGone last event → IsQuiet event → is_over last s ≡ true → s.ended ≡ true
 over_before (Some (events.Gone from)) (events.Release to) s gone quiet over = absurd quiet
 over_before (Some (events.Gone from)) event s gone quiet over = absurd gone
 over_before last event s gone quiet over = over

@@ -14,8 +14,9 @@ use Rattle.cacheless.specs.Runs.{runs}
 use Rattle.txn_blocks.specs.Blocks.{Blocks, refused_by}
 use Rattle.cacheless.specs.Session.{none_open, outcome_of, is_settled, plan_admitted, plan_first}
 use Rattle.cacheless.specs.Settled.{opened_by}
-use Rattle.cacheless.proofs.Plans.ActOrder.{IsEnded, FollowsOpen, FollowsFound, FollowsOrder, follows_order}
+use Rattle.cacheless.proofs.Plans.ActOrder.{follows_order}
 use Rattle.cacheless.proofs.Plans.EffectAlong.{plain_row}
+use Rattle.cacheless.proofs.Plans.UnderLocks.{Footing, at_first, with_lock, with_found, with_open, with_rows, FollowsUnfound, FollowsOrder, unfound}
 use Rattle.cacheless.specs.Types.{Oid, Mode, Kind, Row, Purpose, Command, CommandError, OpenRelation, Opening}
 use Rattle.cacheless.specs.OpenedReads.{is_of_opened, ReadsOpened}
 
@@ -24,48 +25,25 @@ pub reads_out : (opened : List Opening) (plan : Plan) → is_settled (outcome_of
 reads_out opened (Do act rest) out = absurd (cc)
 reads_out opened plan out = tt
 
--- so does one that is over
-reads_ended : (opened : List Opening) (plan : Plan) → IsEnded plan → ReadsOpened opened plan
-reads_ended opened (Do act rest) over = absurd over
-reads_ended opened plan over = tt
-
--- a scan of the one descriptor that is open
-of_one : (rel : Oid) (kind : Kind) (scan : Purpose) → Contains (build_scans kind rel) scan → is_of_opened scan (record { rel = rel; kind = kind } ∷ []) ≡ true
-of_one rel kind scan has = ap (λ t. t || false) (list_any_at (same_scan scan) (build_scans kind rel) has.0 scan has.1 (ap (same_scan scan) has.2 ∙ same_scan-itself scan))
-
--- a plan that keeps the order of acts reads so
-reads_open : (most : ℕ) (rel : Oid) (kind : Kind) (plan : Plan) → FollowsOpen most rel kind plan → ReadsOpened (record { rel = rel; kind = kind } ∷ []) plan
-reads_open most rel kind (Do (Lookup name mode) rest) follows = absurd follows
-reads_open most rel kind (Do (Open of as_kind) rest) follows = absurd follows
-reads_open most rel kind (Do (Search scan) rest) follows = λ given. reads_open (most - 1) rel kind (rest given) (follows.3 given)
-reads_open most rel kind (Do (Read scan) rest) follows = (of_one rel kind scan follows.1, λ given. reads_open (most - 1) rel kind (rest given) (follows.2 given))
-reads_open most rel kind (Do (Lock of mode) rest) follows = absurd follows
-reads_open most rel kind (Do (Write draft) rest) follows = λ given. subst (ReadsOpened (record { rel = rel; kind = kind } ∷ [])) (sym (follows.3 given)) tt
-reads_open most rel kind plan follows = tt
-
-reads_found : (mode : Mode) (rel : Oid) (kind : Kind) (plan : Plan) → FollowsFound mode rel kind plan → ReadsOpened [] plan
-reads_found mode rel kind (Do (Open of as_kind) rest) follows = λ given.
-    subst (λ o. ReadsOpened (record { rel = o; kind = as_kind } ∷ []) (rest given)) (sym follows.0) (subst (λ k. ReadsOpened (record { rel = rel; kind = k } ∷ []) (rest given)) (sym follows.1)
-    (subst (ReadsOpened (record { rel = rel; kind = kind } ∷ [])) (sym (follows.2 given)) (reads_open 3 rel kind (rest []) follows.3)))
-reads_found mode rel kind (Do (Lookup name as_mode) rest) follows = absurd follows
-reads_found mode rel kind (Do (Search scan) rest) follows = λ given. reads_ended [] (rest given) (follows.3 given)
-reads_found mode rel kind (Do (Read scan) rest) follows = absurd follows
-reads_found mode rel kind (Do (Lock of as_mode) rest) follows = absurd follows
-reads_found mode rel kind (Do (Write draft) rest) follows = absurd follows
-reads_found mode rel kind plan follows = tt
+-- a plan under locks reads so
+reads_follows : (on : Footing) (plan : Plan) → FollowsUnfound on plan → ReadsOpened on.opened plan
+reads_follows on (Do (Lookup name mode) rest) follows = λ given. subst (λ o. ReadsOpened o (rest given)) (sym (append-nil on.opened))
+    (by_rows given (follows.0 given) (λ rel kind. reads_follows (with_found rel kind mode on) (rest (plain_row rel kind)) (unfound (with_found rel kind mode on) (rest (plain_row rel kind)) (follows.1 rel kind))))
+  where
+    by_rows : (given : List Row) → rest given ≡ found name (λ rel kind. rest (plain_row rel kind)) given → ((rel : Oid) (kind : Kind) → ReadsOpened on.opened (rest (plain_row rel kind))) → ReadsOpened on.opened (rest given)
+    by_rows [] is further = subst (ReadsOpened on.opened) (sym is) tt
+    by_rows (rows.Class rel own kind fill ∷ more) is further = subst (ReadsOpened on.opened) (sym is) (further rel kind)
+    by_rows (row ∷ more) is further = subst (ReadsOpened on.opened) (sym is) tt
+reads_follows on (Do (Open rel kind) rest) follows = λ given. subst (ReadsOpened (on.opened ++ record { rel = rel; kind = kind } ∷ [])) (sym (follows.0 given)) (reads_follows (with_open rel kind on) (rest []) (unfound (with_open rel kind on) (rest []) follows.1))
+reads_follows on (Do (Search scan) rest) follows = λ given. subst (λ o. ReadsOpened o (rest given)) (sym (append-nil on.opened)) (reads_follows on (rest given) (unfound on (rest given) (follows.1 given)))
+reads_follows on (Do (Read scan) rest) follows = (follows.2, λ given. reads_follows (with_rows given on) (rest given) (unfound (with_rows given on) (rest given) (follows.1 given)))
+reads_follows on (Do (Lock rel mode) rest) follows = λ given. subst (λ o. ReadsOpened o (rest given)) (sym (append-nil on.opened))
+    (subst (ReadsOpened on.opened) (sym (follows.0 given)) (reads_follows (with_lock rel mode on) (rest []) (unfound (with_lock rel mode on) (rest []) follows.1)))
+reads_follows on (Do (Write draft) rest) follows = λ given. subst (ReadsOpened (on.opened ++ [])) (sym (follows.0 given)) tt
+reads_follows on plan follows = tt
 
 reads_order : (plan : Plan) → FollowsOrder plan → ReadsOpened [] plan
-reads_order (Do (Lookup name mode) rest) follows = λ given. by_rows given (follows.0 given)
-  where
-    by_rows : (given : List Row) → rest given ≡ found name (λ rel kind. rest (plain_row rel kind)) given → ReadsOpened [] (rest given)
-    by_rows [] is = subst (ReadsOpened []) (sym is) tt
-    by_rows (rows.Class rel own kind fill ∷ more) is = subst (ReadsOpened []) (sym is) (reads_found mode rel kind (rest (plain_row rel kind)) (follows.1 rel kind))
-    by_rows (row ∷ more) is = subst (ReadsOpened []) (sym is) tt
-reads_order (Do (Open of as_kind) rest) follows = absurd follows
-reads_order (Do (Search scan) rest) follows = λ given. subst (ReadsOpened []) (sym (follows.2 given)) tt
-reads_order (Do (Read scan) rest) follows = absurd follows
-reads_order (Do (Lock of as_mode) rest) follows = absurd follows
-reads_order (Do (Write draft) rest) follows = λ given. subst (ReadsOpened []) (sym (follows.1 given)) tt
+reads_order (Do act rest) follows = reads_follows at_first (Do act rest) follows
 reads_order plan follows = tt
 
 -- with further descriptors in front it reads so too

@@ -24,9 +24,8 @@ use Rattle.cacheless.specs.May.{has_failed, owes_nothing}
 use Rattle.cacheless.specs.Silently.{acts_on, is_ends, is_finished_at, is_to_answer, is_to_answer_at, Answers, Finishes, IsSettled, HasAnswered, IsLineOf}
 use Rattle.cacheless.specs.State.{kept_at, is_kept, is_out, end_at, Rest, session_at}
 use Rattle.cacheless.specs.Telling.{AreLines, IsJudgedHere, TellsNow, HasGoneOn}
-use Rattle.cacheless.proofs.Plans.ActOrder.{at_lookup}
 use Rattle.cacheless.specs.Told.{tells_of_scans}
-use Rattle.cacheless.proofs.Plans.AfterActs.{IsUnfound, after_lookup, after_opening, opening_alike, after_search, after_reading, no_lock}
+use Rattle.cacheless.proofs.Plans.AfterActs.{IsUnfound, after_lookup, after_opening, after_lock, after_search, after_reading}
 use Rattle.cacheless.proofs.Plans.SilentActs.{on_its_way, its_place, IsDoneHere, is_done_here}
 use Rattle.cacheless.proofs.Entries.EnteredLooks.{not_absent}
 use Rattle.cacheless.proofs.Tests.{both_true}
@@ -85,15 +84,14 @@ absent_kept seen was rest command (Lookup sought mode) further given fits way at
     (lookup_kept (facts_of seen was.id) was sought mode further fits done.owed)
   where
     unfound : IsUnfound sought (further given) given
-    unfound = after_lookup sought mode further given (at_lookup _ _ sought mode further (its_place seen was.id (session_at was rest) command (Lookup sought mode) further way at)).2 (ap is_absent absent)
+    unfound = after_lookup _ sought mode further given (its_place seen was.id (session_at was rest) command (Lookup sought mode) further way at) (ap is_absent absent)
 
     one : sought ≡ name
     one = let both : Absent sought ≡ Absent name = sym unfound.is ∙ absent in cc both
-absent_kept seen was rest command (Open rel kind) further given fits way at done name absent = let come = its_place seen was.id (session_at was rest) command (Open rel kind) further way at in
-    absurd (both_ways _ (ap is_absent (opening_alike _ _ rel kind further given come) ∙ after_opening _ _ rel kind further come) (ap is_absent absent))
-absent_kept seen was rest command (Search scan) further given fits way at done name absent = absurd (both_ways _ (after_search _ _ scan further given (its_place seen was.id (session_at was rest) command (Search scan) further way at)) (ap is_absent absent))
-absent_kept seen was rest command (Read scan) further given fits way at done name absent = absurd (both_ways _ (after_reading _ _ scan further given (its_place seen was.id (session_at was rest) command (Read scan) further way at)) (ap is_absent absent))
-absent_kept seen was rest command (Lock rel mode) further given fits way at done name absent = absurd (no_lock _ _ rel mode further (its_place seen was.id (session_at was rest) command (Lock rel mode) further way at))
+absent_kept seen was rest command (Open rel kind) further given fits way at done name absent = absurd (both_ways _ (after_opening _ rel kind further given (its_place seen was.id (session_at was rest) command (Open rel kind) further way at)) (ap is_absent absent))
+absent_kept seen was rest command (Search scan) further given fits way at done name absent = absurd (both_ways _ (after_search _ scan further given (its_place seen was.id (session_at was rest) command (Search scan) further way at)) (ap is_absent absent))
+absent_kept seen was rest command (Read scan) further given fits way at done name absent = absurd (both_ways _ (after_reading _ scan further given (its_place seen was.id (session_at was rest) command (Read scan) further way at)) (ap is_absent absent))
+absent_kept seen was rest command (Lock rel mode) further given fits way at done name absent = absurd (both_ways _ (after_lock _ rel mode further given (its_place seen was.id (session_at was rest) command (Lock rel mode) further way at)) (ap is_absent absent))
 absent_kept seen was rest command (Write draft) further given fits way at done name absent = absurd (let no : None ≡ Some given = done.gave in cc no)
 
 -- a command whose next act is done hasn't come out

@@ -19,7 +19,7 @@ use Rattle.cacheless.specs.Session.{Session, Well, number_of, outcome_of}
 use Rattle.cacheless.specs.Settled.{finished_as}
 use Rattle.ddl_effect.specs.Stages.{told_of}
 use Rattle.cacheless.specs.Told.{tells_of_scans, told_field, told_name, told_well, told_left, told}
-use Rattle.cacheless.proofs.Plans.ActOrder.{TellsOpen}
+use Rattle.cacheless.proofs.Plans.UnderLocks.{TellsOpen}
 use Rattle.cacheless.proofs.Answers.ToldAnswers.{HasComeOut, stays, stays_open, answer_told}
 use Rattle.cacheless.proofs.Answers.ToldFields.{field_among, each_has, map_same}
 

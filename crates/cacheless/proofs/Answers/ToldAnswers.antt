@@ -24,7 +24,8 @@ use Rattle.cacheless.proofs.Allowed.Releases.{OwesNoScan, owes_no_scan}
 use Rattle.cacheless.specs.Session.{Session, none_open, held_before, number_of, outcome_of, is_settled, Well, Badly}
 use Rattle.cacheless.specs.Settled.{found_by, finished_as}
 use Rattle.cacheless.specs.Told.{tells_of_scans, told_well, told_left, told_read}
-use Rattle.cacheless.proofs.Plans.ActOrder.{TellsOpen, follows_order, goes_by_relation}
+use Rattle.cacheless.proofs.Plans.ActOrder.{follows_order, goes_by_relation}
+use Rattle.cacheless.proofs.Plans.UnderLocks.{TellsOpen}
 use Rattle.cacheless.proofs.Plans.ToldHeld.{tells_held, ends_told}
 use Rattle.cacheless.proofs.Plans.EffectAlong.{effect_along}
 use Rattle.cacheless.proofs.Allowed.SettledCourse.{HasSession}

@@ -22,7 +22,8 @@ use Rattle.cacheless.specs.Puts.{PutsOpened}
 use Rattle.txn_blocks.specs.Transactions.{begun_own}
 use Rattle.cacheless.specs.State.{owed_at, is_quiet, due_looked, is_absent, is_in_accept, locks_accepted, IsNew, Rest, tally_at, session_at}
 use Rattle.cacheless.specs.Holds.{FactsFit, CountsFit, Holds, Rests, HasNotStarted, entry_of, HasEntered, HasStarted}
-use Rattle.cacheless.proofs.Plans.ActOrder.{FollowsOrder, follows_order}
+use Rattle.cacheless.proofs.Plans.ActOrder.{follows_order}
+use Rattle.cacheless.proofs.Plans.UnderLocks.{FollowsOrder}
 use Rattle.cacheless.proofs.Reading.{facts_of-own, session_of-own}
 use Rattle.cacheless.proofs.Tests.{not_both}
 use Rattle.cacheless.proofs.Resting.{first_left}

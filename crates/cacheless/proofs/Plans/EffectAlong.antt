@@ -41,7 +41,7 @@ goes_reached [] plan goes = goes
 goes_reached (given ∷ gave) plan goes = goes_reached gave (after_given given plan) (goes_after given plan goes)
 
 -- a lookup's rows come to what the row of their relation comes to
-row_still : (now : Purpose → List Row) (name : List ℕ) (mode : Mode) (rest : List Row → Plan) (given : List Row) → ((given : List Row) → rest given ≡ found name (λ rel kind. rest (plain_row rel kind)) given)
+pub row_still : (now : Purpose → List Row) (name : List ℕ) (mode : Mode) (rest : List Row → Plan) (given : List Row) → ((given : List Row) → rest given ≡ found name (λ rel kind. rest (plain_row rel kind)) given)
     → IsStill now (Lookup name mode) rest given → rest (row_found now (class_oid given)) ≡ rest given
 row_still now name mode rest [] goes still = refl
 row_still now name mode rest (rows.Class rel own kind fill ∷ more) goes still = ap rest still.are ∙ goes (rows.Class rel still.name kind still.fill ∷ still.more) ∙ sym (goes (rows.Class rel own kind fill ∷ more))
@@ -62,7 +62,7 @@ effect_along now plan (given ∷ gave) later goes still = by_plan plan goes stil
     by_plan NotBuilt by is same = same
     by_plan (Do (Lookup name mode) rest) by is same = ap (effect_at now (made_in found_by gave (rest given) ++ later)) (row_still now name mode rest given by.0 is) ∙ same
     by_plan (Do (Open rel kind) rest) by is same = ap (effect_at now (made_in found_by gave (rest given) ++ later)) (sym (by.0 given)) ∙ same
-    by_plan (Do (Search scan) rest) by is same = sym (is now (made_in found_by gave (rest given) ++ later)) ∙ same
-    by_plan (Do (Read scan) rest) by is same = sym (is now (made_in found_by gave (rest given) ++ later)) ∙ same
+    by_plan (Do (Search scan) rest) by is same = ap (effect_at now (made_in found_by gave (rest given) ++ later)) (sym is) ∙ same
+    by_plan (Do (Read scan) rest) by is same = ap (effect_at now (made_in found_by gave (rest given) ++ later)) (sym is) ∙ same
     by_plan (Do (Lock rel mode) rest) by is same = ap (effect_at now (made_in found_by gave (rest given) ++ later)) (sym (by.0 given)) ∙ same
     by_plan (Do (Write draft) rest) by is same = same

@@ -1,5 +1,5 @@
 -- What a command tells of is open: it has opened it itself, or the session had it open before.
-use Rattle.std.proofs.Common.{◌≡◌, ◌∙◌, ℕ, Bool, true, false, Option, Some, None, List, [], ◌∷◌, ◌++◌, zero, suc, Contains, refl, sym, ap, subst, map, length, nat_le, arith}
+use Rattle.std.proofs.Common.{◌≡◌, ◌∙◌, ℕ, Bool, true, false, Option, Some, None, List, [], ◌∷◌, ◌++◌, zero, suc, Contains, refl, sym, ap, subst, map, append-nil, length, nat_le, arith}
 use Rattle.std.specs.Prelude.{⊤, slice_get}
 use Rattle.std.specs.Option.{option_and_then, option_or}
 use Rattle.std.proofs.lemmas.List.Elements.{Contains-append_left, Contains-append_right}
@@ -7,19 +7,17 @@ use Rattle.base_types.specs.Fields.{has_field}
 use Rattle.base_types.specs.declared.command.Command.TheVariants as commands
 use Rattle.base_types.specs.declared.command.NewColumn.{NewColumn}
 use Rattle.base_types.specs.declared.dropped.TheConstants.{MOST_COLUMNS}
-use Rattle.base_types.specs.declared.row.Row.TheVariants as rows
 use Rattle.command_answers.specs.declared.error.CommandError.TheVariants as errors
 use Rattle.ddl_effect.specs.declared.told.Told.TheVariants as tells
-use Rattle.ddl_effect.specs.Plans.{Plan, Done, Fails, Absent, NotBuilt, Do, Lookup, Open, Search, Read, Lock, Write}
-use Rattle.ddl_effect.specs.Commands.{plan_of, found, if_passes, if_no_column, first_twice, writing, new_table, told_fields, peeking, closing}
+use Rattle.ddl_effect.specs.Plans.{Plan, Done}
+use Rattle.ddl_effect.specs.Commands.{plan_of, if_passes, if_no_column, first_twice, writing, new_table, told_fields, peeking, closing}
 use Rattle.ddl_effect.specs.Opens.{place_latest, latest_open}
 use Rattle.cacheless.specs.Types.{Field, Row, Command, OpenRelation, Draft, Opening, Told}
-use Rattle.cacheless.specs.ActsDone.{reached, made_in, opening_by, relation_by}
+use Rattle.cacheless.specs.ActsDone.{reached, made_in, opening_by}
 use Rattle.txn_blocks.specs.Blocks.{Block, Outside, Inside, Failed, Blocks, refused_in, refused_of, refused_by}
 use Rattle.cacheless.specs.Session.{opening_of, held_in}
-use Rattle.cacheless.proofs.Plans.ActOrder.{TellsOpen, FollowsOrder, HasCome, has_come, at_end}
-use Rattle.cacheless.proofs.Plans.EffectAlong.{plain_row}
-use Rattle.cacheless.proofs.Plans.Ways.{reached-over, write_stays}
+use Rattle.cacheless.proofs.Plans.UnderLocks.{TellsOpen, at_first, footing_after, FollowsUnfound, FollowsOrder, begins_unfound, follows_reached}
+use Rattle.cacheless.proofs.Plans.Ways.{acts, reached-over, made_in-over}
 
 held_at : (opens : List OpenRelation) (at : ℕ) (o : OpenRelation) → slice_get opens at ≡ Some o → Contains (map opening_of opens) (opening_of o)
 held_at [] at o is = absurd (cc is)
@@ -86,30 +84,20 @@ tells_held blocks opens command admitted = by_block blocks.block admitted
     by_block Inside none = tells_first opens command
     by_block Failed none = in_failed command none
 
--- so it is where no relation was found
-unfound_told : (held : List Opening) (gave : List (List Row)) (plan : Plan) (told : Told) → FollowsOrder plan → TellsFirst held plan → made_in relation_by gave plan ≡ [] → reached gave plan ≡ Done told → TellsOpen held told
-unfound_told held [] plan told follows first none done = subst (TellsFirst held) done first
-unfound_told held (given ∷ gave) (Done own) told follows first none done = unfound_told held gave (Done own) told follows first none done
-unfound_told held (given ∷ gave) (Fails error) told follows first none done = unfound_told held gave (Fails error) told follows first none done
-unfound_told held (given ∷ gave) (Absent name) told follows first none done = absurd follows
-unfound_told held (given ∷ gave) NotBuilt told follows first none done = absurd follows
-unfound_told held (given ∷ gave) (Do (Lookup name mode) rest) told follows first none done = by_rows given (follows.0 given) none done
-  where
-    absent : (l : List Row) → rest l ≡ Absent name → reached gave (rest l) ≡ Done told → TellsOpen held told
-    absent l is on = absurd (let both : Absent name ≡ Done told = sym (ap (reached gave) is ∙ reached-over gave (Absent name) refl) ∙ on in cc both)
+-- a plan that is over tells what it told at its beginning
+over_told : (held : List Opening) (gave : List (List Row)) (plan : Plan) (told : Told) → acts plan ≡ false → TellsFirst held plan → reached gave plan ≡ Done told → TellsOpen (held ++ made_in opening_by gave plan) told
+over_told held gave plan told over first done = subst (λ l. TellsOpen (held ++ l) told) (sym (made_in-over opening_by gave plan over)) (subst (λ l. TellsOpen l told) (sym (append-nil held)) (subst (TellsFirst held) (sym (reached-over gave plan over) ∙ done) first))
 
-    by_rows : (l : List Row) → rest l ≡ found name (λ rel kind. rest (plain_row rel kind)) l → made_in relation_by (l ∷ gave) (Do (Lookup name mode) rest) ≡ [] → reached gave (rest l) ≡ Done told → TellsOpen held told
-    by_rows [] is unfound on = absent [] is on
-    by_rows (rows.Class rel own kind fill ∷ more) is unfound on = absurd (cc unfound)
-    by_rows (row ∷ more) is unfound on = absent (row ∷ more) is on
-unfound_told held (given ∷ gave) (Do (Search scan) rest) told follows first none done =
-    let both : Done (tells.Regclass follows.0) ≡ Done told = sym (ap (reached gave) (follows.2 given) ∙ reached-over gave (Done (tells.Regclass follows.0)) refl) ∙ done in subst (TellsFirst held) both tt
-unfound_told held (given ∷ gave) (Do (Write draft) rest) told follows first none done = absurd (let both : Do (Write draft) rest ≡ Done told = sym (write_stays (given ∷ gave) draft rest) ∙ done in cc both)
-unfound_told held (given ∷ gave) (Do (Open rel kind) rest) told follows first none done = absurd follows
-unfound_told held (given ∷ gave) (Do (Read scan) rest) told follows first none done = absurd follows
-unfound_told held (given ∷ gave) (Do (Lock rel mode) rest) told follows first none done = absurd follows
+-- what is open among others is open
+tells_more : (held opened : List Opening) (told : Told) → TellsOpen opened told → TellsOpen (held ++ opened) told
+tells_more held opened (tells.Relation rel kind) has = Contains-append_right held opened (record { rel = rel; kind = kind }) has
+tells_more held opened (tells.Field rel kind field) has = (Contains-append_right held opened (record { rel = rel; kind = kind }) has.0, has.1)
+tells_more held opened told has = tt
 
 -- what a plan tells that is done is open: it was open before, or the command has opened it
 pub ends_told : (held : List Opening) (gave : List (List Row)) (plan : Plan) (told : Told) → FollowsOrder plan → TellsFirst held plan → reached gave plan ≡ Done told → TellsOpen (held ++ made_in opening_by gave plan) told
-ends_told held gave plan told follows first done = at_end held (made_in relation_by gave plan) (made_in opening_by gave plan) told
-    (subst (HasCome (made_in relation_by gave plan) (made_in opening_by gave plan)) done (has_come gave plan follows)) (λ none. unfound_told held gave plan told follows first none done)
+ends_told held gave plan told follows first done = by_test (acts plan) refl
+  where
+    by_test : (t : Bool) → acts plan ≡ t → TellsOpen (held ++ made_in opening_by gave plan) told
+    by_test true begins = tells_more held (made_in opening_by gave plan) told (subst (FollowsUnfound (footing_after gave plan at_first)) done (follows_reached at_first gave plan (begins_unfound plan begins follows)))
+    by_test false over = over_told held gave plan told over first done

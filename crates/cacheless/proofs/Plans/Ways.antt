@@ -3,7 +3,7 @@ use Rattle.std.proofs.Common.{◌≡◌, ◌∙◌, Bool, true, false, List, [],
 use Rattle.std.specs.Prelude.{⊤}
 use Rattle.ddl_effect.specs.Plans.{Act, Plan, Done, Fails, Absent, NotBuilt, Do, Lookup, Open, Search, Read, Lock, Write}
 use Rattle.cacheless.specs.Types.{Row, Draft}
-use Rattle.cacheless.specs.ActsDone.{after_given, reached, made_first, made_in}
+use Rattle.cacheless.specs.ActsDone.{opening_by, after_given, reached, made_first, made_in}
 
 -- an act is left
 abbrev pub acts : Plan → Bool
@@ -69,6 +69,27 @@ never_reaches (given ∷ gave) plan draft rest never is = never_reaches gave (af
     by_plan (Do (Read scan) more) none = none given
     by_plan (Do (Lock rel mode) more) none = none given
     by_plan (Do (Write draft') more) none = absurd none
+
+-- a plan that opens no descriptor
+abbrev pub NeverOpens : Plan → Type 0
+NeverOpens (Do (Open rel kind) rest) = ⊥
+NeverOpens (Do (Write draft) rest) = ⊤
+NeverOpens (Do act rest) = (given : List Row) → NeverOpens (rest given)
+NeverOpens plan = ⊤
+
+-- none is open on its way
+pub none_opened : (gave : List (List Row)) (plan : Plan) → NeverOpens plan → made_in opening_by gave plan ≡ []
+none_opened [] plan never = refl
+none_opened (given ∷ gave) (Done told) never = none_opened gave (Done told) tt
+none_opened (given ∷ gave) (Fails error) never = none_opened gave (Fails error) tt
+none_opened (given ∷ gave) (Absent name) never = none_opened gave (Absent name) tt
+none_opened (given ∷ gave) NotBuilt never = none_opened gave NotBuilt tt
+none_opened (given ∷ gave) (Do (Lookup name mode) rest) never = none_opened gave (rest given) (never given)
+none_opened (given ∷ gave) (Do (Open rel kind) rest) never = absurd never
+none_opened (given ∷ gave) (Do (Search scan) rest) never = none_opened gave (rest given) (never given)
+none_opened (given ∷ gave) (Do (Read scan) rest) never = none_opened gave (rest given) (never given)
+none_opened (given ∷ gave) (Do (Lock rel mode) rest) never = none_opened gave (rest given) (never given)
+none_opened (given ∷ gave) (Do (Write draft) rest) never = none_opened gave (Do (Write draft) rest) tt
 
 -- an act that is passed: each but a write
 abbrev pub is_passed : Act → Bool

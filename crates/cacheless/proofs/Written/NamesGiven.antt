@@ -1,4 +1,4 @@
--- The new names that a write gives relations are those that its plan names, where the rows of the relations that its command found were read as they are.
+-- The new names that a write gives relations are those that its plan names, where the rows of the relations that its command has opened were read as they are.
 use Rattle.std.proofs.Common.{◌≡◌, ◌∙◌, ◌||◌, ℕ, Bool, true, false, Option, Some, List, [], ◌∷◌, ◌++◌, refl, sym, ap, subst}
 use Rattle.std.specs.Prelude.{if◌then◌else◌}
 use Rattle.std.specs.List.{AllByRecursion, list_any, flat_map}

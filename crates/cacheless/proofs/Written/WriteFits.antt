@@ -20,7 +20,6 @@ use Rattle.ddl_effect.specs.Plans.{Plan, Do, Done, Fails, Write}
 use Rattle.ddl_effect.specs.Effects.{no_changes}
 use Rattle.ddl_effect.specs.Commands.{plan_of, looking_up, if_passes, if_no_column, first_twice, writing, showing, showing_field, told_fields, keeping, peeking, closing, is_table, locking, searching, telling_columns, listing_columns, telling_column, finding_column, regclass_of, new_table}
 use Rattle.ddl_effect.specs.Opens.{latest_open}
-use Rattle.ddl_effect.proofs.HasPlan.{built_alike}
 use Rattle.cacheless.specs.Runs.{runs}
 use Rattle.history_model.specs.Drawn.{next_oid}
 use Rattle.history_model.specs.Names.{new_names}
@@ -28,25 +27,24 @@ use Rattle.history_model.specs.Orderly.{IsSound}
 use Rattle.history_model.specs.Prefixes.{EachEntry}
 use Rattle.history_model.specs.Versions.{added_row, answer_of}
 use Rattle.history_model.proofs.DrawnRows.{rows_drawn}
-use Rattle.cacheless.specs.ActsDone.{reached, made_in, opening_by, relation_by, WayHolds}
+use Rattle.cacheless.specs.ActsDone.{reached, made_in, opening_by, WayHolds}
 use Rattle.cacheless.specs.Facts.{Facts}
 use Rattle.cacheless.specs.Locks.{locked_by, locks_written}
 use Rattle.cacheless.specs.Plays.{names_of, drafted}
-use Rattle.cacheless.specs.Session.{none_open}
 use Rattle.cacheless.specs.TableWrites.{AreNamesakes, WritesColumns}
-use Rattle.cacheless.proofs.Plans.ActOrder.{IsTableDraft, IsRowsDraft, HasCome, WritesTable, WritesRows, follows_order, has_come, at_write}
+use Rattle.cacheless.proofs.Plans.ActOrder.{IsTableDraft, IsRowsDraft}
 use Rattle.cacheless.proofs.Written.AlterationsFit.{MayBeWritten, IsAlteration}
-use Rattle.cacheless.proofs.Written.AlteringLocks.{one_found, alteration_may_write}
+use Rattle.cacheless.proofs.Written.AlteringLocks.{alteration_may_write}
 use Rattle.cacheless.proofs.Written.NamesGiven.{AreReadAsNow}
 use Rattle.cacheless.proofs.Written.NewNames.{class_called, table_called, table_apart}
 use Rattle.cacheless.proofs.Written.NewTableItems.{column_item, table_items, drafted_is, table_named, TableKeeps, new_table_keeps}
-use Rattle.cacheless.proofs.Written.WrittenBy.{writes_by}
-use Rattle.cacheless.proofs.Plans.Ways.{acts, NeverWrites, never_reaches, none_reached, write_stays, made_in-over}
-use Rattle.cacheless.specs.Types.{Oid, Mode, Kind, Field, Row, Command, CommandError, OpenRelation, Draft, Entry, Item, Opening, OwnLock}
+use Rattle.cacheless.proofs.Written.WrittenBy.{WritesBy, writes_by}
+use Rattle.cacheless.proofs.Plans.Ways.{acts, NeverWrites, never_reaches, none_reached, write_stays}
+use Rattle.cacheless.specs.Types.{Oid, Mode, Kind, Field, Row, Purpose, Command, CommandError, OpenRelation, Draft, Entry, Item, Opening, OwnLock}
 use Rattle.cacheless.proofs.Written.FitToWrite.{IsFit, KeepsAll}
 use Rattle.cacheless.proofs.Written.NewTable.{new_table_fits, new_table_locks, new_table_names}
 
--- the draft of a command that found these relations may be written, but for its names and that its command has written nothing yet; it changes something; it keeps columns in order and names apart; the names that the history sees in it are those of its plan, where the rows of the relations were read as they are; and it takes the lock of the relation that it makes, if it makes one
+-- the draft of a command that has opened these descriptors may be written, but for its names and that its command has written nothing yet; it changes something; it keeps columns in order and names apart; the names that the history sees in it are those of its plan, where the rows of their relations were read as they are; and it takes the lock of the relation that it makes, if it makes one
 pub record WriteFits (history : List Entry) (b c : ℕ) (facts : Facts) (relations : List Opening) (draft : Draft) : Type 0 where
   pub fit : IsFit history b draft.new_oids (drafted (next_oid history) draft)
   pub some : 0 < length (drafted (next_oid history) draft)
@@ -140,16 +138,6 @@ close_acts : (name : List ℕ) (latest : Option OpenRelation) → acts (closing 
 close_acts name None = refl
 close_acts name (Some o) = refl
 
--- `create table` finds no relation
-write_finds_none : (gave : List (List Row)) (draft : Draft) (rest : List Row → Plan) → made_in relation_by gave (Do (Write draft) rest) ≡ []
-write_finds_none [] draft rest = refl
-write_finds_none (given ∷ gave) draft rest = write_finds_none gave draft rest
-
-creates_finds_none : (gave : List (List Row)) (passes : Bool) (twice : Option (List ℕ)) (draft : Draft) → made_in relation_by gave (if_passes passes errors.TooManyColumns (if_no_column twice (writing draft))) ≡ []
-creates_finds_none gave true None draft = write_finds_none gave draft (λ given. Done tells.Ok)
-creates_finds_none gave true (Some name) draft = made_in-over relation_by gave _ refl
-creates_finds_none gave false twice draft = made_in-over relation_by gave _ refl
-
 abbrev draft_next : Plan → Draft
 draft_next (Do (Write draft) rest) = draft
 draft_next plan = no_changes
@@ -192,27 +180,26 @@ alters_or_makes opens (commands.Peek name field) gave draft rest built on = absu
 alters_or_makes opens (commands.CloseRel name) gave draft rest built on = absurd (none_reached gave (closing name (latest_open name opens)) (Write draft) rest (close_acts name (latest_open name opens)) on)
 alters_or_makes opens command gave draft rest built on = absurd (cc)
 
--- one that makes a table finds no relation
-makes_finds_none : (opens : List OpenRelation) (command : Command) (gave : List (List Row)) (draft : Draft) → MakesTable command draft → made_in relation_by gave (plan_of opens command) ≡ []
-makes_finds_none opens (commands.CreateTable name columns) gave draft makes = creates_finds_none gave (nat_le (length columns) MOST_COLUMNS) (first_twice [] (map (λ (c : NewColumn). c.name) columns)) (new_table name columns)
-makes_finds_none opens command gave draft makes = absurd makes
+-- an alteration changes rows alone
+alters_rows : (now : Purpose → List Row) (opened : List Opening) (command : Command) (draft : Draft) → IsAlteration command → WritesBy now opened command draft → IsRowsDraft draft
+alters_rows now opened (commands.DropTable name) draft alters writes = record { changes = _; is = writes.is }
+alters_rows now opened (commands.RenameTable name to) draft alters writes = record { changes = _; is = writes.is }
+alters_rows now opened (commands.AddColumn name column col_type) draft alters writes = record { changes = _; is = writes.is }
+alters_rows now opened (commands.DropColumn name column) draft alters writes = record { changes = _; is = writes.is }
+alters_rows now opened (commands.RenameColumn name column to) draft alters writes = record { changes = _; is = writes.is }
+alters_rows now opened (commands.SetStatistics name column stat) draft alters writes = record { changes = _; is = writes.is }
+alters_rows now opened (commands.SetFillfactor name fill) draft alters writes = record { changes = _; is = writes.is }
+alters_rows now opened command draft alters writes = absurd alters
 
 -- what a command is about to write, by its way
 pub write_fits : (history : List Entry) (b c : ℕ) (facts : Facts) (opens : List OpenRelation) (command : Command) (gave : List (List Row)) (draft : Draft) (rest : List Row → Plan) → IsSound history → EachEntry WritesColumns history → IsCommand command → runs command ≡ true → WayHolds history b gave (plan_of opens command)
-    → reached gave (plan_of opens command) ≡ Do (Write draft) rest → WriteFits history b c facts (made_in relation_by gave (plan_of opens command)) draft
-write_fits history b c facts opens command gave draft rest sound kept spelled built way on = by_write
-    (at_write relations opened draft rest (subst (HasCome relations opened) on (has_come gave (plan_of opens command) (follows_order opens command (built_alike opens none_open command ∙ built))))).1 (alters_or_makes opens command gave draft rest built on)
+    → reached gave (plan_of opens command) ≡ Do (Write draft) rest → WriteFits history b c facts (made_in opening_by gave (plan_of opens command)) draft
+write_fits history b c facts opens command gave draft rest sound kept spelled built way on = by_command (alters_or_makes opens command gave draft rest built on)
   where
-    relations : List Opening
-    relations = made_in relation_by gave (plan_of opens command)
-
     opened : List Opening
     opened = made_in opening_by gave (plan_of opens command)
 
-    by_write : WritesTable relations opened draft ⊎ WritesRows relations opened draft → IsAlteration command ⊎ MakesTable command draft → WriteFits history b c facts relations draft
-    by_write (inl table) (inr makes) = table_fits history b c facts relations command draft sound spelled makes
-    by_write (inr altered) (inl alters) = rows_fit history b c facts relations draft altered.rows_are (alteration_may_write history b opens command gave draft rest sound kept spelled alters way on)
-    by_write (inl table) (inl alters) =
-        let one = one_found (answer_of history b) relations command draft alters (writes_by (answer_of history b) opens command gave draft rest way.still on) in
-        absurd (let no : [] ≡ one.0 ∷ [] = sym table.unfound ∙ one.1 in cc no)
-    by_write (inr altered) (inr makes) = absurd (let no : [] ≡ record { rel = altered.rel; kind = Table } ∷ [] = sym (makes_finds_none opens command gave draft makes) ∙ altered.found_is in cc no)
+    by_command : IsAlteration command ⊎ MakesTable command draft → WriteFits history b c facts opened draft
+    by_command (inr makes) = table_fits history b c facts opened command draft sound spelled makes
+    by_command (inl alters) = rows_fit history b c facts opened draft (alters_rows (answer_of history b) opened command draft alters (writes_by (answer_of history b) opens command gave draft rest way.still on))
+        (alteration_may_write history b opens command gave draft rest sound kept spelled alters way on)

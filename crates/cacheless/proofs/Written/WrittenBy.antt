@@ -19,11 +19,11 @@ use Rattle.ddl_effect.specs.Effects.{Effect, Writes, effect_at, no_changes}
 use Rattle.ddl_effect.specs.Commands.{plan_of, found as found_rows, looking_up, if_passes, opening, altering, removing, drop_table, renaming_table, rename_table, column_there, with_column, column_free, without_column, reading, changing, adding, add_column, is_default_of, column_number, deleting, as_dropped, dropping, drop_column, with_name, renaming, rename_column, most_stat, with_stat, targeting, set_statistics, with_fill, filling, set_fillfactor}
 use Rattle.ddl_effect.specs.Opens.{has_open}
 use Rattle.cacheless.specs.Types.{Oid, Mode, AccessExclusive, Row, Purpose, Command, CommandError, OpenRelation, Draft, Opening}
-use Rattle.cacheless.specs.ActsDone.{reached, made_in, opening_by, relation_by, BeginWith, AreStill}
+use Rattle.cacheless.specs.ActsDone.{reached, made_in, opening_by, BeginWith, AreStill}
 use Rattle.cacheless.specs.Settled.{found_by}
 use Rattle.cacheless.proofs.Plans.EffectAlong.{GoesByRelation, effect_along}
-use Rattle.cacheless.proofs.Plans.Ways.{goes_past, none_reached}
-use Rattle.cacheless.proofs.Plans.ActOrder.{rows_draft, FollowsOrder, follows_order, goes_by_relation, HasCome, has_come, at_write, WritesTable, WritesRows}
+use Rattle.cacheless.proofs.Plans.Ways.{goes_past, none_reached, NeverOpens, none_opened}
+use Rattle.cacheless.proofs.Plans.ActOrder.{rows_draft, goes_by_relation}
 
 abbrev written_in : Effect → Draft
 written_in (Writes draft) = draft
@@ -62,10 +62,11 @@ column_is_free now found rel column plan draft comes = by_rows (now (scans.AttNa
     by_rows (row ∷ more) is to = absurd (cc to)
 
 -- or a table was found, and what comes after its opening is about to write
-record TableFound (now : Purpose → List Row) (relations : List Opening) (further : Oid → Plan) (draft : Draft) : Type 0 where
+record TableFound (now : Purpose → List Row) (opened : List Opening) (further : Oid → Plan) (draft : Draft) : Type 0 where
   rel : Oid
   others : List Opening
-  first : relations ≡ record { rel = rel; kind = Table } ∷ others
+  first : opened ≡ record { rel = rel; kind = Table } ∷ others
+  unopened : NeverOpens (further rel) → others ≡ []
   begins : BeginWith rel Table (now (scans.Class rel))
   found : List (Option Oid)
   comes : effect_at now found (further rel) ≡ Writes draft
@@ -82,14 +83,15 @@ opens_then opens name further rel gave draft rest on =
 
 table_was_found : (now : Purpose → List Row) (opens : List OpenRelation) (name : List ℕ) (mode : Mode) (further : Oid → Plan) (gave : List (List Row)) (draft : Draft) (rest : List Row → Plan) → GoesByRelation (looking_up name mode (altering opens name further))
     → AreStill now (looking_up name mode (altering opens name further)) gave → reached gave (looking_up name mode (altering opens name further)) ≡ Do (Write draft) rest
-    → TableFound now (made_in relation_by gave (looking_up name mode (altering opens name further))) further draft
+    → TableFound now (made_in opening_by gave (looking_up name mode (altering opens name further))) further draft
 table_was_found now opens name mode further [] draft rest goes still on = absurd (let no : true ≡ false = ap goes_past on in cc no)
 table_was_found now opens name mode further ([] ∷ gave) draft rest goes still on = absurd (none_reached gave (Absent name) (Write draft) rest refl on)
 table_was_found now opens name mode further ((rows.Class rel own Table fill ∷ more) ∷ []) draft rest goes still on = absurd (let no : true ≡ false = ap goes_past (sym (opens_then opens name further rel [] draft rest on) ∙ on) in cc no)
 table_was_found now opens name mode further ((rows.Class rel own Table fill ∷ more) ∷ opened ∷ gave) draft rest goes still on = record {
   rel = rel;
-  others = made_in relation_by gave (further rel);
-  first = ap (λ p. record { rel = rel; kind = Table } ∷ made_in relation_by (opened ∷ gave) p) then;
+  others = made_in opening_by gave (further rel);
+  first = ap (made_in opening_by (opened ∷ gave)) then;
+  unopened = λ never. none_opened gave (further rel) never;
   begins = still.0;
   found = later;
   comes = sym (ap (effect_at now later) then) ∙ sym (ap (λ l. effect_at now later (found_rows name (altering opens name further) l)) still.0.are)
@@ -104,19 +106,29 @@ table_was_found now opens name mode further ((rows.Class rel own Table fill ∷ 
 table_was_found now opens name mode further ((rows.Class rel own Index fill ∷ more) ∷ gave) draft rest goes still on = absurd (none_reached gave (Fails (errors.NotTable name)) (Write draft) rest refl on)
 table_was_found now opens name mode further ((row ∷ more) ∷ gave) draft rest goes still on = absurd (none_reached gave (Absent name) (Write draft) rest refl on)
 
-abbrev others_of : List Opening → List Opening
-others_of [] = []
-others_of (relation ∷ others) = others
+-- the alterations open no further descriptor
+drop_opens : (rel : Oid) → NeverOpens (drop_table rel)
+drop_opens rel given = tt
 
--- it is the only relation found
-only_one : (gave : List (List Row)) (plan : Plan) (draft : Draft) (rest : List Row → Plan) (relation : Opening) (others : List Opening) → FollowsOrder plan → reached gave plan ≡ Do (Write draft) rest → made_in relation_by gave plan ≡ relation ∷ others
-    → made_in relation_by gave plan ≡ relation ∷ []
-only_one gave plan draft rest relation others follows on first = by_write
-    (at_write (made_in relation_by gave plan) (made_in opening_by gave plan) draft rest (subst (HasCome (made_in relation_by gave plan) (made_in opening_by gave plan)) on (has_come gave plan follows))).1
-  where
-    by_write : WritesTable (made_in relation_by gave plan) (made_in opening_by gave plan) draft ⊎ WritesRows (made_in relation_by gave plan) (made_in opening_by gave plan) draft → made_in relation_by gave plan ≡ relation ∷ []
-    by_write (inl table) = absurd (let both : [] ≡ relation ∷ others = sym table.unfound ∙ first in cc both)
-    by_write (inr altered) = first ∙ ap (λ l. relation ∷ l) (ap others_of (sym first ∙ altered.found_is))
+rename_opens : (to : List ℕ) (rel : Oid) → NeverOpens (rename_table to rel)
+rename_opens to rel [] = tt
+rename_opens to rel (row ∷ more) = tt
+
+passes_opens : (passes : Bool) (error : CommandError) (plan : Plan) → NeverOpens plan → NeverOpens (if_passes passes error plan)
+passes_opens true error plan never = never
+passes_opens false error plan never = tt
+
+there_opens : (column : List ℕ) (further : Row → Plan) → ((row : Row) → NeverOpens (further row)) → (given : List Row) → NeverOpens (column_there column further given)
+there_opens column further never [] = tt
+there_opens column further never (row ∷ more) = never row
+
+free_opens : (column : List ℕ) (plan : Plan) → NeverOpens plan → (given : List Row) → NeverOpens (column_free column plan given)
+free_opens column plan never [] = never
+free_opens column plan never (row ∷ more) = tt
+
+fill_opens : (fill : ℕ) (given : List Row) → NeverOpens (filling fill given)
+fill_opens fill [] = tt
+fill_opens fill (row ∷ more) = tt
 
 -- what `drop table` writes
 pub record RemovesTable (now : Purpose → List Row) (relations : List Opening) (draft : Draft) : Type 0 where
@@ -194,38 +206,38 @@ WritesBy now relations command draft = ⊤
 
 removes_table : (now : Purpose → List Row) (opens : List OpenRelation) (name : List ℕ) (gave : List (List Row)) (draft : Draft) (rest : List Row → Plan)
     → AreStill now (plan_of opens (commands.DropTable name)) gave → reached gave (plan_of opens (commands.DropTable name)) ≡ Do (Write draft) rest
-    → RemovesTable now (made_in relation_by gave (plan_of opens (commands.DropTable name))) draft
+    → RemovesTable now (made_in opening_by gave (plan_of opens (commands.DropTable name))) draft
 removes_table now opens name gave draft rest still on =
     let table = table_was_found now opens name AccessExclusive drop_table gave draft rest (goes_by_relation opens (commands.DropTable name) refl) still on in
     record {
       rel = table.rel;
-      found_is = only_one gave (plan_of opens (commands.DropTable name)) draft rest (record { rel = table.rel; kind = Table }) table.others (follows_order opens (commands.DropTable name) refl) on table.first;
+      found_is = table.first ∙ ap (λ l. record { rel = table.rel; kind = Table } ∷ l) (table.unopened (drop_opens table.rel));
       begins = table.begins;
       is = draft_is (rows_draft (removing (now (scans.Attribute table.rel)) ++ Delete (keys.Class table.rel) ∷ [])) draft table.comes;
     }
 
 renames_table : (now : Purpose → List Row) (opens : List OpenRelation) (name to : List ℕ) (gave : List (List Row)) (draft : Draft) (rest : List Row → Plan)
     → AreStill now (plan_of opens (commands.RenameTable name to)) gave → reached gave (plan_of opens (commands.RenameTable name to)) ≡ Do (Write draft) rest
-    → RenamesTable now (made_in relation_by gave (plan_of opens (commands.RenameTable name to))) to draft
+    → RenamesTable now (made_in opening_by gave (plan_of opens (commands.RenameTable name to))) to draft
 renames_table now opens name to gave draft rest still on =
     let table = table_was_found now opens name AccessExclusive (rename_table to) gave draft rest (goes_by_relation opens (commands.RenameTable name to) refl) still on in
     record {
       rel = table.rel;
-      found_is = only_one gave (plan_of opens (commands.RenameTable name to)) draft rest (record { rel = table.rel; kind = Table }) table.others (follows_order opens (commands.RenameTable name to) refl) on table.first;
+      found_is = table.first ∙ ap (λ l. record { rel = table.rel; kind = Table } ∷ l) (table.unopened (rename_opens to table.rel));
       begins = table.begins;
       is = draft_is (rows_draft (Replace (rows.Class table.rel to Table table.begins.fill) ∷ [])) draft (sym (ap (λ l. effect_at now table.found (renaming_table to l)) table.begins.are) ∙ table.comes);
     }
 
 adds_column : (now : Purpose → List Row) (opens : List OpenRelation) (name column : List ℕ) (col_type : ColType) (gave : List (List Row)) (draft : Draft) (rest : List Row → Plan)
     → AreStill now (plan_of opens (commands.AddColumn name column col_type)) gave → reached gave (plan_of opens (commands.AddColumn name column col_type)) ≡ Do (Write draft) rest
-    → AddsColumn now (made_in relation_by gave (plan_of opens (commands.AddColumn name column col_type))) column col_type draft
+    → AddsColumn now (made_in opening_by gave (plan_of opens (commands.AddColumn name column col_type))) column col_type draft
 adds_column now opens name column col_type gave draft rest still on =
     let table = table_was_found now opens name AccessExclusive (add_column column col_type) gave draft rest (goes_by_relation opens (commands.AddColumn name column col_type) refl) still on in
     let free = column_is_free now table.found table.rel column (reading (scans.Attribute table.rel) (adding table.rel column col_type)) draft table.comes in
     let test = passed now table.found (nat_lt (length (now (scans.Attribute table.rel))) MOST_COLUMNS) errors.TooManyColumns (changing (added table.rel)) draft free.1 in
     record {
       rel = table.rel;
-      found_is = only_one gave plan draft rest (record { rel = table.rel; kind = Table }) table.others (follows_order opens (commands.AddColumn name column col_type) refl) on table.first;
+      found_is = table.first ∙ ap (λ l. record { rel = table.rel; kind = Table } ∷ l) (table.unopened (free_opens column (reading (scans.Attribute table.rel) (adding table.rel column col_type)) (λ given. passes_opens (nat_lt (length given) MOST_COLUMNS) errors.TooManyColumns (changing (Insert (rows.Att table.rel (length given + 1) column col_type (negsuc 0) true) ∷ [])) tt)));
       begins = table.begins;
       free = free.0;
       few = test.0;
@@ -240,13 +252,13 @@ adds_column now opens name column col_type gave draft rest still on =
 
 drops_column : (now : Purpose → List Row) (opens : List OpenRelation) (name column : List ℕ) (gave : List (List Row)) (draft : Draft) (rest : List Row → Plan)
     → AreStill now (plan_of opens (commands.DropColumn name column)) gave → reached gave (plan_of opens (commands.DropColumn name column)) ≡ Do (Write draft) rest
-    → DropsColumn now (made_in relation_by gave (plan_of opens (commands.DropColumn name column))) column draft
+    → DropsColumn now (made_in opening_by gave (plan_of opens (commands.DropColumn name column))) column draft
 drops_column now opens name column gave draft rest still on =
     let table = table_was_found now opens name AccessExclusive (drop_column column) gave draft rest (goes_by_relation opens (commands.DropColumn name column) refl) still on in
     let there = column_is_there now table.found table.rel column (λ row. reading (scans.AttrDef table.rel) (dropping row)) draft table.comes in
     record {
       rel = table.rel;
-      found_is = only_one gave (plan_of opens (commands.DropColumn name column)) draft rest (record { rel = table.rel; kind = Table }) table.others (follows_order opens (commands.DropColumn name column) refl) on table.first;
+      found_is = table.first ∙ ap (λ l. record { rel = table.rel; kind = Table } ∷ l) (table.unopened (there_opens column (λ row. reading (scans.AttrDef table.rel) (dropping row)) (λ row given. tt)));
       begins = table.begins;
       row = there.row;
       more = there.more;
@@ -256,14 +268,14 @@ drops_column now opens name column gave draft rest still on =
 
 renames_column : (now : Purpose → List Row) (opens : List OpenRelation) (name column to : List ℕ) (gave : List (List Row)) (draft : Draft) (rest : List Row → Plan)
     → AreStill now (plan_of opens (commands.RenameColumn name column to)) gave → reached gave (plan_of opens (commands.RenameColumn name column to)) ≡ Do (Write draft) rest
-    → RenamesColumn now (made_in relation_by gave (plan_of opens (commands.RenameColumn name column to))) column to draft
+    → RenamesColumn now (made_in opening_by gave (plan_of opens (commands.RenameColumn name column to))) column to draft
 renames_column now opens name column to gave draft rest still on =
     let table = table_was_found now opens name AccessExclusive (rename_column column to) gave draft rest (goes_by_relation opens (commands.RenameColumn name column to) refl) still on in
     let there = column_is_there now table.found table.rel column (renaming to table.rel) draft table.comes in
     let free = column_is_free now table.found table.rel to (changing (Replace (with_name to there.row) ∷ [])) draft there.comes in
     record {
       rel = table.rel;
-      found_is = only_one gave (plan_of opens (commands.RenameColumn name column to)) draft rest (record { rel = table.rel; kind = Table }) table.others (follows_order opens (commands.RenameColumn name column to) refl) on table.first;
+      found_is = table.first ∙ ap (λ l. record { rel = table.rel; kind = Table } ∷ l) (table.unopened (there_opens column (renaming to table.rel) (λ row. free_opens to (changing (Replace (with_name to row) ∷ [])) tt)));
       begins = table.begins;
       row = there.row;
       more = there.more;
@@ -278,14 +290,14 @@ not_true false is = refl
 
 sets_statistics : (now : Purpose → List Row) (opens : List OpenRelation) (name column : List ℕ) (stat : ℤ) (gave : List (List Row)) (draft : Draft) (rest : List Row → Plan)
     → AreStill now (plan_of opens (commands.SetStatistics name column stat)) gave → reached gave (plan_of opens (commands.SetStatistics name column stat)) ≡ Do (Write draft) rest
-    → SetsStatistics now (made_in relation_by gave (plan_of opens (commands.SetStatistics name column stat))) column stat draft
+    → SetsStatistics now (made_in opening_by gave (plan_of opens (commands.SetStatistics name column stat))) column stat draft
 sets_statistics now opens name column stat gave draft rest still on =
     let table = table_was_found now opens name ShareUpdateExclusive (set_statistics column stat) gave draft rest (goes_by_relation opens (commands.SetStatistics name column stat) refl) still on in
     let test = passed now table.found (not (int_lt stat (negsuc 0))) (errors.OutOfRange stat) (with_column table.rel column (targeting stat)) draft table.comes in
     let there = column_is_there now table.found table.rel column (targeting stat) draft test.1 in
     record {
       rel = table.rel;
-      found_is = only_one gave (plan_of opens (commands.SetStatistics name column stat)) draft rest (record { rel = table.rel; kind = Table }) table.others (follows_order opens (commands.SetStatistics name column stat) refl) on table.first;
+      found_is = table.first ∙ ap (λ l. record { rel = table.rel; kind = Table } ∷ l) (table.unopened (passes_opens (not (int_lt stat (negsuc 0))) (errors.OutOfRange stat) (with_column table.rel column (targeting stat)) (there_opens column (targeting stat) (λ row. tt))));
       begins = table.begins;
       least = not_true (int_lt stat (negsuc 0)) test.0;
       row = there.row;
@@ -296,13 +308,13 @@ sets_statistics now opens name column stat gave draft rest still on =
 
 sets_fillfactor : (now : Purpose → List Row) (opens : List OpenRelation) (name : List ℕ) (fill : ℕ) (gave : List (List Row)) (draft : Draft) (rest : List Row → Plan)
     → AreStill now (plan_of opens (commands.SetFillfactor name fill)) gave → reached gave (plan_of opens (commands.SetFillfactor name fill)) ≡ Do (Write draft) rest
-    → SetsFillfactor now (made_in relation_by gave (plan_of opens (commands.SetFillfactor name fill))) fill draft
+    → SetsFillfactor now (made_in opening_by gave (plan_of opens (commands.SetFillfactor name fill))) fill draft
 sets_fillfactor now opens name fill gave draft rest still on =
     let table = table_was_found now opens name ShareUpdateExclusive (set_fillfactor fill) gave draft rest (goes_by_relation opens (commands.SetFillfactor name fill) refl) still on in
     let test = passed now table.found (nat_le 10 fill && nat_le fill 100) (errors.OutOfRange (pos fill)) (reading (scans.Class table.rel) (filling fill)) draft table.comes in
     record {
       rel = table.rel;
-      found_is = only_one gave (plan_of opens (commands.SetFillfactor name fill)) draft rest (record { rel = table.rel; kind = Table }) table.others (follows_order opens (commands.SetFillfactor name fill) refl) on table.first;
+      found_is = table.first ∙ ap (λ l. record { rel = table.rel; kind = Table } ∷ l) (table.unopened (passes_opens (nat_le 10 fill && nat_le fill 100) (errors.OutOfRange (pos fill)) (reading (scans.Class table.rel) (filling fill)) (fill_opens fill)));
       begins = table.begins;
       in_range = test.0;
       is = draft_is (rows_draft (Replace (with_fill fill (rows.Class table.rel table.begins.name Table table.begins.fill)) ∷ [])) draft
@@ -311,7 +323,7 @@ sets_fillfactor now opens name fill gave draft rest still on =
 
 -- each alteration writes what it has to by the rows of now
 pub writes_by : (now : Purpose → List Row) (opens : List OpenRelation) (command : Command) (gave : List (List Row)) (draft : Draft) (rest : List Row → Plan)
-    → AreStill now (plan_of opens command) gave → reached gave (plan_of opens command) ≡ Do (Write draft) rest → WritesBy now (made_in relation_by gave (plan_of opens command)) command draft
+    → AreStill now (plan_of opens command) gave → reached gave (plan_of opens command) ≡ Do (Write draft) rest → WritesBy now (made_in opening_by gave (plan_of opens command)) command draft
 writes_by now opens (commands.DropTable name) gave draft rest still on = removes_table now opens name gave draft rest still on
 writes_by now opens (commands.RenameTable name to) gave draft rest still on = renames_table now opens name to gave draft rest still on
 writes_by now opens (commands.AddColumn name column col_type) gave draft rest still on = adds_column now opens name column col_type gave draft rest still on

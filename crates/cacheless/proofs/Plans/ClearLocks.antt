@@ -1,6 +1,5 @@
--- By a clear lock that no two backends may hold a backend keeps out all who change the relation's rows, and so what it has read of them by a usable scan is the scan's answer; and so by any clear lock of its columns, but for what a weak mode may change.
-use Rattle.std.proofs.Common.{◌≡◌, ◌∙◌, ℕ, Bool, true, false, Some, List, [], ◌∷◌, ◌++◌, ◌==◌, ◌||◌, ◌&&◌, refl, sym, ap, subst, map, filter, cond, take, drop}
-use Rattle.std.specs.Prelude.{⊤}
+-- By a clear lock a backend keeps out all whose modes conflict with it: so what it has read by a usable scan of rows that the lock keeps is the scan's answer, as far as it counts; and so of columns by any clear lock, but for what a weak mode may change.
+use Rattle.std.proofs.Common.{◌≡◌, ◌∙◌, ◌⊎◌, inl, inr, ℕ, Bool, true, false, Some, List, [], ◌∷◌, ◌++◌, ◌==◌, ◌||◌, ◌&&◌, refl, sym, ap, subst, map, filter, cond, take, drop}
 use Rattle.std.specs.List.{AllByRecursion, list_any, list_all}
 use Rattle.std.specs.Option.{option_map_or}
 use Rattle.std.proofs.Math.Bool.{or-true}
@@ -12,33 +11,31 @@ use Rattle.base_types.specs.Scenario.{Scenario}
 use Rattle.base_types.specs.declared.mode.Mode.TheVariants.{AccessShare, RowShare, RowExclusive, ShareUpdateExclusive, Share, ShareRowExclusive, Exclusive, AccessExclusive}
 use Rattle.lock_modes.specs.Grants.{holds}
 use Rattle.lock_modes.specs.Own.{is_own, has_lock, cleared, clear_modes}
-use Rattle.ddl_effect.specs.Plans.{Plan, Act, Do}
+use Rattle.ddl_effect.specs.Plans.{Plan}
+use Rattle.history_model.specs.Covered.{counted_for}
 use Rattle.history_model.specs.Held.{held_of}
 use Rattle.history_model.specs.Orderly.{MayComeNext, IsSound}
 use Rattle.history_model.specs.Prefixes.{EachEntry}
 use Rattle.history_model.specs.Read.{place_read, rows_read, is_usable}
 use Rattle.history_model.specs.Versions.{answer_of}
 use Rattle.history_model.proofs.ColumnsKept.{IsOfColumns, by_number, columns_leave}
-use Rattle.history_model.proofs.Every.{every}
+use Rattle.history_model.proofs.Every.{every-weaker, SomeOf, from_some}
 use Rattle.history_model.proofs.FixedRows.{fixed}
-use Rattle.history_model.proofs.HeldRows.{kept_plain}
-use Rattle.history_model.proofs.Locked.{changing_modes, changed_anyhow}
 use Rattle.history_model.proofs.Prefixes.{EachEntry-weaker, EachEntry-prefix}
-use Rattle.cacheless.specs.Types.{Oid, Mode, Row, Purpose, OwnLock, Entry, Opening}
-use Rattle.cacheless.specs.ActsDone.{LockedRelation, locked_relation_by, reached, made_in, opening_by, relation_by, IsHeld, WayHolds}
+use Rattle.cacheless.specs.Types.{Oid, Mode, Row, Purpose, OwnLock, Entry}
+use Rattle.cacheless.specs.ActsDone.{LockOn, IsHeldOn}
 use Rattle.cacheless.specs.Locks.{grant_of}
+use Rattle.cacheless.specs.Played.{IsPlayed}
 use Rattle.cacheless.specs.Plays.{Plays}
 use Rattle.cacheless.specs.Session.{Session}
 use Rattle.cacheless.specs.Sessions.{session_of}
 use Rattle.cacheless.specs.TableWrites.{WritesColumns}
 use Rattle.cacheless.proofs.Answers.ReadPlaces.{read_at_place}
 use Rattle.cacheless.proofs.ColumnAnswers.{numbered_same}
-use Rattle.cacheless.proofs.Plans.ActOrder.{FollowsOrder}
 use Rattle.cacheless.proofs.HeldLocks.{Follows, locks_of, locks_are_held, lock_is_held}
-use Rattle.cacheless.proofs.Plans.LateActs.{relation_only, locked_are_found, late_alone}
-use Rattle.cacheless.proofs.ProtectedFields.{AreKeptOut, kept_out_read, kept_out_answers}
-use Rattle.cacheless.proofs.Plans.StillAfter.{IsOf}
-use Rattle.cacheless.proofs.Plans.StillLocked.{excludes_changing}
+use Rattle.cacheless.proofs.Plans.StillUnder.{rows_leave}
+use Rattle.cacheless.proofs.Plans.UnderLocks.{modes_read, KeepsRows, KeepsColumns, GoesUnder}
+use Rattle.cacheless.proofs.ProtectedFields.{AreKeptOut, kept_out_read}
 
 same_conflicts : (writer mode other : Mode) → same_mode other mode ≡ true → conflicts writer mode ≡ true → conflicts writer other ≡ true
 same_conflicts writer mode other same clash = ap (λ n. list_any (λ m. n == mode_number m) (conflicting_modes writer)) (eqb-true (mode_number other) (mode_number mode) same) ∙ clash
@@ -73,18 +70,18 @@ all-weaker : {X : Type 0} (p q : X → Bool) → ((x : X) → p x ≡ true → q
 all-weaker p q more [] all = refl
 all-weaker p q more (x ∷ xs) all = let parts = and_parts (p x) (list_all p xs) all in and_from (q x) (list_all q xs) (more x parts.0) (all-weaker p q more xs parts.1)
 
--- so all who change rows are kept out by such a lock
-pub alone_keeps_out : (scenario : Scenario) (history : List Entry) (b : ℕ) (s : Session) (rel : Oid) (mode : Mode) → session_of scenario history b ≡ Some s → map cleared s.locks ≡ s.locks → has_lock s.locks rel mode ≡ true → conflicts mode mode ≡ true
-    → AreKeptOut scenario history b rel changing_modes
-alone_keeps_out scenario history b s rel mode is clear has alone =
+-- so it keeps out these modes
+pub modes_kept_out : (scenario : Scenario) (history : List Entry) (b : ℕ) (s : Session) (rel : Oid) (mode : Mode) (modes : List Mode) → session_of scenario history b ≡ Some s → map cleared s.locks ≡ s.locks → has_lock s.locks rel mode ≡ true
+    → list_all (λ writer. conflicts writer mode) modes ≡ true → AreKeptOut scenario history b rel modes
+modes_kept_out scenario history b s rel mode modes is clear has clash =
     all-weaker (λ writer. conflicts writer mode) (λ writer. list_any (conflicts writer) (option_map_or (λ x. clear_modes x.locks rel) (session_of scenario history b) []))
-    (λ writer clash. ap (λ o. list_any (conflicts writer) (option_map_or (λ x. clear_modes x.locks rel) o [])) is ∙ clear_conflict writer rel mode s.locks clash clear has) changing_modes (excludes_changing mode alone)
+    (λ writer one. ap (λ o. list_any (conflicts writer) (option_map_or (λ x. clear_modes x.locks rel) o [])) is ∙ clear_conflict writer rel mode s.locks one clear has) modes clash
 
--- and what was read of the relation by a usable scan is the scan's answer
-pub alone_answers : (scenario : Scenario) (history : List Entry) (b : ℕ) (s : Session) (rel : Oid) (mode : Mode) (scan : Purpose) → IsSound history → Plays scenario history → session_of scenario history b ≡ Some s → map cleared s.locks ≡ s.locks
-    → has_lock s.locks rel mode ≡ true → conflicts mode mode ≡ true → IsOf rel scan → is_usable history b scan ≡ true → answer_of history b scan ≡ rows_read history b scan
-alone_answers scenario history b s rel mode scan sound plays is clear has alone of usable =
-    kept_out_answers scenario history b rel scan (kept_plain scan rel of) (changed_anyhow scan rel of) sound plays (alone_keeps_out scenario history b s rel mode is clear has alone) usable
+-- and what was read by a usable scan of rows that it keeps is the scan's answer, as far as it counts
+rows_answer : (scenario : Scenario) (history : List Entry) (b : ℕ) (s : Session) (o : LockOn) (scan : Purpose) → IsSound history → Plays scenario history → session_of scenario history b ≡ Some s → map cleared s.locks ≡ s.locks → has_lock s.locks o.rel o.mode ≡ true
+    → KeepsRows scan o → is_usable history b scan ≡ true → map (counted_for scan) (answer_of history b scan) ≡ map (counted_for scan) (rows_read history b scan)
+rows_answer scenario history b s o scan sound plays is clear has keeps usable =
+    kept_out_read scenario history b o.rel (map (counted_for scan)) scan (modes_read scan) (rows_leave scan o.rel keeps.0) sound plays (modes_kept_out scenario history b s o.rel o.mode (modes_read scan) is clear has keeps.1) usable
 
 all_conflict : (mode : Mode) → conflicts AccessExclusive mode ≡ true
 all_conflict AccessShare = refl
@@ -127,27 +124,29 @@ pub session_holds : (scenario : Scenario) (history : List Entry) (b : ℕ) (s : 
 session_holds scenario history b s sound is rel mode = lock_is_held b rel mode (held_of history) s.locks
     (locks_are_held scenario history b (EachEntry-weaker MayComeNext Follows (λ before e comes. comes.follows.life) history sound) ∙ ap (λ o. map (grant_of b) (locks_of o)) is)
 
--- the lock of the one relation that a command found
-record TheLock (history : List Entry) (b : ℕ) (rel : Oid) (P : Mode → Type 0) : Type 0 where
-  mode : Mode
-  held : holds (held_of history) b rel mode ≡ true
-  such : P mode
+-- where all locks are clear, what was read by a usable scan of rows that one of these keeps is the scan's answer, as far as it counts
+pub kept_now : (scenario : Scenario) (history : List Entry) (b : ℕ) (s : Session) (locked : List LockOn) (scan : Purpose) → IsPlayed scenario history → session_of scenario history b ≡ Some s → map cleared s.locks ≡ s.locks → AllByRecursion (IsHeldOn history b) locked
+    → SomeOf (KeepsRows scan) locked → is_usable history b scan ≡ true → map (counted_for scan) (answer_of history b scan) ≡ map (counted_for scan) (rows_read history b scan)
+kept_now scenario history b s locked scan played is clear held some usable = from_some (KeepsRows scan) (map (counted_for scan) (answer_of history b scan) ≡ map (counted_for scan) (rows_read history b scan)) locked
+    (every-weaker (IsHeldOn history b) (λ o. KeepsRows scan o → map (counted_for scan) (answer_of history b scan) ≡ map (counted_for scan) (rows_read history b scan))
+    (λ o has keeps. rows_answer scenario history b s o scan played.sound played.plays is clear (sym (session_holds scenario history b s played.sound is o.rel o.mode) ∙ has) keeps usable) locked held) some
 
-the_lock : (history : List Entry) (b : ℕ) (one : Opening) (P : Mode → Type 0) (locked : List LockedRelation) → map relation_only locked ≡ one ∷ [] → AllByRecursion (IsHeld history b) locked → AllByRecursion (λ o. P o.mode) locked → TheLock history b one.rel P
-the_lock history b one P [] is held such = absurd (cc is)
-the_lock history b one P (o ∷ others) is held such =
-    let same : relation_only o ≡ one = cc is in record { mode = o.mode; held = ap (λ (r : Opening). holds (held_of history) b r.rel o.mode) (sym same) ∙ held.0; such = such.0 }
+-- and what a plan goes on with from a usable scan of what one of them keeps is what it goes on with from the scan's answer
+pub goes_now : (scenario : Scenario) (history : List Entry) (b : ℕ) (s : Session) (locked : List LockOn) (scan : Purpose) (rest : List Row → Plan) → IsPlayed scenario history → session_of scenario history b ≡ Some s → map cleared s.locks ≡ s.locks → AllByRecursion (IsHeldOn history b) locked
+    → GoesUnder locked scan rest → is_usable history b scan ≡ true → rest (rows_read history b scan) ≡ rest (answer_of history b scan)
+goes_now scenario history b s locked scan rest played is clear held (inl anyhow) usable = anyhow (rows_read history b scan) ∙ sym (anyhow (answer_of history b scan))
+goes_now scenario history b s locked scan rest played is clear held (inr (inl (some, by_counted))) usable = by_counted (rows_read history b scan) ∙ ap rest (sym same) ∙ sym (by_counted (answer_of history b scan))
+  where
+    Same : Type 0
+    Same = map (counted_for scan) (answer_of history b scan) ≡ map (counted_for scan) (rows_read history b scan)
 
--- so what it read by a usable scan of that relation is the scan's answer, once its descriptor is open and the command's locks are clear
-pub late_answers : (scenario : Scenario) (history : List Entry) (b : ℕ) (s : Session) (gave : List (List Row)) (plan : Plan) (act : Act) (rest : List Row → Plan) (one : Opening) (scan : Purpose) → IsSound history → Plays scenario history → session_of scenario history b ≡ Some s → map cleared s.locks ≡ s.locks
-    → FollowsOrder plan → WayHolds history b gave plan → reached gave plan ≡ Do act rest → made_in relation_by gave plan ≡ one ∷ [] → made_in opening_by gave plan ≡ one ∷ [] → IsOf one.rel scan → is_usable history b scan ≡ true → answer_of history b scan ≡ rows_read history b scan
-late_answers scenario history b s gave plan act rest one scan sound plays is clear follows way on found opens of usable =
-    let lock = the_lock history b one (λ mode. conflicts mode mode ≡ true) (made_in locked_relation_by gave plan) (locked_are_found gave plan ∙ found) way.locked (late_alone gave plan act rest one follows on opens) in
-    alone_answers scenario history b s one.rel lock.mode scan sound plays is clear (sym (session_holds scenario history b s sound is one.rel lock.mode) ∙ lock.held) lock.such of usable
+    same : Same
+    same = kept_now scenario history b s locked scan played is clear held some usable
+goes_now scenario history b s locked scan rest played is clear held (inr (inr (some, by_fixed))) usable = by_fixed (rows_read history b scan) ∙ ap rest (sym same) ∙ sym (by_fixed (answer_of history b scan))
+  where
+    Same : Type 0
+    Same = map fixed (answer_of history b scan) ≡ map fixed (rows_read history b scan)
 
--- and where it searches for columns before that, what it goes by of their rows is the answer's
-pub found_columns : (scenario : Scenario) (history : List Entry) (b : ℕ) (s : Session) (gave : List (List Row)) (plan : Plan) (one : Opening) (scan : Purpose) → IsSound history → EachEntry WritesColumns history → Plays scenario history → session_of scenario history b ≡ Some s → map cleared s.locks ≡ s.locks
-    → WayHolds history b gave plan → made_in relation_by gave plan ≡ one ∷ [] → IsOfColumns one.rel scan → is_usable history b scan ≡ true → map fixed (answer_of history b scan) ≡ map fixed (rows_read history b scan)
-found_columns scenario history b s gave plan one scan sound columns plays is clear way found of usable =
-    let lock = the_lock history b one (λ mode. ⊤) (made_in locked_relation_by gave plan) (locked_are_found gave plan ∙ found) way.locked (every (λ o. ⊤) (λ o. tt) (made_in locked_relation_by gave plan)) in
-    columns_answer scenario history b s one.rel lock.mode scan sound columns plays is clear (sym (session_holds scenario history b s sound is one.rel lock.mode) ∙ lock.held) of usable
+    same : Same
+    same = from_some (KeepsColumns scan) Same locked (every-weaker (IsHeldOn history b) (λ o. KeepsColumns scan o → Same)
+        (λ o has of. columns_answer scenario history b s o.rel o.mode scan played.sound played.columns played.plays is clear (sym (session_holds scenario history b s played.sound is o.rel o.mode) ∙ has) of usable) locked held) some
