@@ -54,6 +54,7 @@ left-other scenario seen e s other left = record {
   kept = kept-other seen e s.progress.id (kept_at s.progress) other left.kept;
   life = life_of-other seen e s.progress.id other ∙ left.life;
   lines = left.lines ∙ sym (lines-other scenario seen e s.progress.id other);
+  past = left.past;
 }
 
 -- where a backend is it stays, with another's entry

@@ -82,12 +82,13 @@ pub record HasNotJoined (scenario : Scenario) (seen : List Entry) (s : Backend) 
   pub life : life_of seen s.progress.id ≡ Unstarted
   pub unwritten : (c : ℕ) → has_written seen s.progress.id c ≡ false
 
--- a backend that has left: what it has read it keeps, and its lines are those of all its commands
+-- a backend that has left: what it has read it keeps, its lines are those of all its commands, and none is left
 pub record HasLeft (scenario : Scenario) (seen : List Entry) (s : Backend) : Type 0 where
   pub holds : Holds scenario seen s.progress
   pub kept : AreLastScans seen s.progress.id (kept_at s.progress)
   pub life : life_of seen s.progress.id ≡ Stopped
   pub lines : s.lines ≡ lines_of_backend scenario seen s.progress.id
+  pub past : command_at s ≡ None
 
 -- where a backend is in a history
 abbrev pub Stands : Scenario → List Entry → Backend → Type 0

@@ -1,6 +1,7 @@
 -- What holds of every allowed history.
 pub mod Patient
 pub mod StaysOnCourse
+pub mod KindsHeld
 pub mod SettledCourse
 pub mod OwnEntries
 pub mod Releases

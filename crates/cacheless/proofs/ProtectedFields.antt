@@ -23,12 +23,13 @@ use Rattle.lock_modes.specs.declared.own_lock.OwnLock.{OwnLock}
 use Rattle.lock_modes.specs.Grants.{holds}
 use Rattle.lock_modes.specs.Own.{clear_modes}
 use Rattle.history_model.specs.Transactions.{running_transaction_of, is_visible}
-use Rattle.history_model.specs.Versions.{versions_of, answer_of, fresh_text}
+use Rattle.history_model.specs.Versions.{answer_of, fresh_text}
 use Rattle.history_model.specs.Log.{log_of, position_of}
 use Rattle.history_model.specs.Held.{held_of}
 use Rattle.history_model.specs.Reached.{is_writer, reached_of}
 use Rattle.history_model.specs.Covered.{is_covered}
 use Rattle.history_model.specs.Read.{rows_read, is_usable}
+use Rattle.history_model.specs.OfKind.{HasKind, IsOfKind}
 use Rattle.history_model.specs.Orderly.{IsSound}
 use Rattle.history_model.proofs.Every.{every-weaker, every-both}
 use Rattle.history_model.proofs.Asking.{oid_eq}
@@ -39,8 +40,6 @@ use Rattle.history_model.proofs.HeldRows.{IsChangedUnder}
 use Rattle.history_model.proofs.DrawnRows.{given_each}
 use Rattle.history_model.proofs.FixedRows.{fixed}
 use Rattle.history_model.proofs.GivenRows.{given_asked}
-use Rattle.history_model.proofs.OneKind.{HasKind, IsOfKind}
-use Rattle.history_model.proofs.Touched.{OfStamps}
 use Rattle.history_model.proofs.WeakChanges.{IsOfTable, table_named, is_table_name, class_apart, fixed_leaves, field_leaves}
 use Rattle.history_model.proofs.Observed.{IsReadAs, LeavesRead, Leaves, IsDirty, IsWriting, IsBehind, observed_as}
 use Rattle.history_model.proofs.Locked.{changing_modes, unheld_leaves}
@@ -144,7 +143,7 @@ named_or kind field = inr refl
 tables_given : (history : List Entry) (b : ℕ) (rel : Oid) → IsOfKind history rel Table → AllByRecursion IsOfTable (answer_of history b (scans.Class rel))
 tables_given history b rel of = every-weaker (λ row. SeenAs row × (selects (scans.Class rel) row ≡ true)) IsOfTable (λ row is. table row is.0 is.1) (answer_of history b (scans.Class rel))
     (every-both SeenAs (λ row. selects (scans.Class rel) row ≡ true) (answer_of history b (scans.Class rel))
-    (given_each SeenAs history b (scans.Class rel) (every-weaker (OfStamps (λ s row. SeenAs row)) (λ v. SeenAs v.row) (λ v is. is.0) (versions_of history) of.each)) (given_asked history b (scans.Class rel)))
+    (given_each SeenAs history b (scans.Class rel) of.each) (given_asked history b (scans.Class rel)))
   where
     SeenAs : Row → Type 0
     SeenAs row = HasKind rel Table row

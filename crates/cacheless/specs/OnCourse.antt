@@ -9,10 +9,11 @@ use Rattle.ddl_effect.specs.Plans.{Act, Lookup, Write, Plan, Done, Fails, Absent
 use Rattle.ddl_effect.specs.Commands.{plan_of, commands_of}
 use Rattle.txn_blocks.specs.Blocks.{refused_by}
 use Rattle.history_model.specs.Lives.{last_event_of}
+use Rattle.history_model.specs.OfKind.{IsOfKind}
 use Rattle.history_model.specs.Read.{rows_read}
 use Rattle.history_model.specs.Versions.{answer_of}
 use Rattle.history_model.specs.Writes.{has_written}
-use Rattle.cacheless.specs.Types.{Oid, Mode, Row, Command, CommandError, Opening, Draft, Told, Scenario, Entry, Event}
+use Rattle.cacheless.specs.Types.{Oid, Mode, Row, Command, CommandError, Opening, OpenRelation, Draft, Told, Scenario, Entry, Event}
 use Rattle.cacheless.specs.Facts.{Facts, facts_of}
 use Rattle.cacheless.specs.Owed.{owes_accept}
 use Rattle.cacheless.specs.Runs.{runs}
@@ -135,12 +136,18 @@ pub record TellsAlone (seen : List Entry) (b : ℕ) (s : Session) (command : Com
 abbrev pub TellsStill : List Entry → ℕ → Session → Command → Type 0
 TellsStill seen b s command = (is_over (last_event_of seen b) s ≡ false) ⊎ TellsAlone seen b s command
 
--- a session is on its course: the running command, if there is one, does what its plan says, and after its release it tells of no scan; no later one has written, and its locks are clear unless its accept of messages isn't over
+-- the relations that are open, and the descriptors that are held, are of their kinds
+pub record AreOfKinds (seen : List Entry) (relations : List OpenRelation) (held : List Opening) : Type 0 where
+  pub opens : AllByRecursion (λ o. IsOfKind seen o.rel o.kind) relations
+  pub opened : AllByRecursion (λ o. IsOfKind seen o.rel o.kind) held
+
+-- a session is on its course: the running command, if there is one, does what its plan says, and after its release it tells of no scan; no later one has written, its locks are clear unless its accept of messages isn't over, and what it has open is of its kind
 pub record IsOnCourse (scenario : Scenario) (seen : List Entry) (b : ℕ) (s : Session) : Type 0 where
   pub follows : (command : Command) → slice_get (commands_of scenario b) (length s.finished) ≡ Some command → FollowsPlan seen b s command
   pub going : (command : Command) → slice_get (commands_of scenario b) (length s.finished) ≡ Some command → s.ended ≡ true → TellsAlone seen b s command
   pub later : (c : ℕ) → number_of s < c → has_written seen b c ≡ false
   pub clear : ClearUnlessOwed (facts_of seen b) (slice_get (commands_of scenario b) (length s.finished)) s
+  pub kinds : AreOfKinds seen s.opens s.opened
 
 -- the same before it has gone on without entries: where the running command has made its release, it is finished or tells of no scan
 pub record EntersCourse (scenario : Scenario) (seen : List Entry) (b : ℕ) (s : Session) : Type 0 where
@@ -148,6 +155,7 @@ pub record EntersCourse (scenario : Scenario) (seen : List Entry) (b : ℕ) (s :
   pub ends : (command : Command) → slice_get (commands_of scenario b) (length s.finished) ≡ Some command → s.ended ≡ true → (is_finished (facts_of seen b) command s ≡ true) ⊎ TellsAlone seen b s command
   pub later : (c : ℕ) → number_of s < c → has_written seen b c ≡ false
   pub clear : ClearUnlessOwed (facts_of seen b) (slice_get (commands_of scenario b) (length s.finished)) s
+  pub kinds : AreOfKinds seen s.opens s.opened
 
 -- before its start a backend has written nothing, and afterwards its session is on its course
 abbrev pub CourseOf : Scenario → List Entry → ℕ → Option Session → Type 0

@@ -22,6 +22,7 @@ use Rattle.event_kinds.specs.declared.entry.Item.TheVariants as forms
 use Rattle.row_visibility.specs.declared.version.Stamp.{Stamp}
 use Rattle.row_visibility.specs.declared.version.Version.{Version}
 use Rattle.history_model.specs.Drawn.{drawn_by, next_oid}
+use Rattle.history_model.specs.OfKind.{HasKind, IsOfKind}
 use Rattle.history_model.specs.Orderly.{main_rel, MayComeNext, IsSound}
 use Rattle.history_model.specs.Read.{rows_read}
 use Rattle.history_model.specs.Versions.{versions_of, versions_by, ended_key, added_row, old_row, ends, is_back, sees, rows_of, answer_of}
@@ -39,18 +40,16 @@ use Rattle.history_model.proofs.ReadRows.{read_keeps}
 use Rattle.history_model.proofs.Reading.{versions_of-more, next_oid-more}
 use Rattle.history_model.proofs.Touched.{entry_of, OfStamps, stamps-weaker, stamps-write, stamps-gone}
 
--- if the row is the relation's own, it has this kind
-abbrev pub HasKind : Oid → Kind → Row → Type 0
-HasKind rel kind (rows.Class oid own kind' fill) = oid ≡ rel → kind' ≡ kind
-HasKind rel kind row = ⊤
-
 abbrev HasKindAt : Oid → Kind → Stamp → Row → Type 0
 HasKindAt rel kind s row = HasKind rel kind row
 
--- the relation is drawn, and each version of its row has this kind
-pub record IsOfKind (history : List Entry) (rel : Oid) (kind : Kind) : Type 0 where
-  pub drawn : rel.0 < next_oid history
-  pub each : AllByRecursion (OfStamps (HasKindAt rel kind)) (versions_of history)
+-- whatever the stamps of a version
+of_row : (P : Row → Type 0) (v : Version) → P v.row → OfStamps (λ s row. P row) v
+of_row P v held = (held, any v.ended)
+  where
+    any : (o : Option Stamp) → IfSome o (λ s. P v.row)
+    any None = tt
+    any (Some s) = held
 
 kinds_same : (a b : Oid) (own name : List ℕ) (k l : Kind) (fill fill' : Option ℕ) → same_kind (rows.Class a own k fill) (rows.Class b name l fill') ≡ true → l ≡ k
 kinds_same a b own name Table Table fill fill' is = refl
@@ -111,7 +110,7 @@ items_of event = []
 -- no change gives the relation a row of another kind
 item_kind : (history : List Entry) (e : Entry) (rel : Oid) (kind : Kind) (item : Item) → IsOfKind history rel kind → IsOfWrite history e item → IfSome (added_row item) (HasKind rel kind)
 item_kind history e rel kind (forms.Put row) of write = replaced_by history e.backend row (HasKind rel kind) (HasKind rel kind)
-    (every-weaker (OfStamps (HasKindAt rel kind)) (λ v. HasKind rel kind v.row) (λ v is. is.0) (versions_of history) of.each) (λ old keyed alike has. kind_kept rel kind old row keyed alike has) write.there write.keeps
+    of.each (λ old keyed alike has. kind_kept rel kind old row keyed alike has) write.there write.keeps
 item_kind history e rel kind (forms.Add (rows.Class oid own kind' fill)) of write = λ is. absurd (omega (arith, write.new.0.0, of.drawn, ap (λ o. o.0) is))
 item_kind history e rel kind (forms.Add (rows.Att to num own col_type stat live)) of write = tt
 item_kind history e rel kind (forms.Add (rows.Def oid to num word)) of write = tt
@@ -138,8 +137,9 @@ writes_of history b c event comes = tt
 pub kind_more : (history : List Entry) (e : Entry) (rel : Oid) (kind : Kind) → MayComeNext history e → IsOfKind history rel kind → IsOfKind (history ++ e ∷ []) rel kind
 kind_more history e rel kind comes of = record {
   drawn = omega (arith, of.drawn, next_rises history e);
-  each = subst (AllByRecursion (OfStamps (HasKindAt rel kind))) (sym (versions_of-more history e)) (rows_after (HasKind rel kind) history e.backend e.command e.event
-      (every-weaker (IsOfWrite history e) (λ item. IfSome (added_row item) (HasKind rel kind)) (λ item write. item_kind history e rel kind item of write) (items_of e.event) (writes_of history e.backend e.command e.event comes)) of.each);
+  each = every-weaker (OfStamps (HasKindAt rel kind)) (λ v. HasKind rel kind v.row) (λ v is. is.0) (versions_of (history ++ e ∷ [])) (subst (AllByRecursion (OfStamps (HasKindAt rel kind))) (sym (versions_of-more history e)) (rows_after (HasKind rel kind) history e.backend e.command e.event
+      (every-weaker (IsOfWrite history e) (λ item. IfSome (added_row item) (HasKind rel kind)) (λ item write. item_kind history e rel kind item of write) (items_of e.event) (writes_of history e.backend e.command e.event comes))
+      (every-weaker (λ v. HasKind rel kind v.row) (OfStamps (HasKindAt rel kind)) (λ v is. of_row (HasKind rel kind) v is) (versions_of history) of.each)));
 }
 
 -- the row says of which kind its relation is
@@ -210,13 +210,6 @@ all_agree (item ∷ items) distinct = (
     both = every-weaker (λ other. IfSome (added_row item) (λ row. AllByRecursion (λ key. key_of row ≡ key → ⊥) (changed_key other))) (λ other. ItemsAgree item other × ItemsAgree other item)
         (λ other h. both_agree item other (λ row is. subst (λ o. IfSome o (λ r. AllByRecursion (λ key. key_of r ≡ key → ⊥) (changed_key other))) is h)) items (apart (added_row item) refl)
 
-of_row : (P : Row → Type 0) (v : Version) → P v.row → OfStamps (λ s row. P row) v
-of_row P v held = (held, any v.ended)
-  where
-    any : (o : Option Stamp) → IfSome o (λ s. P v.row)
-    any None = tt
-    any (Some s) = held
-
 -- a row of a relation that is drawn isn't that of one that isn't
 other_kind : (next : ℕ) (rel : Oid) (kind : Kind) (row : Row) → (main_rel row).0 < next → next ≤ rel.0 → HasKind rel kind row
 other_kind next rel kind (rows.Class oid own kind' fill) drawn new = λ is. absurd (omega (arith, drawn, new, ap (λ o. o.0) is))
@@ -243,8 +236,8 @@ item_tells history e (forms.Put row) sound comes tell write agree = replaced_by 
     (every-weaker (OfStamps (λ s row'. TellsKind history row')) (λ v. TellsKind (history ++ e ∷ []) v.row) (λ v is. tells_more history e v.row comes is.0) (versions_of history) tell) (λ old keyed alike tells. tells_put (history ++ e ∷ []) old row keyed alike tells) write.there write.keeps
 item_tells history e (forms.Add (rows.Class oid own kind fill)) sound comes tell write agree = record {
   drawn = write.new.0.1;
-  each = subst (AllByRecursion (OfStamps (HasKindAt oid kind))) (sym (versions_of-more history e)) (rows_after (HasKind oid kind) history e.backend e.command e.event agree
-      (every-weaker (λ v. (main_rel v.row).0 < next_oid history) (OfStamps (HasKindAt oid kind)) (λ v drawn. of_row (HasKind oid kind) v (other_kind (next_oid history) oid kind v.row drawn write.new.0.0)) (versions_of history) (rows_drawn history sound)));
+  each = every-weaker (OfStamps (HasKindAt oid kind)) (λ v. HasKind oid kind v.row) (λ v is. is.0) (versions_of (history ++ e ∷ [])) (subst (AllByRecursion (OfStamps (HasKindAt oid kind))) (sym (versions_of-more history e)) (rows_after (HasKind oid kind) history e.backend e.command e.event agree
+      (every-weaker (λ v. (main_rel v.row).0 < next_oid history) (OfStamps (HasKindAt oid kind)) (λ v drawn. of_row (HasKind oid kind) v (other_kind (next_oid history) oid kind v.row drawn write.new.0.0)) (versions_of history) (rows_drawn history sound))));
 }
 item_tells history e (forms.Add (rows.Att of num own col_type stat live)) sound comes tell write agree = tt
 item_tells history e (forms.Add (rows.Def oid of num word)) sound comes tell write agree = tt

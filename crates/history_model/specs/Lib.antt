@@ -17,3 +17,4 @@ pub mod Legal
 pub mod Lapped
 pub mod Read
 pub mod Orderly
+pub mod OfKind

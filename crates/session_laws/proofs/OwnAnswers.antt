@@ -284,7 +284,7 @@ start_answers scenario seen was now before spelled legal plays follows started k
   tells = record {
     played = longer.0;
     course = subst (λ k. EntersCourse scenario (seen ++ e ∷ []) k (session_at now started.holds.rest)) (sym started.moves.id) (subst (EntersCourse scenario (seen ++ e ∷ []) b) (sym (started.session ∙ ap (at_command no_block none_open [] [] (length seen + 1)) first_is))
-        (begins_on_course scenario (seen ++ e ∷ []) b no_block none_open [] [] (length seen + 1) (commands_of scenario b) refl (λ n after. has_written-quiet seen e b n refl ∙ before.unwritten n) refl));
+        (begins_on_course scenario (seen ++ e ∷ []) b no_block none_open [] [] (length seen + 1) (commands_of scenario b) refl (λ n after. has_written-quiet seen e b n refl ∙ before.unwritten n) refl tt));
     tells = record {
       answer = λ text command told at. absurd (let both : None ≡ Some text = sym (answer ∙ before.waits.new.answer) ∙ told in cc both);
       out = λ some. absurd (both_ways _ (ap (λ o. is_some o) (answer ∙ before.waits.new.answer)) some);

@@ -1,5 +1,5 @@
 -- A backend leaves.
-use Rattle.std.proofs.Common.{◌≡◌, ◌+◌, ◌∙◌, ◌∷◌, ◌++◌, ℕ, Option, Some, None, List, [], refl, sym, ap, subst, length, is_some, arith}
+use Rattle.std.proofs.Common.{◌≡◌, ◌+◌, ◌∙◌, ◌∷◌, ◌++◌, ℕ, Option, Some, None, List, [], refl, sym, ap, subst, length, slice_get, is_some, arith}
 use Rattle.std.proofs.lemmas.Bool.{eq-eqb, both_ways}
 use Rattle.event_kinds.specs.declared.entry.Event.TheVariants as events
 use Rattle.history_model.specs.Drawn.{next_oid}
@@ -77,4 +77,5 @@ leave_steps scenario old new had has was p waits played courses past none goes k
       kept = subst (λ k. AreLastScans (old ++ e ∷ []) k (kept_at p)) (sym goes.moves.id) (subst (AreLastScans (old ++ e ∷ []) b) (sym kept) (kept_stays old e b (kept_at was.progress) (λ scan. refl) waits.keeps.places.kept));
       life = ap (life_of (old ++ e ∷ [])) goes.moves.id ∙ life_of-own old e b (eq-eqb b b refl);
       lines = stop_lines scenario old was.progress p was.lines (session_waits waits) plays goes;
+      past = (λ i. slice_get (goes.moves.commands i) (goes.moves.finished i)) ∙ past;
     }

@@ -13,7 +13,8 @@ use Rattle.history_model.proofs.Reading.{last_event_of-other, rows_read-other}
 use Rattle.history_model.proofs.Touched.{entry_of}
 use Rattle.cacheless.specs.Types.{OwnLock, Scenario, Command, Entry, Event}
 use Rattle.cacheless.specs.Facts.{Facts, facts_of}
-use Rattle.cacheless.specs.OnCourse.{is_over, TellsAlone, IsOnCourse, CourseOf, AllOnCourse, ClearUnlessOwed, EntersCourse}
+use Rattle.cacheless.specs.OnCourse.{is_over, TellsAlone, IsOnCourse, CourseOf, AllOnCourse, ClearUnlessOwed, EntersCourse, AreOfKinds}
+use Rattle.cacheless.proofs.Allowed.KindsHeld.{kinds_later, noted_kinds}
 use Rattle.cacheless.specs.Owed.{owes_accept}
 use Rattle.cacheless.specs.Played.{IsPlayed}
 use Rattle.cacheless.specs.Plays.{MayPlayIn, IsStart, MayPlayAt, IsNext}
@@ -95,6 +96,7 @@ other_stays scenario history e b (Some s) may other course = record {
   going = λ command at over. let alone = course.going command at over in record { told = alone.told; plan = alone.plan; left = alone.left; alone = alone.alone; unwritten = has_written-other history e b (number_of s) other ∙ alone.unwritten };
   later = λ c after. has_written-other history e b c other ∙ course.later c after;
   clear = subst (λ facts. ClearUnlessOwed facts (slice_get (commands_of scenario b) (length s.finished)) s) (sym (facts_of-other history e b other)) course.clear;
+  kinds = kinds_later history e s.opens s.opened may.comes course.kinds;
 }
 
 -- the entry of a backend and a command after a history
@@ -115,7 +117,7 @@ pub starts_on_course : (scenario : Scenario) (history : List Entry) (b c : ℕ) 
     → ((n : ℕ) → has_written history b n ≡ false) → CourseOf scenario (with_entry history b c event) b (session_then scenario history b c event None)
 starts_on_course scenario history b c events.Start played is start none =
     settled_on_course scenario new b commands first (record { played = played; session = settled (facts_of new b) commands first; is = is; holds = settled-locks (facts_of new b) commands first }) refl
-    (begins_on_course scenario new b no_block none_open [] [] (length history + 1) commands refl (λ n after. has_written-quiet history (entry_of b c events.Start) b n refl ∙ none n) refl)
+    (begins_on_course scenario new b no_block none_open [] [] (length history + 1) commands refl (λ n after. has_written-quiet history (entry_of b c events.Start) b n refl ∙ none n) refl tt)
   where
     new : List Entry
     new = with_entry history b c events.Start
@@ -136,6 +138,7 @@ enters_on_course scenario history b event s may plays course = record {
   ends = λ command here over. release_finishes history b s command event (own command (now_at command here)) (facts_of-own history (entry_of b (number_of s) event) b (eq-eqb b b refl)) later noted_is over;
   later = λ n after. has_written-earlier history (entry_of b (number_of s) event) b n (omega (arith, after, counts)) (course.later n (omega (arith, after, counts)));
   clear = subst (λ o. ClearUnlessOwed new_facts o later) (first_left (commands_of scenario b) (length s.finished) ∙ ap (slice_get (commands_of scenario b)) (sym counts)) (accepted_clear new_facts (first_of left) (counted new_facts event (placed_at (length history + 1) (number_of s) event s)));
+  kinds = kinds;
 }
   where
     new_facts : Facts
@@ -152,6 +155,13 @@ enters_on_course scenario history b event s may plays course = record {
 
     counts : length later.finished ≡ length s.finished
     counts = ap length (noted_is.after.finished ∙ noted_finished event s)
+
+    new : List Entry
+    new = with_entry history b (number_of s) event
+
+    kinds : AreOfKinds new later.opens later.opened
+    kinds = subst (λ o. AreOfKinds new o later.opened) (sym noted_is.after.opens) (subst (AreOfKinds new (noted event s).opens) (sym noted_is.after.opened)
+        (noted_kinds new event s (kinds_later history (entry_of b (number_of s) event) s.opens s.opened may.comes course.kinds)))
 
     now_at : (command : Command) → slice_get (commands_of scenario b) (length later.finished) ≡ Some command → slice_get (commands_of scenario b) (length s.finished) ≡ Some command
     now_at command here = ap (slice_get (commands_of scenario b)) (sym counts) ∙ here

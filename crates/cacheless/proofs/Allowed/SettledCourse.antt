@@ -4,6 +4,7 @@ use Rattle.std.proofs.lemmas.Bool.{and_parts}
 use Rattle.std.proofs.lemmas.List.{drop_more, drop_all, length_push}
 use Rattle.std.proofs.lemmas.Option.{slice_get_cases, slice_get_within, get_or_from_slice_get}
 use Rattle.lock_modes.specs.Own.{cleared}
+use Rattle.std.specs.List.{AllByRecursion}
 use Rattle.ddl_effect.specs.Plans.{Act, Plan, Done, Fails, Absent, Do, NotBuilt, is_built}
 use Rattle.txn_blocks.specs.Blocks.{Blocks, refused_by}
 use Rattle.ddl_effect.specs.Commands.{plan_of, commands_of}
@@ -11,7 +12,7 @@ use Rattle.ddl_effect.proofs.HasPlan.{built_alike}
 use Rattle.history_model.specs.Writes.{has_written, is_empty}
 use Rattle.cacheless.specs.Types.{Row, Purpose, Scenario, Command, CommandError, OpenRelation, Told, OwnLock, Entry}
 use Rattle.cacheless.specs.Facts.{Facts, facts_of}
-use Rattle.cacheless.specs.OnCourse.{is_absent, Way, Begun, Unbuilt, FollowsPlan, TellsAlone, IsOnCourse, ClearUnlessOwed, EntersCourse}
+use Rattle.cacheless.specs.OnCourse.{is_absent, Way, Begun, Unbuilt, FollowsPlan, TellsAlone, IsOnCourse, ClearUnlessOwed, EntersCourse, AreOfKinds}
 use Rattle.cacheless.specs.Owed.{Owes, OwesScan, owed_at_start, owed_after, builds_owed, act_owed, scans_owed, owes_build, owes_accept}
 use Rattle.cacheless.specs.Played.{IsPlayed}
 use Rattle.cacheless.specs.Runs.{runs}
@@ -22,6 +23,7 @@ use Rattle.cacheless.specs.Ends.{end_left}
 use Rattle.cacheless.proofs.Plans.ActOrder.{follows_order}
 use Rattle.cacheless.proofs.Plans.UnderLocks.{order_there}
 use Rattle.cacheless.proofs.Settling.{acted-out}
+use Rattle.cacheless.proofs.Allowed.KindsHeld.{IsOpenKind, act_kinds, begin_kinds, after_kinds}
 use Rattle.cacheless.proofs.Plans.SilentActs.{both_empty, empty_list, IsDoneHere, is_done_here, named_there, absent_name, takes_none, act_follows}
 
 -- whether its accept of messages is over doesn't change where an act is done here
@@ -49,13 +51,14 @@ record HasActed (seen : List Entry) (b : ℕ) (command : Command) (s now : Sessi
   locks : now.locks ≡ s.locks
   ended : now.ended ≡ s.ended
   clear : ClearUnlessOwed (facts_of seen b) (Some command) now
+  kinds : AreOfKinds seen now.opens now.opened
 
 -- all acts that are done here keep it on its course
 acts_follow : (scenario : Scenario) (seen : List Entry) (b : ℕ) (command : Command) (plan : Plan) (s : Session) → HasSession scenario seen b s.locks → s.left ≡ plan → is_empty (owed_at_start (facts_of seen b) command s ++ owed_after (facts_of seen b).last) ≡ true
-    → ClearUnlessOwed (facts_of seen b) (Some command) s → FollowsPlan seen b s command → HasActed seen b command s (acted_on (facts_of seen b) plan s)
-acts_follow scenario seen b command (Do act rest) s has at free clear follows = by_done (done_here (facts_of seen b) s act (Do act rest)) refl
+    → ClearUnlessOwed (facts_of seen b) (Some command) s → FollowsPlan seen b s command → AreOfKinds seen s.opens s.opened → HasActed seen b command s (acted_on (facts_of seen b) plan s)
+acts_follow scenario seen b command (Do act rest) s has at free clear follows kinds = by_done (done_here (facts_of seen b) s act (Do act rest)) refl
     (λ given done. acts_follow scenario seen b command (rest given) (act_done act given (rest given) s) (record { played = has.played; session = has.session; is = has.is; holds = has.holds }) refl free (λ owes. cleared_here given done)
-    (act_follows scenario seen b s command act rest given (record { played = has.played; session = has.session; is = has.is; holds = has.holds; clear = cleared_here given done }) at (is_done_here (facts_of seen b) s act rest given done) follows))
+    (act_follows scenario seen b s command act rest given (record { played = has.played; session = has.session; is = has.is; holds = has.holds; clear = cleared_here given done }) at (is_done_here (facts_of seen b) s act rest given done) follows) (act_kinds seen b s command act rest given has.played.sound follows at kinds))
   where
     cleared_here : (given : List Row) → done_here (facts_of seen b) s act (Do act rest) ≡ Some given → map cleared s.locks ≡ s.locks
     cleared_here given done = clear (builds_done (facts_of seen b) command s (is_done_here (facts_of seen b) s act rest given done).builds free)
@@ -63,17 +66,17 @@ acts_follow scenario seen b command (Do act rest) s has at free clear follows = 
     by_done : (o : Option (List Row)) → done_here (facts_of seen b) s act (Do act rest) ≡ o
         → ((given : List Row) → done_here (facts_of seen b) s act (Do act rest) ≡ Some given → HasActed seen b command (act_done act given (rest given) s) (acted_on (facts_of seen b) (rest given) (act_done act given (rest given) s)))
         → HasActed seen b command s (elim o as (λ x. Session) [ None ↦ s | Some given ↦ acted_on (facts_of seen b) (rest given) (act_done act given (rest given) s) ])
-    by_done None is more = record { follows = follows; finished = refl; locks = refl; ended = refl; clear = clear }
-    by_done (Some given) is more = let later = more given is in record { follows = later.follows; finished = later.finished; locks = later.locks; ended = later.ended; clear = later.clear }
-acts_follow scenario seen b command plan s has at free clear follows = record { follows = follows; finished = refl; locks = refl; ended = refl; clear = clear }
+    by_done None is more = record { follows = follows; finished = refl; locks = refl; ended = refl; clear = clear; kinds = kinds }
+    by_done (Some given) is more = let later = more given is in record { follows = later.follows; finished = later.finished; locks = later.locks; ended = later.ended; clear = later.clear; kinds = later.kinds }
+acts_follow scenario seen b command plan s has at free clear follows kinds = record { follows = follows; finished = refl; locks = refl; ended = refl; clear = clear; kinds = kinds }
 
-acted_follows : (scenario : Scenario) (seen : List Entry) (b : ℕ) (command : Command) (s : Session) → HasSession scenario seen b s.locks → ClearUnlessOwed (facts_of seen b) (Some command) s → FollowsPlan seen b s command
+acted_follows : (scenario : Scenario) (seen : List Entry) (b : ℕ) (command : Command) (s : Session) → HasSession scenario seen b s.locks → ClearUnlessOwed (facts_of seen b) (Some command) s → FollowsPlan seen b s command → AreOfKinds seen s.opens s.opened
     → HasActed seen b command s (acted (facts_of seen b) command s)
-acted_follows scenario seen b command s has clear follows = by_test (is_empty (owed_at_start (facts_of seen b) command s ++ owed_after (facts_of seen b).last)) refl
+acted_follows scenario seen b command s has clear follows kinds = by_test (is_empty (owed_at_start (facts_of seen b) command s ++ owed_after (facts_of seen b).last)) refl
   where
     by_test : (t : Bool) → is_empty (owed_at_start (facts_of seen b) command s ++ owed_after (facts_of seen b).last) ≡ t → HasActed seen b command s (elim t as (λ x. Session) [ true ↦ acted_on (facts_of seen b) s.left s | false ↦ s ])
-    by_test true free = acts_follow scenario seen b command s.left s has refl free clear follows
-    by_test false owed = record { follows = follows; finished = refl; locks = refl; ended = refl; clear = clear }
+    by_test true free = acts_follow scenario seen b command s.left s has refl free clear follows kinds
+    by_test false owed = record { follows = follows; finished = refl; locks = refl; ended = refl; clear = clear; kinds = kinds }
 
 -- a command that isn't built has no plan
 not_built : (plan : Plan) → is_built plan ≡ false → plan ≡ NotBuilt
@@ -135,17 +138,18 @@ rest_left commands n command rest are = let both : command ∷ rest ≡ command 
 
 -- so the session at the beginning of the next command, or after the last one, is on its course
 pub begins_on_course : (scenario : Scenario) (seen : List Entry) (b : ℕ) (blocks : Blocks) (opens : List OpenRelation) (finished : List Finished) (locks : List OwnLock) (last : ℕ) (left : List Command) → left ≡ drop (length finished) (commands_of scenario b)
-    → ((c : ℕ) → length finished < c → has_written seen b c ≡ false) → map cleared locks ≡ locks → EntersCourse scenario seen b (at_command blocks opens finished locks last (first_of left))
-begins_on_course scenario seen b blocks opens finished locks last left are unwritten clear = by_first (first_of left) (ap first_of are ∙ first_left (commands_of scenario b) (length finished))
+    → ((c : ℕ) → length finished < c → has_written seen b c ≡ false) → map cleared locks ≡ locks → AllByRecursion (IsOpenKind seen) opens → EntersCourse scenario seen b (at_command blocks opens finished locks last (first_of left))
+begins_on_course scenario seen b blocks opens finished locks last left are unwritten clear kinds = by_first (first_of left) (ap first_of are ∙ first_left (commands_of scenario b) (length finished))
   where
     by_first : (o : Option Command) → o ≡ slice_get (commands_of scenario b) (length finished) → EntersCourse scenario seen b (at_command blocks opens finished locks last o)
-    by_first None is = record { follows = λ command at. absurd (let both : None ≡ Some command = is ∙ at in cc both); ends = λ command at over. absurd (cc); later = λ c after. unwritten c (omega (arith, after)); clear = λ owes. clear }
+    by_first None is = record { follows = λ command at. absurd (let both : None ≡ Some command = is ∙ at in cc both); ends = λ command at over. absurd (cc); later = λ c after. unwritten c (omega (arith, after)); clear = λ owes. clear; kinds = begin_kinds seen blocks opens kinds }
     by_first (Some first) is = record {
       follows = λ command at. subst (FollowsPlan seen b (at_command blocks opens finished locks last (Some first))) (let both : Some first ≡ Some command = is ∙ at in cc both)
           (begins_plan seen b blocks opens finished locks last first (unwritten (length finished + 1) (omega arith)));
       ends = λ command at over. absurd (cc);
       later = λ c after. unwritten c (omega (arith, after));
       clear = λ owes. clear;
+      kinds = begin_kinds seen blocks opens kinds;
     }
 
 -- a command that is finished owes nothing in an accept of messages
@@ -184,6 +188,7 @@ settled_on_course scenario seen b [] s has are course = record {
   going = λ command at. absurd (none_left command at);
   later = course.later;
   clear = course.clear;
+  kinds = course.kinds;
 }
   where
     none_left : (command : Command) → slice_get (commands_of scenario b) (length s.finished) ≡ Some command → ⊥
@@ -198,7 +203,7 @@ settled_on_course scenario seen b (command ∷ rest) s has are course = by_end (
     at = sym (first_left (commands_of scenario b) (length s.finished)) ∙ ap first_of (sym are)
 
     acts_done : HasActed seen b command s now
-    acts_done = acted_follows scenario seen b command s has (subst (λ o. ClearUnlessOwed (facts_of seen b) o s) at course.clear) (course.follows command at)
+    acts_done = acted_follows scenario seen b command s has (subst (λ o. ClearUnlessOwed (facts_of seen b) o s) at course.clear) (course.follows command at) course.kinds
 
     counts : length now.finished ≡ length s.finished
     counts = ap length acts_done.finished
@@ -215,7 +220,7 @@ settled_on_course scenario seen b (command ∷ rest) s has are course = by_end (
         → IsOnCourse scenario seen b (settled (facts_of seen b) rest (next_session command (first_of rest) now)))
         → IsOnCourse scenario seen b (elim t as (λ x. Session) [ true ↦ settled (facts_of seen b) rest (next_session command (first_of rest) now) | false ↦ now ])
     by_end true finished more = more (record { played = has.played; session = has.session; is = has.is; holds = has.holds ∙ sym acts_done.locks }) next
-        (begins_on_course scenario seen b (blocks_after command now) (opens_after command now) (now.finished ++ finished_as now ∷ []) now.locks now.last rest next (λ c after. course.later c (omega (arith, after, counts, length_push now.finished (finished_as now)))) (acts_done.clear (finished_accepts (facts_of seen b) command now finished)))
+        (begins_on_course scenario seen b (blocks_after command now) (opens_after command now) (now.finished ++ finished_as now ∷ []) now.locks now.last rest next (λ c after. course.later c (omega (arith, after, counts, length_push now.finished (finished_as now)))) (acts_done.clear (finished_accepts (facts_of seen b) command now finished)) (after_kinds seen command now acts_done.kinds))
       where
         next : rest ≡ drop (length (now.finished ++ finished_as now ∷ [])) (commands_of scenario b)
         next = rest_left (commands_of scenario b) (length s.finished) command rest are ∙ ap (λ n. drop n (commands_of scenario b)) (sym (length_push now.finished (finished_as now) ∙ ap (λ n. n + 1) counts))
@@ -224,6 +229,7 @@ settled_on_course scenario seen b (command ∷ rest) s has are course = by_end (
       going = λ other here is. subst (TellsAlone seen b now) (let both : Some command ≡ Some other = sym at ∙ ap (slice_get (commands_of scenario b)) (sym counts) ∙ here in cc both) (over going (sym acts_done.ended ∙ is));
       later = λ c after. course.later c (omega (arith, after, counts));
       clear = subst (λ o. ClearUnlessOwed (facts_of seen b) o now) (sym at ∙ ap (slice_get (commands_of scenario b)) (sym counts)) acts_done.clear;
+      kinds = acts_done.kinds;
     }
 
 -- one act that is done here keeps it so
@@ -235,6 +241,7 @@ act_enters scenario seen b s command act rest given has at free left done course
   ends = λ other here over. absurd (unsettled (course.ends command at over));
   later = course.later;
   clear = λ owes. clear;
+  kinds = act_kinds seen b s command act rest given has.played.sound (course.follows command at) left course.kinds;
 }
   where
     here_done : IsDoneHere (facts_of seen b) s act rest given
@@ -257,4 +264,4 @@ finish_enters scenario seen b s command rest are finished course =
     begins_on_course scenario seen b (blocks_after command s) (opens_after command s) (s.finished ++ finished_as s ∷ []) s.locks s.last rest
     (rest_left (commands_of scenario b) (length s.finished) command rest are ∙ ap (λ n. drop n (commands_of scenario b)) (sym (length_push s.finished (finished_as s))))
     (λ c after. course.later c (omega (arith, after, length_push s.finished (finished_as s))))
-    (subst (λ o. ClearUnlessOwed (facts_of seen b) o s) (sym (first_left (commands_of scenario b) (length s.finished)) ∙ ap first_of (sym are)) course.clear (finished_accepts (facts_of seen b) command s finished))
+    (subst (λ o. ClearUnlessOwed (facts_of seen b) o s) (sym (first_left (commands_of scenario b) (length s.finished)) ∙ ap first_of (sym are)) course.clear (finished_accepts (facts_of seen b) command s finished)) (after_kinds seen command s course.kinds)

@@ -15,7 +15,7 @@ use Rattle.cacheless.specs.declared.progress.Progress.{Progress}
 use Rattle.cacheless.specs.Facts.{facts_of}
 use Rattle.cacheless.specs.Lines.{answer_judged, line_of}
 use Rattle.cacheless.specs.Owed.{unusable, builds_owed, owed_of}
-use Rattle.cacheless.specs.OnCourse.{FollowsPlan, TellsStill}
+use Rattle.cacheless.specs.OnCourse.{FollowsPlan, TellsStill, AreOfKinds}
 use Rattle.cacheless.specs.Played.{IsPlayed}
 use Rattle.cacheless.specs.Session.{Outcome, Badly, number_of, outcome_of}
 use Rattle.cacheless.specs.Settled.{finished_as, settled}
@@ -101,11 +101,11 @@ failed_badly Badly is = refl
 failed_badly o is = absurd (cc is)
 
 -- so what the code answers is the line of its command, once that is to be answered, and while nothing of it is taken back or released
-pub told_now : (scenario : Scenario) (seen : List Entry) (p : Progress) (command : Command) (text : List ℕ) → IsPlayed scenario seen → (holds : Holds scenario seen p) → FollowsPlan seen p.id (session_at p holds.rest) command → TellsStill seen p.id (session_at p holds.rest) command → length seen ≤ holds.rest.judged
+pub told_now : (scenario : Scenario) (seen : List Entry) (p : Progress) (command : Command) (text : List ℕ) → IsPlayed scenario seen → (holds : Holds scenario seen p) → FollowsPlan seen p.id (session_at p holds.rest) command → TellsStill seen p.id (session_at p holds.rest) command → AreOfKinds seen p.opens p.opened → length seen ≤ holds.rest.judged
     → AreLastScans seen p.id (kept_at p) → KeepsMissed p → is_to_answer command p ≡ true → IsToldText p text
     → record { backend = p.id; command = number_of (session_at p holds.rest); text = text } ≡ line_of scenario seen p.id (number_of (session_at p holds.rest)) (finished_as (session_at p holds.rest)) command
-told_now scenario seen p command text played holds follows stands judged at missed out told = told_line scenario seen p holds.rest command text
-    (has_come_out scenario seen p.id (session_at p holds.rest) command (session_held scenario seen p played holds) follows parts.0 stands (by_failed (has_failed p) refl parts.1))
+told_now scenario seen p command text played holds follows stands kinds judged at missed out told = told_line scenario seen p holds.rest command text
+    (has_come_out scenario seen p.id (session_at p holds.rest) command (session_held scenario seen p played holds) follows parts.0 stands kinds (by_failed (has_failed p) refl parts.1))
     holds.facts at missed judged told
   where
     parts : (is_out p ≡ true) × ((has_failed p || not (tells_of_scans (told_of (plan_at p.opens p.exec))) || owes_nothing command p) ≡ true)

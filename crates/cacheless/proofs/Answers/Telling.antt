@@ -179,7 +179,7 @@ whole_now seen s session same stands = by_last (last_event_of seen s.id) refl st
 -- what the code answers is the line of its command
 pub answered_line : (scenario : Scenario) (seen : List Entry) (s : Progress) (command : Command) (text : List ℕ) (holds : Holds scenario seen s) → TellsNow scenario seen s holds → PlacesFit seen s → slice_get s.commands s.finished ≡ Some command → is_to_answer command s ≡ true → s.answer ≡ None → IsToldText s text
     → record { backend = s.id; command = number_of (session_at s holds.rest); text = text } ≡ line_of scenario seen s.id (number_of (session_at s holds.rest)) (finished_as (session_at s holds.rest)) command
-answered_line scenario seen s command text holds now places at out none told = told_now scenario seen s command text now.played holds (now.course.follows command (at_finished scenario seen s holds ∙ at)) here.stands here.judged places.kept (λ name missed. places.absent name missed (whole_now seen s (session_at s holds.rest) refl (whole name missed here.stands))) out told
+answered_line scenario seen s command text holds now places at out none told = told_now scenario seen s command text now.played holds (now.course.follows command (at_finished scenario seen s holds ∙ at)) here.stands now.course.kinds here.judged places.kept (λ name missed. places.absent name missed (whole_now seen s (session_at s holds.rest) refl (whole name missed here.stands))) out told
   where
     whole : (name : List ℕ) → plan_at s.opens s.exec ≡ Absent name → TellsStill seen s.id (session_at s holds.rest) command → is_over (last_event_of seen s.id) (session_at s holds.rest) ≡ false
     whole name missed (inl stands) = stands

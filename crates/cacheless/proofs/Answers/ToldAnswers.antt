@@ -1,5 +1,5 @@
 -- What a command has to answer by the history is what its backend tells by its last scans and its locks.
-use Rattle.std.proofs.Common.{◌≡◌, ◌≤◌, ◌∙◌, ℕ, true, false, Option, Some, None, List, [], ◌∷◌, refl, sym, ap, subst, length, ◌⊎◌, inl, inr}
+use Rattle.std.proofs.Common.{◌≡◌, Contains, ◌≤◌, ◌∙◌, ℕ, true, false, Option, Some, None, List, [], ◌∷◌, refl, sym, ap, subst, length, ◌⊎◌, inl, inr}
 use Rattle.std.proofs.lemmas.List.{append-nil, take_all}
 use Rattle.command_answers.specs.Answers.{answer_text}
 use Rattle.command_answers.specs.declared.answer.Answer.TheVariants as answers
@@ -14,11 +14,14 @@ use Rattle.ddl_effect.specs.Plans.{Plan, Done, Fails, Absent, NotBuilt, Do}
 use Rattle.history_model.specs.Lives.{last_event_of}
 use Rattle.history_model.specs.Read.{place_read, rows_read, is_usable}
 use Rattle.history_model.specs.Versions.{answer_of}
-use Rattle.cacheless.specs.Types.{Oid, Command, CommandError, Answer, Told, Opening, Scenario, Entry, Line}
+use Rattle.std.proofs.lemmas.List.Elements.{All-contains, All-from_recursion}
+use Rattle.history_model.specs.OfKind.{IsOfKind}
+use Rattle.cacheless.specs.Types.{Oid, Command, CommandError, Answer, Told, Opening, OpenRelation, Scenario, Entry, Line}
 use Rattle.cacheless.specs.ActsDone.{made_in}
 use Rattle.cacheless.specs.Facts.{facts_of}
 use Rattle.cacheless.specs.Lines.{name_in, answer_well, answer_by, effect_judged, answer_judged, line_of}
-use Rattle.cacheless.specs.OnCourse.{OnItsWay, HasWritten, is_over, Way, Begun, Wrote, Unbuilt, Over, FollowsPlan, TellsAlone, TellsStill}
+use Rattle.cacheless.specs.OnCourse.{OnItsWay, HasWritten, is_over, Way, Begun, Wrote, Unbuilt, Over, FollowsPlan, TellsAlone, TellsStill, AreOfKinds}
+use Rattle.cacheless.proofs.Allowed.KindsHeld.{IsKind}
 use Rattle.cacheless.specs.Owed.{builds_owed, owed_of}
 use Rattle.cacheless.proofs.Allowed.Releases.{OwesNoScan, owes_no_scan}
 use Rattle.cacheless.specs.Session.{Session, none_open, held_before, number_of, outcome_of, is_settled, Well, Badly}
@@ -38,6 +41,7 @@ pub record HasComeOut (scenario : Scenario) (seen : List Entry) (b : ℕ) (s : S
   pub follows : FollowsPlan seen b s command
   pub out : is_settled (outcome_of s.left) ≡ true
   pub stands : TellsStill seen b s command
+  pub kinds : AreOfKinds seen s.opens s.opened
   pub builds : outcome_of s.left ≡ Well → tells_of_scans (told_of s.left) ≡ true → builds_owed (facts_of seen b) s.opened ≡ []
   pub named : (oid : Oid) → s.left ≡ Done (tells.Regclass oid) → is_usable seen b (scans.RelOid oid) ≡ true
 
@@ -81,12 +85,16 @@ stays_open seen b s command told (Written wrote) done = subst (TellsOpen s.opene
 abbrev well_read : List Entry → ℕ → Session → Told → Answer
 well_read seen b s told = told_well (rows_read seen b) (place_read seen b) s.locks s.blocks.block told
 
+-- a descriptor that is held is of its kind
+told_kind : (seen : List Entry) (opens : List OpenRelation) (held : List Opening) (o : Opening) → AreOfKinds seen opens held → Contains held o → IsOfKind seen o.rel o.kind
+told_kind seen opens held o kinds has = All-contains (IsKind seen) held o (All-from_recursion (IsKind seen) held kinds.opened) has
+
 -- what a command answers that came out well
 well_told : (scenario : Scenario) (seen : List Entry) (b : ℕ) (s : Session) (command : Command) (told : Told) → HasComeOut scenario seen b s command → s.left ≡ Done told → TellsOpen s.opened told → answer_well scenario seen b (finished_as s) told ≡ well_read seen b s told
 well_told scenario seen b s command (tells.Relation rel kind) come done opened =
-    ap (answers.Shown kind rel) (fields_told scenario seen b s.locks (record { rel = rel; kind = kind }) (record { has = come.has; builds = one_owes_none (facts_of seen b) s.opened (record { rel = rel; kind = kind }) opened (come.builds (ap outcome_of done) (ap (λ p. tells_of_scans (told_of p)) done)) }))
+    ap (answers.Shown kind rel) (fields_told scenario seen b s.locks (record { rel = rel; kind = kind }) (record { has = come.has; kind = told_kind seen s.opens s.opened (record { rel = rel; kind = kind }) come.kinds opened; builds = one_owes_none (facts_of seen b) s.opened (record { rel = rel; kind = kind }) opened (come.builds (ap outcome_of done) (ap (λ p. tells_of_scans (told_of p)) done)) }))
 well_told scenario seen b s command (tells.Field rel kind field) come done opened =
-    ap answers.One (field_told scenario seen b s.locks (record { rel = rel; kind = kind }) field (record { has = come.has; builds = one_owes_none (facts_of seen b) s.opened (record { rel = rel; kind = kind }) opened.0 (come.builds (ap outcome_of done) (ap (λ p. tells_of_scans (told_of p)) done)) }) opened.1)
+    ap answers.One (field_told scenario seen b s.locks (record { rel = rel; kind = kind }) field (record { has = come.has; kind = told_kind seen s.opens s.opened (record { rel = rel; kind = kind }) come.kinds opened.0; builds = one_owes_none (facts_of seen b) s.opened (record { rel = rel; kind = kind }) opened.0 (come.builds (ap outcome_of done) (ap (λ p. tells_of_scans (told_of p)) done)) }) opened.1)
 well_told scenario seen b s command (tells.Regclass oid) come done opened = ap (λ given. answers.Regclass oid (name_in given) (place_read seen b (scans.RelOid oid))) (read_at_place seen b (scans.RelOid oid))
 well_told scenario seen b s command told come done opened = refl
 
@@ -140,13 +148,14 @@ line_told scenario seen b s command come judged = ap (λ h. line_by h) (take_all
     line_by h = record { backend = b; command = number_of s; text = answer_text (answer_judged scenario h b (number_of s) (finished_as s) command s.refused) }
 
 -- a command that came out of itself and owes nothing or tells of no scan, or has failed, has come out so, where its last entry takes nothing back and is no release
-pub has_come_out : (scenario : Scenario) (seen : List Entry) (b : ℕ) (s : Session) (command : Command) → HasSession scenario seen b s.locks → FollowsPlan seen b s command → is_settled (outcome_of s.left) ≡ true → TellsStill seen b s command
+pub has_come_out : (scenario : Scenario) (seen : List Entry) (b : ℕ) (s : Session) (command : Command) → HasSession scenario seen b s.locks → FollowsPlan seen b s command → is_settled (outcome_of s.left) ≡ true → TellsStill seen b s command → AreOfKinds seen s.opens s.opened
     → (outcome_of s.left ≡ Badly) ⊎ (tells_of_scans (told_of s.left) ≡ false) ⊎ (owed_of (facts_of seen b) command s ≡ []) → HasComeOut scenario seen b s command
-has_come_out scenario seen b s command has follows out stands owes = record {
+has_come_out scenario seen b s command has follows out stands kinds owes = record {
   has = has;
   follows = follows;
   out = out;
   stands = stands;
+  kinds = kinds;
   builds = λ well tells. (by_side owes well tells).0;
   named = λ oid is. (none_unusable (facts_of seen b) (scans.RelOid oid ∷ []) ((by_side owes (ap outcome_of is) (ap (λ p. tells_of_scans (told_of p)) is)).1 (tells.Regclass oid) is)).0;
 }

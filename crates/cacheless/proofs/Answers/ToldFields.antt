@@ -10,7 +10,7 @@ use Rattle.base_types.specs.declared.kind.Kind.TheVariants.{Table, Index}
 use Rattle.lock_modes.specs.Own.{clear_modes}
 use Rattle.history_model.specs.Read.{place_read, rows_read, is_usable}
 use Rattle.history_model.specs.Versions.{fresh_text}
-use Rattle.history_model.proofs.OneKind.{IsOfKind}
+use Rattle.history_model.specs.OfKind.{IsOfKind}
 use Rattle.cacheless.specs.Types.{Oid, Kind, Field, Purpose, Shown, Opening, OwnLock, Scenario, Entry}
 use Rattle.cacheless.specs.Facts.{Facts, facts_of}
 use Rattle.cacheless.specs.Lines.{read_field, shown_field}
