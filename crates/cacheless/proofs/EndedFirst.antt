@@ -40,7 +40,7 @@ ended_back history b c from s (Some u) r lawful spared first =
     subst (λ t. EndedFirst (history ++ entry_of b c (events.Gone from) ∷ []) s (elim t [ true ↦ None | false ↦ Some u ])) (sym (first_spared history b c (events.Gone from) u s r lawful first spared)) (first_on history (entry_of b c (events.Gone from)) u s first)
 
 -- what goes first counts where the later stamp does
-first_counts : (history : List Entry) (b : ℕ) (u s : Stamp) → GoesFirst history u s → counts history b s ≡ true → counts history b u ≡ true
+pub first_counts : (history : List Entry) (b : ℕ) (u s : Stamp) → GoesFirst history u s → counts history b s ≡ true → counts history b u ≡ true
 first_counts history b u s (inl was) counted = or_left (is_committed history u.xid.0) (runs_as history b u.xid.0) was
 first_counts history b u s (inr same) counted = subst (λ x. (is_committed history x || runs_as history b x) ≡ true) (sym same.0) counted
 

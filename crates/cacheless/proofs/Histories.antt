@@ -15,6 +15,7 @@ pub mod NoField
 pub mod WeakTargets
 pub mod WeakerModes
 pub mod LockedColumns
+pub mod RenamedIndex
 pub mod AlteredTable
 pub mod DroppedTable
 pub mod TableMadeAgain

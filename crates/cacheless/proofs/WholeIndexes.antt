@@ -1,41 +1,46 @@
--- Who sees an index row sees the own row of its index, of kind Index: both came in one write, and whoever took the own row away took the index row away with it.
-use Rattle.std.proofs.Common.{◌≡◌, ◌<◌, ◌∙◌, ◌⊎◌, inl, inr, ℕ, Bool, true, false, not, Option, Some, None, List, [], ◌∷◌, ◌++◌, ◌||◌, refl, sym, ap, subst, map, filter, fold, arith}
+-- Who sees an index row sees the own row of its index, of kind Index, and the other way round: both came in one write, and whoever took one away took the other away with it.
+use Rattle.std.proofs.Common.{◌≡◌, ◌<◌, ◌∙◌, ◌⊎◌, inl, inr, ℕ, Bool, true, false, not, Option, Some, None, List, [], ◌∷◌, ◌++◌, ◌||◌, ◌&&◌, refl, sym, ap, subst, map, filter, fold, arith}
 use Rattle.std.specs.Prelude.{⊤}
 use Rattle.std.specs.List.{AllByRecursion, list_any}
 use Rattle.std.specs.Option.{option_map_or, IfSome}
-use Rattle.std.proofs.lemmas.Bool.{and_parts}
+use Rattle.std.proofs.lemmas.Bool.{and_parts, not-true}
 use Rattle.base_types.specs.declared.ids.Xid.{Xid}
 use Rattle.base_types.specs.declared.index_state.IndexState.{IndexState}
 use Rattle.base_types.specs.declared.kind.Kind.TheVariants.{Table, Index}
 use Rattle.base_types.specs.declared.row.Row.TheVariants as rows
 use Rattle.base_types.specs.declared.row_key.RowKey.{RowKey}
 use Rattle.base_types.specs.declared.row_key.RowKey.TheVariants as keys
+use Rattle.base_types.specs.declared.scan.Purpose.TheVariants as scans
 use Rattle.base_types.specs.RowKeys.{key_of, same_key}
+use Rattle.base_types.specs.Scans.{selects}
 use Rattle.row_visibility.specs.declared.version.Version.{Version}
 use Rattle.row_visibility.specs.declared.version.Stamp.{Stamp}
 use Rattle.event_kinds.specs.declared.entry.Event.TheVariants as events
 use Rattle.event_kinds.specs.declared.entry.Item.TheVariants as forms
 use Rattle.lock_modes.specs.declared.grant.Grant.{Grant}
 use Rattle.history_model.specs.Prefixes.{EachEntry}
-use Rattle.history_model.specs.Versions.{versions_of, versions_by, change_by, end_by, ends, version_of, added_row, old_row, row_with, is_back, end_back, counts, sees, rows_of}
+use Rattle.history_model.specs.Versions.{versions_of, versions_by, change_by, end_by, ends, version_of, ended_key, added_row, old_row, row_with, is_back, end_back, counts, sees, rows_of, answer_of}
 use Rattle.history_model.specs.Held.{held_by, held_of}
 use Rattle.history_model.specs.Drawn.{next_oid}
 use Rattle.history_model.specs.Orderly.{main_rel, MayComeNext, IsSound}
-use Rattle.history_model.specs.Writes.{same_kind, keeps_kind}
+use Rattle.history_model.specs.Writes.{has_row, same_kind, keeps_kind}
 use Rattle.history_model.proofs.Asking.{oid_eq}
 use Rattle.history_model.proofs.DrawnRows.{rows_drawn}
 use Rattle.history_model.proofs.Every.{every-weaker, every-map, every-filter, every-both, every-swap, SomeOf, some-weaker, some-right, from_some}
+use Rattle.history_model.proofs.GivenRows.{given_seen}
 use Rattle.history_model.proofs.Guards.{key_eq, any_with, GuardsLawfully, IsGuarded}
 use Rattle.history_model.proofs.InOrder.{IsIn}
-use Rattle.history_model.proofs.Ordered.{Ordered, all_each, early_at, ended_named, guards_lawful, sound_ordered}
+use Rattle.history_model.proofs.Locked.{IsSeenAs, seen_alone}
+use Rattle.history_model.proofs.Ordered.{Ordered, all_each, all_kept, early_at, ended_named, guards_lawful, lawful_of, sound_ordered}
 use Rattle.history_model.proofs.Reached.{next_rises}
 use Rattle.history_model.proofs.Reading.{versions_of-more as versions-more}
-use Rattle.history_model.proofs.Touched.{entry_of, OfStamps}
+use Rattle.history_model.proofs.Touched.{entry_of, OfStamps, Touch}
 use Rattle.cacheless.specs.Types.{Oid, Row, Entry, Event, Item}
-use Rattle.cacheless.specs.TableWrites.{makes_index, takes_index_row, is_of_index, goes_together, KeepsIndexesBy, WritesIndexes}
+use Rattle.cacheless.specs.TableWrites.{makes_index, adds_index_row, takes_index_row, is_of_index, takes_relation, goes_together, KeepsIndexesBy, WritesIndexes}
 use Rattle.cacheless.proofs.AlongSound.{along_sound}
-use Rattle.cacheless.proofs.Dropped.{AreEnded, SeesRow, ended_unseen, AddsNone, AddsNoneBy, ended_more, class_added, ended_new}
-use Rattle.cacheless.proofs.NumberedColumns.{Lasts, lasting, every_written, any_some}
+use Rattle.cacheless.proofs.EndedFirst.{first_counts}
+use Rattle.cacheless.proofs.Dropped.{IsDropped, dropped_more, dropped_new, dropped_unseen, AreEnded, SeesRow, ended_there, ended_unseen, AddsNone, AddsNoneBy, ended_more, class_added, ended_new}
+use Rattle.cacheless.proofs.NumberedColumns.{Lasts, lasting, GoesFirst, first_then, first_on, first_spared, counted_first, every_written, any_some}
 use Rattle.cacheless.proofs.Successors.{HaveNext, IsCounted, Gives, one_is_seen, next-weaker, next_written, next_gone}
 use Rattle.cacheless.proofs.VersionsStay.{IsSpared, some_written, some_stays, version_seen, row_seen}
 
@@ -338,3 +343,229 @@ pub index_whole : (history : List Entry) (b : ℕ) (index table : Oid) (state : 
 index_whole history b index table state nums sound writes there = own_there index (rows_of history b) (row_seen (IsIndexOf index) history b (index_seen history b index sound writes
     (some-weaker (λ v. (rows.Ind index table state nums ≡ v.row) × (sees history b v ≡ true)) (λ v. (key_of v.row ≡ keys.Ind index) × (sees history b v ≡ true)) (λ v h. (ap key_of (sym h.0), h.1)) (versions_of history)
     (version_seen (λ row. rows.Ind index table state nums ≡ row) history b there))))
+
+-- so a table has no index row that a backend sees
+pub table_unindexed : (history : List Entry) (b : ℕ) (rel : Oid) (name : List ℕ) → IsSound history → EachEntry WritesIndexes history → IsSeenAs history b rel name Table → SeesRow history b (keys.Ind rel) → ⊥
+table_unindexed history b rel name sound writes table seen = of own.name own.fill (seen_alone history b rel own.name Index own.fill sound own.there)
+  where
+    own : IsOwnOf rel (rows_of history b)
+    own = own_there rel (rows_of history b) (row_seen (IsIndexOf rel) history b (index_seen history b rel sound writes seen))
+
+    of : (n : List ℕ) (fill : Option ℕ) → answer_of history b (scans.Class rel) ≡ rows.Class rel n Index fill ∷ [] → ⊥
+    of n fill index = let both : rows.Class rel name Table table.0 ∷ [] ≡ rows.Class rel n Index fill ∷ [] = sym table.1 ∙ index in cc both
+
+-- The other way round: there is a version of the index row, by a stamp that goes first.
+abbrev HasIndexRow : List Entry → Oid → List Version → Stamp → Type 0
+HasIndexRow history rel vs s = SomeOf (λ w. (key_of w.row ≡ keys.Ind rel) × GoesFirst history w.by s) vs
+
+-- each version of an index's own row has one
+abbrev HaveIndexRows : List Entry → Oid → List Version → List Version → Type 0
+HaveIndexRows history rel all vs = AllByRecursion (λ v. IsIndexOf rel v.row → HasIndexRow history rel all v.by) vs
+
+adds_gives : (rel : Oid) (item : Item) → adds_index_row rel item ≡ true → Gives (λ row. key_of row ≡ keys.Ind rel) item
+adds_gives rel (forms.Add (rows.Ind index table state nums)) is = (rows.Ind index table state nums, (refl, ap keys.Ind (oid_eq index rel is)))
+adds_gives rel item is = absurd (cc)
+
+-- the index row that a write has beside an index's own row that it makes
+made_given : (rel : Oid) (items : List Item) → list_any (adds_index_row rel) items ≡ true → SomeOf (Gives (λ row. key_of row ≡ keys.Ind rel)) items
+made_given rel items some = some-weaker (λ i. adds_index_row rel i ≡ true) (Gives (λ row. key_of row ≡ keys.Ind rel)) (λ i adds. adds_gives rel i adds) items (any_some (adds_index_row rel) items some)
+
+-- an index's own row that a change puts in the place of another is in the place of one of its kind
+was_index : (rel : Oid) (old row : Row) → same_key (key_of old) (key_of row) ≡ true → same_kind old row ≡ true → IsIndexOf rel row → IsIndexOf rel old
+was_index rel (rows.Class oid own Index fill) (rows.Class to name Index fill') keyed alike is = oid_eq oid to keyed ∙ is
+was_index rel (rows.Class oid own Table fill) (rows.Class to name Index fill') keyed alike is = absurd (cc)
+was_index rel old (rows.Class to name Index fill') keyed alike is = absurd (cc)
+was_index rel old (rows.Class to name Table fill') keyed alike is = absurd is
+was_index rel old row keyed alike is = absurd is
+
+-- after a write each has one
+rows_written : (before : List Entry) (b c : ℕ) (xid : Xid) (items : List Item) (rel : Oid) → IsSound before → MayComeNext before (entry_of b c (events.Write xid items)) → AllByRecursion (λ item. goes_together before b items item ≡ true) items → HaveIndexRows before rel (versions_of before) (versions_of before)
+    → HaveIndexRows (before ++ entry_of b c (events.Write xid items) ∷ []) rel (versions_by before b c (events.Write xid items) (versions_of before)) (versions_by before b c (events.Write xid items) (versions_of before))
+rows_written before b c xid items rel sound comes together have =
+    every_written (λ row by. IsIndexOf rel row → Has by) before b stamp items (versions_of before)
+    (every-weaker (λ item. (goes_together before b items item ≡ true) × ((keeps_kind before b item ≡ true) × IfSome (ended_key item) (λ key. has_row before b key ≡ true))) (λ item. IfSome (added_row item) (λ row. IsIndexOf rel row → Has stamp)) (λ item h. given item h.0 h.1.0 h.1.1) items
+    (every-both (λ item. goes_together before b items item ≡ true) (λ item. (keeps_kind before b item ≡ true) × IfSome (ended_key item) (λ key. has_row before b key ≡ true)) items together
+    (every-both (λ item. keeps_kind before b item ≡ true) (λ item. IfSome (ended_key item) (λ key. has_row before b key ≡ true)) items (all_each (keeps_kind before b) items comes.follows.event.kinds) (all_kept (has_row before b) ended_key items comes.follows.event.there))))
+    (every-weaker (λ v. IsIndexOf rel v.row → HasIndexRow before rel (versions_of before) v.by) (λ v. IsIndexOf rel v.row → Has v.by) (λ v has own. later v.by (has own)) (versions_of before) have)
+  where
+    e : Entry
+    e = entry_of b c (events.Write xid items)
+
+    stamp : Stamp
+    stamp = record { xid = xid; command = c }
+
+    now : List Version
+    now = fold (change_by before b stamp) (versions_of before) items
+
+    Has : Stamp → Type 0
+    Has s = HasIndexRow (before ++ e ∷ []) rel now s
+
+    later : (s : Stamp) → HasIndexRow before rel (versions_of before) s → Has s
+    later s has = some_written (λ row by. (key_of row ≡ keys.Ind rel) × GoesFirst (before ++ e ∷ []) by s) before b stamp items (versions_of before)
+        (some-weaker (λ w. (key_of w.row ≡ keys.Ind rel) × GoesFirst before w.by s) (λ w. (key_of w.row ≡ keys.Ind rel) × GoesFirst (before ++ e ∷ []) w.by s) (λ w h. (h.0, first_on before e w.by s h.1)) (versions_of before) has)
+
+    -- what a version that the writer sees has goes first of the write too
+    sooner : (s : Stamp) → GoesFirst (before ++ e ∷ []) s stamp → Has s → Has stamp
+    sooner s first has = some-weaker (λ w. (key_of w.row ≡ keys.Ind rel) × GoesFirst (before ++ e ∷ []) w.by s) (λ w. (key_of w.row ≡ keys.Ind rel) × GoesFirst (before ++ e ∷ []) w.by stamp)
+        (λ w h. (h.0, first_then (before ++ e ∷ []) w.by s stamp h.1 first)) now has
+
+    made : (own : Oid) → own ≡ rel → list_any (adds_index_row own) items ≡ true → Has stamp
+    made own is some = some-weaker (λ v. (key_of v.row ≡ keys.Ind rel) × (v.by ≡ stamp)) (λ w. (key_of w.row ≡ keys.Ind rel) × GoesFirst (before ++ e ∷ []) w.by stamp) (λ w h. (h.0, inr (ap (λ s. s.xid.0) h.1, omega (arith, ap (λ s. s.command) h.1)))) now
+        (given_written (λ row. key_of row ≡ keys.Ind rel) before b stamp items (versions_of before) (made_given rel items (subst (λ o. list_any (adds_index_row o) items ≡ true) is some)))
+
+    -- of a row that is replaced
+    put : (row : Row) → keeps_kind before b (forms.Put row) ≡ true → has_row before b (key_of row) ≡ true → IsIndexOf rel row → Has stamp
+    put row kinds there own = from_some (λ v. (key_of v.row ≡ key_of row) × (ends before b (forms.Put row) v ≡ true)) (Has stamp) (versions_of before)
+        (every-weaker (λ v. (OfStamps (Touch before) v × (IsIndexOf rel v.row → HasIndexRow before rel (versions_of before) v.by)) × (ends before b (forms.Put row) v ≡ true → same_kind v.row row ≡ true)) (λ v. (key_of v.row ≡ key_of row) × (ends before b (forms.Put row) v ≡ true) → Has stamp)
+        (λ v h k'. replaced v h.0.0 h.0.1 (h.1 k'.1) k'.1) (versions_of before)
+        (every-both (λ v. OfStamps (Touch before) v × (IsIndexOf rel v.row → HasIndexRow before rel (versions_of before) v.by)) (λ v. ends before b (forms.Put row) v ≡ true → same_kind v.row row ≡ true) (versions_of before)
+        (every-both (OfStamps (Touch before)) (λ v. IsIndexOf rel v.row → HasIndexRow before rel (versions_of before) v.by) (versions_of before) (sound_ordered before sound).touched have)
+        (ended_named before b (λ old. same_kind old row ≡ true) (forms.Put row) (sound_ordered before sound).one (if_kind (old_row before b (forms.Put row)) row kinds))))
+        (ended_there before b (forms.Put row) (key_of row) refl there)
+      where
+        replaced : (v : Version) → OfStamps (Touch before) v → (IsIndexOf rel v.row → HasIndexRow before rel (versions_of before) v.by) → same_kind v.row row ≡ true → ends before b (forms.Put row) v ≡ true → Has stamp
+        replaced v touch has alike ends' =
+            let parts = and_parts (same_key (key_of v.row) (key_of row)) (sees before b v) ends' in
+            let counted = (and_parts (counts before b v.by) (not (option_map_or (counts before b) v.ended false)) parts.1).0 in
+            sooner v.by (first_on before e v.by stamp (counted_first before b c xid items (sound_ordered before sound) comes v.by v.row touch.0 counted)) (later v.by (has (was_index rel v.row row parts.0 alike own)))
+
+    given : (item : Item) → goes_together before b items item ≡ true → keeps_kind before b item ≡ true → IfSome (ended_key item) (λ key. has_row before b key ≡ true) → IfSome (added_row item) (λ row. IsIndexOf rel row → Has stamp)
+    given (forms.Add (rows.Class oid name Index fill)) is kinds there = λ own. made oid own is
+    given (forms.Add (rows.Class oid name Table fill)) is kinds there = λ own. absurd own
+    given (forms.Add (rows.Att of num name col_type stat live)) is kinds there = λ own. absurd own
+    given (forms.Add (rows.Def oid of num word)) is kinds there = λ own. absurd own
+    given (forms.Add (rows.Ind index table state nums)) is kinds there = λ own. absurd own
+    given (forms.Add (rows.Con oid of name valid what)) is kinds there = λ own. absurd own
+    given (forms.Add (rows.Trg oid of name on)) is kinds there = λ own. absurd own
+    given (forms.Put row) is kinds there = λ own. put row kinds there own
+    given (forms.Remove key) is kinds there = tt
+    given (forms.Force of) is kinds there = tt
+
+rows_gone : (before : List Entry) (b c from : ℕ) (rel : Oid) → IsSound before → MayComeNext before (entry_of b c (events.Gone from)) → HaveIndexRows before rel (versions_of before) (versions_of before)
+    → HaveIndexRows (before ++ entry_of b c (events.Gone from) ∷ []) rel (versions_by before b c (events.Gone from) (versions_of before)) (versions_by before b c (events.Gone from) (versions_of before))
+rows_gone before b c from rel sound comes have =
+    every-map (λ v. IsIndexOf rel v.row → HasIndexRow after rel now v.by) (end_back back) (filter (λ v. not (back v.by)) (versions_of before))
+    (every-filter (λ v. IsIndexOf rel v.row → HasIndexRow after rel now v.by) (λ v. not (back v.by)) (versions_of before)
+    (every-weaker (λ v. IsIndexOf rel v.row → HasIndexRow before rel (versions_of before) v.by) (λ v. not (back v.by) ≡ true → IsIndexOf rel v.row → HasIndexRow after rel now v.by)
+    (λ v has kept own. some_stays (λ row by. (key_of row ≡ keys.Ind rel) × GoesFirst after by v.by) before b c (events.Gone from) (versions_of before)
+    (some-weaker (λ w. (key_of w.row ≡ keys.Ind rel) × GoesFirst before w.by v.by) (λ w. ((key_of w.row ≡ keys.Ind rel) × GoesFirst after w.by v.by) × (back w.by ≡ false))
+    (λ w h. ((h.0, first_on before e w.by v.by h.1), first_spared before b c (events.Gone from) w.by v.by (sound_ordered before sound).runs (lawful_of before e (sound_ordered before sound) comes) h.1 (not-true (back v.by) kept))) (versions_of before) (has own))) (versions_of before) have))
+  where
+    e : Entry
+    e = entry_of b c (events.Gone from)
+
+    after : List Entry
+    after = before ++ e ∷ []
+
+    back : Stamp → Bool
+    back = is_back before b from
+
+    now : List Version
+    now = versions_by before b c (events.Gone from) (versions_of before)
+
+rows_by : (before : List Entry) (b c : ℕ) (event : Event) (rel : Oid) → IsSound before → MayComeNext before (entry_of b c event) → KeepsIndexesBy before b event → HaveIndexRows before rel (versions_of before) (versions_of before)
+    → HaveIndexRows (before ++ entry_of b c event ∷ []) rel (versions_by before b c event (versions_of before)) (versions_by before b c event (versions_of before))
+rows_by before b c (events.Write xid items) rel sound comes keeps have = rows_written before b c xid items rel sound comes (all_each (goes_together before b items) items keeps.together) have
+rows_by before b c (events.Gone from) rel sound comes keeps have = rows_gone before b c from rel sound comes have
+rows_by before b c event rel sound comes keeps have = every-weaker (λ v. IsIndexOf rel v.row → HasIndexRow before rel (versions_of before) v.by) (λ v. IsIndexOf rel v.row → HasIndexRow (before ++ entry_of b c event ∷ []) rel (versions_of before) v.by)
+    (λ v has own. some-weaker (λ w. (key_of w.row ≡ keys.Ind rel) × GoesFirst before w.by v.by) (λ w. (key_of w.row ≡ keys.Ind rel) × GoesFirst (before ++ entry_of b c event ∷ []) w.by v.by) (λ w h. (h.0, first_on before (entry_of b c event) w.by v.by h.1)) (versions_of before) (has own)) (versions_of before) have
+
+have_rows : (rel : Oid) (history : List Entry) → IsSound history → EachEntry WritesIndexes history → HaveIndexRows history rel (versions_of history) (versions_of history)
+have_rows rel = along_sound WritesIndexes (λ h. HaveIndexRows h rel (versions_of h) (versions_of h)) tt
+    (λ before e sound comes keeps was. subst (λ vs. HaveIndexRows (before ++ e ∷ []) rel vs vs) (sym (versions-more before e)) (rows_by before e.backend e.command e.event rel sound comes keeps was))
+
+-- a change that ends a version of the index row takes it away, and its write drops the relation
+row_given : (before : List Entry) (b c : ℕ) (xid : Xid) (items : List Item) (rel : Oid) → IsSound before → MayComeNext before (entry_of b c (events.Write xid items)) → (item : Item) → goes_together before b items item ≡ true
+    → AllByRecursion (λ v. ends before b item v ≡ true → IsGuarded (held_by b c (events.Write xid items) (held_of before)) b c (main_rel v.row)) (versions_of before)
+    → AllByRecursion (λ v. ends before b item v ≡ true → key_of v.row ≡ keys.Ind rel → Gives (λ row. key_of row ≡ keys.Ind rel) item ⊎ IsDropped (before ++ entry_of b c (events.Write xid items) ∷ []) rel (record { xid = xid; command = c })) (versions_of before)
+row_given before b c xid items rel sound comes item together guarded =
+    every-weaker (λ v. (ends before b item v ≡ true → IsGuarded held b c (main_rel v.row)) × ((main_rel v.row).0 < next_oid before)) (λ v. ends before b item v ≡ true → key_of v.row ≡ keys.Ind rel → Gives (λ row. key_of row ≡ keys.Ind rel) item ⊎ Drops)
+    (λ v h is same. of item together v is same (subst (IsGuarded held b c) (index_main rel v.row same) (h.0 is)) (subst (λ o. o.0 < next_oid before) (index_main rel v.row same) h.1)) (versions_of before)
+    (every-both (λ v. ends before b item v ≡ true → IsGuarded held b c (main_rel v.row)) (λ v. (main_rel v.row).0 < next_oid before) (versions_of before) guarded (rows_drawn before sound))
+  where
+    held : List Grant
+    held = held_by b c (events.Write xid items) (held_of before)
+
+    Drops : Type 0
+    Drops = IsDropped (before ++ entry_of b c (events.Write xid items) ∷ []) rel (record { xid = xid; command = c })
+
+    its_key : (key : RowKey) (v : Version) → (same_key (key_of v.row) key && sees before b v) ≡ true → key_of v.row ≡ keys.Ind rel → key ≡ keys.Ind rel
+    its_key key v is same = sym (key_eq (key_of v.row) key (and_parts (same_key (key_of v.row) key) (sees before b v) is).0) ∙ same
+
+    of : (i : Item) → goes_together before b items i ≡ true → (v : Version) → ends before b i v ≡ true → key_of v.row ≡ keys.Ind rel → IsGuarded held b c rel → rel.0 < next_oid before → Gives (λ row. key_of row ≡ keys.Ind rel) i ⊎ Drops
+    of (forms.Put row) together' v is same guards low = inl (row, (refl, its_key (key_of row) v is same))
+    of (forms.Remove (keys.Ind own)) together' v is same guards low =
+        let one : own ≡ rel = (let key : keys.Ind own ≡ keys.Ind rel = its_key (keys.Ind own) v is same in cc) in
+        inr (dropped_new before b c xid items rel (sound_ordered before sound) (lasting before sound) comes low (subst (λ o. list_any (takes_relation o) items ≡ true) one together') guards)
+    of (forms.Remove (keys.Class own)) together' v is same guards low = absurd (cc (its_key (keys.Class own) v is same))
+    of (forms.Remove (keys.Att own num)) together' v is same guards low = absurd (cc (its_key (keys.Att own num) v is same))
+    of (forms.Remove (keys.Def own)) together' v is same guards low = absurd (cc (its_key (keys.Def own) v is same))
+    of (forms.Remove (keys.Con own)) together' v is same guards low = absurd (cc (its_key (keys.Con own) v is same))
+    of (forms.Remove (keys.Trg own)) together' v is same guards low = absurd (cc (its_key (keys.Trg own) v is same))
+    of (forms.Add row) together' v is same guards low = absurd (cc)
+    of (forms.Force to) together' v is same guards low = absurd (cc)
+
+row_next_by : (rel : Oid) (before : List Entry) (b c : ℕ) (event : Event) → IsSound before → MayComeNext before (entry_of b c event) → KeepsIndexesBy before b event → HaveNext (λ row. key_of row ≡ keys.Ind rel) (IsDropped before rel) (versions_of before)
+    → HaveNext (λ row. key_of row ≡ keys.Ind rel) (IsDropped (before ++ entry_of b c event ∷ []) rel) (versions_by before b c event (versions_of before))
+row_next_by rel before b c (events.Write xid items) sound comes keeps next =
+    next_written IsRow Drops before b stamp items (versions_of before) comes.follows.event.keys
+    (every-swap (λ item v. ends before b item v ≡ true → IsRow v.row → Gives IsRow item ⊎ Drops stamp) items (versions_of before)
+    (every-weaker (λ item. (goes_together before b items item ≡ true) × Guarded item) (λ item. AllByRecursion (λ v. ends before b item v ≡ true → IsRow v.row → Gives IsRow item ⊎ Drops stamp) (versions_of before))
+    (λ item h. row_given before b c xid items rel sound comes item h.0 h.1) items
+    (every-both (λ item. goes_together before b items item ≡ true) Guarded items (all_each (goes_together before b items) items keeps.together) guarded)))
+    (next-weaker IsRow (IsDropped before rel) Drops (λ s drop. dropped_more before e rel s k (lasting before sound) comes tt drop) (versions_of before) next)
+  where
+    IsRow : Row → Type 0
+    IsRow row = key_of row ≡ keys.Ind rel
+
+    e : Entry
+    e = entry_of b c (events.Write xid items)
+
+    k : Ordered before
+    k = sound_ordered before sound
+
+    Drops : Stamp → Type 0
+    Drops = IsDropped (before ++ e ∷ []) rel
+
+    stamp : Stamp
+    stamp = record { xid = xid; command = c }
+
+    Guarded : Item → Type 0
+    Guarded item = AllByRecursion (λ v. ends before b item v ≡ true → IsGuarded (held_by b c (events.Write xid items) (held_of before)) b c (main_rel v.row)) (versions_of before)
+
+    guarded : AllByRecursion Guarded items
+    guarded = every-weaker (λ item. IfSome (added_row item) (λ row. IsGuarded (held_by b c (events.Write xid items) (held_of before)) b c (main_rel row)) × Guarded item) Guarded (λ item h. h.1) items
+        (guards_lawful before b c (events.Write xid items) comes.follows.event comes.orderly k (early_at before e k comes.follows.life))
+row_next_by rel before b c (events.Gone from) sound comes keeps next =
+    next_gone (λ row. key_of row ≡ keys.Ind rel) (IsDropped before rel) (IsDropped (before ++ entry_of b c (events.Gone from) ∷ []) rel) (is_back before b from)
+    (λ s spared drop. dropped_more before (entry_of b c (events.Gone from)) rel s (sound_ordered before sound) (lasting before sound) comes spared drop) (versions_of before) next
+row_next_by rel before b c event sound comes keeps next =
+    next-weaker (λ row. key_of row ≡ keys.Ind rel) (IsDropped before rel) (IsDropped (before ++ entry_of b c event ∷ []) rel) (λ s drop. dropped_more before (entry_of b c event) rel s (sound_ordered before sound) (lasting before sound) comes tt drop) (versions_of before) next
+
+rows_have_next : (rel : Oid) (history : List Entry) → IsSound history → EachEntry WritesIndexes history → HaveNext (λ row. key_of row ≡ keys.Ind rel) (IsDropped history rel) (versions_of history)
+rows_have_next rel = along_sound WritesIndexes (λ h. HaveNext (λ row. key_of row ≡ keys.Ind rel) (IsDropped h rel) (versions_of h)) tt
+    (λ before e sound comes keeps next. subst (HaveNext (λ row. key_of row ≡ keys.Ind rel) (IsDropped (before ++ e ∷ []) rel)) (sym (versions-more before e)) (row_next_by rel before e.backend e.command e.event sound comes keeps next))
+
+-- of a sound history whose writes keep indexes whole: a backend that sees the own row of an index sees its index row
+pub index_row_seen : (history : List Entry) (b : ℕ) (rel : Oid) (name : List ℕ) → IsSound history → EachEntry WritesIndexes history → IsSeenAs history b rel name Index → SeesRow history b (keys.Ind rel)
+index_row_seen history b rel name sound writes seen = of (one_is_seen IsRow (IsDropped history rel) (counts history b) (versions_of history) (rows_have_next rel history sound writes) counted)
+  where
+    IsRow : Row → Type 0
+    IsRow row = key_of row ≡ keys.Ind rel
+
+    Counted : Version → Type 0
+    Counted w = IsRow w.row × (counts history b w.by ≡ true)
+
+    own : SomeOf (λ v. IsIndexOf rel v.row × (sees history b v ≡ true)) (versions_of history)
+    own = version_seen (IsIndexOf rel) history b (some-weaker (λ row. rows.Class rel name Index seen.0 ≡ row) (IsIndexOf rel) (λ row is. subst (IsIndexOf rel) is refl) (rows_of history b)
+        (subst (AllByRecursion (λ row. IsIn row (rows_of history b) × (selects (scans.Class rel) row ≡ true))) seen.1 (given_seen history b (scans.Class rel))).0.0)
+
+    counted : SomeOf Counted (versions_of history)
+    counted = from_some (λ v. IsIndexOf rel v.row × (sees history b v ≡ true)) (SomeOf Counted (versions_of history)) (versions_of history)
+        (every-weaker (λ v. IsIndexOf rel v.row → HasIndexRow history rel (versions_of history) v.by) (λ v. IsIndexOf rel v.row × (sees history b v ≡ true) → SomeOf Counted (versions_of history))
+        (λ v has h. some-weaker (λ w. IsRow w.row × GoesFirst history w.by v.by) Counted (λ w k. (k.0, first_counts history b w.by v.by k.1 (and_parts (counts history b v.by) (not (option_map_or (counts history b) v.ended false)) h.1).0)) (versions_of history) (has h.0)) (versions_of history) (have_rows rel history sound writes))
+        own
+
+    of : SomeOf (λ v. IsRow v.row × (sees history b v ≡ true)) (versions_of history) ⊎ IsCounted (IsDropped history rel) (counts history b) → SeesRow history b (keys.Ind rel)
+    of (inl is) = is
+    of (inr drop) = absurd (dropped_unseen history b rel drop.0 drop.1.1 drop.1.0 (some-weaker (λ v. IsIndexOf rel v.row × (sees history b v ≡ true)) (λ v. (key_of v.row ≡ keys.Class rel) × (sees history b v ≡ true)) (λ v h. (own_key rel v.row h.0, h.1)) (versions_of history) own))

@@ -60,6 +60,13 @@ name_is = refl
 pub name_not : is_enough_by ((16384, ShareUpdateExclusive) ∷ (16384, ShareRowExclusive) ∷ []) [] (Put (Class (oid 16384) (codes "s") Table None)) ≡ false
 name_not = refl
 
+-- an index's name, with its fillfactor or without
+pub index_name_is : is_enough_by ((16386, ShareUpdateExclusive) ∷ []) [] (Put (Class (oid 16386) (codes "j") Index (Some 50))) ≡ true
+index_name_is = refl
+
+pub index_name_not : is_enough_by ((16386, Share) ∷ (16384, AccessExclusive) ∷ []) [] (Put (Class (oid 16386) (codes "j") Index None)) ≡ false
+index_name_not = refl
+
 pub target_is : is_enough_by ((16384, ShareUpdateExclusive) ∷ []) [] (Put (column (codes "a") (pos 9))) ≡ true
 target_is = refl
 
