@@ -24,7 +24,7 @@ use Rattle.history_model.proofs.Ordered.{locks_exclude}
 use Rattle.seg_calls.specs.declared.refusal.Written.{Written as Made}
 use Rattle.seg_calls.specs.declared.refusal.WriteRefusal.TheVariants as refusals
 use Rattle.seg_calls.specs.Calls.{entry_of, items_drawn, MayRequest, MayWrite, MakesWrite, Clashes, Writes, Appends}
-use Rattle.cacheless.specs.ActsDone.{made_in, relation_by}
+use Rattle.cacheless.specs.ActsDone.{made_in, opening_by}
 use Rattle.cacheless.specs.Facts.{Facts, facts_of, facts_by}
 use Rattle.cacheless.specs.Holds.{Rests, HasEntered, with_own}
 use Rattle.cacheless.specs.Locks.{locked_by}
@@ -118,11 +118,11 @@ module _ (scenario : Scenario) (old : List Entry) (was : Backend) (draft : Draft
   unwritten = subst (λ n. has_written old was.progress.id (n + 1) ≡ false) waits.rests.holds.count way.unwritten
 
   -- what it is about to write may be written
-  suits : WriteFits old was.progress.id (was.progress.finished + 1) facts (made_in relation_by way.gave (plan_of s.opens next.command)) draft
+  suits : WriteFits old was.progress.id (was.progress.finished + 1) facts (made_in opening_by way.gave (plan_of s.opens next.command)) draft
   suits = write_fits old was.progress.id (was.progress.finished + 1) facts s.opens next.command way.gave draft (λ given. Done tells.Ok) played.sound played.columns (spelled_at scenario was.progress.id (length s.finished) next.command played.spelled (at_session scenario old was waits ∙ next.free.at)) way.runs way.holds (sym way.plan ∙ at)
 
   -- and the row of its table was read as it is
-  read : AreReadAsNow old was.progress.id facts (made_in relation_by way.gave (plan_of s.opens next.command))
+  read : AreReadAsNow old was.progress.id facts (made_in opening_by way.gave (plan_of s.opens next.command))
   read = read_as_now scenario old was.progress.id s next.command draft (λ given. Done tells.Ok) played (waiting_is scenario old was waits) (waiting_course scenario old was waits courses) (at_session scenario old was waits ∙ next.free.at) at owed_none way
 
   pub write_request : MayRequest scenario old was.progress.id (was.progress.finished + 1)
