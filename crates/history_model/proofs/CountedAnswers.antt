@@ -1,9 +1,9 @@
 -- What an entry leaves of the answers of scans as their rows count: a message covers each that it changes. For the relation that a foreign key refers to it doesn't count whether the key is known to hold.
-use Rattle.std.proofs.Common.{◌≡◌, ◌≤◌, ◌∙◌, ◌⊎◌, inl, inr, ℕ, Bool, true, false, not, Option, Some, None, List, [], ◌∷◌, ◌++◌, ◌==◌, ◌||◌, ◌&&◌, refl, sym, ap, subst, map, length}
+use Rattle.std.proofs.Common.{◌≡◌, ◌∙◌, ◌⊎◌, inl, inr, ℕ, true, false, List, [], ◌∷◌, ◌++◌, ◌==◌, refl, sym, ap, subst, map, length}
 use Rattle.std.specs.Prelude.{nat_le, ⊤}
 use Rattle.std.specs.List.{list_all, flat_map, filter_map, range_with_len}
 use Rattle.std.specs.Option.{IfSome}
-use Rattle.std.proofs.lemmas.Bool.{eqb-true, eq-eqb, both_ways, and_parts, or_right}
+use Rattle.std.proofs.lemmas.Bool.{eqb-true, both_ways, and_parts}
 use Rattle.base_types.specs.declared.ids.Oid.{Oid}
 use Rattle.base_types.specs.declared.ids.Xid.{Xid}
 use Rattle.base_types.specs.declared.row.Row.{Row}
@@ -15,29 +15,25 @@ use Rattle.event_kinds.specs.declared.entry.Event.{Event}
 use Rattle.event_kinds.specs.declared.entry.Event.TheVariants as events
 use Rattle.event_kinds.specs.declared.entry.Item.{Item}
 use Rattle.inval_messages.specs.Lists.{lists_from}
-use Rattle.row_visibility.specs.declared.version.Stamp.{Stamp}
-use Rattle.row_visibility.specs.declared.version.Version.{Version}
 use Rattle.history_model.specs.Lives.{life_of, FollowsLife}
-use Rattle.history_model.specs.Transactions.{running_transaction_of, is_visible, runs_as, is_committed, has_xid, xid_for}
-use Rattle.history_model.specs.Versions.{versions_of, versions_by, ended_key, added_row, old_row, counts, answer_of}
+use Rattle.history_model.specs.Transactions.{running_transaction_of, is_visible, xid_for}
+use Rattle.history_model.specs.Versions.{ended_key, added_row, old_row, answer_of}
 use Rattle.history_model.specs.Sent.{messages_written, lists_of, sent_of}
 use Rattle.history_model.specs.Covered.{is_covered, counted_for}
 use Rattle.history_model.specs.Drawn.{drawn_by, made_by, next_oid}
 use Rattle.history_model.specs.Writes.{changed_key, has_row, is_guarded}
 use Rattle.history_model.specs.Orderly.{IsOrderlyWrite, MayComeNext, IsSound}
-use Rattle.history_model.proofs.Every.{every, every-weaker, any-filter}
+use Rattle.history_model.proofs.Every.{every-weaker, any-filter}
 use Rattle.history_model.proofs.Lawful.{IsPlain, IsLawful}
-use Rattle.history_model.proofs.Lives.{Begun, begun_at}
+use Rattle.history_model.proofs.Lives.{begun_at}
 use Rattle.history_model.proofs.Markings.{TellsIn, told_marks}
 use Rattle.history_model.proofs.MaskedRows.{Masking, LeavesMask, KeepsMask}
 use Rattle.history_model.proofs.MaskedOwn.{write_masked, gone_masked}
 use Rattle.history_model.proofs.MaskedScans.{masked_visible}
-use Rattle.history_model.proofs.Ordered.{Ordered, Ordered-more, if_some, lawful_of, early_at, covers_items, write_lawful, write_keyed, sound_ordered}
-use Rattle.history_model.proofs.Reading.{running_transaction_of-own as running-own, versions_of-more as versions-more}
+use Rattle.history_model.proofs.Ordered.{Ordered, if_some, lawful_of, early_at, covers_items, write_lawful, write_keyed, sound_ordered}
 use Rattle.history_model.proofs.RowMasks.{counted_mask, counted_apart, ToldOf, told_changes, told_masks}
-use Rattle.history_model.proofs.Seen.{counts_at, every_command, OneVersion}
 use Rattle.history_model.proofs.OneVersion.{OneVersion-more}
-use Rattle.history_model.proofs.Touched.{entry_of, OfStamps, is_of, of_write, covers_at}
+use Rattle.history_model.proofs.Touched.{entry_of, is_of, of_write, covers_at}
 use Rattle.history_model.proofs.Answers.{sent-covered, taken_back, answer-own, other_answers, own_answers}
 
 -- another's event has no message that covers the scan, where it makes a transaction visible

@@ -36,7 +36,6 @@ use Rattle.history_model.specs.Orderly.{main_rel, MayComeNext, IsSound}
 use Rattle.history_model.proofs.Prefixes.{each-keeps, EachEntry-more, EachFrom-both}
 use Rattle.history_model.proofs.Reading.{running_transaction_of-own as running-own, held_of-more as held-more, is_usable-own, is_usable-other, rows_read-own, rows_read-other}
 use Rattle.history_model.proofs.Every.{every, every-weaker, any-weaker, any-left, any-right, any-sides}
-use Rattle.history_model.proofs.Lawful.{IsLawful}
 use Rattle.history_model.proofs.Touched.{entry_of}
 use Rattle.history_model.proofs.Guards.{is_exclusive, any_with}
 use Rattle.history_model.proofs.Exclude.{IsNew, all_granted_new, in_range}

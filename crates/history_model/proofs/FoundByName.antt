@@ -1,5 +1,5 @@
 -- The rows of a relation that a scan of its name has given are those of now, as long as the scan still serves and all that was changed under ShareUpdateExclusive and AccessExclusive is known.
-use Rattle.std.proofs.Common.{◌≡◌, ◌∙◌, ◌+◌, ◌⊎◌, inl, inr, ℕ, suc, arith, Bool, true, false, not, Option, None, List, [], ◌∷◌, ◌++◌, cond, refl, sym, ap, subst, append-nil, map, filter, fold}
+use Rattle.std.proofs.Common.{◌≡◌, ◌∙◌, ◌+◌, ◌⊎◌, inl, inr, ℕ, suc, arith, Bool, true, false, not, Option, List, [], ◌∷◌, ◌++◌, cond, refl, sym, ap, subst, append-nil, filter, fold}
 use Rattle.std.specs.List.{insert, position_or_len}
 use Rattle.std.proofs.lemmas.List.{append_assoc}
 use Rattle.std.proofs.lemmas.Bool.{eq-eqb}

@@ -1,5 +1,5 @@
 -- A relation is of one kind: no version of its row is made with another. So a relation whose row a backend has ever read is of the kind that it read.
-use Rattle.std.proofs.Common.{◌≡◌, ◌≤◌, ◌<◌, ◌∙◌, ◌+◌, ℕ, Bool, true, false, Option, Some, None, List, [], ◌∷◌, ◌++◌, refl, sym, ap, subst, map, filter, length, arith}
+use Rattle.std.proofs.Common.{◌≡◌, ◌≤◌, ◌<◌, ◌∙◌, ℕ, true, false, Option, Some, None, List, [], ◌∷◌, ◌++◌, refl, sym, ap, subst, length, arith}
 use Rattle.std.specs.Prelude.{⊤}
 use Rattle.std.specs.List.{AllByRecursion, list_any, flat_map}
 use Rattle.std.specs.Option.{option_map_or, IfSome}
@@ -9,11 +9,9 @@ use Rattle.base_types.specs.declared.kind.Kind.{Kind}
 use Rattle.base_types.specs.declared.kind.Kind.TheVariants.{Table, Index}
 use Rattle.base_types.specs.declared.row.Row.{Row}
 use Rattle.base_types.specs.declared.row.Row.TheVariants as rows
-use Rattle.base_types.specs.declared.row_key.RowKey.{RowKey}
 use Rattle.base_types.specs.declared.row_key.RowKey.TheVariants as keys
 use Rattle.base_types.specs.declared.scan.Purpose.{Purpose}
 use Rattle.base_types.specs.RowKeys.{key_of, same_key, are_distinct_keys}
-use Rattle.base_types.specs.Scans.{selects}
 use Rattle.event_kinds.specs.declared.entry.Entry.{Entry}
 use Rattle.event_kinds.specs.declared.entry.Event.{Event}
 use Rattle.event_kinds.specs.declared.entry.Event.TheVariants as events
@@ -29,7 +27,7 @@ use Rattle.history_model.specs.Versions.{versions_of, versions_by, ended_key, ad
 use Rattle.history_model.specs.Writes.{changed_key, has_row, same_kind, keeps_kind}
 use Rattle.history_model.proofs.Asking.{oid_eq}
 use Rattle.history_model.proofs.DrawnRows.{rows_drawn, given_each}
-use Rattle.history_model.proofs.Every.{every, every-weaker, every-filter, every-both, from_some}
+use Rattle.history_model.proofs.Every.{every, every-weaker, every-both, from_some}
 use Rattle.history_model.proofs.Exclude.{in_range, every-parts}
 use Rattle.history_model.proofs.MaskedRows.{find_some}
 use Rattle.history_model.proofs.OneVersion.{distinct_split, differ_from, added_key}
