@@ -1,5 +1,5 @@
 -- Whoever holds AccessExclusive on a relation, and writes or takes writes back, knows all earlier changes of the relation's row: nothing is owed after its last entry, so it is past what others had changed as they let the relation go, and its lock keeps them out.
-use Rattle.std.proofs.Common.{◌≡◌, ◌≤◌, ℕ, true, false, List, [], ◌∷◌, ◌==◌, ◌&&◌, refl, sym, subst}
+use Rattle.std.proofs.Common.{◌≡◌, ◌≤◌, ℕ, true, false, List, [], ◌==◌, ◌&&◌, refl, sym, subst}
 use Rattle.std.specs.List.{AllByRecursion}
 use Rattle.std.proofs.lemmas.Bool.{eqb-true, and_parts}
 use Rattle.base_types.specs.Scenario.{Scenario}
@@ -31,7 +31,7 @@ use Rattle.history_model.proofs.Locked.{IsNoChange}
 use Rattle.history_model.proofs.Observed.{IsDirty}
 use Rattle.history_model.proofs.Ordered.{locks_exclude}
 use Rattle.history_model.proofs.Past.{IsPast, none_in_way}
-use Rattle.cacheless.specs.Owed.{Owes, owed_after}
+use Rattle.cacheless.specs.Owed.{owed_after}
 use Rattle.cacheless.specs.Plays.{Plays}
 use Rattle.cacheless.proofs.Allowed.Patient.{IsPatient, patient}
 use Rattle.cacheless.proofs.Clear.{Known, KnowsOf, Comes, each_known}

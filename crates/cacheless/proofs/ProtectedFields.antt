@@ -41,7 +41,7 @@ use Rattle.history_model.proofs.DrawnRows.{given_each}
 use Rattle.history_model.proofs.FixedRows.{fixed}
 use Rattle.history_model.proofs.GivenRows.{given_asked}
 use Rattle.history_model.proofs.WeakChanges.{IsOfTable, table_named, is_table_name, class_apart, fixed_leaves, field_leaves}
-use Rattle.history_model.proofs.Observed.{IsReadAs, LeavesRead, Leaves, IsDirty, IsWriting, IsBehind, observed_as}
+use Rattle.history_model.proofs.Observed.{IsReadAs, LeavesRead, Leaves, IsDirty, observed_as}
 use Rattle.history_model.proofs.Locked.{changing_modes, unheld_leaves}
 use Rattle.history_model.proofs.Ordered.{all_each, locks_exclude}
 use Rattle.history_model.proofs.Past.{IsPast, none_in_way}

@@ -1,6 +1,5 @@
 -- Who sees an index row sees the own row of its index, of kind Index, and the other way round: both came in one write, and whoever took one away took the other away with it.
 use Rattle.std.proofs.Common.{◌≡◌, ◌<◌, ◌∙◌, ◌⊎◌, inl, inr, ℕ, Bool, true, false, not, Option, Some, None, List, [], ◌∷◌, ◌++◌, ◌||◌, ◌&&◌, refl, sym, ap, subst, map, filter, fold, arith}
-use Rattle.std.specs.Prelude.{⊤}
 use Rattle.std.specs.List.{AllByRecursion, list_any}
 use Rattle.std.specs.Option.{option_map_or, IfSome}
 use Rattle.std.proofs.lemmas.Bool.{and_parts, not-true}
@@ -40,7 +39,7 @@ use Rattle.cacheless.specs.TableWrites.{makes_index, adds_index_row, takes_index
 use Rattle.cacheless.proofs.AlongSound.{along_sound}
 use Rattle.cacheless.proofs.EndedFirst.{first_counts}
 use Rattle.cacheless.proofs.Dropped.{IsDropped, dropped_more, dropped_new, dropped_unseen, AreEnded, SeesRow, ended_there, ended_unseen, AddsNone, AddsNoneBy, ended_more, class_added, ended_new}
-use Rattle.cacheless.proofs.NumberedColumns.{Lasts, lasting, GoesFirst, first_then, first_on, first_spared, counted_first, every_written, any_some}
+use Rattle.cacheless.proofs.NumberedColumns.{lasting, GoesFirst, first_then, first_on, first_spared, counted_first, every_written, any_some}
 use Rattle.cacheless.proofs.Successors.{HaveNext, IsCounted, Gives, one_is_seen, next-weaker, next_written, next_gone}
 use Rattle.cacheless.proofs.VersionsStay.{IsSpared, some_written, some_stays, version_seen, row_seen}
 

@@ -1,8 +1,6 @@
 -- What a session has open is of its kind: a lookup found it so, and a relation stays of its kind.
-use Rattle.std.proofs.Common.{◌≡◌, ◌+◌, ◌∙◌, ℕ, zero, suc, Bool, true, false, Option, Some, None, List, [], ◌∷◌, ◌++◌, refl, sym, ap, subst, map, take, drop, length, slice_get}
-use Rattle.std.specs.Prelude.{⊤}
+use Rattle.std.proofs.Common.{◌≡◌, ◌+◌, ◌∙◌, ℕ, zero, suc, Bool, true, false, Option, Some, None, List, [], ◌∷◌, ◌++◌, refl, sym, subst, take, drop, length, slice_get}
 use Rattle.std.specs.List.{AllByRecursion}
-use Rattle.std.proofs.lemmas.List.{append-nil}
 use Rattle.base_types.specs.declared.command.Command.TheVariants as commands
 use Rattle.base_types.specs.declared.row.Row.TheVariants as rows
 use Rattle.base_types.specs.declared.scan.Purpose.TheVariants as scans
@@ -15,17 +13,17 @@ use Rattle.txn_blocks.specs.Blocks.{Block, Blocks, Outside, Inside, Failed, Leve
 use Rattle.history_model.specs.OfKind.{IsOfKind}
 use Rattle.history_model.specs.Orderly.{MayComeNext, IsSound}
 use Rattle.history_model.specs.Versions.{answer_of}
-use Rattle.history_model.proofs.Every.{every-weaker, every-append, every-kept, every-map, SomeOf, from_some}
+use Rattle.history_model.proofs.Every.{every-weaker, every-append, every-kept, every-map, from_some}
 use Rattle.history_model.proofs.OneKind.{TellsKind, given_kinds, kind_more}
-use Rattle.cacheless.specs.ActsDone.{after_given, reached, made_first, made_in, opening_by, relation_by, BeginWith, IsFirstStill, AreStill}
+use Rattle.cacheless.specs.ActsDone.{after_given, made_first, made_in, relation_by, BeginWith, IsFirstStill, AreStill}
 use Rattle.cacheless.specs.OnCourse.{AreOfKinds, OnItsWay, FollowsPlan}
-use Rattle.cacheless.specs.Session.{Session, none_open, Outcome, Unsettled, Well, Badly, outcome_of, opening_of, held_in, held_before, at_command}
+use Rattle.cacheless.specs.Session.{Session, none_open, Outcome, Unsettled, Well, Badly, outcome_of, opening_of, held_in}
 use Rattle.cacheless.specs.Sessions.{written, resumed, noted}
-use Rattle.cacheless.specs.Settled.{opened_by, act_done, opens_with, opens_kept, opens_well, opens_badly, opens_passed, opens_after}
-use Rattle.cacheless.specs.Types.{Oid, Kind, Row, Command, OpenRelation, OwnLock, Opening, Entry, Event}
+use Rattle.cacheless.specs.Settled.{opened_by, act_done, opens_with, opens_well, opens_badly, opens_after}
+use Rattle.cacheless.specs.Types.{Oid, Kind, Row, Command, OpenRelation, Opening, Entry, Event}
 use Rattle.cacheless.proofs.Plans.ActOrder.{follows_order}
 use Rattle.cacheless.proofs.Plans.SilentActs.{on_its_way}
-use Rattle.cacheless.proofs.Plans.UnderLocks.{Follows, follows_at, footing_after, at_first}
+use Rattle.cacheless.proofs.Plans.UnderLocks.{follows_at}
 
 -- a descriptor is of its kind
 abbrev pub IsKind : List Entry → Opening → Type 0

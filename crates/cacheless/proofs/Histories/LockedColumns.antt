@@ -1,5 +1,5 @@
 -- A worked example: a backend holds ShareUpdateExclusive on a table while another makes a table of its own visible. By the laws it still sees the columns that it saw, and the table under its name.
-use Rattle.std.proofs.Common.{◌≡◌, ◌++◌, false, true, None, List, [], ◌∷◌, codes, refl, arith}
+use Rattle.std.proofs.Common.{◌≡◌, ◌++◌, false, true, List, [], ◌∷◌, codes, refl, arith}
 use Rattle.base_types.specs.declared.mode.Mode.TheVariants.{ShareUpdateExclusive, AccessExclusive}
 use Rattle.base_types.specs.declared.kind.Kind.TheVariants.{Table}
 use Rattle.base_types.specs.declared.scan.Purpose.TheVariants as scans

@@ -1,5 +1,5 @@
 -- A worked example: an index is renamed under ShareUpdateExclusive while another's block holds it locked. The scan of its old name serves the block on until the message is fetched; the index is seen with its kind, under another name. (The entries are those of a walk, without the scans of descriptors.)
-use Rattle.std.proofs.Common.{◌≡◌, ◌++◌, Bool, false, true, None, List, [], ◌∷◌, codes, refl, arith}
+use Rattle.std.proofs.Common.{◌≡◌, ◌++◌, false, true, None, List, [], ◌∷◌, codes, refl, arith}
 use Rattle.base_types.specs.declared.index_state.IndexState.TheVariants.{Valid}
 use Rattle.base_types.specs.declared.kind.Kind.TheVariants.{Index}
 use Rattle.base_types.specs.declared.mode.Mode.TheVariants.{AccessShare, ShareUpdateExclusive, Share}
