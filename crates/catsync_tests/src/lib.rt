@@ -65,6 +65,8 @@ mod segments;
 #[cfg(test)]
 mod sessions;
 #[cfg(test)]
+mod shared_turns;
+#[cfg(test)]
 mod turns;
 #[cfg(test)]
 mod values;

@@ -1,6 +1,7 @@
 -- What waits for a backend at its last entry waits on, until its next one that is no look.
-use Rattle.std.proofs.Common.{◌≡◌, ◌≤◌, ◌∙◌, ℕ, Bool, true, false, List, [], ◌∷◌, ◌++◌, ◌==◌, ◌&&◌, sym, ap, length, take, arith, refl}
+use Rattle.std.proofs.Common.{◌≡◌, ◌≢◌, ◌≤◌, ◌∙◌, ℕ, Bool, true, false, List, [], ◌∷◌, ◌++◌, ◌==◌, ◌&&◌, sym, ap, length, take, arith, refl, ne_eqb, append_assoc, append-nil}
 use Rattle.std.specs.Prelude.{nat_lt}
+use Rattle.std.specs.List.{AllByRecursion}
 use Rattle.std.proofs.lemmas.Bool.{ltb-true, lt-ltb, false_from_ne_true}
 use Rattle.std.proofs.lemmas.List.{length-append}
 use Rattle.event_kinds.specs.declared.entry.Entry.{Entry}
@@ -46,16 +47,38 @@ still before e b alive at waits =
     ∙ ap (λ p. is_alive (life_of before b) && nat_lt p (length (log_of (before ++ e ∷ [])))) at
     ∙ waits_on (is_alive (life_of before b)) (position_of before b) (length (log_of before)) (length (log_of (before ++ e ∷ []))) waits (log_of-grows before e)
 
+-- another's entry never ends a backend's waiting
+pub waiting-other : (history : List Entry) (e : Entry) (b : ℕ) → e.backend ≢ b → is_waiting history b ≡ true → is_waiting (history ++ e ∷ []) b ≡ true
+waiting-other history e b other waits = let apart = ne_eqb e.backend b other in still history e b (ap is_alive (life_of-other history e b apart)) (position_of-other history e b apart) waits
+
+-- nor do several entries of others
+pub waiting-others : (history others : List Entry) (b : ℕ) → AllByRecursion (λ e. e.backend ≢ b) others → is_waiting history b ≡ true → is_waiting (history ++ others) b ≡ true
+waiting-others history [] b apart waits = ap (λ h. is_waiting h b) (append-nil history) ∙ waits
+waiting-others history (e ∷ others) b apart waits = ap (λ h. is_waiting h b) (sym (append_assoc history (e ∷ []) others)) ∙ waiting-others (history ++ e ∷ []) others b apart.1 (waiting-other history e b apart.0 waits)
+
+-- which leave what has waited
+pub waited_of-others : (history others : List Entry) (b : ℕ) → AllByRecursion (λ e. e.backend ≢ b) others → has_waited (history ++ others) b ≡ has_waited history b
+waited_of-others history [] b apart = ap (λ h. has_waited h b) (append-nil history)
+waited_of-others history (e ∷ others) b apart = ap (λ h. has_waited h b) (sym (append_assoc history (e ∷ []) others)) ∙ waited_of-others (history ++ e ∷ []) others b apart.1 ∙ waited_of-other history e b (ne_eqb e.backend b apart.0)
+
+-- as does a look of its own
+pub waited_of-look : (history : List Entry) (e : Entry) (b : ℕ) (some_wait : Bool) → e.event ≡ events.Look some_wait → (e.backend == b) ≡ true → has_waited (history ++ e ∷ []) b ≡ has_waited history b
+waited_of-look history e b some_wait is own = waited_of-own history e b own ∙ ap (λ x. waited_by (history ++ e ∷ []) b x (has_waited history b)) is
+
 alive_if : (alive waits : Bool) → (alive && waits) ≡ true → alive ≡ true
 alive_if true waits is = refl
 alive_if false waits is = absurd (cc)
 
-own_step : (before : List Entry) (e : Entry) (b : ℕ) (event : Event) → e.event ≡ event → (e.backend == b) ≡ true → WaitsStill before b → waited_by (before ++ e ∷ []) b event (has_waited before b) ≡ true → is_waiting (before ++ e ∷ []) b ≡ true
-own_step before e b (events.Look some_wait) is own was waited =
+-- what waits for a backend waits after its look
+pub waiting-look : (before : List Entry) (e : Entry) (b : ℕ) (some_wait : Bool) → e.event ≡ events.Look some_wait → (e.backend == b) ≡ true → is_waiting before b ≡ true → is_waiting (before ++ e ∷ []) b ≡ true
+waiting-look before e b some_wait is own waits =
     still before e b
-    (ap is_alive (life_of-own before e b own ∙ ap (life_by e.command) is) ∙ sym (alive_if (is_alive (life_of before b)) (nat_lt (position_of before b) (length (log_of before))) (was waited)))
+    (ap is_alive (life_of-own before e b own ∙ ap (life_by e.command) is) ∙ sym (alive_if (is_alive (life_of before b)) (nat_lt (position_of before b) (length (log_of before))) waits))
     (position_of-own before e b own ∙ ap (λ x. position_by before x (position_of before b)) is)
-    (was waited)
+    waits
+
+own_step : (before : List Entry) (e : Entry) (b : ℕ) (event : Event) → e.event ≡ event → (e.backend == b) ≡ true → WaitsStill before b → waited_by (before ++ e ∷ []) b event (has_waited before b) ≡ true → is_waiting (before ++ e ∷ []) b ≡ true
+own_step before e b (events.Look some_wait) is own was waited = waiting-look before e b some_wait is own (was waited)
 own_step before e b event is own was waited = waited
 
 each_step : (b : ℕ) (before : List Entry) (e : Entry) → WaitsStill before b → MayFollow before e → WaitsStill (before ++ e ∷ []) b

@@ -8,8 +8,6 @@ use Rattle.base_types.specs.declared.change.Change.{Change}
 use Rattle.base_types.specs.declared.change.Change.TheVariants.{Insert, Replace, Delete}
 use Rattle.base_types.specs.declared.ids.Oid.{Oid}
 use Rattle.base_types.specs.declared.ids.Xid.{Xid}
-use Rattle.base_types.specs.declared.row.Row.{Row}
-use Rattle.base_types.specs.declared.row.Row.TheVariants as rows
 use Rattle.base_types.specs.declared.row_key.RowKey.{RowKey}
 use Rattle.event_kinds.specs.declared.entry.Entry.{Entry}
 use Rattle.row_visibility.specs.declared.clash.Clash.{Clash}

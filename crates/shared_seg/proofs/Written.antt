@@ -1,5 +1,5 @@
 -- The versions after a write are those that the history says.
-use Rattle.std.proofs.Common.{◌≡◌, ◌≤◌, ◌+◌, ◌-◌, ◌∙◌, ◌||◌, ℕ, Bool, true, false, Option, Some, None, List, [], ◌∷◌, map, fold, replicate, slice_get, unwrap_or, append-nil, refl, sym, ap, subst, arith}
+use Rattle.std.proofs.Common.{◌≡◌, ◌≤◌, ◌+◌, ◌∙◌, ◌||◌, ℕ, Bool, true, false, Option, Some, None, List, [], ◌∷◌, map, fold, replicate, slice_get, unwrap_or, append-nil, refl, sym, ap, subst, arith}
 use Rattle.std.specs.List.{AllByRecursion, flat_map}
 use Rattle.std.specs.Option.{option_map, option_map_or}
 use Rattle.std.proofs.lemmas.Bool.{ne_eqb}

@@ -22,6 +22,9 @@
 //! let scanned = shared.scan(1, 1, &purpose)?;
 //! ```
 //!
+//! It has the meanings that a turn table asks of the value that goes from hand to hand
+//! ([`Turned`](turn_table::Turned)).
+//!
 //! Different from the server: a lock is never waited for, and the first holder in the way is named; a new
 //! name that a running transaction has in use is refused where the server would wait; Xids and oids that
 //! would pass 32 bits are answered as out of memory.
@@ -34,6 +37,7 @@ mod naming;
 mod places;
 mod shared;
 mod transaction;
+mod turns;
 mod write;
 
 pub use shared::Shared;

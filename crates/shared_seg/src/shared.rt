@@ -16,6 +16,7 @@ use base_types::{FIRST_OID, Fetched, Mode, NoMemory, Oid, Purpose, Scanned, Xid}
 use catalog_rows::RowStore;
 use ddl_effect::Draft;
 use event_kinds::{Entry, Event};
+use ghost_list::GhostValue;
 use inval_messages::Message;
 use lock_modes::{Granted, LockTable};
 use script_text::Script;
@@ -23,13 +24,12 @@ use seg_calls::{LockRefusal, Seg, WriteRefusal, Written};
 use sinval_ring::{Cleaned, Ring};
 use std::alloc::Global;
 use std::marker::Model;
-use std::snapshot::Snapshot;
 use txn_blocks::RunningTransaction;
 
 /// What all backends of a script share.
 pub struct Shared {
     alloc: Global,
-    script: Snapshot<Script>,
+    script: GhostValue<Script>,
     places: Places,
     store: RowStore,
     locks: LockTable,
@@ -85,7 +85,7 @@ impl Shared {
         add_slots(&mut transactions, backends as usize + 1);
         Ok(Shared {
             alloc,
-            script: Snapshot::of(script),
+            script: GhostValue::of(script),
             places,
             store: RowStore::new(alloc),
             locks: LockTable::new(alloc),

@@ -11,10 +11,10 @@ use crate::reader::{MOST_FETCHED, Reader, reader_at};
 use crate::window::Window;
 use arrayvec::ArrayVec;
 use base_types::{Fetched, NoMemory};
+use ghost_list::GhostValue;
 use inval_messages::Message;
 use std::alloc::Global;
 use std::marker::Model;
-use std::snapshot::Snapshot;
 
 /// The queue of invalidation messages and its readers, the backends 1 to the number that it is made for
 /// (`SISeg` in `src/backend/storage/ipc/sinvaladt.c`). Messages have numbers in the order of their
@@ -25,7 +25,7 @@ use std::snapshot::Snapshot;
 pub struct Ring {
     window: Window,
     // the number of the first message of all
-    first: Snapshot<u64>,
+    first: GhostValue<u64>,
     // the number of the next message to be inserted
     max: u64,
     // a number that no reader is before
@@ -82,7 +82,7 @@ impl Ring {
         add_inactive(&mut readers, backends as usize + 1);
         Ok(Ring {
             window,
-            first: Snapshot::of(&number),
+            first: GhostValue::of(&number),
             max: number,
             min: number,
             threshold: u64::from(size) / 2,
