@@ -16,5 +16,7 @@
 mod commands;
 mod draws;
 mod making;
+mod text;
 
 pub use making::{MOST_NUMBER, make};
+pub use text::made_text;
