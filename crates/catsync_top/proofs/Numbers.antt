@@ -3,7 +3,7 @@ use Rattle.std.proofs.Common.{◌≡◌, ◌<◌, ◌≤◌, ◌∙◌, ◌⊎�
 use Rattle.std.specs.Prelude.{MatchOption}
 use Rattle.std.specs.Str.{bytes_eq}
 use Rattle.std.specs.Str.Parse.{ParsesUnsigned}
-use Rattle.std.proofs.lemmas.Fmt.{parse-decimal}
+use Rattle.std.proofs.lemmas.Fmt.{parse-decimal, decimal_injective}
 use Rattle.std.proofs.lemmas.Slice.Eq.{bytes_eq-Decides}
 use Rattle.catsync_top.specs.Top.{IsNumber, IsNoNumber, AskToMake, AskNoScript}
 
@@ -41,3 +41,11 @@ asked_after arguments text None are h = λ n ask.
     let same : ask.text ≡ text = let k = ask.are in cc in
     h n (subst (λ t. IsNumber t n) same ask.spelled)
 asked_after arguments text (Some n) are h = record { text = text; are = are; spelled = h }
+
+-- the arguments ask for one script at most
+pub one_number : (arguments : List (List ℕ)) (m n : ℕ) → AskToMake arguments m → AskToMake arguments n → m ≡ n
+one_number arguments m n first second =
+    let same : first.text ≡ second.text = let k = first.are in let l = second.are in cc in
+    let low : m ≤ 1000 = first.spelled.most in
+    let high : n ≤ 1000 = second.spelled.most in
+    decimal_injective m n (omega arith) (omega arith) (sym first.spelled.is ∙ same ∙ second.spelled.is)
