@@ -14,7 +14,8 @@ import sys
 
 sys.dont_write_bytecode = True
 
-from random_scripts import random_script
+from built_scripts import built
+from random_scripts import script_of
 
 TOP = os.path.dirname(os.path.dirname(os.path.abspath(__file__)))
 PROGRAM = os.path.join(TOP, "crates", "catsync", "out", "catsync")
@@ -63,7 +64,7 @@ def main():
     options = parser.parse_args()
     total = differ = 0
     for seed in range(options.first, options.last + 1):
-        found, entries = differences(options.program, random_script(seed))
+        found, entries = differences(options.program, built(script_of(seed)))
         total += entries
         differ += bool(found)
         for text in found:
