@@ -17,10 +17,10 @@ use Rattle.catsync_top.specs.declared.status.Status.TheVariants as statuses
 use Rattle.catsync_top.specs.Top.{Ask, AskToMake, HasMade, IsEndOfMaking, IfBadScript, IfDiffers}
 
 -- a script that was walked, and written under what came of the walk
-pub has_made : (script made : Scenario) (taken now : Option (List ℕ)) (Writes : Option (List ℕ) → Option (List ℕ) → List ℕ → Type 0) (history : List Entry) (answers : List Line) (text sent : List ℕ) (built : Bool)
-    → script ≡ made → built ≡ is_built script → built ≡ true → IsWalk script history answers → text ≡ made_text script history answers → IsReadBack script text → sent ≡ text → Writes taken now sent → HasMade made taken now Writes
-has_made script made taken now Writes history answers text sent built are is test walk text_is back all written =
-    let spelled : text ≡ made_text script history (lines_of script history) = text_is ∙ ap (made_text script history) walk.lines_are in
+pub has_made : (script made : Scenario) (taken now : Option (List ℕ)) (Writes : Option (List ℕ) → Option (List ℕ) → List ℕ → Type 0) (history seen : List Entry) (answers said : List Line) (text sent : List ℕ) (built : Bool)
+    → script ≡ made → built ≡ is_built script → built ≡ true → IsWalk script history answers → seen ≡ history → said ≡ answers → text ≡ made_text script seen said → IsReadBack script text → sent ≡ text → Writes taken now sent → HasMade made taken now Writes
+has_made script made taken now Writes history seen answers said text sent built are is test walk entries lines text_is back all written =
+    let spelled : text ≡ made_text script history (lines_of script history) = text_is ∙ ap (λ h. made_text script h said) entries ∙ ap (made_text script history) (lines ∙ walk.lines_are) in
     subst (λ s. HasMade s taken now Writes) are (record {
       built = sym is ∙ test;
       output = text_of history (lines_of script history);
