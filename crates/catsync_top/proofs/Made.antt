@@ -6,6 +6,7 @@ use Rattle.event_kinds.specs.declared.entry.Line.{Line}
 use Rattle.base_types.specs.Scenario.{Scenario}
 use Rattle.script_text.specs.ReadBack.{IsReadBack}
 use Rattle.script_text.specs.declared.fault.ScriptCause.{ScriptCause}
+use Rattle.make_script.specs.Scripts.{made_script}
 use Rattle.make_script.specs.Texts.{made_text}
 use Rattle.cacheless.specs.Lines.{lines_of}
 use Rattle.by_backend.specs.Built.{is_built}
@@ -29,6 +30,10 @@ has_made script made taken now Writes history seen answers said text sent built 
       back = subst (IsReadBack script) spelled back;
       written = subst (Writes taken now) (all ∙ spelled) written;
     })
+
+-- the scripts of one number are one
+pub same_script : (m n : ℕ) (taken now : Option (List ℕ)) (Writes : Option (List ℕ) → Option (List ℕ) → List ℕ → Type 0) → m ≡ n → HasMade (made_script m) taken now Writes → HasMade (made_script n) taken now Writes
+same_script m n taken now Writes same h = subst (λ k. HasMade (made_script k) taken now Writes) same h
 
 -- it names no line of an input, and no entry
 pub makes_no_bad : (status : Status) (holds : ℕ → ScriptCause → Type 0) → IsEndOfMaking status → IfBadScript status holds

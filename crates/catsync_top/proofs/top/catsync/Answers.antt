@@ -1,18 +1,18 @@
-use Rattle.std.proofs.Common.{◌∙◌, map, subst, sym}
+use Rattle.std.proofs.Common.{map, subst}
 use Rattle.std.specs.String.{string_bytes}
 use Rattle.edge_io.specs.Taken.{Grows, GrowsByFront}
-use Rattle.make_script.specs.Scripts.{made_script}
-use Rattle.catsync_top.specs.Top.{HasMade, IsUnbuilt}
+use Rattle.catsync_top.specs.Top.{IsUnbuilt}
+use Rattle.catsync_top.proofs.Made.{same_script}
 use Rattle.catsync_top.proofs.Numbers.{one_number}
 use Rattle.catsync_top.proofs.top.catsync.Goals as goal
 
 pub returns-in-Some-clause-made : goal.returns-in-Some-clause-made
 returns-in-Some-clause-made g c =
-    λ number ask done. subst (λ n. HasMade (made_script n) _ _ Grows) (one_number (map string_bytes c.args.arguments.now) c.in-Some.number number c.in-Some.ensures ask) (c.write_made.ensures.made done)
+    λ number ask done. same_script c.in-Some.number number _ _ Grows (one_number (map string_bytes c.args.arguments.now) c.in-Some.number number c.in-Some.ensures ask) (c.write_made.ensures.made done)
 
 pub returns-in-Some-clause-made_front : goal.returns-in-Some-clause-made_front
 returns-in-Some-clause-made_front g c =
-    λ number ask failed. subst (λ n. HasMade (made_script n) _ _ GrowsByFront) (one_number (map string_bytes c.args.arguments.now) c.in-Some.number number c.in-Some.ensures ask) (c.write_made.ensures.write_front failed)
+    λ number ask failed. same_script c.in-Some.number number _ _ GrowsByFront (one_number (map string_bytes c.args.arguments.now) c.in-Some.number number c.in-Some.ensures ask) (c.write_made.ensures.write_front failed)
 
 pub returns-in-Some-clause-unbuilt : goal.returns-in-Some-clause-unbuilt
 returns-in-Some-clause-unbuilt g c =
