@@ -27,3 +27,20 @@ walk_thrice() {
     status=$(awk '/^status / { status = $2 } END { print status }' <<<"$times")
     seconds=$(awk '/^[0-9.]+ [0-9.]+$/ { sum = $1 + $2; if (least == "" || sum < least) least = sum } END { print least }' <<<"$times")
 }
+
+# Runs the program with arguments on a file: what it writes goes to a second file, and its seconds and megabytes are printed.
+run_on() {
+    local input=$1 written=$2
+    shift 2
+    python3 - "$input" "$written" "$program" "$@" <<'PYTHON'
+import resource
+import subprocess
+import sys
+
+source, target, *command = sys.argv[1:]
+with open(source, "rb") as script, open(target, "wb") as written:
+    status = subprocess.run(command, stdin=script, stdout=written, check=False).returncode
+used = resource.getrusage(resource.RUSAGE_CHILDREN)
+print(f"status {status}, {used.ru_utime + used.ru_stime:.2f} seconds, {used.ru_maxrss / 1024:.0f} MB")
+PYTHON
+}

@@ -5,11 +5,11 @@ script allows, from the first on, and the answer lines by these. CATSYNC_ORACLE 
     tests/lines_agree.py [--seed N] [--walks N] [--changed N] [--program FILE] [--keep FILE]
     tests/lines_agree.py [--seed N] [--walks N] [--changed N] --write NAME [OUTPUT..]
 
-The scripts are random. Of each there is the walk's history and one that was played by the rules without a schedule; and
-of these two, by turns, changed ones: entries that go, come twice, or come elsewhere, other numbers and words in them, more
-looks and fetches, entries after a stop, other new oids, other queues, other orders of the backends. Prints
-'N walks, M changed: K differ'; the first cases that differ go to the file of --keep, each with what was wanted of it. The
-exit status is 0 where none differs.
+The scripts are random, half of them that reading's and half our own (random_scripts.py). Of each there is the walk's
+history and one that was played by the rules without a schedule; and of these two, by turns, changed ones: entries that
+go, come twice, or come elsewhere, other numbers and words in them, more looks and fetches, entries after a stop, other
+new oids, other queues, other orders of the backends. Prints 'N walks, M changed: K differ'; the first cases that differ
+go to the file of --keep, each with what was wanted of it. The exit status is 0 where none differs.
 
 With --write nothing is compared: the cases go to NAME.cases, and what the rules say of them to NAME.expected. Where outputs
 are named, FOLDER/NAME.output beside FOLDER/NAME.script, the histories are theirs in place of random scripts'.
@@ -28,6 +28,7 @@ from typing import List, NamedTuple
 sys.dont_write_bytecode = True
 
 from built_scripts import built
+from random_scripts import script_of
 
 TOP = os.path.dirname(os.path.dirname(os.path.abspath(__file__)))
 CRATE = os.path.join(TOP, "crates", "lines_replay")
@@ -73,7 +74,8 @@ class Oracle:
 
     def script(self, seed):
         """A random script, whose last line is `end` and nothing else."""
-        lines = built(self.scripts.make(seed, STAGE, SIZES[seed % len(SIZES)])).rstrip("\n").split("\n")
+        script = script_of(seed) if seed % 2 else self.scripts.make(seed, STAGE, SIZES[seed % len(SIZES)])
+        lines = built(script).rstrip("\n").split("\n")
         return "".join(line + "\n" for line in lines[:-1] + ["end"])
 
     def walked(self, script):

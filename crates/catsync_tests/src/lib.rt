@@ -41,6 +41,8 @@ mod ledgers;
 #[cfg(test)]
 mod locks;
 #[cfg(test)]
+mod made;
+#[cfg(test)]
 mod messages;
 #[cfg(test)]
 mod open_fields;

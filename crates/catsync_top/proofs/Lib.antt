@@ -3,3 +3,5 @@ pub mod NotBuilt
 pub mod Running
 pub mod Readable
 pub mod Checked
+pub mod Numbers
+pub mod Made

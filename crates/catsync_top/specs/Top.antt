@@ -1,10 +1,11 @@
 -- What the program does with the bytes that it reads.
-use Rattle.std.specs.Prelude.{◌≡◌, ◌≤◌, ◌<◌, ◌+◌, ⊤, ℕ, IsSomeAnd, true, false, Option, Ok, Err, List, [], ◌∷◌, ◌++◌, codes, decimal, drop, length}
+use Rattle.std.specs.Prelude.{◌≡◌, ◌≤◌, ◌<◌, ◌+◌, ◌⊎◌, ⊤, ℕ, IsSomeAnd, true, false, Option, Ok, Err, List, [], ◌∷◌, ◌++◌, codes, decimal, drop, length}
 use Rattle.std.specs.Io.KnownBytes.{Consumes, IsAtEnd}
 use Rattle.edge_io.specs.Causes.{Rose}
 use Rattle.edge_io.specs.declared.reading.TheConstants.{PIECE}
 use Rattle.std.specs.List.{All, AllByRecursion}
 use Rattle.base_types.specs.Commands.{IsCommand}
+use Rattle.base_types.specs.Scenario.{Scenario}
 use Rattle.event_kinds.specs.Entries.{IsEntry}
 use Rattle.history_model.specs.Orderly.{IsSound}
 use Rattle.out_text.specs.Typed.{IsLine, SpellsOnly}
@@ -18,6 +19,10 @@ use Rattle.cacheless.specs.Lines.{lines_of}
 use Rattle.cacheless.specs.Output.{IsOutput}
 use Rattle.backend_core.specs.declared.backend.Backend.{Backend}
 use Rattle.check_tool.specs.Verdicts.{IsOutputOf, DiffersAt}
+use Rattle.script_text.specs.ReadBack.{IsReadBack}
+use Rattle.make_script.specs.declared.making.TheConstants.{MOST_NUMBER}
+use Rattle.make_script.specs.Scripts.{made_script}
+use Rattle.make_script.specs.Texts.{made_text}
 use Rattle.catsync_top.specs.declared.top.TheConstants.{MOST_INPUT, MOST_CHECKED}
 use Rattle.catsync_top.specs.declared.arguments.Word.{Word}
 use Rattle.catsync_top.specs.declared.arguments.Word.TheVariants as words
@@ -33,14 +38,48 @@ arguments_of words.Check = codes "check" ∷ codes "walk" ∷ []
 abbrev pub Ask : List (List ℕ) → Word → Type 0
 Ask arguments word = arguments ≡ arguments_of word
 
--- they ask for no word
-abbrev pub AskNothing : List (List ℕ) → Type 0
-AskNothing arguments = (word : Word) → Ask arguments word → ⊥
+-- a text is the number of a script that can be made, in decimal
+pub record IsNumber (text : List ℕ) (number : ℕ) : Type 0 where
+  pub is : text ≡ decimal number
+  pub least : 1 ≤ number
+  pub most : number ≤ MOST_NUMBER
 
--- they ask for one
-pub record AskSomething (arguments : List (List ℕ)) : Type 0 where
+-- it is none
+abbrev pub IsNoNumber : List ℕ → Type 0
+IsNoNumber text = (number : ℕ) → IsNumber text number → ⊥
+
+-- the arguments ask for the script of this number
+pub record AskToMake (arguments : List (List ℕ)) (number : ℕ) : Type 0 where
+  pub text : List ℕ
+  pub are : arguments ≡ codes "make" ∷ text ∷ []
+  pub spelled : IsNumber text number
+
+-- they ask for no word
+abbrev pub AskNoWord : List (List ℕ) → Type 0
+AskNoWord arguments = (word : Word) → Ask arguments word → ⊥
+
+-- they ask for no script
+abbrev pub AskNoScript : List (List ℕ) → Type 0
+AskNoScript arguments = (number : ℕ) → AskToMake arguments number → ⊥
+
+-- they ask for nothing that the program does
+pub record AskNothing (arguments : List (List ℕ)) : Type 0 where
+  pub no_word : AskNoWord arguments
+  pub no_script : AskNoScript arguments
+
+-- they ask for a word
+pub record AskWord (arguments : List (List ℕ)) : Type 0 where
   pub word : Word
   pub ask : Ask arguments word
+
+-- they ask for a script
+pub record AskScript (arguments : List (List ℕ)) : Type 0 where
+  pub number : ℕ
+  pub ask : AskToMake arguments number
+
+-- they ask for something
+abbrev pub AskSomething : List (List ℕ) → Type 0
+AskSomething arguments = AskWord arguments ⊎ AskScript arguments
 
 -- the most bytes that are read
 abbrev pub most_of : Word → ℕ
@@ -112,6 +151,19 @@ pub record HasDiffered (left rest : Option (List ℕ)) (entry : ℕ) : Type 0 wh
   pub is : IsChecked left rest
   pub differs : DiffersAt is.reading.script (drop is.reading.rest_at is.input) entry
 
+-- the script can be walked; it was written, or a prefix of it, under a comment that counts what is in an output of it: the entries of the history, those that publish, those that are resets, and the answers that are errors; that history is sound; and the whole text is read as the script
+pub record HasMade (script : Scenario) (taken now : Option (List ℕ)) (Writes : Option (List ℕ) → Option (List ℕ) → List ℕ → Type 0) : Type 0 where
+  pub built : is_built script ≡ true
+  pub output : List ℕ
+  pub is : IsOutput script output
+  pub sound : IsSound is.history
+  pub back : IsReadBack script (made_text script is.history (lines_of script is.history))
+  pub written : Writes taken now (made_text script is.history (lines_of script is.history))
+
+-- the script of a number has a command that isn't built
+abbrev pub IsUnbuilt : ℕ → Type 0
+IsUnbuilt number = is_built (made_script number) ≡ false
+
 -- that line of the input is the first that breaks a rule, and that rule is the first that it breaks
 pub record IsBad (word : Word) (left rest : Option (List ℕ)) (line : ℕ) (cause : ScriptCause) : Type 0 where
   pub input : List ℕ
@@ -154,6 +206,14 @@ HasEnded word statuses.Done = ⊤
 HasEnded word statuses.NoMemory = ⊤
 HasEnded words.Check (statuses.Differs entry) = ⊤
 HasEnded word status = ⊥
+
+-- how the making of a script may end
+abbrev pub IsEndOfMaking : Status → Type 0
+IsEndOfMaking statuses.Done = ⊤
+IsEndOfMaking statuses.WriteFault = ⊤
+IsEndOfMaking statuses.NoMemory = ⊤
+IsEndOfMaking statuses.NotYet = ⊤
+IsEndOfMaking status = ⊥
 
 -- what holds of the line and the rule that a refusal of a script names
 abbrev pub IfBadScript : Status → (ℕ → ScriptCause → Type 0) → Type 0

@@ -1,19 +1,22 @@
 ghost use Rattle.std.specs.Prelude.{map, MatchOption};
 ghost use Rattle.std.specs.String.{string_bytes};
-ghost use Rattle.catsync_top.specs.Top.{Ask, AskNothing};
+ghost use Rattle.catsync_top.specs.Top.{Ask, AskToMake, AskNoWord, AskNoScript, IsNumber, IsNoNumber};
 
-/// What the program is asked to do.
+use base_types::LineBuffer;
+use make_script::MOST_NUMBER;
+
+/// What the program is asked to read.
 #[derive(Clone, Copy)]
 pub enum Word {
-    /// `walk`: to walk a script.
+    /// `walk`: a script, to walk it.
     Walk,
-    /// `check walk`: to check an output of `walk`.
+    /// `check walk`: a script and after it an output, to check that.
     Check,
 }
 
-// What the arguments ask for, if anything.
+// The word that the arguments ask for, if they ask for one.
 pub(crate) fn word_of(arguments: &[String]) -> Option<Word>
-    ensures { MatchOption result (AskNothing (map string_bytes arguments.now)) (Ask (map string_bytes arguments.now)) }
+    ensures { MatchOption result (AskNoWord (map string_bytes arguments.now)) (Ask (map string_bytes arguments.now)) }
 {
     match arguments {
         [word] if word.as_str() == "walk" => Some(Word::Walk),
@@ -21,5 +24,34 @@ pub(crate) fn word_of(arguments: &[String]) -> Option<Word>
             Some(Word::Check)
         }
         _ => None,
+    }
+}
+
+// The number of the script that the arguments ask for, if they ask for one.
+pub(crate) fn made_of(arguments: &[String]) -> Option<u32>
+    ensures { MatchOption result (AskNoScript (map string_bytes arguments.now)) (AskToMake (map string_bytes arguments.now)) }
+{
+    match arguments {
+        [first, second] if first.as_str() == "make" => number_of(second.as_str()),
+        _ => None,
+    }
+}
+
+// The number that a text is, from 1 to 1,000, without a sign and without zeros in front.
+fn number_of(text: &str) -> Option<u32>
+    ensures { MatchOption result (IsNoNumber text.now) (IsNumber text.now) }
+{
+    let Ok(number) = text.parse::<u32>() else {
+        return None;
+    };
+    if number < 1 || number > MOST_NUMBER {
+        return None;
+    }
+    let mut digits = LineBuffer::new();
+    digits.push_number(number);
+    if digits.as_bytes() == text.as_bytes() {
+        Some(number)
+    } else {
+        None
     }
 }

@@ -19,6 +19,7 @@
 
 mod arguments;
 mod checking;
+mod making;
 mod status;
 mod top;
 mod walking;

@@ -10,8 +10,8 @@ pub enum Status {
     /// All was written, and the input was read to its end.
     #[error("done")]
     Done,
-    /// The arguments are neither `walk` nor `check walk`.
-    #[error("usage: catsync walk < SCRIPT > OUTPUT, or catsync check walk < SCRIPT_AND_OUTPUT")]
+    /// The arguments are neither `walk` nor `check walk`, nor `make` with a number from 1 to 1,000.
+    #[error("usage: catsync walk < SCRIPT > OUTPUT, or catsync check walk < SCRIPT_AND_OUTPUT, or catsync make N > SCRIPT")]
     Usage,
     /// The input isn't a script: the first line that breaks a rule, from 1, and the first rule that
     /// it breaks.
@@ -35,7 +35,7 @@ pub enum Status {
     /// them differs.
     #[error("entry {entry} differs")]
     Differs { entry: u64 },
-    /// The input is a script, with a command that isn't built yet.
+    /// The input, or the script to make, is one with a command that isn't built yet.
     #[error("the script holds a command that isn't built yet")]
     NotYet,
 }

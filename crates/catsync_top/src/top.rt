@@ -1,14 +1,16 @@
-ghost use Rattle.std.specs.Prelude.{◌≡◌, ◌≢◌, ◌≤◌, [], map, length};
+ghost use Rattle.std.specs.Prelude.{◌≡◌, ◌≢◌, ◌≤◌, ℕ, [], map, length};
 ghost use Rattle.std.specs.String.{string_bytes};
 ghost use Rattle.edge_io.specs.Causes.{Rose};
 ghost use Rattle.edge_io.specs.Taken.{Grows, GrowsByFront};
+ghost use Rattle.make_script.specs.Scripts.{made_script};
 ghost use Rattle.catsync_top.specs.declared.arguments.Word.{Word};
 ghost use Rattle.catsync_top.specs.declared.arguments.Word.TheVariants as words;
-ghost use Rattle.catsync_top.specs.Top.{Ask, AskNothing, AskSomething, Ran, HasFound, HasDiffered, IsBad, IsTooLong, IsNotYet, CanRun, HadNoFault, IfBadScript, IfDiffers, HasEnded};
+ghost use Rattle.catsync_top.specs.Top.{Ask, AskToMake, AskNothing, AskSomething, Ran, HasFound, HasDiffered, HasMade, IsBad, IsTooLong, IsNotYet, IsUnbuilt, CanRun, HadNoFault, IfBadScript, IfDiffers, HasEnded, IsEndOfMaking};
 
 use crate::Status;
-use crate::arguments::{Word, word_of};
+use crate::arguments::{Word, made_of, word_of};
 use crate::checking::check_output;
+use crate::making::write_made;
 use crate::walking::walk_script;
 use backend_core::Backend;
 use edge_io::{Gate, Sink, Source};
@@ -22,29 +24,32 @@ pub const MOST_INPUT: usize = 1_048_576;
 pub const MOST_CHECKED: usize = 268_435_456;
 
 /// Runs the program: its arguments, where it reads, where it writes, and a gate for each backend
-/// that a script can have, which neither word asks. It takes memory from `alloc`, and none while
+/// that a script can have, which no word asks. It takes memory from `alloc`, and none while
 /// it writes. `sessions` is empty before the call; after `Done` and `WriteFault` of `walk` it holds
 /// the backends that were run.
 ///
 /// `walk` reads a script, and writes its history and answers. `check walk` reads a script and, after
-/// its `end` line, an output; it writes the number of the output's entries.
+/// its `end` line, an output; it writes the number of the output's entries. `make N`, with N from 1
+/// to 1,000, reads nothing, and writes the script of that number under a comment that counts what
+/// came of a walk of it.
 ///
 /// The order is: arguments, reading, script, work, writing. What is said of the bytes holds as far
 /// as the source and the sink tell them.
 ///
-/// - `Usage`: exactly where the arguments are neither `walk` nor `check walk`; nothing is read.
+/// - `Usage`: exactly where the arguments are neither `walk` nor `check walk`, nor `make` with a
+///   number from 1 to 1,000 in decimal; nothing is read.
 /// - `ReadFault`, `WriteFault`: only where the source's or the sink's count of faults rose.
 /// - `TooLong`: exactly where the source gives more bytes before its end than [`MOST_INPUT`] for
 ///   `walk`, [`MOST_CHECKED`] for `check walk`.
 /// - `BadScript`: exactly where that line is the first that breaks a rule of scripts, and that rule
 ///   is the first that it breaks.
-/// - `NotYet`: exactly where the input is a script, or begins with one, with a command that isn't
-///   built yet.
+/// - `NotYet`: exactly where the input is a script, or begins with one, or the made script is one,
+///   with a command that isn't built yet.
 /// - `NoMemory`: at any point before writing.
 /// - `Differs`: of `check walk`, exactly where what follows the script isn't an output of it whose
 ///   entries have texts.
 /// - `Done`: the input was read to its end, and the whole output was written; for `check walk`, what
-///   follows the script is an output of it.
+///   follows the script is an output of it; for `make`, nothing was read.
 pub fn catsync<S: Source, K: Sink, G: Gate>(
     alloc: Global,
     arguments: &[String],
@@ -65,8 +70,11 @@ pub fn catsync<S: Source, K: Sink, G: Gate>(
     ensures write_front { Ask (map string_bytes arguments.now) words.Walk → result ≡ Status.WriteFault → Ran (S.left source.old) (S.left source.new) (K.taken sink.old) (K.taken sink.new) GrowsByFront sessions.new.items }
     ensures found { Ask (map string_bytes arguments.now) words.Check → result ≡ Status.Done → HasFound (S.left source.old) (S.left source.new) (K.taken sink.old) (K.taken sink.new) Grows }
     ensures found_front { Ask (map string_bytes arguments.now) words.Check → result ≡ Status.WriteFault → HasFound (S.left source.old) (S.left source.new) (K.taken sink.old) (K.taken sink.new) GrowsByFront }
+    ensures made { (number : ℕ) → AskToMake (map string_bytes arguments.now) number → result ≡ Status.Done → HasMade (made_script number) (K.taken sink.old) (K.taken sink.new) Grows }
+    ensures made_front { (number : ℕ) → AskToMake (map string_bytes arguments.now) number → result ≡ Status.WriteFault → HasMade (made_script number) (K.taken sink.old) (K.taken sink.new) GrowsByFront }
     ensures nothing { result ≢ Status.Done → result ≢ Status.WriteFault → K.taken sink.new ≡ K.taken sink.old }
     ensures no_sessions { result ≢ Status.Done → result ≢ Status.WriteFault → sessions.new.items ≡ [] }
+    ensures none_made { (number : ℕ) → AskToMake (map string_bytes arguments.now) number → sessions.new.items ≡ [] }
     ensures none_checked { Ask (map string_bytes arguments.now) words.Check → sessions.new.items ≡ [] }
 
     // When each refusal comes.
@@ -74,6 +82,8 @@ pub fn catsync<S: Source, K: Sink, G: Gate>(
     ensures bad_script { (word : Word) → Ask (map string_bytes arguments.now) word → IfBadScript result (IsBad word (S.left source.old) (S.left source.new)) }
     ensures too_long { (word : Word) → Ask (map string_bytes arguments.now) word → result ≡ Status.TooLong → IsTooLong word (S.left source.old) (S.left source.new) }
     ensures not_yet { (word : Word) → Ask (map string_bytes arguments.now) word → result ≡ Status.NotYet → IsNotYet word (S.left source.old) (S.left source.new) }
+    ensures unbuilt { (number : ℕ) → AskToMake (map string_bytes arguments.now) number → result ≡ Status.NotYet → IsUnbuilt number }
+    ensures made_ends { (number : ℕ) → AskToMake (map string_bytes arguments.now) number → IsEndOfMaking result }
     ensures read_fault { result ≡ Status.ReadFault → Rose (S.faults source.old) (S.faults source.new) }
     ensures write_fault { result ≡ Status.WriteFault → Rose (K.faults sink.old) (K.faults sink.new) }
 
@@ -81,12 +91,16 @@ pub fn catsync<S: Source, K: Sink, G: Gate>(
     ensures source_steady { result ≢ Status.ReadFault → S.faults source.new ≡ S.faults source.old }
     ensures sink_steady { result ≢ Status.WriteFault → K.faults sink.new ≡ K.faults sink.old }
     ensures unread { result ≡ Status.Usage → S.left source.new ≡ S.left source.old }
+    ensures made_unread { (number : ℕ) → AskToMake (map string_bytes arguments.now) number → S.left source.new ≡ S.left source.old }
     ensures gates { gates.new ≡ gates.old }
 
     // A script that can be walked is walked, and what follows it is checked, where neither source nor sink fails.
     ensures complete { (word : Word) → Ask (map string_bytes arguments.now) word → CanRun word (S.left source.old) → HadNoFault (S.faults source.old) (S.faults source.new) → HadNoFault (K.faults sink.old) (K.faults sink.new) → HasEnded word result }
 {
     let _ = gates;
+    if let Some(number) = made_of(arguments) {
+        return write_made(alloc, number, sink);
+    }
     let Some(word) = word_of(arguments) else {
         return Status::Usage;
     };

@@ -1,0 +1,4 @@
+pub mod Digits
+pub mod InRange
+pub mod Worked
+pub mod Commented

@@ -1,0 +1,11 @@
+use Rattle.std.proofs.Common.{◌∙◌, rules, tests}
+use Rattle.std.proofs.lemmas.Iterator.{YieldsList-from_slice}
+use Rattle.std.proofs.lemmas.Iterator.Consumers.{YieldsList-from_filter, count_from_yields_List}
+use Rattle.std.proofs.lemmas.List.Sums.{length-filter}
+use Rattle.make_script.specs.Texts.{publishes}
+use Rattle.make_script.proofs.text.publishes_in.Goals as goal
+
+pub returns : goal.returns
+returns c =
+    count_from_yields_List c.filter.result c.count.result c.count.ensures.ran (YieldsList-from_filter _ publishes (YieldsList-from_slice c.args.history.now cc) c.filter.ensures.closure (λ x b q k. search (rules, tests)))
+    ∙ length-filter publishes c.args.history.now

@@ -1,0 +1,77 @@
+#!/usr/bin/env python3
+"""Walks random scripts, and lets `check walk` judge each output: it is one of its script, and isn't with something after its
+end, without its last byte, with its last entry twice, or of another script. No second reading of the rules is needed.
+
+    tests/walks_checked.py [--from N] [--to N] [--program FILE]
+
+The scripts are those of the seeds N to N (tests/random_scripts.py). Prints 'N walks, M entries: K differ', after a line for each
+script that differs; the exit status is 0 where none does.
+"""
+import argparse
+import os
+import subprocess
+import sys
+
+sys.dont_write_bytecode = True
+
+from built_scripts import built
+from random_scripts import script_of
+
+TOP = os.path.dirname(os.path.dirname(os.path.abspath(__file__)))
+PROGRAM = os.path.join(TOP, "crates", "catsync", "out", "catsync")
+
+
+def run(program, words, given):
+    """Exit status, standard output and standard error."""
+    done = subprocess.run([program] + words, input=given.encode(), capture_output=True, check=False)
+    return done.returncode, done.stdout.decode(), done.stderr.decode()
+
+
+def forged(output, entries):
+    """Outputs that are none of the script, each with the entry that differs."""
+    lines = output.splitlines(keepends=True)
+    yield output[:-1], entries + 1
+    yield output + "\n", entries + 1
+    yield output + " ", entries + 1
+    yield output + lines[-1], entries + 1
+    yield "".join(lines[:entries] + lines[entries - 1:]), entries + 1
+    yield "".join(lines[:entries - 1] + lines[entries:]), entries
+    yield "", 1
+
+
+def differences(program, script):
+    """What is wrong with the walk of a script and the checks of it, and how many entries the walk has."""
+    status, output, said = run(program, ["walk"], script)
+    if status:
+        return ["walk: status %d, %s" % (status, said.strip())], 0
+    entries = sum(line.startswith("h ") for line in output.splitlines())
+    found = []
+    status, answer, said = run(program, ["check", "walk"], script + output)
+    if (status, answer) != (0, "checked %d entries\n" % entries):
+        found.append("check walk: status %d, %s" % (status, (answer + said).strip()))
+    for number, (text, place) in enumerate(forged(output, entries), 1):
+        status, answer, said = run(program, ["check", "walk"], script + text)
+        if status != 7 or answer or not said.startswith("catsync: entry %d differs: " % place):
+            found.append("forged output %d: status %d, %s, and not entry %d" % (number, status, (answer + said).strip(), place))
+    return found, entries
+
+
+def main():
+    parser = argparse.ArgumentParser(description=__doc__, formatter_class=argparse.RawDescriptionHelpFormatter)
+    parser.add_argument("--from", dest="first", type=int, default=1)
+    parser.add_argument("--to", dest="last", type=int, default=100)
+    parser.add_argument("--program", default=PROGRAM, help="an executable to run in place of the proved one")
+    options = parser.parse_args()
+    total = differ = 0
+    for seed in range(options.first, options.last + 1):
+        found, entries = differences(options.program, built(script_of(seed)))
+        total += entries
+        differ += bool(found)
+        for text in found:
+            print("seed %d: %s" % (seed, text), flush=True)
+    print("%d walks, %d entries: %d differ" % (options.last + 1 - options.first, total, differ))
+    return 1 if differ or options.last < options.first else 0
+
+
+if __name__ == "__main__":
+    sys.exit(main())
