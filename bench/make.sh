@@ -11,6 +11,7 @@ need_program catsync ' -- walk < ../../examples/two_backends.script'
 
 for number; do
     echo "make $number: $(run_on /dev/null "$temp/script" make "$number"): $(head -n 1 "$temp/script")"
+    [ -s "$temp/script" ] || exit 1
     echo "  walk: $(run_on "$temp/script" "$temp/output" walk)"
     cat "$temp/script" "$temp/output" >"$temp/checked"
     echo "  check walk: $(run_on "$temp/checked" "$temp/answer" check walk), $(wc -c <"$temp/checked") bytes: $(cat "$temp/answer")"

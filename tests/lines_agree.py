@@ -74,7 +74,7 @@ class Oracle:
 
     def script(self, seed):
         """A random script, whose last line is `end` and nothing else."""
-        script = script_of(seed) if seed % 2 else self.scripts.make(seed, STAGE, SIZES[seed % len(SIZES)])
+        script = script_of(seed) if seed // 4 % 2 else self.scripts.make(seed, STAGE, SIZES[seed % len(SIZES)])
         lines = built(script).rstrip("\n").split("\n")
         return "".join(line + "\n" for line in lines[:-1] + ["end"])
 

@@ -1,6 +1,6 @@
 #!/usr/bin/env python3
 """Walks random scripts, and lets `check walk` judge each output: it is one of its script, and isn't with something after its
-end, without its last byte, with its last entry twice, or of another script. No second reading of the rules is needed.
+end, without its last byte, or with its last entry twice or left out. No second reading of the rules is needed.
 
     tests/walks_checked.py [--from N] [--to N] [--program FILE]
 
