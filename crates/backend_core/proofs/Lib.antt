@@ -11,3 +11,4 @@ pub mod Silent
 pub mod Entries
 pub mod NewFacts
 pub mod BuildsBegin
+mod Wanted

@@ -110,6 +110,7 @@ own_makes scenario old new had has was event waits played courses own appends = 
   needed = plays_needed scenario old e next;
   truly = own.truly;
   columns = keeps.columns;
+  indexes = keeps.indexes;
   names = keeps.names;
   queue = own.queue;
 }) appends

@@ -4,7 +4,7 @@ use Rattle.history_model.specs.Orderly.{MayComeNext}
 use Rattle.history_model.specs.Prefixes.{EachEntry}
 use Rattle.history_model.proofs.Prefixes.{EachEntry-more, EachEntry-weaker}
 use Rattle.cacheless.specs.Plays.{IsNext}
-use Rattle.cacheless.specs.TableWrites.{WritesColumns, WritesNamesApart}
+use Rattle.cacheless.specs.TableWrites.{WritesColumns, WritesIndexes, WritesNamesApart}
 use Rattle.cacheless.specs.MayEnter.{MayEnter}
 use Rattle.backend_core.specs.Types.{Scenario, Entry}
 use Rattle.backend_core.specs.Agrees.{AreSpelled, IsPlayed}
@@ -15,6 +15,7 @@ IsPlayed-more scenario history e played may = record {
   sound = EachEntry-more MayComeNext history e played.sound may.comes;
   plays = EachEntry-more (IsNext scenario) history e played.plays may.next;
   columns = EachEntry-more WritesColumns history e played.columns may.suits.columns;
+  indexes = EachEntry-more WritesIndexes history e played.indexes may.suits.indexes;
   names = EachEntry-more WritesNamesApart history e played.names may.suits.names;
   spelled = played.spelled;
 }
@@ -25,6 +26,7 @@ entered_played scenario history spelled entered = record {
   sound = EachEntry-weaker (MayEnter scenario) MayComeNext (λ before e may. may.comes) history entered;
   plays = EachEntry-weaker (MayEnter scenario) (IsNext scenario) (λ before e may. may.next) history entered;
   columns = EachEntry-weaker (MayEnter scenario) WritesColumns (λ before e may. may.suits.columns) history entered;
+  indexes = EachEntry-weaker (MayEnter scenario) WritesIndexes (λ before e may. may.suits.indexes) history entered;
   names = EachEntry-weaker (MayEnter scenario) WritesNamesApart (λ before e may. may.suits.names) history entered;
   spelled = spelled;
 }

@@ -11,14 +11,14 @@ use Rattle.cacheless.specs.Answering.{IsToldText}
 use Rattle.cacheless.specs.Session.{Session, outcome_of, is_settled}
 use Rattle.cacheless.specs.Silently.{is_to_answer, IsSettled, Answers, HasAnswered, IsLineOf}
 use Rattle.cacheless.specs.State.{kept_at, session_at, is_absent}
-use Rattle.cacheless.proofs.Answers.Telling.{act_places, act_tells, act_lines, with_answer, answer_holds, answer_tells, answer_places, pass_places, pass_tells, pass_lines}
+use Rattle.cacheless.proofs.Answers.Telling.{told_asked, act_places, act_tells, act_lines, with_answer, answer_holds, answer_tells, answer_places, pass_places, pass_tells, pass_lines}
 use Rattle.backend_core.specs.Types.{Command, Scenario, Entry, Line, Progress, Backend, Frame}
 use Rattle.backend_core.specs.Agrees.{command_at, AgreesNow, GoesOn, AwaitsEntry}
 use Rattle.backend_core.specs.Fits.{Fits}
-use Rattle.backend_core.proofs.Fitting.FitsOn.{fits_act, fits_pass}
+use Rattle.backend_core.proofs.Fitting.FitsOn.{fits_act, fits_pass, fits_quieter}
 use Rattle.ddl_effect.specs.Plans.{Do, Lookup}
 use Rattle.cacheless.specs.Types.{Mode}
-use Rattle.cacheless.specs.Settled.{class_oid, is_finished}
+use Rattle.cacheless.specs.Settled.{act_done, class_oid, is_finished}
 use Rattle.cacheless.proofs.Plans.SilentActs.{is_done_here, lookup_says}
 
 -- a command whose next act is done without an entry hasn't made its release
@@ -34,8 +34,8 @@ acts_going scenario seen b s command course at unsettled = by_ended s.ended refl
         by_side (inr alone) = absurd (both_ways _ unsettled (ap (λ p. is_settled (outcome_of p)) alone.left))
 
 -- it does an act
-act_agrees : (scenario : Scenario) (seen : List Entry) (was : Backend) (p : Progress) (now : AgreesNow scenario seen was) → HasActed scenario seen was.progress now.holds p → kept_at p ≡ kept_at was.progress → p.answer ≡ was.progress.answer → AgreesNow scenario seen (record was { progress = p })
-act_agrees scenario seen was p now acted kept same = record {
+act_agrees : (scenario : Scenario) (seen : List Entry) (was : Backend) (p : Progress) (keeps told : Bool) → told ≡ was.told && keeps → (now : AgreesNow scenario seen was) → HasActed scenario seen was.progress now.holds p → kept_at p ≡ kept_at was.progress → p.answer ≡ was.progress.answer → AgreesNow scenario seen (record was { progress = p; told = told })
+act_agrees scenario seen was p keeps told quiet now acted kept same = record {
   keeps = record {
     alive = now.keeps.alive;
     life = record { last = now.keeps.life.last; alive = ap (life_of seen) acted.moves.id ∙ now.keeps.life.alive; most = omega (arith, now.keeps.life.most, acted.moves.finished) };
@@ -43,10 +43,10 @@ act_agrees scenario seen was p now acted kept same = record {
     places = act_places scenario seen was.progress p now.holds now.tells.course acted kept now.keeps.places;
   };
   holds = acted.holds;
-  fits = subst (λ f. Fits f (slice_get p.commands p.finished) (session_at p acted.holds.rest) was.looked was.frames was.told) (sym (ap (facts_of seen) acted.moves.id))
-      (subst (λ o. Fits (facts_of seen was.progress.id) o (session_at p acted.holds.rest) was.looked was.frames was.told) (sym same_command)
-      (subst (λ x. Fits (facts_of seen was.progress.id) (command_at was) x was.looked was.frames was.told) (sym acted.session)
-      (fits_act (facts_of seen was.progress.id) (command_at was) s was.looked was.frames was.told acted.command acted.act acted.further acted.given acted.at acted.left going (is_done_here (facts_of seen was.progress.id) s acted.act acted.further acted.given acted.gives) says now.fits)));
+  fits = subst (λ f. Fits f (slice_get p.commands p.finished) (session_at p acted.holds.rest) was.looked was.frames told) (sym (ap (facts_of seen) acted.moves.id))
+      (subst (λ o. Fits (facts_of seen was.progress.id) o (session_at p acted.holds.rest) was.looked was.frames told) (sym same_command)
+      (subst (λ x. Fits (facts_of seen was.progress.id) (command_at was) x was.looked was.frames told) (sym acted.session)
+      (fits_quieter (facts_of seen was.progress.id) (command_at was) (act_done acted.act acted.given (acted.further acted.given) s) was.looked was.frames was.told keeps told quiet (fits_act (facts_of seen was.progress.id) (command_at was) s was.looked was.frames was.told acted.command acted.act acted.further acted.given acted.at acted.left going (is_done_here (facts_of seen was.progress.id) s acted.act acted.further acted.given acted.gives) says now.fits))));
   tells = act_tells scenario seen was.progress p now.holds now.tells acted same;
   lines = act_lines scenario seen was.progress p now.holds acted was.lines now.lines;
 }
@@ -67,14 +67,12 @@ act_agrees scenario seen was p now acted kept same = record {
     going = acts_going scenario seen was.progress.id s acted.command now.tells.course
         (ap (slice_get (commands_of scenario was.progress.id)) now.holds.count ∙ ap (λ l. slice_get l was.progress.finished) (sym now.holds.commands) ∙ acted.at) (ap (λ x. is_settled (outcome_of x)) acted.left)
 
--- the same of a call that may have been refused memory
-pub act_goes : {E : Type 0} (was : Backend) (p : Progress) (result : Result (Unit {0}) E) → OnOk result ((scenario : Scenario) (seen : List Entry) (held : Holds scenario seen was.progress) → HasActed scenario seen was.progress held p) → OnOk result (kept_at p ≡ kept_at was.progress) → OnOk result (p.answer ≡ was.progress.answer)
-    → OnOk result ((scenario : Scenario) (seen : List Entry) → AgreesNow scenario seen was → GoesOn scenario seen was (record was { progress = p }))
-act_goes was p (Ok x) acted kept same = λ scenario seen now. record { agrees = act_agrees scenario seen was p now (acted scenario seen now.holds) kept same; id = (acted scenario seen now.holds).moves.id }
-act_goes was p (Err e) acted kept same = tt
+pub act_goes : (was : Backend) (p : Progress) (keeps told : Bool) → told ≡ was.told && keeps → ((scenario : Scenario) (seen : List Entry) (held : Holds scenario seen was.progress) → HasActed scenario seen was.progress held p) → kept_at p ≡ kept_at was.progress → p.answer ≡ was.progress.answer
+    → (scenario : Scenario) (seen : List Entry) → AgreesNow scenario seen was → GoesOn scenario seen was (record was { progress = p; told = told })
+act_goes was p keeps told quiet acted kept same scenario seen now = record { agrees = act_agrees scenario seen was p keeps told quiet now (acted scenario seen now.holds) kept same; id = (acted scenario seen now.holds).moves.id }
 
 -- it works out what its command answers
-answer_agrees : (scenario : Scenario) (seen : List Entry) (s : Backend) (command : Command) (text : List ℕ) → AgreesNow scenario seen s → command_at s ≡ Some command → is_to_answer command s.progress ≡ true → s.progress.answer ≡ None → IsToldText s.progress text
+answer_agrees : (scenario : Scenario) (seen : List Entry) (s : Backend) (command : Command) (text : List ℕ) → AgreesNow scenario seen s → command_at s ≡ Some command → is_to_answer command s.progress ≡ true → s.progress.answer ≡ None → IsToldText command s.progress text
     → AgreesNow scenario seen (record s { progress = with_answer s.progress text })
 unfolding answer_holds
 answer_agrees scenario seen s command text now at asked none told = record {
@@ -86,7 +84,7 @@ answer_agrees scenario seen s command text now at asked none told = record {
 }
 
 pub answer_goes : {E : Type 0} (was : Backend) (p : Progress) (result : Result (Unit {0}) E) → Answers was.progress → OnOk result (HasAnswered was.progress p) → OnOk result ((scenario : Scenario) (seen : List Entry) → AgreesNow scenario seen was → GoesOn scenario seen was (record was { progress = p }))
-answer_goes was p (Ok x) asked has = λ scenario seen now. subst (λ x. GoesOn scenario seen was (record was { progress = x })) (sym has.is) (record { agrees = answer_agrees scenario seen was asked.command has.text now asked.at asked.asked asked.none has.told; id = refl })
+answer_goes was p (Ok x) asked has = λ scenario seen now. subst (λ x. GoesOn scenario seen was (record was { progress = x })) (sym has.is) (record { agrees = answer_agrees scenario seen was asked.command has.text now asked.at asked.asked asked.none (told_asked was.progress p asked has); id = refl })
 answer_goes was p (Err e) asked has = tt
 
 -- it passes to its next command

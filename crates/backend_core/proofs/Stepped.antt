@@ -1,12 +1,12 @@
 -- A step: an entry, and then what needs none.
-use Rattle.std.proofs.Common.{◌≡◌, ◌∙◌, ℕ, false, List, [], Result, Ok, Err, OnOk, OnErr, sym, subst}
+use Rattle.std.proofs.Common.{◌≡◌, ◌∙◌, ℕ, false, List, [], Result, Ok, Err, OnOk, OnErr, sym, subst, ap}
 use Rattle.backend_core.specs.Types.{Scenario, Entry, Backend}
 use Rattle.backend_core.specs.declared.life.Life.TheVariants as lives
 use Rattle.history_model.specs.Legal.{IsLegal}
 use Rattle.cacheless.specs.Plays.{Plays}
 use Rattle.cacheless.proofs.Allowed.AllowedHistories.{plays_on_course}
 use Rattle.backend_core.specs.Agrees.{AreSpelled, IsPlayed, AwaitsEntry, HasNotJoined, HasLeft, Stands, IsReady}
-use Rattle.backend_core.specs.Noted.{noted_of, nothing_noted, Settles, Stays, Passes, NotesStep, NotesAtStep}
+use Rattle.backend_core.specs.Noted.{Noted, noted_of, nothing_noted, Settles, Stays, Acts, Passes, NotesStep, NotesAtStep}
 use Rattle.backend_core.specs.Steps.{MakesEntry, Enters, Steps, IsRefused, After}
 use Rattle.backend_core.proofs.Coherent.{stands_coherent}
 use Rattle.backend_core.proofs.Played.{IsPlayed-more}
@@ -57,6 +57,7 @@ new_noted s looked frames told = λ i. record { looked = looked i; frames = fram
 -- where nothing is noted nothing is after it goes on
 settles_nothing : (was now : Backend) → noted_of was ≡ nothing_noted → Settles was now → noted_of now ≡ nothing_noted
 settles_nothing was now none (Stays at same) = same ∙ none
+settles_nothing was now none (Acts at same) = same ∙ ap (λ (x : Noted). record x { told = false }) none
 settles_nothing was now none (Passes less nothing) = nothing
 
 -- what is noted once it has joined, and once a backend that had joined has made its entry

@@ -9,7 +9,7 @@ use Rattle.event_kinds.specs.declared.entry.Event.TheVariants as events
 use Rattle.inval_messages.specs.Lists.{has_write_from}
 use Rattle.lock_modes.specs.Own.{is_own}
 use Rattle.ddl_effect.specs.Opens.{opens_before}
-use Rattle.ddl_effect.specs.Plans.{Plan, Done, Absent, Do, Lookup, Open, Search, told_rests_on, left_rests_on}
+use Rattle.ddl_effect.specs.Plans.{Plan, Done, Absent, Do, Lookup, Lock, Open, Search, told_rests_on, left_rests_on}
 use Rattle.txn_blocks.specs.Blocks.{Block, Level, Blocks, Outside, Inside, Failed, is_open}
 use Rattle.history_model.specs.Transactions.{is_visible}
 use Rattle.history_model.specs.Writes.{is_empty}
@@ -150,9 +150,10 @@ pub record IsPast (facts : Facts) (s : Session) : Type 0 where
   pub out : is_settled (outcome_of s.left) ≡ true
   pub free : owed_after facts.last ≡ []
 
--- the lock that a lookup took is held by a grant of its command; one that found no relation took none
+-- the lock that a lookup took, or a further one, is held by a grant of its command; a lookup that found no relation took none
 abbrev pub TakesFit : ℕ → List OwnLock → Option Oid → Plan → Type 0
 TakesFit number locks (Some rel) (Do (Lookup name mode) rest) = list_any (λ lock. is_own rel mode lock && (lock.command == number)) locks ≡ true
+TakesFit number locks (Some taken) (Do (Lock rel mode) rest) = list_any (λ lock. is_own rel mode lock && (lock.command == number)) locks ≡ true
 TakesFit number locks (Some rel) (Absent name) = ⊥
 TakesFit number locks taken plan = ⊤
 

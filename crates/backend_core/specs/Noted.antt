@@ -71,9 +71,10 @@ pub record IsNoted (old new : List Entry) (was : Backend) (next : Next) (now : B
   pub number : now.progress.finished ≡ was.progress.finished
   pub noted : noted_of now ≡ noted_by old was next event
 
--- going on without an entry changes nothing of it, but where a command is passed: then nothing is noted
+-- going on without an entry changes nothing of it, but that acts may have come to where no lookup runs, since whose beginning messages would come, and where a command is passed: then nothing is noted
 pub data Settles (was now : Backend) : Type 0 where
   Stays : now.progress.finished ≡ was.progress.finished → noted_of now ≡ noted_of was → Settles was now
+  Acts : now.progress.finished ≡ was.progress.finished → noted_of now ≡ record (noted_of was) { told = false } → Settles was now
   Passes : was.progress.finished < now.progress.finished → noted_of now ≡ nothing_noted → Settles was now
 
 -- a step notes what its entry makes of it, and then goes on

@@ -93,7 +93,7 @@ impl Backend {
     fn accepts_again(&self) -> bool
         ensures { result ≡ accepts_once_more self.now }
     {
-        matches!(self.progress.exec.next(), Want::Absent(_))
+        self.says_absent()
             && matches!(self.progress.due, Due::Quiet)
             && (!self.looked || self.told)
     }

@@ -31,7 +31,7 @@
 //! its session there, its transcript is its part of the lines. A step keeps that, and its entry is one that
 //! the history allows and that the script's commands make next (`specs/Steps.antt`). An entry of another
 //! backend changes nothing that a backend holds. Its next step rests on laws of histories whose writes
-//! keep columns and names (cacheless, `TableWrites`): a relation that it has found and locked is there
+//! keep columns, indexes and names (cacheless, `TableWrites`): a relation that it has found and locked is there
 //! (`FoundKept`), and its columns are whole (`WholeColumns`). What a backend shows of a field under locks that
 //! protect it is the field's text as it is now by another law (cacheless, `ProtectedFields`); any other field is
 //! shown as it was read.

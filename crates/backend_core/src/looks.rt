@@ -11,7 +11,8 @@ ghost use Rattle.base_types.specs.declared.scan.Purpose.TheVariants as scans;
 ghost use Rattle.inval_messages.specs.Messages.{covers};
 ghost use Rattle.event_kinds.specs.declared.entry.Entry.{Entry};
 ghost use Rattle.ddl_effect.specs.Stages.{plan_at};
-ghost use Rattle.backend_core.specs.Words.{finds_none as has_found_none, relation_to_open, has_begun, marks_build, told_after, looked_after, has_error, frames_given, frames_reset_of, frames_looked};
+ghost use Rattle.cacheless.specs.State.{is_absent};
+ghost use Rattle.backend_core.specs.Words.{finds_none as has_found_none, is_unfound, relation_to_open, has_begun, marks_build, told_after, looked_after, has_error, frames_given, frames_reset_of, frames_looked};
 
 use crate::Backend;
 use crate::choice::relation_of;
@@ -184,8 +185,21 @@ impl Backend {
     fn finds_none(&self) -> bool
         ensures { result ≡ has_found_none self.now.progress }
     {
+        self.says_absent() || self.is_unfound()
+    }
+
+    // Whether the command says already that no relation has the name that it looked up.
+    pub(crate) fn says_absent(&self) -> bool
+        ensures { result ≡ is_absent (plan_at self.now.progress.opens self.now.progress.exec) }
+    {
+        matches!(self.progress.exec.next(), Want::Absent(_))
+    }
+
+    // Whether its lookup finds no relation, by a scan that serves, and holds no lock that it took.
+    fn is_unfound(&self) -> bool
+        ensures { result ≡ is_unfound self.now.progress (plan_at self.now.progress.opens self.now.progress.exec) }
+    {
         match self.progress.exec.next() {
-            Want::Absent(_) => true,
             Want::Lookup { name, .. } => {
                 self.progress.taken.is_none()
                     && self.progress.caches.has(&Purpose::RelName(name))

@@ -1,14 +1,17 @@
 // What a backend does without an entry: acts whose rows are there, the answers of its commands, and the
 // passing from one to the next.
 
-ghost use Rattle.std.specs.Prelude.{◌≡◌, ◌≤◌, ◌<◌, List, true, All, OnOk, length};
+ghost use Rattle.std.specs.Prelude.{◌≡◌, ◌≤◌, ◌<◌, ◌&&◌, List, true, All, OnOk, length};
 ghost use Rattle.base_types.specs.Scenario.{Scenario};
 ghost use Rattle.event_kinds.specs.declared.entry.Entry.{Entry};
 ghost use Rattle.cacheless.specs.Silently.{Acts, Answers, Finishes, left_of};
+ghost use Rattle.cacheless.specs.State.{is_absent};
+ghost use Rattle.ddl_effect.specs.Stages.{plan_at};
 
 use crate::Backend;
 use base_types::NoMemory;
 use cacheless::Silent;
+use ddl_effect::Want;
 use seg_calls::Seg;
 use std::alloc::Global;
 
@@ -34,14 +37,24 @@ impl Backend {
         }
     }
 
-    // It does its next act.
+    // It does its next act. If that isn't a lookup which has found no relation, no messages have come since
+    // a lookup began: the next one has yet to begin.
     fn act(&mut self, alloc: Global) -> Result<(), NoMemory>
         requires acts { Acts self.old.progress }
         ensures keeps { OnOk result ((scenario : Scenario) (seen : List Entry) → AgreesNow scenario seen self.old → GoesOn scenario seen self.old self.new) }
         ensures less { OnOk result (left_of self.new.progress < left_of self.old.progress) }
         ensures noted { OnOk result ((scenario : Scenario) (seen : List Entry) → AgreesNow scenario seen self.old → Settles self.old self.new) }
     {
-        self.progress.act(alloc)
+        self.progress.act(alloc)?;
+        self.told = self.is_told_still();
+        Ok(())
+    }
+
+    // After an act: whether messages have come since the lookup began that has found no relation.
+    fn is_told_still(&self) -> bool
+        ensures { result ≡ self.now.told && is_absent (plan_at self.now.progress.opens self.now.progress.exec) }
+    {
+        self.told && self.says_absent()
     }
 
     // It works out what its command answers.

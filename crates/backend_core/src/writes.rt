@@ -1,6 +1,9 @@
+ghost use Rattle.std.specs.Prelude.{◌≡◌};
+ghost use Rattle.cacheless.specs.State.{relation_made as relation_of, change_makes as relation_by};
+
 use crate::Backend;
-use base_types::NoMemory;
-use ddl_effect::{Exec, Told};
+use base_types::{Change, NoMemory, Oid, Row};
+use ddl_effect::{Draft, Exec, Told};
 use seg_calls::{Seg, WriteRefusal};
 use std::alloc::Global;
 use std::mem::replace;
@@ -24,17 +27,12 @@ impl Backend {
     {
         self.progress.reserve_lock()?;
         let draft = replace(&mut self.progress.exec, Exec::Done(Told::Ok)).into_draft(alloc)?;
-        let new_oids = draft.new_oids;
         match seg.write(self.progress.id, self.progress.finished + 1, &draft) {
             Ok(written) => {
+                let made = relation_made(&draft, written.first_oid);
                 self.progress.exec = Exec::Writing(draft);
-                self.progress.enter_write(
-                    alloc,
-                    written.xid,
-                    written.messages.as_slice(),
-                    new_oids,
-                    written.first_oid,
-                )?;
+                self.progress
+                    .enter_write(alloc, written.xid, written.messages.as_slice(), made)?;
                 self.frames.tell_each(
                     &self.progress.caches,
                     self.progress.opened.as_slice(),
@@ -50,5 +48,25 @@ impl Backend {
                 WriteRefusal::NoMemory => Err(NoMemory),
             },
         }
+    }
+}
+
+// The relation that a draft makes, where the first new oid is this one: its row is the first of the changes, if it makes one.
+fn relation_made(draft: &Draft, first: Oid) -> Option<Oid>
+    ensures { result ≡ relation_of draft.now.changes first }
+{
+    match draft.changes.as_slice().first() {
+        Some(change) => change_makes(change, first),
+        None => None,
+    }
+}
+
+// The relation that a change makes, where the first new oid is this one, if it makes one.
+fn change_makes(change: &Change, first: Oid) -> Option<Oid>
+    ensures { result ≡ relation_by first change.now }
+{
+    match change {
+        Change::Insert(Row::Class { .. }) => Some(first),
+        _ => None,
     }
 }

@@ -1,11 +1,10 @@
 ghost use Rattle.std.specs.Prelude.{◌≡◌, ◌-◌, ◌++◌, ◌∷◌, [], true, length, replicate, slice_index_or, slice_set, IfOk, OnOk};
 ghost use Rattle.base_types.specs.Scenario.{IsBackend};
 ghost use Rattle.ddl_effect.specs.Stages.{alters_table};
-ghost use Rattle.cacheless.specs.Runs.{runs};
 ghost use Rattle.by_backend.specs.Built.{is_built as is_built_scenario};
 ghost use Rattle.by_backend.specs.OwnCommands.{HaveCommands};
 
-use base_types::{Command, Listed, NewColumn, NoMemory, Placed};
+use base_types::{Command, Listed, Name, NewColumn, NoMemory, Placed};
 use script_text::Script;
 use std::alloc::{AllocError, Global};
 
@@ -36,7 +35,6 @@ fn empty_lists(alloc: Global, count: u32) -> Result<Vec<Listed<Command>>, NoMemo
 
 // Puts a copy of a command after the others of its backend.
 fn put_copy(alloc: Global, lists: &mut [Listed<Command>], placed: &Placed) -> Result<(), NoMemory>
-    requires runs { runs placed.now.command ≡ true }
     requires within { IsBackend (length lists.old) placed.now.backend }
     ensures { OnOk result (lists.new ≡ slice_set lists.old (placed.now.backend - 1) (slice_index_or lists.old (placed.now.backend - 1) [] ++ placed.now.command ∷ [])) }
 {
@@ -44,9 +42,8 @@ fn put_copy(alloc: Global, lists: &mut [Listed<Command>], placed: &Placed) -> Re
     lists[placed.backend as usize - 1].push(copy)
 }
 
-// A copy of a command that can be run.
+// A copy of a command.
 fn copied(alloc: Global, command: &Command) -> Result<Command, NoMemory>
-    requires { runs command.now ≡ true }
     ensures { IfOk result (λ copy. copy ≡ command.now) }
 {
     Ok(match command {
@@ -74,6 +71,15 @@ fn copied(alloc: Global, command: &Command) -> Result<Command, NoMemory>
             name: *name,
             columns: copied_columns(alloc, columns)?,
         },
+        Command::CreateIndex {
+            name,
+            on_table,
+            columns,
+        } => Command::CreateIndex {
+            name: *name,
+            on_table: *on_table,
+            columns: copied_names(alloc, columns)?,
+        },
         Command::DropTable(name) => Command::DropTable(*name),
         Command::OpenRel(name) => Command::OpenRel(*name),
         Command::Peek { name, field } => Command::Peek {
@@ -85,7 +91,7 @@ fn copied(alloc: Global, command: &Command) -> Result<Command, NoMemory>
     })
 }
 
-// A copy of an alteration of a table.
+// A copy of an alteration of a table or an index.
 fn copied_alteration(command: &Command) -> Command
     requires { alters_table command.now ≡ true }
     ensures { result ≡ command.now }
@@ -122,8 +128,68 @@ fn copied_alteration(command: &Command) -> Command
             name: *name,
             to: *to,
         },
+        Command::SetDefault { name, column, word } => Command::SetDefault {
+            name: *name,
+            column: *column,
+            word: *word,
+        },
+        Command::AddCheck {
+            name,
+            constraint,
+            text,
+            valid,
+        } => Command::AddCheck {
+            name: *name,
+            constraint: *constraint,
+            text: *text,
+            valid: *valid,
+        },
+        Command::AddForeign {
+            name,
+            constraint,
+            column,
+            refers,
+            ref_column,
+            valid,
+        } => Command::AddForeign {
+            name: *name,
+            constraint: *constraint,
+            column: *column,
+            refers: *refers,
+            ref_column: *ref_column,
+            valid: *valid,
+        },
+        Command::ValidateConstraint { name, constraint } => Command::ValidateConstraint {
+            name: *name,
+            constraint: *constraint,
+        },
+        Command::DropConstraint { name, constraint } => Command::DropConstraint {
+            name: *name,
+            constraint: *constraint,
+        },
+        Command::SetTrigger { name, trigger, on } => Command::SetTrigger {
+            name: *name,
+            trigger: *trigger,
+            on: *on,
+        },
+        Command::CreateTrigger { name, trigger } => Command::CreateTrigger {
+            name: *name,
+            trigger: *trigger,
+        },
+        Command::DropIndex(name) => Command::DropIndex(*name),
+        Command::RenameIndex { name, to } => Command::RenameIndex {
+            name: *name,
+            to: *to,
+        },
         _ => unreachable!(),
     }
+}
+
+// A copy of a list of names.
+fn copied_names(alloc: Global, names: &Listed<Name>) -> Result<Listed<Name>, AllocError>
+    ensures { IfOk result (λ copy. copy ≡ names.now) }
+{
+    Ok(Listed::from_vec(names.as_slice().to_vec(alloc)?))
 }
 
 // A copy of a list of columns.

@@ -34,3 +34,4 @@ pub mod Passing
 pub mod Matching
 pub mod SameRows
 pub mod Deciding
+mod WantedPlans

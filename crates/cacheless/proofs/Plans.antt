@@ -4,6 +4,8 @@ pub mod EffectAlong
 pub mod MadeAlong
 pub mod UnderLocks
 pub mod Formers
+pub mod CountedRows
+pub mod FurtherOrder
 pub mod ActOrder
 pub mod StillUnder
 pub mod ClearLocks

@@ -1,13 +1,20 @@
 -- What a command writes, and the messages of it.
-pub mod WrittenBy
 pub mod SeenRows
 pub mod WrittenMessages
 pub mod FitToWrite
+pub mod LeavingItems
+pub mod WrittenParts
+pub mod NewRows
+pub mod PutRows
+pub mod IndexWrites
+pub mod ComesTo
+pub mod DraftFits
+pub mod RowsGone
+pub mod FurtherFits
 pub mod AlterationsFit
 pub mod TableDropped
 pub mod NewTableItems
 pub mod NewNames
-pub mod AlteringLocks
 pub mod NewTable
 pub mod NamesGiven
 pub mod WriteFits

@@ -7,18 +7,18 @@ use Rattle.ddl_effect.specs.Plans.{Absent}
 use Rattle.ddl_effect.specs.Stages.{plan_at}
 use Rattle.history_model.specs.Lives.{last_event_of}
 use Rattle.history_model.specs.Read.{place_read}
-use Rattle.cacheless.specs.Types.{Answer, Purpose, Entry}
+use Rattle.cacheless.specs.Types.{Answer, Purpose, Command, Entry}
 use Rattle.cacheless.specs.declared.progress.Progress.{Progress}
 use Rattle.cacheless.specs.State.{Kept, kept_at, is_kept, rows_kept, place_kept}
 use Rattle.cacheless.specs.Told.{told_left}
 
 -- what the running command answers, once it has come out
-abbrev pub told_at : Progress → Answer
-told_at s = told_left (rows_kept (kept_at s)) (place_kept (kept_at s)) s.locks.items s.blocks.block (plan_at s.opens s.exec)
+abbrev pub told_at : Command → Progress → Answer
+told_at command s = told_left (rows_kept (kept_at s)) (place_kept (kept_at s)) s.locks.items s.blocks.block command (plan_at s.opens s.exec)
 
 -- the text is that of what this command answers
-abbrev pub IsToldText : Progress → List ℕ → Type 0
-IsToldText s text = text ≡ answer_text (told_at s)
+abbrev pub IsToldText : Command → Progress → List ℕ → Type 0
+IsToldText command s text = text ≡ answer_text (told_at command s)
 
 -- the place kept with each scan is that of the backend's last such scan
 abbrev pub AreLastScans : List Entry → ℕ → Kept → Type 0

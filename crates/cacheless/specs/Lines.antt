@@ -5,10 +5,9 @@ use Rattle.std.specs.List.{flat_map, range_with_len}
 use Rattle.base_types.specs.Fields.{fields_of, read_by}
 use Rattle.base_types.specs.declared.row.Row.TheVariants as rows
 use Rattle.base_types.specs.declared.scan.Purpose.TheVariants.{RelName, RelOid}
-use Rattle.command_answers.specs.declared.error.CommandError.TheVariants.{NoRelation}
 use Rattle.command_answers.specs.declared.answer.Answer.TheVariants as answers
 use Rattle.command_answers.specs.Answers.{answer_text}
-use Rattle.ddl_effect.specs.Commands.{plan_of, commands_of}
+use Rattle.ddl_effect.specs.Commands.{plan_of, commands_of, absent_error}
 use Rattle.txn_blocks.specs.Blocks.{Block, Failed}
 use Rattle.ddl_effect.specs.Effects.{Effect, Nothing, Refuses, Unknown, Writes, effect_at}
 use Rattle.ddl_effect.specs.declared.told.Told.TheVariants as tells
@@ -53,11 +52,11 @@ answer_well scenario history b f (tells.Regclass oid) = read_name history b oid
 answer_well scenario history b f tells.Commit = commit_answer f.block
 
 -- what a command answers, by what it comes to
-abbrev pub answer_by : Scenario → List Entry → ℕ → Finished → Effect → Answer
-answer_by scenario history b f (Nothing told) = answer_well scenario history b f told
-answer_by scenario history b f (Refuses error) = answers.Error error
-answer_by scenario history b f (Unknown name) = answers.Error (NoRelation name (place_read history b (RelName name)))
-answer_by scenario history b f (Writes draft) = answers.Ok
+abbrev pub answer_by : Scenario → List Entry → ℕ → Finished → Command → Effect → Answer
+answer_by scenario history b f command (Nothing told) = answer_well scenario history b f told
+answer_by scenario history b f command (Refuses error) = answers.Error error
+answer_by scenario history b f command (Unknown name) = answers.Error (absent_error command name (place_read history b (RelName name)))
+answer_by scenario history b f command (Writes draft) = answers.Ok
 
 -- what a command comes to: one that has written has no other cause
 abbrev pub effect_judged : List Entry → ℕ → Finished → Bool → Command → Effect
@@ -67,7 +66,7 @@ effect_judged history b f false command = effect_at (answer_of history b) f.foun
 -- what a command answers: the error that the blocks or an entry showed, or else by what it comes to
 abbrev pub answer_judged : Scenario → List Entry → ℕ → ℕ → Finished → Command → Option CommandError → Answer
 answer_judged scenario history b c f command (Some error) = answers.Error error
-answer_judged scenario history b c f command None = answer_by scenario history b f (effect_judged history b f (has_written history b c) command)
+answer_judged scenario history b c f command None = answer_by scenario history b f command (effect_judged history b f (has_written history b c) command)
 
 -- the answer line of a command, judged by the entries up to the place where it is judged
 abbrev pub line_of : Scenario → List Entry → ℕ → ℕ → Finished → Command → Line

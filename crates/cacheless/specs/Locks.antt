@@ -1,5 +1,5 @@
 -- The locks that a backend holds, and whether each is clear.
-use Rattle.std.specs.Prelude.{ℕ, true, false, not, List, [], ◌∷◌, ◌++◌, nat_lt, filter}
+use Rattle.std.specs.Prelude.{ℕ, false, not, List, [], ◌∷◌, ◌++◌, nat_lt, filter}
 use Rattle.std.specs.List.{flat_map}
 use Rattle.base_types.specs.declared.row.Row.TheVariants.{Class}
 use Rattle.event_kinds.specs.declared.entry.Event.TheVariants.{LockOk, Unlock, Write, Release}
@@ -24,7 +24,3 @@ locks_by command (Write xid items) old = old ++ flat_map (locked_by command) ite
 locks_by command (Unlock rel mode) old = filter (λ lock. not (is_own rel mode lock)) old
 locks_by command (Release from) old = filter (λ lock. nat_lt lock.command from) old
 locks_by command event old = old
-
--- the locks after a write that draws so many oids, of which this is the first: one is on the relation that it made, if it made one
-abbrev pub locks_written : ℕ → Oid → ℕ → List OwnLock → List OwnLock
-locks_written new_oids rel command locks = elim (nat_lt 0 new_oids) [ true ↦ locks ++ new_lock rel command ∷ [] | false ↦ locks ]

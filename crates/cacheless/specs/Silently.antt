@@ -5,7 +5,7 @@ use Rattle.std.specs.Option.{option_map, option_map_or}
 use Rattle.base_types.specs.declared.row.Row.TheVariants as rows
 use Rattle.lock_modes.specs.Own.{has_lock}
 use Rattle.ddl_effect.specs.Plans.{Plan, Act, Do, Lookup, Open, Search, Read, Lock, Write}
-use Rattle.ddl_effect.specs.Stages.{plan_at, told_of, acts_left}
+use Rattle.ddl_effect.specs.Stages.{plan_at, told_of, acts_left, most_acts}
 use Rattle.ddl_effect.specs.declared.want.Want.{Want}
 use Rattle.ddl_effect.specs.declared.want.Want.TheVariants as wants
 use Rattle.cacheless.specs.Types.{Mode, Row, Command, Line, Opening}
@@ -118,8 +118,10 @@ IsSilentOf s silents.Rest = IsSettled s
 
 -- the running command is answered, and nothing else changes
 pub record HasAnswered (was now : Progress) : Type 0 where
+  pub command : Command
+  pub at : slice_get was.commands was.finished ≡ Some command
   pub text : List ℕ
-  pub told : IsToldText was text
+  pub told : IsToldText command was text
   pub is : now ≡ record was { answer = Some text }
 
 -- the line of the running command is its answer
@@ -132,4 +134,4 @@ unanswered s = option_map_or (λ text. 0) s.answer 1
 
 -- how much a backend has left to do without an entry, at most
 abbrev pub left_of : Progress → ℕ
-left_of s = 7 * (length s.commands - s.finished) + acts_left s.exec + unanswered s
+left_of s = (most_acts + 2) * (length s.commands - s.finished) + acts_left s.exec + unanswered s

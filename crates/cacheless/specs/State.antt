@@ -1,8 +1,11 @@
 -- What the code holds of a backend, in the words of the definitions.
-use Rattle.std.specs.Prelude.{◌≡◌, ℕ, Bool, true, false, not, Option, Some, None, List, [], ◌∷◌, ◌++◌, ◌+◌, ◌==◌, ◌&&◌, ◌||◌, map, filter, is_none, slice_get, nat_lt}
+use Rattle.std.specs.Prelude.{◌≡◌, ℕ, Bool, true, false, not, Option, Some, None, List, [], ◌∷◌, ◌++◌, ◌+◌, ◌==◌, ◌&&◌, ◌||◌, map, filter, is_none, slice_get}
 use Rattle.std.specs.Option.{option_map, option_map_or}
 use Rattle.std.specs.List.{list_any, flat_map}
 use Rattle.base_types.specs.Scans.{is_build_scan, build_scans}
+use Rattle.base_types.specs.declared.change.Change.{Change}
+use Rattle.base_types.specs.declared.change.Change.TheVariants.{Insert}
+use Rattle.base_types.specs.declared.row.Row.TheVariants as rows
 use Rattle.base_types.specs.declared.scan.Purpose.TheVariants as scans
 use Rattle.base_types.specs.declared.command.Command.TheVariants as commands
 use Rattle.event_kinds.specs.declared.entry.Event.TheVariants as events
@@ -152,13 +155,20 @@ is_in_accept s (Some command) = not (is_empty (owed_first s command)) || not (is
 abbrev pub locks_accepted : Bool → List OwnLock → List OwnLock
 locks_accepted accepting locks = elim accepting [ true ↦ locks | false ↦ map cleared locks ]
 
--- the lock on the relation that a write made, if it made one
-abbrev pub locks_made : ℕ → Oid → ℕ → List OwnLock
-locks_made new_oids rel command = elim (nat_lt 0 new_oids) [ true ↦ new_lock rel command ∷ [] | false ↦ [] ]
+-- the relation that a change makes, where the first new oid is this one, if it makes one
+abbrev pub change_makes : Oid → Change → Option Oid
+change_makes first (Insert (rows.Class oid name kind fill)) = Some first
+change_makes first change = None
 
--- the locks after a write
-abbrev pub locks_written : ℕ → Oid → ℕ → List OwnLock → List OwnLock
-locks_written new_oids rel command locks = locks ++ locks_made new_oids rel command
+-- the relation that changes make, if they make one: its row is the first of them
+abbrev pub relation_made : List Change → Oid → Option Oid
+relation_made [] first = None
+relation_made (change ∷ changes) first = change_makes first change
+
+-- the lock on the relation that a write makes, if it makes one
+abbrev pub locks_made : ℕ → Option Oid → List OwnLock
+locks_made command None = []
+locks_made command (Some rel) = new_lock rel command ∷ []
 
 -- all messages of a write in the order of its changes
 abbrev pub messages_in : List Entry → ℕ → List Item → List Message

@@ -3,13 +3,13 @@ use Rattle.std.specs.Prelude.{ℕ, Bool, true, false, Some, None, List, map, if�
 use Rattle.base_types.specs.Fields.{field_text, fields_of, read_by}
 use Rattle.base_types.specs.declared.scan.Purpose.TheVariants as scans
 use Rattle.command_answers.specs.declared.answer.Answer.TheVariants as answers
-use Rattle.command_answers.specs.declared.error.CommandError.TheVariants.{NoRelation}
 use Rattle.lock_modes.specs.Own.{clear_modes}
 use Rattle.ddl_effect.specs.declared.told.Told.TheVariants as tells
+use Rattle.ddl_effect.specs.Commands.{absent_error}
 use Rattle.ddl_effect.specs.Plans.{Plan, Done, Fails, Absent}
 use Rattle.txn_blocks.specs.Blocks.{Block}
 use Rattle.history_model.specs.Read.{place_read, rows_read}
-use Rattle.cacheless.specs.Types.{Oid, Kind, Field, Row, Purpose, OwnLock, Answer, Shown, Told, Entry}
+use Rattle.cacheless.specs.Types.{Oid, Kind, Field, Row, Purpose, Command, OwnLock, Answer, Shown, Told, Entry}
 use Rattle.cacheless.specs.Lines.{name_in, commit_answer}
 use Rattle.cacheless.specs.Protected.{protects}
 use Rattle.cacheless.specs.Session.{Session}
@@ -33,11 +33,11 @@ told_well rows places locks block (tells.Regclass oid) = told_name rows places o
 told_well rows places locks block tells.Commit = commit_answer block
 
 -- by the plan that is left of it
-abbrev pub told_left : (Purpose → List Row) → (Purpose → ℕ) → List OwnLock → Block → Plan → Answer
-told_left rows places locks block (Done told) = told_well rows places locks block told
-told_left rows places locks block (Fails error) = answers.Error error
-told_left rows places locks block (Absent name) = answers.Error (NoRelation name (places (scans.RelName name)))
-told_left rows places locks block plan = answers.Ok
+abbrev pub told_left : (Purpose → List Row) → (Purpose → ℕ) → List OwnLock → Block → Command → Plan → Answer
+told_left rows places locks block command (Done told) = told_well rows places locks block told
+told_left rows places locks block command (Fails error) = answers.Error error
+told_left rows places locks block command (Absent name) = answers.Error (absent_error command name (places (scans.RelName name)))
+told_left rows places locks block command plan = answers.Ok
 
 -- what is told rests on scans, and not only on the command
 abbrev pub tells_of_scans : Told → Bool
@@ -46,9 +46,9 @@ tells_of_scans tells.Commit = false
 tells_of_scans told = true
 
 -- what the running command answers, once it has come out
-abbrev pub told : (Purpose → List Row) → (Purpose → ℕ) → Session → Answer
-told rows places s = told_left rows places s.locks s.blocks.block s.left
+abbrev pub told : (Purpose → List Row) → (Purpose → ℕ) → Command → Session → Answer
+told rows places command s = told_left rows places s.locks s.blocks.block command s.left
 
 -- what it answers by the last scans of its backend in a history
-abbrev pub told_read : List Entry → ℕ → Session → Answer
-told_read history b s = told (rows_read history b) (place_read history b) s
+abbrev pub told_read : List Entry → ℕ → Command → Session → Answer
+told_read history b command s = told (rows_read history b) (place_read history b) command s

@@ -13,10 +13,11 @@ ghost use Rattle.local_caches.specs.Caches.{kept_of};
 use crate::Progress;
 use crate::silent::rows_kept;
 use base_types::{
-    Field, Kind, Listed, Name, NoMemory, Oid, Purpose, Row, field_text, fields_of, read_by, writers,
+    Command, Field, Kind, Listed, Name, NoMemory, Oid, Purpose, Row, field_text, fields_of,
+    read_by, writers,
 };
-use command_answers::{Answer, Column, CommandError, Shown, answer_text};
-use ddl_effect::{Told, Want};
+use command_answers::{Answer, Column, Shown, answer_text};
+use ddl_effect::{Told, Want, absent_error};
 use event_kinds::LineText;
 use local_caches::LocalCaches;
 use lock_modes::OwnLocks;
@@ -27,27 +28,28 @@ impl Progress {
     ghost use Rattle.cacheless.specs.Answering.{told_at, IsToldText};
 
     // The text of what its command answers, worked out of the scans that it keeps and of its locks.
-    pub(crate) fn told_text(&self, alloc: Global) -> Result<LineText, NoMemory>
+    pub(crate) fn told_text(&self, alloc: Global, command: &Command) -> Result<LineText, NoMemory>
         requires out { has_come_out self.now ≡ true }
-        ensures { IfOk result (IsToldText self.now) }
+        ensures { IfOk result (IsToldText command.now self.now) }
     {
-        let told = self.told(alloc)?;
+        let told = self.told(alloc, command)?;
         let mut text = Vec::new(alloc);
         answer_text(&told, &mut text)?;
         Ok(LineText::new(text))
     }
 
-    // What its command answers.
-    fn told(&self, alloc: Global) -> Result<Answer, NoMemory>
+    // What this command answers.
+    fn told(&self, alloc: Global, command: &Command) -> Result<Answer, NoMemory>
         requires { has_come_out self.now ≡ true }
-        ensures { IfOk result (λ answer. answer ≡ told_at self.now) }
+        ensures { IfOk result (λ answer. answer ≡ told_at command.now self.now) }
     {
         match self.exec.next() {
             Want::Fails(error) => Ok(Answer::Error(error)),
-            Want::Absent(name) => Ok(Answer::Error(CommandError::NoRelation {
+            Want::Absent(name) => Ok(Answer::Error(absent_error(
+                command,
                 name,
-                at: place_kept(&self.caches, Purpose::RelName(name)),
-            })),
+                place_kept(&self.caches, Purpose::RelName(name)),
+            ))),
             Want::Done(_) => match self.exec.told() {
                 Some(told) => self.told_by(alloc, told),
                 None => Ok(Answer::Ok),

@@ -164,7 +164,8 @@ impl Progress {
     {
         match self.exec.next() {
             Want::Done(_) => self.end_well(command),
-            Want::Fails(_) | Want::Absent(_) => self.end_badly(),
+            Want::Fails(_) => self.end_badly(),
+            Want::Absent(_) => self.end_badly(),
             _ => Ending::Ends,
         }
     }

@@ -8,8 +8,9 @@ ghost use Rattle.event_kinds.specs.declared.entry.Entry.{Entry};
 ghost use Rattle.event_kinds.specs.declared.entry.Item.{Item};
 ghost use Rattle.lock_modes.specs.Own.{has_lock};
 ghost use Rattle.command_lists.specs.Lists.{all_lists, new_list, with_messages};
+ghost use Rattle.std.specs.Option.{IfSome};
 ghost use Rattle.cacheless.specs.Locks.{locked_by};
-ghost use Rattle.cacheless.specs.State.{locks_made, locks_written, messages_in, clash_event, error_of};
+ghost use Rattle.cacheless.specs.State.{messages_in, clash_event, error_of, locks_made};
 
 use crate::enter::accept;
 use crate::opens::{held_in, pin_anew};
@@ -32,33 +33,31 @@ impl Progress {
     ghost use Rattle.cacheless.specs.State.{kept_at, lists_at, kept_spared};
     ghost use Rattle.cacheless.specs.Holds.{Rests, HasEntered};
 
-    /// It wrote: these are the messages of its changes in their order, so many new oids were drawn, of
-    /// which this is the first, and its transaction has this Xid. A new relation's oid is the first new
-    /// one, and it is locked. Conditions: its command wants to write, its lists are of commands before,
-    /// there is room for a lock, and a new relation isn't locked. Out of memory, it may not be used any
-    /// more.
+    /// It wrote: these are the messages of its changes in their order, it made this relation, if it made
+    /// one, which is locked now, and its transaction has this Xid. Conditions: its command wants to write,
+    /// its lists are of commands before, there is room for a lock, and a new relation isn't locked. Out of
+    /// memory, it may not be used any more.
     pub fn enter_write(
         &mut self,
         alloc: Global,
         xid: Xid,
         messages: &[Message],
-        new_oids: u32,
-        first: Oid,
+        made: Option<Oid>,
     ) -> Result<(), NoMemory>
         requires few { self.old.finished ≤ 20000 }
         requires wants { want_of (plan_at self.old.opens self.old.exec) ≡ wants.Write }
         requires order { AllByRecursion (λ list. list.command < self.old.finished + 1) (lists_at self.old) }
         requires place { 0 < self.old.locks.room }
-        requires new { 0 < new_oids → has_lock self.old.locks.items first AccessExclusive ≡ false }
+        requires new { IfSome made (λ rel. has_lock self.old.locks.items rel AccessExclusive ≡ false) }
         ensures kept { OnOk result (kept_at self.new ≡ kept_spared messages.now (kept_at self.old)) }
         ensures answer { OnOk result (self.new.answer ≡ None) }
-        ensures holds { OnOk result ((scenario : Scenario) (seen : List Entry) (items : List Item) → (rests : Rests scenario seen self.old) → messages.now ≡ messages_in seen self.old.id items → flat_map (locked_by (self.old.finished + 1)) items ≡ locks_made new_oids first (self.old.finished + 1) → HasEntered scenario seen self.old (Event.Write xid items) rests self.new) }
+        ensures holds { OnOk result ((scenario : Scenario) (seen : List Entry) (items : List Item) → (rests : Rests scenario seen self.old) → messages.now ≡ messages_in seen self.old.id items → flat_map (locked_by (self.old.finished + 1)) items ≡ locks_made (self.old.finished + 1) made → HasEntered scenario seen self.old (Event.Write xid items) rests self.new) }
         ensures same { OnOk result (self.new.commands ≡ self.old.commands) }
     {
         let command = self.finished + 1;
         register(&mut self.lists, command, messages)?;
         self.caches.execute(messages);
-        lock_new(&mut self.locks, new_oids, first, command);
+        lock_new(&mut self.locks, made, command);
         self.running = Some(RunningTransaction::begun(command, self.running).with_xid(xid));
         self.due = Due::Nothing;
         self.exec.give(alloc, self.opens.as_slice(), &[])?;
@@ -85,13 +84,13 @@ impl Progress {
 }
 
 // The lock on the relation that a write made, if it made one.
-fn lock_new(locks: &mut OwnLocks, new_oids: u32, first: Oid, command: u32)
+fn lock_new(locks: &mut OwnLocks, made: Option<Oid>, command: u32)
     requires room { 0 < locks.old.room }
-    requires new { 0 < new_oids → has_lock locks.old.items first AccessExclusive ≡ false }
-    ensures { locks.new.items ≡ locks_written new_oids first command locks.old.items }
+    requires new { IfSome made (λ rel. has_lock locks.old.items rel AccessExclusive ≡ false) }
+    ensures { locks.new.items ≡ locks.old.items ++ locks_made command made }
 {
-    if new_oids > 0 {
-        locks.add_new(first, command);
+    if let Some(rel) = made {
+        locks.add_new(rel, command);
     }
 }
 

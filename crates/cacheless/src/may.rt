@@ -175,10 +175,12 @@ impl Progress {
             Want::Lookup { name, .. } => {
                 is_missing(scan, &self.caches, &Purpose::RelName(*name))
             }
-            Want::Search(wanted) | Want::Done(Some(wanted)) => {
-                is_missing(scan, &self.caches, wanted)
-            }
+            Want::Search(wanted) => is_missing(scan, &self.caches, wanted),
             Want::Open { rel, kind } => is_first_missing(scan, &self.caches, *kind, *rel),
+            Want::Done(told) => match told {
+                Some(wanted) => is_missing(scan, &self.caches, wanted),
+                None => false,
+            },
             _ => false,
         }
     }
@@ -337,10 +339,13 @@ impl Progress {
     {
         match want {
             Want::Lookup { name, .. } => { !self.caches.has(&Purpose::RelName(*name)) }
-            Want::Search(scan) | Want::Read(scan) | Want::Done(Some(scan)) => {
-                !self.caches.has(scan)
-            }
+            Want::Search(scan) => !self.caches.has(scan),
+            Want::Read(scan) => !self.caches.has(scan),
             Want::Open { rel, kind } => self.caches.first_missing(*kind, *rel).is_some(),
+            Want::Done(told) => match told {
+                Some(scan) => !self.caches.has(scan),
+                None => false,
+            },
             _ => false,
         }
     }

@@ -246,7 +246,10 @@ impl Progress {
         ensures less { OnOk result (left_of self.new < left_of self.old) }
         ensures err { OnErr result (self.new ≡ self.old) }
     {
-        self.answer = Some(self.told_text(alloc)?);
+        let Some(command) = self.commands.as_slice().get(self.finished as usize) else {
+            unreachable!()
+        };
+        self.answer = Some(self.told_text(alloc, command)?);
         Ok(())
     }
 

@@ -199,7 +199,7 @@ const PLANS: &[(&str, bool, [&str; 3])] = &[
         false,
         ["lock", "absent", "absent"],
     ),
-    ("drop table t", true, ["alter", "open", "columns"]),
+    ("drop table t", true, ["alter", "open", "constraints"]),
     ("drop table u", false, ["alter", "absent", "absent"]),
     ("alter table t rename to u", true, ["alter", "open", "row"]),
     (
@@ -265,7 +265,7 @@ fn wanted(exec: &Exec) -> &'static str {
             mode: Mode::AccessExclusive,
             ..
         } => "alter",
-        Want::Read(Purpose::Attribute(Oid(16384))) => "columns",
+        Want::Read(Purpose::Constraint(Oid(16384))) => "constraints",
         Want::Read(Purpose::Class(Oid(16384))) => "row",
         Want::Open {
             rel: Oid(16384),
@@ -346,8 +346,12 @@ const EFFECTS: &[(&str, &[u8])] = &[
     ),
     ("alter table u add column a bool", b"absent u"),
     (
+        "alter table e drop column a",
+        b"h 1 1 write 0 =att(16387,2,........pg.dropped.2........,text,-1,d)",
+    ),
+    (
         "alter table t drop column a",
-        b"h 1 1 write 0 =att(16384,1,........pg.dropped.1........,int4,100,d)",
+        b"error 0A000 column a is used by an index or constraint",
     ),
     (
         "alter table t drop column b",
@@ -508,6 +512,177 @@ const EFFECTS_OPEN: &[(&str, &[u8])] = &[
     ("close e", b"error 55000 e is not open"),
 ];
 
+// A table `u`, to which a table `t` refers by its column `a`; `t` has a check, a reference to itself, two defaults,
+// two triggers and an index on `b` and `a`.
+fn dependents() -> &'static [u8] {
+    b"+class(16384,u,r,-) +att(16384,1,x,int4,-1,l) +att(16384,2,z,text,-1,l) +class(16385,t,r,-) +att(16385,1,a,int4,-1,l) +att(16385,2,b,text,-1,l) +att(16385,3,c,int4,-1,l) +def(16386,16385,3,seven) +def(16388,16385,1,two) +class(16389,i,i,-) +ind(16389,16385,v,2+1) +con(16392,16385,s,f,v,3,16385,2) +con(16390,16385,k,c,v,a>0) +con(16391,16385,f,f,n,1,16384,1) +trg(16393,16385,h,e) +trg(16394,16385,g,d)"
+}
+
+// What commands change of that catalog, or why they change nothing.
+const DEPENDENT_EFFECTS: &[(&str, &[u8])] = &[
+    (
+        "alter table t alter column a set default one",
+        b"h 1 1 write 1 -def(16388) +def(1,16385,1,one) !16385",
+    ),
+    (
+        "alter table u alter column z set default one",
+        b"h 1 1 write 1 +def(1,16384,2,one) !16384",
+    ),
+    (
+        "alter table u alter column a set default one",
+        b"error 42703 column a does not exist",
+    ),
+    (
+        "alter table t drop column c",
+        b"error 0A000 column c is used by an index or constraint",
+    ),
+    (
+        "alter table u drop column x",
+        b"error 0A000 column x is used by an index or constraint",
+    ),
+    (
+        "alter table u drop column z",
+        b"h 1 1 write 0 =att(16384,2,........pg.dropped.2........,text,-1,d)",
+    ),
+    (
+        "alter table t add constraint l check (b > 0) not valid",
+        b"h 1 1 write 1 +con(1,16385,l,c,n,b>0) !16385",
+    ),
+    (
+        "alter table t add constraint f check (b > 0)",
+        b"error 42710 constraint f already exists",
+    ),
+    (
+        "alter table t add constraint l foreign key (b) references u (z)",
+        b"h 1 1 write 1 +con(1,16385,l,f,v,2,16384,2) !16384",
+    ),
+    (
+        "alter table u add constraint f foreign key (x) references u (z) not valid",
+        b"h 1 1 write 1 +con(1,16384,f,f,n,1,16384,2) !16384",
+    ),
+    (
+        "alter table t add constraint k foreign key (q) references v (q)",
+        b"error 42710 constraint k already exists",
+    ),
+    (
+        "alter table t add constraint l foreign key (q) references v (q)",
+        b"error 42703 column q does not exist",
+    ),
+    (
+        "alter table t add constraint l foreign key (a) references v (q)",
+        b"absent v",
+    ),
+    (
+        "alter table t add constraint l foreign key (a) references i (q)",
+        b"error 42809 i is not a table",
+    ),
+    (
+        "alter table t add constraint l foreign key (a) references u (q)",
+        b"error 42703 column q does not exist",
+    ),
+    (
+        "alter table t validate constraint f",
+        b"h 1 1 write 0 =con(16391,16385,f,f,v,1,16384,1) !16385",
+    ),
+    ("alter table t validate constraint k", b"h 1 1 write 0"),
+    (
+        "alter table u validate constraint f",
+        b"error 42704 constraint f does not exist",
+    ),
+    (
+        "alter table t drop constraint k",
+        b"h 1 1 write 0 -con(16390) !16385",
+    ),
+    (
+        "alter table t drop constraint f",
+        b"h 1 1 write 0 -con(16391) !16385 !16384",
+    ),
+    (
+        "alter table t drop constraint s",
+        b"h 1 1 write 0 -con(16392) !16385 !16385",
+    ),
+    (
+        "alter table u drop constraint f",
+        b"error 42704 constraint f does not exist",
+    ),
+    (
+        "alter table t enable trigger g",
+        b"h 1 1 write 0 =trg(16394,16385,g,e) !16385",
+    ),
+    ("alter table t disable trigger g", b"h 1 1 write 0"),
+    (
+        "alter table u disable trigger g",
+        b"error 42704 trigger g does not exist",
+    ),
+    (
+        "create trigger g on u",
+        b"h 1 1 write 1 +trg(1,16384,g,e) !16384",
+    ),
+    (
+        "create trigger g on t",
+        b"error 42710 trigger g already exists",
+    ),
+    (
+        "create index m on t (c, a, c)",
+        b"h 1 1 write 1 +class(1,m,i,-) +ind(1,16385,v,3+1+3) !16385",
+    ),
+    (
+        "create index m on t (a, q, r)",
+        b"error 42703 column q does not exist",
+    ),
+    (
+        "create index m on t (q,q,q,q,q,q,q,q,q,q,q,q,q,q,q,q,q,q,q,q,q,q,q,q,q,q,q,q,q,q,q,q,q)",
+        b"error 54011 too many columns",
+    ),
+    ("create index m on i (q)", b"error 42809 i is not a table"),
+    (
+        "drop index i",
+        b"h 1 1 write 0 -ind(16389) -class(16389) !16385",
+    ),
+    ("drop index t", b"error 42809 t is not an index"),
+    ("drop index m", b"absent m"),
+    (
+        "alter index i rename to j",
+        b"h 1 1 write 0 =class(16389,j,i,-)",
+    ),
+    (
+        "alter index t rename to j",
+        b"error 42809 t is not an index",
+    ),
+    (
+        "drop table t",
+        b"h 1 1 write 0 -ind(16389) -class(16389) -con(16390) -con(16391) -con(16392) -def(16386) -def(16388) -trg(16393) -trg(16394) -att(16385,1) -att(16385,2) -att(16385,3) -class(16385) !16384 !16385",
+    ),
+    (
+        "drop table u",
+        b"error 2BP01 other objects depend on relation u",
+    ),
+];
+
+// The same where the session has `u` open: what is tested after a further lock, and what isn't altered.
+const DEPENDENT_EFFECTS_OPEN: &[(&str, &[u8])] = &[
+    (
+        "alter table t drop constraint f",
+        b"error 55006 relation 16384 is open in this session",
+    ),
+    (
+        "alter table t drop constraint g",
+        b"error 42704 constraint g does not exist",
+    ),
+    (
+        "alter table t add constraint l foreign key (b) references u (z)",
+        b"h 1 1 write 1 +con(1,16385,l,f,v,2,16384,2) !16384",
+    ),
+    (
+        "create index m on u (q)",
+        b"error 55006 relation 16384 is open in this session",
+    ),
+    (
+        "drop table t",
+        b"error 55006 relation 16384 is open in this session",
+    ),
+];
+
 // The relations that the session has open.
 const OPEN: &[(&str, u32)] = &[("t", 16384), ("u", 16384)];
 
@@ -543,22 +718,7 @@ fn changed(alloc: Global, command: &Command, facts: &Facts) -> Result<Vec<u8>, N
 fn has_plan(command: &Command) -> bool
     ensures { result ≡ true → (opened : _) → is_built (plan_of opened command.now) ≡ true }
 {
-    match command {
-        Command::Show { .. } => true,
-        Command::LockTable { .. } => true,
-        Command::CreateTable { .. } => true,
-        Command::OpenRel(_) => true,
-        Command::Peek { .. } => true,
-        Command::CloseRel(_) => true,
-        Command::DropTable(_) => true,
-        Command::RenameTable { .. } => true,
-        Command::AddColumn { .. } => true,
-        Command::DropColumn { .. } => true,
-        Command::RenameColumn { .. } => true,
-        Command::SetStatistics { .. } => true,
-        Command::SetFillfactor { .. } => true,
-        _ => false,
-    }
+    Exec::has_plan(command)
 }
 
 fn refusal_text(alloc: Global, refusal: &EffectRefusal) -> Result<Vec<u8>, NoMemory> {
@@ -693,6 +853,23 @@ fn commands_have_their_effects(rt: HostRuntime) -> Result<(), Fail> {
         assert!(rt;
             has_effect(rt.alloc(), catalog(), OPEN, command, wanted)?,
             "{command} where t is open"
+        );
+    }
+    Ok(())
+}
+
+#[test]
+fn constraints_triggers_and_indexes_have_their_effects(rt: HostRuntime) -> Result<(), Fail> {
+    for &(command, wanted) in DEPENDENT_EFFECTS {
+        assert!(rt;
+            has_effect(rt.alloc(), dependents(), &[], command, wanted)?,
+            "{command}"
+        );
+    }
+    for &(command, wanted) in DEPENDENT_EFFECTS_OPEN {
+        assert!(rt;
+            has_effect(rt.alloc(), dependents(), &[("u", 16384)], command, wanted)?,
+            "{command}"
         );
     }
     Ok(())

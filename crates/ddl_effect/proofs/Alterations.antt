@@ -183,12 +183,12 @@ rename_index = refl
 pub rename_unknown : comes_to (RenameTable (codes "u") (codes "v")) ≡ Unknown (codes "u")
 rename_unknown = refl
 
--- the rows of all columns go in the order of their numbers, those of dropped columns too, and then the table's own
+-- the default goes first, then the rows of all columns in the order of their numbers, those of dropped columns too, and then the table's own
 pub table_dropped : comes_to (DropTable (codes "t"))
-    ≡ changed (Delete (keys.Att (oid 16384) 1) ∷ Delete (keys.Att (oid 16384) 2) ∷ Delete (keys.Att (oid 16384) 3) ∷ Delete (keys.Class (oid 16384)) ∷ [])
+    ≡ changed (Delete (keys.Def (oid 16385)) ∷ Delete (keys.Att (oid 16384) 1) ∷ Delete (keys.Att (oid 16384) 2) ∷ Delete (keys.Att (oid 16384) 3) ∷ Delete (keys.Class (oid 16384)) ∷ [])
 table_dropped = refl
 
-pub dropped_without_columns : dropping_table (oid 16384) [] ≡ changing (Delete (keys.Class (oid 16384)) ∷ [])
+pub dropped_without_columns : dropping_table [] (oid 16384) [] [] [] [] [] ≡ changing (Delete (keys.Class (oid 16384)) ∷ [])
 dropped_without_columns = refl
 
 pub drop_index : comes_to (DropTable (codes "i")) ≡ Refuses (errors.NotTable (codes "i"))

@@ -45,10 +45,14 @@ close_built name (Some o) = refl
 pub closing_built : (opens : List OpenRelation) (name : List ℕ) → is_built (plan_of opens (commands.CloseRel name)) ≡ true
 closing_built opens name = close_built name (latest_open name opens)
 
--- whether a command has a plan doesn't depend on what is open
+-- every command has a plan
+pub all_built : (opens : List OpenRelation) (command : Command) → is_built (plan_of opens command) ≡ true
+all_built opens (commands.Peek name field) = peeking_built opens name field
+all_built opens (commands.CloseRel name) = closing_built opens name
+all_built opens (commands.Show name field) = show_built opens name field
+all_built opens (commands.CreateTable name columns) = creating_built opens name columns
+all_built opens command = refl
+
+-- so whether it has one doesn't depend on what is open
 pub built_alike : (opens other : List OpenRelation) (command : Command) → is_built (plan_of opens command) ≡ is_built (plan_of other command)
-built_alike opens other (commands.Peek name field) = peeking_built opens name field ∙ sym (peeking_built other name field)
-built_alike opens other (commands.CloseRel name) = closing_built opens name ∙ sym (closing_built other name)
-built_alike opens other (commands.Show name None) = refl
-built_alike opens other (commands.Show name (Some field)) = refl
-built_alike opens other command = refl
+built_alike opens other command = all_built opens command ∙ sym (all_built other command)

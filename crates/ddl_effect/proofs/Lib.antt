@@ -1,4 +1,6 @@
 mod Alterations
+mod ByOid
+mod Dependents
 pub mod Driven
 mod Examples
 pub mod HasPlan

@@ -3,7 +3,7 @@ use Rattle.std.proofs.Common.{◌≡◌, ◌<◌, ◌+◌, ◌∙◌, ℕ, List,
 use Rattle.std.specs.List.{enumerate_from}
 use Rattle.std.proofs.lemmas.List.{take_more, map-append, length-take-le}
 use Rattle.ddl_effect.specs.Types.{NewColumn, Change}
-use Rattle.ddl_effect.specs.Commands.{table_row, new_column}
+use Rattle.ddl_effect.specs.Tables.{table_row, new_column}
 
 numbered_more : {X : Type 0} (n : ℕ) (xs : List X) (x : X) (j : ℕ) → n + length xs ≡ j → enumerate_from n (xs ++ x ∷ []) ≡ enumerate_from n xs ++ (j, x) ∷ []
 numbered_more n [] x j e = let same : n ≡ j = omega arith in ap (λ k. (k, x) ∷ []) same

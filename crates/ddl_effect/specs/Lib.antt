@@ -2,6 +2,15 @@ pub mod Types
 pub mod Opens
 pub mod Plans
 pub mod Effects
+pub mod Numbered
+pub mod Parts
+pub mod Reads
+pub mod Tables
+pub mod Columns
+pub mod Constraints
+pub mod Triggers
+pub mod Indexes
 pub mod Commands
 pub mod Drawing
 pub mod Stages
+pub mod Steps

@@ -1,7 +1,7 @@
 -- The types by which the crate's other definitions name what they speak of.
 pub use Rattle.base_types.specs.declared.ids.Oid.{Oid}
 pub use Rattle.base_types.specs.declared.mode.Mode.{Mode}
-pub use Rattle.base_types.specs.declared.mode.Mode.TheVariants.{AccessShare, ShareUpdateExclusive, AccessExclusive}
+pub use Rattle.base_types.specs.declared.mode.Mode.TheVariants.{AccessShare, ShareUpdateExclusive, Share, ShareRowExclusive, AccessExclusive}
 pub use Rattle.base_types.specs.declared.kind.Kind.{Kind}
 pub use Rattle.base_types.specs.declared.kind.Kind.TheVariants.{Table, Index}
 pub use Rattle.base_types.specs.declared.field.Field.{Field}
@@ -17,6 +17,7 @@ pub use Rattle.command_answers.specs.declared.error.CommandError.{CommandError}
 pub use Rattle.ddl_effect.specs.declared.open_relation.OpenRelation.{OpenRelation}
 pub use Rattle.ddl_effect.specs.declared.draft.Draft.{Draft}
 pub use Rattle.ddl_effect.specs.declared.told.Told.{Told}
+pub use Rattle.ddl_effect.specs.declared.foreign_key.ForeignKey.{ForeignKey}
 pub use Rattle.ddl_effect.specs.declared.alteration.Alteration.{Alteration}
 pub use Rattle.ddl_effect.specs.declared.altering.Altering.{Altering}
 pub use Rattle.ddl_effect.specs.declared.finding.Finding.{Finding}

@@ -1,31 +1,178 @@
-ghost use Rattle.std.specs.Prelude.{◌≡◌};
-ghost use Rattle.ddl_effect.specs.Stages.{mode_of};
+ghost use Rattle.std.specs.Prelude.{◌≡◌, List, false, MatchOption};
+ghost use Rattle.ddl_effect.specs.Commands.{plan_of};
+ghost use Rattle.ddl_effect.specs.Stages.{alters_table, mode_of, kind_of, altering_at};
 
-use base_types::{ColType, Mode, Name};
+use crate::{Altering, ForeignKey, OpenRelation};
+use base_types::{ColType, Command, Kind, Mode, Name, Text, Word};
 
-/// What an alteration does to its table.
+/// What an alteration does to its table or index.
 #[derive(Clone, Copy)]
 pub enum Alteration {
-    AddColumn { column: Name, col_type: ColType },
-    DropColumn { column: Name },
-    RenameColumn { column: Name, to: Name },
-    SetStatistics { column: Name, stat: i32 },
-    SetFillfactor { fill: u32 },
-    RenameTable { to: Name },
+    AddColumn {
+        column: Name,
+        col_type: ColType,
+    },
+    DropColumn {
+        column: Name,
+    },
+    RenameColumn {
+        column: Name,
+        to: Name,
+    },
+    SetDefault {
+        column: Name,
+        word: Word,
+    },
+    SetStatistics {
+        column: Name,
+        stat: i32,
+    },
+    SetFillfactor {
+        fill: u32,
+    },
+    RenameTable {
+        to: Name,
+    },
+    AddCheck {
+        constraint: Name,
+        text: Text,
+        valid: bool,
+    },
+    AddForeign {
+        key: ForeignKey,
+    },
+    ValidateConstraint {
+        constraint: Name,
+    },
+    DropConstraint {
+        constraint: Name,
+    },
+    SetTrigger {
+        trigger: Name,
+        on: bool,
+    },
+    CreateTrigger {
+        trigger: Name,
+    },
+    DropIndex,
+    RenameIndex {
+        to: Name,
+    },
 }
 
-/// The mode in which an alteration locks its table (`AlterTableGetLockLevel` in
+/// The mode in which an alteration locks its relation (`AlterTableGetLockLevel` in
 /// `src/backend/commands/tablecmds.c`).
 pub(crate) fn mode(alteration: &Alteration) -> Mode
     ensures { result ≡ mode_of alteration.now }
 {
     match alteration {
+        Alteration::SetStatistics { .. }
+        | Alteration::SetFillfactor { .. }
+        | Alteration::ValidateConstraint { .. }
+        | Alteration::RenameIndex { .. } => Mode::ShareUpdateExclusive,
+        Alteration::AddForeign { .. }
+        | Alteration::SetTrigger { .. }
+        | Alteration::CreateTrigger { .. } => Mode::ShareRowExclusive,
         Alteration::AddColumn { .. }
         | Alteration::DropColumn { .. }
         | Alteration::RenameColumn { .. }
-        | Alteration::RenameTable { .. } => Mode::AccessExclusive,
-        Alteration::SetStatistics { .. } | Alteration::SetFillfactor { .. } => {
-            Mode::ShareUpdateExclusive
-        }
+        | Alteration::SetDefault { .. }
+        | Alteration::RenameTable { .. }
+        | Alteration::AddCheck { .. }
+        | Alteration::DropConstraint { .. }
+        | Alteration::DropIndex => Mode::AccessExclusive,
     }
+}
+
+/// The kind that the relation of an alteration has to be of.
+pub(crate) fn kind(alteration: &Alteration) -> Kind
+    ensures { result ≡ kind_of alteration.now }
+{
+    match alteration {
+        Alteration::DropIndex | Alteration::RenameIndex { .. } => Kind::Index,
+        _ => Kind::Table,
+    }
+}
+
+/// An alteration at its beginning, if the command is one.
+pub(crate) fn alteration_of(command: &Command) -> Option<Altering>
+    ensures { MatchOption result (alters_table command.now ≡ false) (λ altering. (opens : List OpenRelation) → altering_at opens altering ≡ plan_of opens command.now) }
+{
+    match *command {
+        Command::AddColumn {
+            name,
+            column,
+            col_type,
+        } => Some(alters(name, Alteration::AddColumn { column, col_type })),
+        Command::DropColumn { name, column } => {
+            Some(alters(name, Alteration::DropColumn { column }))
+        }
+        Command::RenameColumn { name, column, to } => {
+            Some(alters(name, Alteration::RenameColumn { column, to }))
+        }
+        Command::SetDefault { name, column, word } => {
+            Some(alters(name, Alteration::SetDefault { column, word }))
+        }
+        Command::SetStatistics { name, column, stat } => {
+            Some(alters(name, Alteration::SetStatistics { column, stat }))
+        }
+        Command::SetFillfactor { name, fill } => {
+            Some(alters(name, Alteration::SetFillfactor { fill }))
+        }
+        Command::RenameTable { name, to } => Some(alters(name, Alteration::RenameTable { to })),
+        Command::AddCheck {
+            name,
+            constraint,
+            text,
+            valid,
+        } => Some(alters(
+            name,
+            Alteration::AddCheck {
+                constraint,
+                text,
+                valid,
+            },
+        )),
+        Command::AddForeign {
+            name,
+            constraint,
+            column,
+            refers,
+            ref_column,
+            valid,
+        } => Some(alters(
+            name,
+            Alteration::AddForeign {
+                key: ForeignKey {
+                    constraint,
+                    column,
+                    refers,
+                    ref_column,
+                    valid,
+                },
+            },
+        )),
+        Command::ValidateConstraint { name, constraint } => {
+            Some(alters(name, Alteration::ValidateConstraint { constraint }))
+        }
+        Command::DropConstraint { name, constraint } => {
+            Some(alters(name, Alteration::DropConstraint { constraint }))
+        }
+        Command::SetTrigger { name, trigger, on } => {
+            Some(alters(name, Alteration::SetTrigger { trigger, on }))
+        }
+        Command::CreateTrigger { name, trigger } => {
+            Some(alters(name, Alteration::CreateTrigger { trigger }))
+        }
+        Command::DropIndex(name) => Some(alters(name, Alteration::DropIndex)),
+        Command::RenameIndex { name, to } => Some(alters(name, Alteration::RenameIndex { to })),
+        _ => None,
+    }
+}
+
+// An alteration of the relation of this name, at its beginning.
+fn alters(name: Name, alteration: Alteration) -> Altering
+    ensures { result ≡ Altering.Finding name alteration }
+{
+    Altering::Finding { name, alteration }
 }

@@ -1,6 +1,8 @@
 ghost use Rattle.std.specs.Prelude.{◌≡◌};
 ghost use Rattle.std.specs.List.{find};
-ghost use Rattle.ddl_effect.specs.Commands.{column_number as number_of, as_dropped, name_dropped, is_default_of, with_name, with_stat, with_fill, with_own_name};
+ghost use Rattle.ddl_effect.specs.Parts.{column_number as number_of};
+ghost use Rattle.ddl_effect.specs.Columns.{as_dropped, name_dropped, is_default_of, with_name, with_stat};
+ghost use Rattle.ddl_effect.specs.Tables.{with_fill, with_own_name};
 
 use base_types::{MOST_COLUMNS, Name, Row};
 

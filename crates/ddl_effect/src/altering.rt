@@ -1,25 +1,28 @@
-ghost use Rattle.std.specs.Prelude.{◌≡◌, ◌<◌, ◌∷◌, ◌++◌, ℕ, List, [], false, not, IfOk, MatchOption};
-ghost use Rattle.ddl_effect.specs.Plans.{Absent, after_act};
-ghost use Rattle.ddl_effect.specs.Commands.{plan_of, found as found_rows, if_passes, opening, altering, column_there, column_free, reading, adding, dropping, renaming, targeting, filling, renaming_table, changing, deleting, with_name, writing};
-ghost use Rattle.ddl_effect.specs.Opens.{has_open as is_open};
-ghost use Rattle.ddl_effect.specs.Stages.{alters_table, altered, altering_at, altering_again, alter_acts_left, want_of};
+ghost use Rattle.std.specs.Prelude.{◌≡◌, ◌<◌, ◌∷◌, ◌++◌, ℕ, List, [], false, IfOk, MatchOption};
+ghost use Rattle.ddl_effect.specs.Plans.{Absent, Done, after_act};
+ghost use Rattle.ddl_effect.specs.Parts.{found as found_rows, changing, deleting, writing};
+ghost use Rattle.ddl_effect.specs.Commands.{plan_of};
+ghost use Rattle.ddl_effect.specs.Stages.{alters_table, kind_of, altering_kind, altered, altering_at, altering_again, alter_acts_left, acts_left, plan_at, plan_again, want_of};
 
-use crate::alteration::mode;
-use crate::altered_rows::{
-    MOST_STAT, column_number, default_of, dropped, filled, renamed, renamed_relation, targeted,
+use crate::alteration::{kind, mode};
+use crate::columns::{
+    defaulted, named, numbered, without_constraint, without_default, without_index,
 };
+use crate::constraints::{found_referred, own_column, referred_column};
 use crate::draft::draft_of;
+use crate::first_acts::{first_done, first_want};
 use crate::opens::has_open;
-use crate::{Alteration, Draft, OpenRelation, Want};
+use crate::{Alteration, Draft, Exec, ForeignKey, OpenRelation, Told, Want};
 use base_types::{
-    Change, ColType, Command, Kind, Listed, MOST_COLUMNS, Name, NoMemory, Oid, Purpose, Row,
+    Change, ColType, Command, Kind, Listed, Mode, Name, NoMemory, Oid, Purpose, Row, Word,
 };
 use command_answers::CommandError;
 use std::alloc::Global;
 
-/// How far an alteration of a table is: what is left of its plan (`ATExecAddColumn`,
-/// `ATExecDropColumn`, `renameatt_internal`, `ATExecSetStatistics`, `ATExecSetRelOptions` and
-/// `RenameRelation` in `src/backend/commands/tablecmds.c`).
+/// How far an alteration of a table or an index is: what is left of its plan, as long as it isn't to write a draft
+/// (`ATExecAddColumn`, `ATExecDropColumn`, `renameatt_internal`, `ATExecColumnDefault`, `ATExecSetStatistics`,
+/// `ATExecSetRelOptions`, `ATExecAddConstraint`, `ATExecValidateConstraint`, `ATExecDropConstraint`,
+/// `ATExecEnableDisableTrigger` and `RenameRelation` in `src/backend/commands/tablecmds.c`).
 #[derive(Clone, Copy)]
 pub enum Altering {
     /// It has done what it says.
@@ -31,21 +34,20 @@ pub enum Altering {
         name: Name,
         alteration: Alteration,
     },
-    /// It looks for the table, and locks it.
+    /// It looks for the relation, and locks it.
     Finding {
         name: Name,
         alteration: Alteration,
     },
-    /// It opens the table's descriptor.
+    /// It opens the relation's descriptor.
     Opening {
         rel: Oid,
         alteration: Alteration,
     },
-    /// `add column`: it looks for a column of the name, which there may not be.
-    AddingColumn {
+    /// The descriptor is open.
+    Opened {
         rel: Oid,
-        column: Name,
-        col_type: ColType,
+        alteration: Alteration,
     },
     /// `add column`: it reads the table's columns, to number the new one.
     NumberingColumn {
@@ -53,21 +55,22 @@ pub enum Altering {
         column: Name,
         col_type: ColType,
     },
-    /// `drop column`: it looks for the column.
-    DroppingColumn {
+    /// `drop column`: it reads the constraints, of which none may use the column with this row.
+    TestingConstraints {
         rel: Oid,
         column: Name,
+        row: Row,
+    },
+    /// `drop column`: it reads the table's indexes, of which none may use the column.
+    TestingIndexes {
+        rel: Oid,
+        column: Name,
+        row: Row,
     },
     /// `drop column`: it reads the table's defaults, for that of the column with this row.
     DroppingDefault {
         rel: Oid,
         row: Row,
-    },
-    /// `rename column`: it looks for the column.
-    RenamingColumn {
-        rel: Oid,
-        column: Name,
-        to: Name,
     },
     /// `rename column`: it looks for a column of the new name, which there may not be.
     RenamingTo {
@@ -75,21 +78,35 @@ pub enum Altering {
         row: Row,
         to: Name,
     },
-    /// `set statistics`: it looks for the column.
-    SettingStatistics {
+    /// `set default`: it reads the table's defaults, for that of the column with this row.
+    ReplacingDefault {
         rel: Oid,
-        column: Name,
-        stat: i32,
+        row: Row,
+        word: Word,
     },
-    /// `set (fillfactor = N)`: it reads the table's row.
-    SettingFillfactor {
+    /// `add constraint .. foreign key`: it looks for the table's own column.
+    FindingOwnColumn {
         rel: Oid,
-        fill: u32,
+        key: ForeignKey,
     },
-    /// `rename to`: it reads the table's row.
-    RenamingTable {
+    /// `add constraint .. foreign key`: it failed, since no relation has the name of the other table.
+    MissingReferred {
         rel: Oid,
-        to: Name,
+        key: ForeignKey,
+        row: Row,
+    },
+    /// `add constraint .. foreign key`: it looks for the other table, and locks it.
+    FindingReferred {
+        rel: Oid,
+        key: ForeignKey,
+        row: Row,
+    },
+    /// `add constraint .. foreign key`: it looks for the other table's column.
+    FindingReferredColumn {
+        rel: Oid,
+        key: ForeignKey,
+        row: Row,
+        other: Oid,
     },
     /// It writes a new row.
     Inserting {
@@ -111,70 +128,108 @@ impl Altering {
             Altering::Done => Want::Done(None),
             Altering::Failing(error) => Want::Fails(*error),
             Altering::Missing { name, .. } => Want::Absent(*name),
+            Altering::MissingReferred { key, .. } => Want::Absent(key.refers),
             Altering::Finding { name, alteration } => Want::Lookup {
                 name: *name,
                 mode: mode(alteration),
             },
-            Altering::Opening { rel, .. } => Want::Open {
-                rel: *rel,
-                kind: Kind::Table,
+            Altering::FindingReferred { key, .. } => Want::Lookup {
+                name: key.refers,
+                mode: Mode::ShareRowExclusive,
             },
-            Altering::AddingColumn { rel, column, .. }
-            | Altering::DroppingColumn { rel, column }
-            | Altering::RenamingColumn { rel, column, .. }
-            | Altering::SettingStatistics { rel, column, .. } => {
-                Want::Search(Purpose::AttName(*rel, *column))
+            Altering::Opening { rel, alteration } => Want::Open {
+                rel: *rel,
+                kind: kind(alteration),
+            },
+            Altering::Opened { rel, alteration } => first_want(*rel, alteration),
+            Altering::NumberingColumn { rel, .. } => Want::Read(Purpose::Attribute(*rel)),
+            Altering::TestingConstraints { rel, .. } => Want::Read(Purpose::Constraint(*rel)),
+            Altering::TestingIndexes { rel, .. } => Want::Read(Purpose::Index(*rel)),
+            Altering::DroppingDefault { rel, .. } | Altering::ReplacingDefault { rel, .. } => {
+                Want::Read(Purpose::AttrDef(*rel))
             }
             Altering::RenamingTo { rel, to, .. } => Want::Search(Purpose::AttName(*rel, *to)),
-            Altering::NumberingColumn { rel, .. } => Want::Read(Purpose::Attribute(*rel)),
-            Altering::DroppingDefault { rel, .. } => Want::Read(Purpose::AttrDef(*rel)),
-            Altering::SettingFillfactor { rel, .. } | Altering::RenamingTable { rel, .. } => {
-                Want::Read(Purpose::Class(*rel))
+            Altering::FindingOwnColumn { rel, key } => {
+                Want::Search(Purpose::AttName(*rel, key.column))
+            }
+            Altering::FindingReferredColumn { key, other, .. } => {
+                Want::Search(Purpose::AttName(*other, key.ref_column))
             }
             Altering::Inserting { .. } | Altering::Replacing { .. } => Want::Write,
         }
     }
 
-    /// How far it is once what it wanted was done, and gave these rows: those of the scan on which
+    /// How far the command is once what it wanted was done, and gave these rows: those of the scan on which
     /// the act rests.
-    pub(crate) fn after(self, opens: &[OpenRelation], rows: &[Row]) -> Altering
+    pub(crate) fn after(
+        self,
+        alloc: Global,
+        opens: &[OpenRelation],
+        rows: &[Row],
+    ) -> Result<Exec, NoMemory>
+        ensures plan { IfOk result (λ exec. plan_at opens.now exec ≡ after_act rows.now (altering_at opens.now self)) }
+        ensures less { IfOk result (λ exec. 0 < alter_acts_left self → acts_left exec < alter_acts_left self) }
+        ensures named { IfOk result (λ exec. (oid : Oid) → plan_at opens.now exec ≡ Done (Told.Regclass oid) → ⊥) }
+        ensures again { IfOk result (λ exec. (name : List ℕ) → 0 < alter_acts_left self → plan_at opens.now exec ≡ Absent name → plan_again opens.now exec ≡ altering_at opens.now self) }
+    {
+        match self {
+            Altering::Opened { rel, alteration } => first_done(alloc, rel, alteration, opens, rows),
+            Altering::ReplacingDefault { rel, row, word } => {
+                let draft = defaulted(alloc, rel, &row, word, rows)?;
+                Ok(Exec::Writing(draft))
+            }
+            Altering::FindingReferredColumn {
+                rel,
+                key,
+                row,
+                other,
+            } => referred_column(alloc, rel, &key, &row, other, rows),
+            altering => Ok(Exec::Altering(altering.goes_on(opens, rows))),
+        }
+    }
+
+    // The same where no draft is to be made.
+    fn goes_on(self, opens: &[OpenRelation], rows: &[Row]) -> Altering
+        requires opened { (rel : Oid) (alteration : Alteration) → self ≡ Altering.Opened rel alteration → ⊥ }
+        requires default { (rel : Oid) (row : Row) (word : List ℕ) → self ≡ Altering.ReplacingDefault rel row word → ⊥ }
+        requires column { (rel other : Oid) (key : ForeignKey) (row : Row) → self ≡ Altering.FindingReferredColumn rel key row other → ⊥ }
         ensures plan { altering_at opens.now result ≡ after_act rows.now (altering_at opens.now self) }
         ensures less { 0 < alter_acts_left self → alter_acts_left result < alter_acts_left self }
         ensures again { (name : List ℕ) → 0 < alter_acts_left self → altering_at opens.now result ≡ Absent name → altering_again opens.now result ≡ altering_at opens.now self }
     {
         match self {
             Altering::Finding { name, alteration } => found(name, alteration, opens, rows),
-            Altering::Opening { rel, alteration } => opened(rel, alteration),
-            Altering::AddingColumn {
-                rel,
-                column,
-                col_type,
-            } => not_there(rel, column, col_type, rows),
+            Altering::Opening { rel, alteration } => Altering::Opened { rel, alteration },
             Altering::NumberingColumn {
                 rel,
                 column,
                 col_type,
             } => numbered(rel, column, col_type, rows),
-            Altering::DroppingColumn { rel, column } => to_drop(rel, column, rows),
+            Altering::TestingConstraints { rel, column, row } => {
+                without_constraint(rel, column, row, rows)
+            }
+            Altering::TestingIndexes { rel, column, row } => without_index(rel, column, row, rows),
             Altering::DroppingDefault { row, .. } => without_default(row, rows),
-            Altering::RenamingColumn { rel, column, to } => to_rename(rel, column, to, rows),
             Altering::RenamingTo { row, to, .. } => named(row, to, rows),
-            Altering::SettingStatistics { column, stat, .. } => with_target(column, stat, rows),
-            Altering::SettingFillfactor { fill, .. } => with_fillfactor(fill, rows),
-            Altering::RenamingTable { to, .. } => with_table_name(to, rows),
+            Altering::FindingOwnColumn { rel, key } => own_column(rel, key, rows),
+            Altering::FindingReferred { rel, key, row } => found_referred(rel, key, row, rows),
             Altering::Inserting { .. } | Altering::Replacing { .. } | Altering::Done =>
                 Altering::Done,
             Altering::Failing(error) => Altering::Failing(error),
-            Altering::Missing { .. } => self,
+            Altering::Missing { .. } | Altering::MissingReferred { .. } => self,
+            _ => unreachable!(),
         }
     }
 
-    /// Where the lookup found no relation, how far it is as it looks again; else what it is.
+    /// Where a lookup found no relation, how far it is as it looks again; else what it is.
     pub(crate) fn again(self) -> Altering
         ensures { (opens : List OpenRelation) → altering_at opens result ≡ altering_again opens self }
     {
         match self {
             Altering::Missing { name, alteration } => Altering::Finding { name, alteration },
+            Altering::MissingReferred { rel, key, row } => {
+                Altering::FindingReferred { rel, key, row }
+            }
             altering => altering,
         }
     }
@@ -190,40 +245,6 @@ impl Altering {
             _ => unreachable!(),
         }
     }
-}
-
-// An alteration at its beginning, if the command is one.
-pub(crate) fn alteration_of(command: &Command) -> Option<Altering>
-    ensures { MatchOption result (alters_table command.now ≡ false) (λ altering. (opens : List OpenRelation) → altering_at opens altering ≡ plan_of opens command.now) }
-{
-    match *command {
-        Command::AddColumn {
-            name,
-            column,
-            col_type,
-        } => Some(alters(name, Alteration::AddColumn { column, col_type })),
-        Command::DropColumn { name, column } => {
-            Some(alters(name, Alteration::DropColumn { column }))
-        }
-        Command::RenameColumn { name, column, to } => {
-            Some(alters(name, Alteration::RenameColumn { column, to }))
-        }
-        Command::SetStatistics { name, column, stat } => {
-            Some(alters(name, Alteration::SetStatistics { column, stat }))
-        }
-        Command::SetFillfactor { name, fill } => {
-            Some(alters(name, Alteration::SetFillfactor { fill }))
-        }
-        Command::RenameTable { name, to } => Some(alters(name, Alteration::RenameTable { to })),
-        _ => None,
-    }
-}
-
-// An alteration of the table of this name, at its beginning.
-fn alters(name: Name, alteration: Alteration) -> Altering
-    ensures { result ≡ Altering.Finding name alteration }
-{
-    Altering::Finding { name, alteration }
 }
 
 // The draft that inserts a row.
@@ -247,202 +268,40 @@ fn replacing(alloc: Global, deleted: Option<Row>, row: Row) -> Result<Draft, NoM
     Ok(draft_of(alloc, changes))
 }
 
-// After the lookup: the relation has to be a table that the session hasn't open (`CheckTableNotInUse` in
-// `src/backend/commands/tablecmds.c`).
+// After the lookup.
 fn found(name: Name, alteration: Alteration, opens: &[OpenRelation], rows: &[Row]) -> Altering
-    ensures plan { altering_at opens.now result ≡ found_rows name (altering opens.now name (altered alteration)) rows.now }
-    ensures left { alter_acts_left result < 5 }
+    ensures plan { altering_at opens.now result ≡ found_rows name (altering_kind (kind_of alteration) opens.now name (altered opens.now alteration)) rows.now }
+    ensures left { alter_acts_left result < 7 }
     ensures again { (absent : List ℕ) → altering_at opens.now result ≡ Absent absent → altering_again opens.now result ≡ altering_at opens.now (Altering.Finding name alteration) }
 {
     match rows.first() {
-        Some(
-            Row::Class {
-                oid,
-                kind: Kind::Table,
-                ..
-            },
-        ) => found_table(*oid, alteration, opens),
-        Some(Row::Class { .. }) => Altering::Failing(CommandError::NotTable { name }),
+        Some(Row::Class { oid, kind, .. }) => found_relation(*oid, *kind, name, alteration, opens),
         _ => Altering::Missing { name, alteration },
     }
 }
 
-// A lookup that found this table.
-fn found_table(rel: Oid, alteration: Alteration, opens: &[OpenRelation]) -> Altering
-    ensures plan { altering_at opens.now result ≡ if_passes (not (is_open rel opens.now)) (CommandError.InUse rel) (opening rel Kind.Table (altered alteration rel)) }
-    ensures left { alter_acts_left result < 5 }
-    ensures there { (name : List ℕ) → altering_at opens.now result ≡ Absent name → ⊥ }
+// A lookup that found this relation: it has to be of the alteration's kind, and the session must not have it
+// open (`CheckTableNotInUse` in `src/backend/commands/tablecmds.c`).
+fn found_relation(
+    rel: Oid,
+    own: Kind,
+    name: Name,
+    alteration: Alteration,
+    opens: &[OpenRelation],
+) -> Altering
+    ensures plan { altering_at opens.now result ≡ altering_kind (kind_of alteration) opens.now name (altered opens.now alteration) rel own }
+    ensures left { alter_acts_left result < 7 }
+    ensures there { (absent : List ℕ) → altering_at opens.now result ≡ Absent absent → ⊥ }
 {
-    if has_open(rel, opens) {
-        return Altering::Failing(CommandError::InUse { rel });
-    }
-    Altering::Opening { rel, alteration }
-}
-
-// Once the descriptor is open: a number is tested before any column is looked up.
-fn opened(rel: Oid, alteration: Alteration) -> Altering
-    ensures plan { (opens : List OpenRelation) → altering_at opens result ≡ altered alteration rel }
-    ensures left { alter_acts_left result < 4 }
-    ensures there { (opens : List OpenRelation) (name : List ℕ) → altering_at opens result ≡ Absent name → ⊥ }
-{
-    match alteration {
-        Alteration::AddColumn { column, col_type } => Altering::AddingColumn {
-            rel,
-            column,
-            col_type,
-        },
-        Alteration::DropColumn { column } => Altering::DroppingColumn { rel, column },
-        Alteration::RenameColumn { column, to } => Altering::RenamingColumn { rel, column, to },
-        Alteration::SetStatistics { column, stat } => {
-            if stat < -1 {
-                return Altering::Failing(CommandError::OutOfRange {
-                    value: i64::from(stat),
-                });
+    let wanted = kind(&alteration);
+    match (wanted, own) {
+        (Kind::Table, Kind::Index) => Altering::Failing(CommandError::NotTable { name }),
+        (Kind::Index, Kind::Table) => Altering::Failing(CommandError::NotIndex { name }),
+        _ => {
+            if has_open(rel, opens) {
+                return Altering::Failing(CommandError::InUse { rel });
             }
-            Altering::SettingStatistics { rel, column, stat }
+            Altering::Opening { rel, alteration }
         }
-        Alteration::SetFillfactor { fill } => {
-            if fill < 10 || fill > 100 {
-                return Altering::Failing(CommandError::OutOfRange {
-                    value: i64::from(fill),
-                });
-            }
-            Altering::SettingFillfactor { rel, fill }
-        }
-        Alteration::RenameTable { to } => Altering::RenamingTable { rel, to },
-    }
-}
-
-// `add column`, after the lookup of its name.
-fn not_there(rel: Oid, column: Name, col_type: ColType, rows: &[Row]) -> Altering
-    ensures plan { (opens : List OpenRelation) → altering_at opens result ≡ column_free column (reading (Purpose.Attribute rel) (adding rel column col_type)) rows.now }
-    ensures left { alter_acts_left result < 3 }
-    ensures there { (opens : List OpenRelation) (name : List ℕ) → altering_at opens result ≡ Absent name → ⊥ }
-{
-    if rows.is_empty() {
-        Altering::NumberingColumn {
-            rel,
-            column,
-            col_type,
-        }
-    } else {
-        Altering::Failing(CommandError::ColumnExists { name: column })
-    }
-}
-
-// `add column`, by the rows of the table's columns.
-fn numbered(rel: Oid, column: Name, col_type: ColType, columns: &[Row]) -> Altering
-    ensures plan { (opens : List OpenRelation) → altering_at opens result ≡ adding rel column col_type columns.now }
-    ensures left { alter_acts_left result < 2 }
-    ensures there { (opens : List OpenRelation) (name : List ℕ) → altering_at opens result ≡ Absent name → ⊥ }
-{
-    if columns.len() >= MOST_COLUMNS as usize {
-        return Altering::Failing(CommandError::TooManyColumns);
-    }
-    let row = Row::Att {
-        rel,
-        num: columns.len() as u32 + 1,
-        name: column,
-        col_type,
-        stat: -1,
-        live: true,
-    };
-    Altering::Inserting { row }
-}
-
-// `drop column`, after the lookup of its name.
-fn to_drop(rel: Oid, column: Name, rows: &[Row]) -> Altering
-    ensures plan { (opens : List OpenRelation) → altering_at opens result ≡ column_there column (λ row. reading (Purpose.AttrDef rel) (dropping row)) rows.now }
-    ensures left { alter_acts_left result < 3 }
-    ensures there { (opens : List OpenRelation) (name : List ℕ) → altering_at opens result ≡ Absent name → ⊥ }
-{
-    match rows.first() {
-        Some(row) => Altering::DroppingDefault { rel, row: *row },
-        None => Altering::Failing(CommandError::NoColumn { name: column }),
-    }
-}
-
-// `drop column`, by the rows of the table's defaults.
-fn without_default(row: Row, defaults: &[Row]) -> Altering
-    ensures plan { (opens : List OpenRelation) → altering_at opens result ≡ dropping row defaults.now }
-    ensures left { alter_acts_left result < 2 }
-    ensures there { (opens : List OpenRelation) (name : List ℕ) → altering_at opens result ≡ Absent name → ⊥ }
-{
-    Altering::Replacing {
-        deleted: default_of(column_number(&row), defaults),
-        row: dropped(&row),
-    }
-}
-
-// `rename column`, after the lookup of its old name.
-fn to_rename(rel: Oid, column: Name, to: Name, rows: &[Row]) -> Altering
-    ensures plan { (opens : List OpenRelation) → altering_at opens result ≡ column_there column (renaming to rel) rows.now }
-    ensures left { alter_acts_left result < 3 }
-    ensures there { (opens : List OpenRelation) (name : List ℕ) → altering_at opens result ≡ Absent name → ⊥ }
-{
-    match rows.first() {
-        Some(row) => Altering::RenamingTo { rel, row: *row, to },
-        None => Altering::Failing(CommandError::NoColumn { name: column }),
-    }
-}
-
-// `rename column`, after the lookup of its new name.
-fn named(row: Row, to: Name, rows: &[Row]) -> Altering
-    ensures plan { (opens : List OpenRelation) → altering_at opens result ≡ column_free to (changing (Change.Replace (with_name to row) ∷ [])) rows.now }
-    ensures left { alter_acts_left result < 2 }
-    ensures there { (opens : List OpenRelation) (name : List ℕ) → altering_at opens result ≡ Absent name → ⊥ }
-{
-    if rows.is_empty() {
-        Altering::Replacing {
-            deleted: None,
-            row: renamed(&row, to),
-        }
-    } else {
-        Altering::Failing(CommandError::ColumnExists { name: to })
-    }
-}
-
-// `set statistics`, after the lookup of its column.
-fn with_target(column: Name, stat: i32, rows: &[Row]) -> Altering
-    ensures plan { (opens : List OpenRelation) → altering_at opens result ≡ column_there column (targeting stat) rows.now }
-    ensures left { alter_acts_left result < 2 }
-    ensures there { (opens : List OpenRelation) (name : List ℕ) → altering_at opens result ≡ Absent name → ⊥ }
-{
-    match rows.first() {
-        Some(row) => Altering::Replacing {
-            deleted: None,
-            row: targeted(row, stat.min(MOST_STAT)),
-        },
-        None => Altering::Failing(CommandError::NoColumn { name: column }),
-    }
-}
-
-// `set (fillfactor = N)`, by the table's row.
-fn with_fillfactor(fill: u32, rows: &[Row]) -> Altering
-    ensures plan { (opens : List OpenRelation) → altering_at opens result ≡ filling fill rows.now }
-    ensures left { alter_acts_left result < 2 }
-    ensures there { (opens : List OpenRelation) (name : List ℕ) → altering_at opens result ≡ Absent name → ⊥ }
-{
-    match rows.first() {
-        Some(row) => Altering::Replacing {
-            deleted: None,
-            row: filled(row, fill),
-        },
-        None => Altering::Done,
-    }
-}
-
-// `rename to`, by the table's row.
-fn with_table_name(to: Name, rows: &[Row]) -> Altering
-    ensures plan { (opens : List OpenRelation) → altering_at opens result ≡ renaming_table to rows.now }
-    ensures left { alter_acts_left result < 2 }
-    ensures there { (opens : List OpenRelation) (name : List ℕ) → altering_at opens result ≡ Absent name → ⊥ }
-{
-    match rows.first() {
-        Some(row) => Altering::Replacing {
-            deleted: None,
-            row: renamed_relation(row, to),
-        },
-        None => Altering::Done,
     }
 }

@@ -1,18 +1,28 @@
-ghost use Rattle.std.specs.Prelude.{◌≡◌, ◌<◌, ℕ, List, true, not, [], IfOk, OnOk, OnErr, MatchOption};
+ghost use Rattle.std.specs.Prelude.{◌≡◌, ◌<◌, ◌≤◌, ◌+◌, ◌*◌, ℕ, List, true, [], None, Ok, IfOk, IfSome, OnOk, OnErr, MatchOption};
 ghost use Rattle.std.specs.List.{filter_map};
 ghost use Rattle.ddl_effect.specs.Plans.{Absent, Done, is_built, after_act, told_rests_on};
-ghost use Rattle.ddl_effect.specs.Commands.{plan_of, found as found_rows, live_column as column_live, telling_columns, telling_column, regclass_of, told_fields, showing_field, peeking, closing, if_passes, opening, drop_table, writing};
-ghost use Rattle.ddl_effect.specs.Opens.{has_open as is_open};
-ghost use Rattle.ddl_effect.specs.Stages.{plan_at, plan_again, plan_found, name_sought, want_of, told_of, acts_left};
+ghost use Rattle.ddl_effect.specs.Parts.{found as found_rows, if_closed, opening, writing};
+ghost use Rattle.ddl_effect.specs.Reads.{live_column as column_live, telling_column, regclass_of, told_fields, showing_field, peeking, closing};
+ghost use Rattle.ddl_effect.specs.Tables.{drop_table};
+ghost use Rattle.ddl_effect.specs.Commands.{plan_of};
+ghost use Rattle.ddl_effect.specs.Stages.{plan_at, plan_again, plan_found, name_sought, want_of, told_of, acts_left, most_rows, most_acts};
+ghost use Rattle.ddl_effect.specs.Steps.{StepsTo};
 
-use crate::altering::alteration_of;
-use crate::drop_table::drop_table as drop_table_draft;
+use crate::alteration::alteration_of;
+use crate::draft::no_draft;
+use crate::drop_table::{dropped, unreferred};
+use crate::further_locks::locked;
+use crate::indexes::{column_numbered, found_indexed, new_index, to_number_columns};
+use crate::lists::{copied, taken};
 use crate::opens::{has_open, latest_open};
 use crate::table::create_table;
-use crate::{Altering, Draft, Finding, OpenRelation, Told, Want};
-use base_types::{Command, Field, Kind, Listed, Name, NoMemory, Oid, Purpose, Row, has_field};
+use crate::{Altering, Draft, Finding, NewIndex, Numbering, OpenRelation, Told, Want};
+use base_types::{
+    Command, Field, Kind, Listed, Mode, Name, NoMemory, Oid, Purpose, Row, has_field,
+};
 use command_answers::{Column, CommandError};
 use std::alloc::Global;
+use std::mem::replace;
 
 /// How far a command that has a plan is: what is left of it.
 #[derive(Drop)]
@@ -51,10 +61,60 @@ pub enum Exec {
     /// `src/backend/commands/tablecmds.c`).
     OpeningToDrop {
         rel: Oid,
+        name: Name,
     },
-    /// `drop table`: it reads the table's columns, whose rows go with it.
+    /// `drop table`: it reads the constraints, of which none may be another table's.
     DroppingTable {
         rel: Oid,
+        name: Name,
+    },
+    /// `drop table`: it reads the table's indexes, which go with it.
+    DroppingIndexes {
+        rel: Oid,
+        constraints: Listed<Row>,
+    },
+    /// `drop table`: it reads the table's defaults.
+    DroppingDefaults {
+        rel: Oid,
+        constraints: Listed<Row>,
+        indexes: Listed<Row>,
+    },
+    /// `drop table`: it reads the table's triggers.
+    DroppingTriggers {
+        rel: Oid,
+        constraints: Listed<Row>,
+        indexes: Listed<Row>,
+        defaults: Listed<Row>,
+    },
+    /// `drop table`: it reads the table's columns.
+    DroppingColumns {
+        rel: Oid,
+        constraints: Listed<Row>,
+        indexes: Listed<Row>,
+        defaults: Listed<Row>,
+        triggers: Listed<Row>,
+    },
+    /// `create index`: it failed, since no relation has the name of the table.
+    MissingIndexed(NewIndex),
+    /// `create index`: it looks for the table.
+    FindingIndexed(NewIndex),
+    /// `create index`: it opens the table's descriptor.
+    OpeningIndexed {
+        rel: Oid,
+        index: NewIndex,
+    },
+    /// `create index`: it looks for the columns, one after another.
+    NumberingIndex {
+        rel: Oid,
+        name: Name,
+        columns: Numbering,
+    },
+    /// It locks a further relation, then those from this place, and then writes.
+    Locking {
+        rel: Oid,
+        rels: Listed<Oid>,
+        at: usize,
+        draft: Draft,
     },
     /// It writes.
     Writing(Draft),
@@ -63,42 +123,20 @@ pub enum Exec {
 }
 
 impl Exec {
-    /// Whether a command has a plan, so that the program can run it.
-    #[tactic(auto, using(crate::proofs::HasPlan::show_built, crate::proofs::HasPlan::creating_built))]
+    /// Whether a command has a plan, so that the program can run it: each has.
+    #[tactic(auto, using(crate::proofs::HasPlan::all_built))]
     pub fn has_plan(command: &Command) -> bool
         ensures { (opens : List OpenRelation) → result ≡ is_built (plan_of opens command.now) }
     {
-        matches!(
-            command,
-            Command::Begin
-                | Command::Commit
-                | Command::Rollback
-                | Command::Savepoint(_)
-                | Command::Release(_)
-                | Command::RollbackTo(_)
-                | Command::Show { .. }
-                | Command::Columns(_)
-                | Command::Column { .. }
-                | Command::Regclass(_)
-                | Command::LockTable { .. }
-                | Command::OpenRel(_)
-                | Command::Peek { .. }
-                | Command::CloseRel(_)
-                | Command::CreateTable { .. }
-                | Command::DropTable(_)
-                | Command::RenameTable { .. }
-                | Command::AddColumn { .. }
-                | Command::DropColumn { .. }
-                | Command::RenameColumn { .. }
-                | Command::SetStatistics { .. }
-                | Command::SetFillfactor { .. }
-        )
+        let _value = command;
+        true
     }
 
     /// A command at its beginning, by the relations that its session has open. Condition: it has a plan.
     pub fn new(alloc: Global, opens: &[OpenRelation], command: &Command) -> Result<Exec, NoMemory>
         requires { is_built (plan_of opens.now command.now) ≡ true }
-        ensures { IfOk result (λ exec. plan_at opens.now exec ≡ plan_of opens.now command.now) }
+        ensures plan { IfOk result (λ exec. plan_at opens.now exec ≡ plan_of opens.now command.now) }
+        ensures few { IfOk result (λ exec. acts_left exec ≤ most_acts) }
     {
         match command {
             Command::Begin
@@ -130,6 +168,11 @@ impl Exec {
             Command::CreateTable { name, columns } => {
                 create_table(alloc, *name, columns.as_slice())
             }
+            Command::CreateIndex {
+                name,
+                on_table,
+                columns,
+            } => new_index(alloc, *name, *on_table, columns.as_slice()),
             Command::DropTable(name) => Ok(Exec::Finding(Finding::DropTable { name: *name })),
             Command::OpenRel(name) => Ok(Exec::Finding(Finding::OpenRel { name: *name })),
             Command::Peek { name, field } => { Ok(peeked(*name, *field, latest_open(name, opens))) }
@@ -165,11 +208,27 @@ impl Exec {
                 rel: *rel,
                 kind: *kind,
             },
-            Exec::OpeningToDrop { rel } => Want::Open {
+            Exec::OpeningToDrop { rel, .. } | Exec::OpeningIndexed { rel, .. } => Want::Open {
                 rel: *rel,
                 kind: Kind::Table,
             },
-            Exec::DroppingTable { rel } => Want::Read(Purpose::Attribute(*rel)),
+            Exec::DroppingTable { rel, .. } => Want::Read(Purpose::Constraint(*rel)),
+            Exec::DroppingIndexes { rel, .. } => Want::Read(Purpose::Index(*rel)),
+            Exec::DroppingDefaults { rel, .. } => Want::Read(Purpose::AttrDef(*rel)),
+            Exec::DroppingTriggers { rel, .. } => Want::Read(Purpose::Trigger(*rel)),
+            Exec::DroppingColumns { rel, .. } => Want::Read(Purpose::Attribute(*rel)),
+            Exec::MissingIndexed(index) => Want::Absent(index.on_table),
+            Exec::FindingIndexed(index) => Want::Lookup {
+                name: index.on_table,
+                mode: Mode::Share,
+            },
+            Exec::NumberingIndex { rel, columns, .. } => {
+                Want::Search(Purpose::AttName(*rel, columns.column()))
+            }
+            Exec::Locking { rel, .. } => Want::Lock {
+                rel: *rel,
+                mode: Mode::AccessExclusive,
+            },
             Exec::Writing(_) => Want::Write,
             Exec::Altering(altering) => altering.next(),
         }
@@ -199,32 +258,130 @@ impl Exec {
         ensures again { OnOk result ((name : List ℕ) → 0 < acts_left self.old → plan_at opens.now self.new ≡ Absent name → plan_again opens.now self.new ≡ plan_at opens.now self.old) }
         ensures err { OnErr result (self.new ≡ self.old) }
     {
-        let next = match self {
-            Exec::Finding(finding) => found(*finding, opens, rows),
-            Exec::Opening { rel, kind, field } => Exec::Done(shown(*field, *rel, *kind)),
-            Exec::ListingColumns { .. } => Exec::Done(Told::Columns(live_columns(alloc, rows)?)),
-            Exec::FindingColumn { column, .. } => found_column(*column, rows),
-            Exec::FindingOid(oid) => Exec::Done(Told::Regclass(*oid)),
-            Exec::OpeningToKeep { .. } => Exec::Done(Told::Ok),
-            Exec::OpeningToDrop { rel } => Exec::DroppingTable { rel: *rel },
-            Exec::DroppingTable { rel } => Exec::Writing(drop_table_draft(alloc, *rel, rows)?),
-            Exec::Writing(_) => Exec::Done(Told::Ok),
-            Exec::Altering(altering) => Exec::Altering(altering.after(opens, rows)),
-            Exec::Done(_) | Exec::Failing(_) | Exec::Missing(_) => return Ok(()),
-        };
-        *self = next;
+        if let Some(next) = self.after(alloc, opens, rows)? {
+            self.put(next);
+        }
         Ok(())
+    }
+
+    // It goes on with this.
+    fn put(&mut self, next: Exec)
+        ensures { self.new ≡ next }
+    {
+        *self = next;
+    }
+
+    // What comes after the act, unless it is the same stage, which then has gone on itself. Where it is another, this
+    // one is given up.
+    fn after(
+        &mut self,
+        alloc: Global,
+        opens: &[OpenRelation],
+        rows: &[Row],
+    ) -> Result<Option<Exec>, NoMemory>
+        ensures stays { result ≡ Ok None → StepsTo opens.now rows.now self.old self.new }
+        ensures goes { IfOk result (λ next. IfSome next (λ exec. StepsTo opens.now rows.now self.old exec)) }
+        ensures err { OnErr result (self.new ≡ self.old) }
+    {
+        match self {
+            Exec::Finding(finding) => Ok(Some(found(*finding, opens, rows))),
+            Exec::Opening { rel, kind, field } => Ok(Some(Exec::Done(shown(*field, *rel, *kind)))),
+            Exec::ListingColumns { .. } => {
+                let columns = live_columns(alloc, rows)?;
+                Ok(Some(Exec::Done(Told::Columns(columns))))
+            }
+            Exec::FindingColumn { column, .. } => Ok(Some(found_column(*column, rows))),
+            Exec::FindingOid(oid) => Ok(Some(Exec::Done(Told::Regclass(*oid)))),
+            Exec::OpeningToKeep { .. } | Exec::Writing(_) => Ok(Some(Exec::Done(Told::Ok))),
+            Exec::Altering(altering) => Ok(Some(altering.after(alloc, opens, rows)?)),
+            Exec::OpeningToDrop { rel, name } => Ok(Some(Exec::DroppingTable {
+                rel: *rel,
+                name: *name,
+            })),
+            Exec::DroppingTable { rel, name } => Ok(Some(unreferred(alloc, *rel, *name, rows)?)),
+            Exec::DroppingIndexes { rel, constraints } => {
+                let indexes = copied(alloc, rows)?;
+                Ok(Some(Exec::DroppingDefaults {
+                    rel: *rel,
+                    constraints: taken(alloc, constraints),
+                    indexes,
+                }))
+            }
+            Exec::DroppingDefaults {
+                rel,
+                constraints,
+                indexes,
+            } => {
+                let defaults = copied(alloc, rows)?;
+                Ok(Some(Exec::DroppingTriggers {
+                    rel: *rel,
+                    constraints: taken(alloc, constraints),
+                    indexes: taken(alloc, indexes),
+                    defaults,
+                }))
+            }
+            Exec::DroppingTriggers {
+                rel,
+                constraints,
+                indexes,
+                defaults,
+            } => {
+                let triggers = copied(alloc, rows)?;
+                Ok(Some(Exec::DroppingColumns {
+                    rel: *rel,
+                    constraints: taken(alloc, constraints),
+                    indexes: taken(alloc, indexes),
+                    defaults: taken(alloc, defaults),
+                    triggers,
+                }))
+            }
+            Exec::DroppingColumns {
+                rel,
+                constraints,
+                indexes,
+                defaults,
+                triggers,
+            } => {
+                let next = dropped(alloc, *rel, constraints, indexes, defaults, triggers, rows)?;
+                Ok(Some(next))
+            }
+            Exec::FindingIndexed(index) => Ok(Some(found_indexed(alloc, index, opens, rows))),
+            Exec::OpeningIndexed { rel, index } => {
+                let columns = taken(alloc, &mut index.columns);
+                Ok(Some(to_number_columns(alloc, *rel, index.name, columns)))
+            }
+            Exec::NumberingIndex { rel, name, columns } => {
+                match column_numbered(alloc, *rel, *name, columns, rows)? {
+                    Some(next) => Ok(Some(next)),
+                    None => Ok(None),
+                }
+            }
+            Exec::Locking {
+                rel,
+                rels,
+                at,
+                draft,
+            } => {
+                let left = taken(alloc, rels);
+                let written = replace(draft, no_draft(alloc));
+                Ok(Some(locked(*rel, left, *at, written, opens)))
+            }
+            Exec::Done(_) | Exec::Failing(_) | Exec::Missing(_) | Exec::MissingIndexed(_) => Ok(
+                None,
+            ),
+        }
     }
 
     /// Where its lookup found no relation, it makes that anew; any other command stays as it is.
     pub fn search_again(&mut self)
         ensures { (opens : List OpenRelation) → plan_at opens self.new ≡ plan_again opens self.old }
     {
-        match self {
-            Exec::Missing(finding) => *self = Exec::Finding(*finding),
-            Exec::Altering(altering) => *self = Exec::Altering(altering.again()),
-            _ => {}
-        }
+        *self = match replace(self, Exec::Done(Told::Ok)) {
+            Exec::Missing(finding) => Exec::Finding(finding),
+            Exec::MissingIndexed(index) => Exec::FindingIndexed(index),
+            Exec::Altering(altering) => Exec::Altering(altering.again()),
+            other => other,
+        };
     }
 
     /// The draft that it wants written, the command given up. Condition: it wants that.
@@ -305,7 +462,7 @@ fn goes_on(finding: Finding, opens: &[OpenRelation], rel: Oid, kind: Kind) -> Ex
             Kind::Index => Exec::Failing(CommandError::NotTable { name }),
         },
         Finding::DropTable { name } => match kind {
-            Kind::Table => to_drop_table(rel, opens),
+            Kind::Table => to_drop_table(rel, name, opens),
             Kind::Index => Exec::Failing(CommandError::NotTable { name }),
         },
         Finding::OpenRel { .. } => Exec::OpeningToKeep { rel, kind },
@@ -313,16 +470,16 @@ fn goes_on(finding: Finding, opens: &[OpenRelation], rel: Oid, kind: Kind) -> Ex
 }
 
 // `drop table`, after its lookup: the session must not have the table open.
-fn to_drop_table(rel: Oid, opens: &[OpenRelation]) -> Exec
-    ensures plan { plan_at opens.now result ≡ if_passes (not (is_open rel opens.now)) (CommandError.InUse rel) (opening rel Kind.Table (drop_table rel)) }
-    ensures left { acts_left result < 4 }
+fn to_drop_table(rel: Oid, name: Name, opens: &[OpenRelation]) -> Exec
+    ensures plan { plan_at opens.now result ≡ if_closed opens.now rel (opening rel Kind.Table (drop_table opens.now name rel)) }
+    ensures left { acts_left result < 2 * most_rows + 8 }
     ensures there { (name : List ℕ) → plan_at opens.now result ≡ Absent name → ⊥ }
     ensures named { (oid : Oid) → plan_at opens.now result ≡ Done (Told.Regclass oid) → ⊥ }
 {
     if has_open(rel, opens) {
         return Exec::Failing(CommandError::InUse { rel });
     }
-    Exec::OpeningToDrop { rel }
+    Exec::OpeningToDrop { rel, name }
 }
 
 // `show T FIELD`, after its lookup: the relation has to have the field.

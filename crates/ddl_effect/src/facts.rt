@@ -2,8 +2,9 @@ ghost use Rattle.std.specs.Prelude.{◌≡◌, true, IfOk};
 ghost use Rattle.base_types.specs.Scans.{scan_of};
 ghost use Rattle.ddl_effect.specs.Plans.{is_built};
 ghost use Rattle.ddl_effect.specs.Commands.{plan_of};
-ghost use Rattle.ddl_effect.specs.Effects.{effect_of, given_for, no_changes, IsEffect};
+ghost use Rattle.ddl_effect.specs.Effects.{effect_of, given_for, IsEffect};
 
+use crate::draft::no_draft;
 use crate::{Draft, Exec, OpenRelation, Want};
 use base_types::{Command, Listed, Name, NoMemory, Purpose, Row, put_in_order, selects};
 use command_answers::CommandError;
@@ -56,17 +57,6 @@ pub fn effect(alloc: Global, command: &Command, facts: &Facts) -> Result<Draft, 
                 };
             }
         }
-    }
-}
-
-// A draft without changes.
-fn no_draft(alloc: Global) -> Draft
-    ensures { result ≡ no_changes }
-{
-    Draft {
-        changes: Listed::new(alloc),
-        forced: Listed::new(alloc),
-        new_oids: 0,
     }
 }
 

@@ -11,26 +11,42 @@
 //! its plan is built ([`Exec::has_plan`]).
 #![tactic(auto)]
 
+mod absent;
 mod alteration;
 mod altered_rows;
+mod altered_tables;
 mod altering;
+mod columns;
+mod constraints;
 mod draft;
 mod drop_table;
 mod exec;
 mod facts;
 mod finding;
+mod first_acts;
+mod foreign_key;
+mod further_locks;
+mod indexes;
+mod lists;
+mod new_index;
+mod numbering;
 mod open_relation;
 mod opens;
 mod table;
 mod told;
+mod triggers;
 mod want;
 
+pub use absent::absent_error;
 pub use alteration::Alteration;
 pub use altering::Altering;
 pub use draft::Draft;
 pub use exec::Exec;
 pub use facts::{EffectRefusal, Facts, effect};
 pub use finding::Finding;
+pub use foreign_key::ForeignKey;
+pub use new_index::NewIndex;
+pub use numbering::Numbering;
 pub use open_relation::OpenRelation;
 pub use opens::{latest_open, without_latest};
 pub use told::Told;

@@ -1,16 +1,14 @@
 ghost use Rattle.std.specs.Prelude.{◌≡◌, ◌≤◌, List, [], map, length, IfOk};
 ghost use Rattle.base_types.specs.declared.dropped.TheConstants.{MOST_COLUMNS};
-ghost use Rattle.ddl_effect.specs.Commands.{creating, first_twice as first_repeated, new_table as table_draft, new_column as column_change, table_row};
+ghost use Rattle.ddl_effect.specs.Tables.{creating, first_twice as first_repeated, new_table as table_draft, new_column as column_change, table_row};
 ghost use Rattle.ddl_effect.specs.Stages.{plan_at};
 
+use crate::draft::NEW;
 use crate::{Draft, Exec, OpenRelation};
-use base_types::{Change, Kind, Listed, MOST_COLUMNS, Name, NewColumn, NoMemory, Oid, Row};
+use base_types::{Change, Kind, Listed, MOST_COLUMNS, Name, NewColumn, NoMemory, Row};
 use command_answers::CommandError;
 use std::alloc::{AllocError, Global};
 use std::collections::BTreeSet;
-
-// The new oid of a table, before it is drawn.
-const NEW_TABLE: Oid = Oid(1);
 
 // `create table` (`DefineRelation` in `src/backend/commands/tablecmds.c`): its rows, or why it has too
 // many columns or one twice (`CheckAttributeNamesTypes` in `src/backend/catalog/heap.c`).
@@ -73,7 +71,7 @@ fn class_row(name: Name) -> Row
     ensures { Change.Insert result ≡ table_row name }
 {
     Row::Class {
-        oid: NEW_TABLE,
+        oid: NEW,
         name,
         kind: Kind::Table,
         fill: None,
@@ -85,7 +83,7 @@ fn column_row(num: u32, column: &NewColumn) -> Row
     ensures { Change.Insert result ≡ column_change (num, column.now) }
 {
     Row::Att {
-        rel: NEW_TABLE,
+        rel: NEW,
         num,
         name: column.name,
         col_type: column.col_type,

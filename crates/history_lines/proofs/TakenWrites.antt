@@ -12,11 +12,10 @@ use Rattle.inval_messages.specs.declared.message.Message.{Message}
 use Rattle.local_caches.specs.Kept.{kept_spared}
 use Rattle.cacheless.specs.Holds.{Rests, HasEntered}
 use Rattle.cacheless.specs.Locks.{locked_by}
-use Rattle.cacheless.specs.State.{IsLockedIn, kept_at, locks_made, messages_in}
+use Rattle.cacheless.specs.State.{IsLockedIn, kept_at, messages_in, locks_made}
 use Rattle.base_types.specs.declared.ids.Oid.{Oid}
 use Rattle.base_types.specs.declared.ids.Xid.{Xid}
 use Rattle.session_laws.specs.Awaiting.{HasTaken}
-use Rattle.history_lines.specs.Takes.{lock_on}
 use Rattle.history_lines.specs.Types.{Scenario, Entry, Ledger, Progress}
 use Rattle.history_lines.proofs.TakenEvents.{reserved_takes}
 
@@ -41,17 +40,17 @@ not_true false is = refl
 pub all_before : (from : ℕ) (lists : List Written) (found : Bool) → found ≡ list_any (λ w. nat_le from w.command) lists → not found ≡ true → AllByRecursion (λ list. list.command < from) lists
 all_before from lists found is none = none_later from lists (sym is ∙ not_true found none)
 
--- a write with these messages, by which a session holds these locks
-pub written_takes : {E : Type 0} (result : Result (Unit {0}) E) (was now : Progress) (xid : Xid) (messages : List Message) (made : Option Oid) (count : ℕ) (first : Oid) → locks_made count first (was.finished + 1) ≡ lock_on (was.finished + 1) made
+-- a write with these messages, which makes this relation, if it makes one
+pub written_takes : {E : Type 0} (result : Result (Unit {0}) E) (was now : Progress) (xid : Xid) (messages : List Message) (made known : Option Oid) → known ≡ made
     → OnOk result (kept_at now ≡ kept_spared messages (kept_at was)) → OnOk result (now.answer ≡ None)
-    → OnOk result ((scenario : Scenario) (seen : List Entry) (items : List Item) → (rests : Rests scenario seen was) → messages ≡ messages_in seen was.id items → flat_map (locked_by (was.finished + 1)) items ≡ locks_made count first (was.finished + 1) → HasEntered scenario seen was (events.Write xid items) rests now)
-    → OnOk result ((scenario : Scenario) (seen : List Entry) (items : List Item) (rests : Rests scenario seen was) → messages ≡ messages_in seen was.id items → flat_map (locked_by (was.finished + 1)) items ≡ lock_on (was.finished + 1) made → HasTaken scenario seen was (events.Write xid items) rests now)
-written_takes (Ok done) was now xid messages made count first same kept none holds = λ scenario seen items rests is locks. record {
-  goes = holds scenario seen items rests is (locks ∙ sym same);
+    → OnOk result ((scenario : Scenario) (seen : List Entry) (items : List Item) → (rests : Rests scenario seen was) → messages ≡ messages_in seen was.id items → flat_map (locked_by (was.finished + 1)) items ≡ locks_made (was.finished + 1) known → HasEntered scenario seen was (events.Write xid items) rests now)
+    → OnOk result ((scenario : Scenario) (seen : List Entry) (items : List Item) (rests : Rests scenario seen was) → messages ≡ messages_in seen was.id items → flat_map (locked_by (was.finished + 1)) items ≡ locks_made (was.finished + 1) made → HasTaken scenario seen was (events.Write xid items) rests now)
+written_takes (Ok done) was now xid messages made known same kept none holds = λ scenario seen items rests is locks. record {
+  goes = holds scenario seen items rests is (locks ∙ sym (ap (locks_made (was.finished + 1)) same));
   kept = kept ∙ ap (λ l. kept_spared l (kept_at was)) is;
   answer = none;
 }
-written_takes (Err e) was now xid messages made count first same kept none holds = tt
+written_takes (Err e) was now xid messages made known same kept none holds = tt
 
 -- the locks of one more item come after those before
 locks_more : (command : ℕ) (items : List Item) (at : ℕ) (item : Item) → at < length items → item ≡ get_or items at item → flat_map (locked_by command) (take (at + 1) items) ≡ flat_map (locked_by command) (take at items) ++ locked_by command item
@@ -61,24 +60,24 @@ locks_more command items at item within is =
     ∙ ap (λ l. flat_map (locked_by command) (take at items) ++ l) (flat_map-cons (locked_by command) item [] ∙ append-nil (locked_by command item))
 
 -- an item that makes no relation leaves them
-pub made_still : (items : List Item) (at : ℕ) (item : Item) (made : Option Oid) → at < length items → item ≡ get_or items at item → ((command : ℕ) → locked_by command item ≡ []) → ((command : ℕ) → flat_map (locked_by command) (take at items) ≡ lock_on command made) → (command : ℕ) → flat_map (locked_by command) (take (at + 1) items) ≡ lock_on command made
-made_still items at item made within is none before command = locks_more command items at item within is ∙ (λ i. before command i ++ none command i) ∙ append-nil (lock_on command made)
+pub made_still : (items : List Item) (at : ℕ) (item : Item) (made : Option Oid) → at < length items → item ≡ get_or items at item → ((command : ℕ) → locked_by command item ≡ []) → ((command : ℕ) → flat_map (locked_by command) (take at items) ≡ locks_made command made) → (command : ℕ) → flat_map (locked_by command) (take (at + 1) items) ≡ locks_made command made
+made_still items at item made within is none before command = locks_more command items at item within is ∙ (λ i. before command i ++ none command i) ∙ append-nil (locks_made command made)
 
 -- and the first that makes one adds its lock
-pub made_first : (items : List Item) (at : ℕ) (item : Item) (rel : Oid) → at < length items → item ≡ get_or items at item → ((command : ℕ) → locked_by command item ≡ lock_on command (Some rel)) → ((command : ℕ) → flat_map (locked_by command) (take at items) ≡ []) → (command : ℕ) → flat_map (locked_by command) (take (at + 1) items) ≡ lock_on command (Some rel)
+pub made_first : (items : List Item) (at : ℕ) (item : Item) (rel : Oid) → at < length items → item ≡ get_or items at item → ((command : ℕ) → locked_by command item ≡ locks_made command (Some rel)) → ((command : ℕ) → flat_map (locked_by command) (take at items) ≡ []) → (command : ℕ) → flat_map (locked_by command) (take (at + 1) items) ≡ locks_made command (Some rel)
 made_first items at item rel within is one before command = locks_more command items at item within is ∙ (λ i. before command i ++ one command i)
 
 -- a write after room for a lock was made
 pub write_takes : {E : Type 0} (result : Result (Unit {0}) E) (ledger : Ledger) (s p now : Progress) (xid : Xid) (items : List Item) (messages : List Message) (made : Option Oid) → IsLockedIn s.locks.items s p → ((seen : List Entry) → Reads seen ledger → messages ≡ messages_in seen s.id items)
-    → ((command : ℕ) → flat_map (locked_by command) items ≡ lock_on command made)
-    → OnOk result ((scenario : Scenario) (seen : List Entry) (items : List Item) (rests : Rests scenario seen p) → messages ≡ messages_in seen p.id items → flat_map (locked_by (p.finished + 1)) items ≡ lock_on (p.finished + 1) made → HasTaken scenario seen p (events.Write xid items) rests now)
+    → ((command : ℕ) → flat_map (locked_by command) items ≡ locks_made command made)
+    → OnOk result ((scenario : Scenario) (seen : List Entry) (items : List Item) (rests : Rests scenario seen p) → messages ≡ messages_in seen p.id items → flat_map (locked_by (p.finished + 1)) items ≡ locks_made (p.finished + 1) made → HasTaken scenario seen p (events.Write xid items) rests now)
     → OnOk result ((scenario : Scenario) (seen : List Entry) (rests : Rests scenario seen s) → Reads seen ledger → HasTaken scenario seen s (events.Write xid items) rests now)
 write_takes (Ok done) ledger s p now xid items messages made same given locks takes = λ scenario seen rests reads.
     reserved_takes scenario seen s p (events.Write xid items) now same (λ r. takes scenario seen items r (given seen reads ∙ ap (λ (x : Progress). messages_in seen x.id items) (sym same.is)) (locks (p.finished + 1))) rests
 write_takes (Err e) ledger s p now xid items messages made same given locks takes = tt
 
 -- no relation, no lock
-pub none_on : (command : ℕ) (made : Option Oid) → is_some made ≡ false → lock_on command made ≡ []
+pub none_on : (command : ℕ) (made : Option Oid) → is_some made ≡ false → locks_made command made ≡ []
 none_on command None is = refl
 none_on command (Some rel) is = absurd (cc)
 

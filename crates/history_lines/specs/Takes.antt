@@ -1,9 +1,6 @@
 -- What an entry that comes next relies on, and what its session makes of it.
-use Rattle.std.specs.Prelude.{◌≡◌, ℕ, Bool, true, false, Option, Some, None, List, [], ◌∷◌}
+use Rattle.std.specs.Prelude.{◌≡◌, Bool, true, false, List}
 use Rattle.event_kinds.specs.declared.entry.Event.TheVariants.{Stop}
-use Rattle.base_types.specs.declared.ids.Oid.{Oid}
-use Rattle.lock_modes.specs.Own.{new_lock}
-use Rattle.lock_modes.specs.declared.own_lock.OwnLock.{OwnLock}
 use Rattle.history_model.specs.Legal.{IsLegal, MayFollow}
 use Rattle.cacheless.specs.Played.{AreSpelled}
 use Rattle.cacheless.specs.Plays.{IsNext, Plays}
@@ -27,8 +24,3 @@ is_stop event = false
 pub record HasSettled (scenario : Scenario) (seen : List Entry) (was now : Session) : Type 0 where
   pub waits : AwaitsEntry scenario seen now.progress now.lines
   pub id : now.progress.id ≡ was.progress.id
-
--- the lock on a new relation, if there is one
-abbrev pub lock_on : ℕ → Option Oid → List OwnLock
-lock_on command None = []
-lock_on command (Some rel) = new_lock rel command ∷ []

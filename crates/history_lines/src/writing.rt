@@ -10,9 +10,8 @@ ghost use Rattle.ddl_effect.specs.declared.want.Want.TheVariants as wants;
 ghost use Rattle.history_ledger.specs.Reads.{Reads};
 ghost use Rattle.cacheless.specs.Holds.{Rests};
 ghost use Rattle.cacheless.specs.Locks.{locked_by};
-ghost use Rattle.cacheless.specs.State.{lists_at, messages_in};
+ghost use Rattle.cacheless.specs.State.{lists_at, messages_in, locks_made};
 ghost use Rattle.session_laws.specs.Awaiting.{HasTaken};
-ghost use Rattle.history_lines.specs.Takes.{lock_on};
 
 use base_types::{Mode, NoMemory, Oid, Row, Xid};
 use cacheless::Progress;
@@ -67,22 +66,22 @@ fn enter_made(
     requires order { AllByRecursion (λ list. list.command < progress.old.finished + 1) (lists_at progress.old) }
     requires place { 0 < progress.old.locks.room }
     ensures same { OnOk result (progress.new.commands ≡ progress.old.commands) }
-    ensures takes { OnOk result ((scenario : Scenario) (seen : List Entry) (items : List Item) (rests : Rests scenario seen progress.old) → messages.now ≡ messages_in seen progress.old.id items → flat_map (locked_by (progress.old.finished + 1)) items ≡ lock_on (progress.old.finished + 1) made → HasTaken scenario seen progress.old (Event.Write xid items) rests progress.new) }
+    ensures takes { OnOk result ((scenario : Scenario) (seen : List Entry) (items : List Item) (rests : Rests scenario seen progress.old) → messages.now ≡ messages_in seen progress.old.id items → flat_map (locked_by (progress.old.finished + 1)) items ≡ locks_made (progress.old.finished + 1) made → HasTaken scenario seen progress.old (Event.Write xid items) rests progress.new) }
 {
     match made {
         Some(rel) => {
             if progress.locks.state(rel, Mode::AccessExclusive).is_some() {
                 return Err(NoMemory);
             }
-            progress.enter_write(alloc, xid, messages, 1, rel)
+            progress.enter_write(alloc, xid, messages, Some(rel))
         }
-        None => progress.enter_write(alloc, xid, messages, 0, Oid(0)),
+        None => progress.enter_write(alloc, xid, messages, None),
     }
 }
 
 // The relation that the items make, if they make one. Two are answered as out of memory.
 fn relation_made(items: &[Item]) -> Result<Option<Oid>, NoMemory>
-    ensures { IfOk result (λ made. (command : ℕ) → flat_map (locked_by command) items.now ≡ lock_on command made) }
+    ensures { IfOk result (λ made. (command : ℕ) → flat_map (locked_by command) items.now ≡ locks_made command made) }
 {
     let mut made = None;
     for item in items {
@@ -98,7 +97,7 @@ fn relation_made(items: &[Item]) -> Result<Option<Oid>, NoMemory>
 
 // The relation that an item makes, if it makes one.
 fn made_by(item: &Item) -> Option<Oid>
-    ensures { (command : ℕ) → locked_by command item.now ≡ lock_on command result }
+    ensures { (command : ℕ) → locked_by command item.now ≡ locks_made command result }
 {
     match item {
         Item::Add(Row::Class { oid, .. }) => Some(*oid),

@@ -48,7 +48,7 @@ same_oids : (oid : Oid) → same_oid oid oid ≡ true
 same_oids oid = eq-eqb oid.0 oid.0 refl
 
 -- a row is equal to itself
-same_itself : (row : Row) → same_row row row ≡ true
+pub same_itself : (row : Row) → same_row row row ≡ true
 same_itself (rows.Class oid name kind fill) = and_from _ _ (and_from _ _ (and_from _ _ (same_oids oid) (same_bytes name)) (same_bytes (kind_word kind))) (same_fill fill)
 same_itself (rows.Att rel num name col_type stat live) =
     and_from _ _ (and_from _ _ (and_from _ _ (and_from _ _ (and_from _ _ (same_oids rel) (eq-eqb num num refl)) (same_bytes name)) (same_bytes (type_word col_type))) ((Decides-int_eq stat stat).1 refl)) (same_bytes (live_word live))
@@ -79,7 +79,8 @@ told_covers before b c xid items sound may = each_passes (λ scan. is_covered me
     of scan false none = or_right (is_covered messages scan) (keeps_answer before b c xid items scan)
         (subst (λ given. same_rows (counted scan (answer_of before b scan)) given ≡ true) (sym (counted_write before b c xid items scan (sound_ordered before sound) may none)) (same_all (counted scan (answer_of before b scan))))
 
-fewer_told : (p : Purpose → Bool) (validated : Bool) (row : Row) → list_all p (scans_of row) ≡ true → list_all p (scans_told validated row) ≡ true
+-- what passes all scans that give a row passes those that must be covered
+pub fewer_told : (p : Purpose → Bool) (validated : Bool) (row : Row) → list_all p (scans_of row) ≡ true → list_all p (scans_told validated row) ≡ true
 fewer_told p true (rows.Con oid rel name valid (demands.Foreign num refrel refnum)) all = and_from (p (scans.Constraint rel)) true (and_parts (p (scans.Constraint rel)) (p (scans.Constraint refrel) && true) all).0 refl
 fewer_told p false (rows.Con oid rel name valid (demands.Foreign num refrel refnum)) all = all
 fewer_told p validated (rows.Con oid rel name valid (demands.Check text)) all = all

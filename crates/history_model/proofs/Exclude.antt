@@ -22,6 +22,7 @@ use Rattle.history_model.specs.Legal.{is_lock_of}
 use Rattle.history_model.specs.Drawn.{drawn_by, next_oid_by, next_oid}
 use Rattle.history_model.proofs.Reading.{held_of-more as held-more, next_oid-more as next-more}
 use Rattle.history_model.proofs.Every.{every-weaker, every-append, every-filter, every-kept, every-both, every-swap}
+pub use Rattle.history_model.proofs.Every.{every-parts}
 
 pub conflicts-sym : (a b : Mode) → conflicts a b ≡ conflicts b a
 conflicts-sym AccessShare AccessShare = refl
@@ -128,10 +129,6 @@ pub record IsNew (b low high : ℕ) (g : Grant) : Type 0 where
 granted_new : (b c low high : ℕ) (item : Item) → AllByRecursion (λ n. (low ≤ n) × (n < high)) (drawn_by item) → AllByRecursion (IsNew b low high) (granted_by b c item)
 granted_new b c low high (items.Add (rows.Class oid own kind fill)) drawn = (record { by = refl; above = drawn.0.0; below = drawn.0.1 }, tt)
 granted_new b c low high item drawn = tt
-
-pub every-parts : (P : ℕ → Type 0) (xs ys : List ℕ) → AllByRecursion P (xs ++ ys) → AllByRecursion P xs × AllByRecursion P ys
-every-parts P [] ys all = (tt, all)
-every-parts P (x ∷ xs) ys all = let rest = every-parts P xs ys all.1 in ((all.0, rest.0), rest.1)
 
 pub all_granted_new : (b c low high : ℕ) (changes : List Item) → AllByRecursion (λ n. (low ≤ n) × (n < high)) (flat_map drawn_by changes) → AllByRecursion (IsNew b low high) (flat_map (granted_by b c) changes)
 all_granted_new b c low high [] drawn = tt

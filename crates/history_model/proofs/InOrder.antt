@@ -1,8 +1,8 @@
 -- The answer of a scan in order of number doesn't depend on the order in which its rows are found.
-use Rattle.std.proofs.Common.{◌≡◌, ◌<◌, ◌∙◌, ◌⊎◌, inl, inr, ℕ, zero, suc, Bool, false, List, [], ◌∷◌, fold, map, filter, refl, sym, ap, subst, arith}
+use Rattle.std.proofs.Common.{◌≡◌, ◌<◌, ◌∙◌, ◌⊎◌, inl, inr, ℕ, zero, suc, Bool, true, false, List, [], ◌∷◌, fold, map, filter, refl, sym, ap, subst, arith}
 use Rattle.std.specs.Prelude.{⊤}
-use Rattle.std.specs.List.{AllByRecursion, insert, position_or_len}
-use Rattle.std.proofs.lemmas.Bool.{ltb-false, cases_order}
+use Rattle.std.specs.List.{AllByRecursion, insert, list_any, position_or_len}
+use Rattle.std.proofs.lemmas.Bool.{ltb-false, cases_order, or_left, or_right}
 use Rattle.base_types.specs.declared.row.Row.{Row}
 use Rattle.base_types.specs.declared.scan.Purpose.{Purpose}
 use Rattle.base_types.specs.Scans.{selects, row_number, number_before, goes_before, put_in_order, scan_of, IsInOrder}
@@ -18,6 +18,15 @@ pub every_self : {X : Type 0} (xs : List X) → AllByRecursion (λ x. IsIn x xs)
 every_self [] = tt
 every_self (x ∷ xs) = (inl refl, every-weaker (λ y. IsIn y xs) (λ y. IsIn y (x ∷ xs)) (λ y there. inr there) xs (every_self xs))
 
+-- what holds of each holds of it, and a test that it passes some passes
+pub of_in : {X : Type 0} (P : X → Type 0) (x : X) (xs : List X) → AllByRecursion P xs → IsIn x xs → P x
+of_in P x xs all there = from_some (λ y. x ≡ y) (P x) xs (every-weaker P (λ y. x ≡ y → P x) (λ y is same. subst P (sym same) is) xs all) there
+
+pub any_in : {X : Type 0} (p : X → Bool) (x : X) (xs : List X) → IsIn x xs → p x ≡ true → list_any p xs ≡ true
+any_in p x [] there is = absurd there
+any_in p x (y ∷ xs) (inl same) is = or_left (p y) (list_any p xs) (ap p (sym same) ∙ is)
+any_in p x (y ∷ xs) (inr later) is = or_right (p y) (list_any p xs) (any_in p x xs later is)
+
 -- two rows have different numbers
 abbrev pub Differ : Row → Row → Type 0
 Differ row other = row_number row ≡ row_number other → ⊥
@@ -27,7 +36,7 @@ abbrev pub Rises : List Row → Type 0
 Rises = Pairwise (λ row other. row_number row < row_number other)
 
 -- a row put somewhere
-every_inserted : (P : Row → Type 0) (given : List Row) (n : ℕ) (row : Row) → AllByRecursion P given → P row → AllByRecursion P (insert given n row)
+pub every_inserted : (P : Row → Type 0) (given : List Row) (n : ℕ) (row : Row) → AllByRecursion P given → P row → AllByRecursion P (insert given n row)
 every_inserted P given zero row all one = (one, all)
 every_inserted P [] (suc n) row all one = (one, all)
 every_inserted P (x ∷ given) (suc n) row all one = (all.0, every_inserted P given n row all.1 one)
@@ -40,7 +49,7 @@ in_inserted P (x ∷ given) (suc n) row (inl here) = inr (in_inserted P given n 
 in_inserted P (x ∷ given) (suc n) row (inr (inl there)) = inl there
 in_inserted P (x ∷ given) (suc n) row (inr (inr later)) = inr (in_inserted P given n row (inr later))
 
-pair_inserted : (R : Row → Row → Type 0) → ((row other : Row) → R row other → R other row) → (given : List Row) (n : ℕ) (row : Row) → Pairwise R given → AllByRecursion (R row) given → Pairwise R (insert given n row)
+pub pair_inserted : (R : Row → Row → Type 0) → ((row other : Row) → R row other → R other row) → (given : List Row) (n : ℕ) (row : Row) → Pairwise R given → AllByRecursion (R row) given → Pairwise R (insert given n row)
 pair_inserted R back given zero row pairs all = (all, pairs)
 pair_inserted R back [] (suc n) row pairs all = (tt, tt)
 pair_inserted R back (x ∷ given) (suc n) row pairs all = (every_inserted (R x) given n row pairs.0 (back row x all.0), pair_inserted R back given n row pairs.1 all.1)

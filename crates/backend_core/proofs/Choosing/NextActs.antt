@@ -195,6 +195,29 @@ fails_none p want goes is failing = by_plan (plan_at p.opens p.exec) refl (ap fa
     by_plan (Fails error) at bad = both_ways _ goes (ap (λ x. elim (outcome_of x) as (λ y. Bool) [ Badly ↦ true | other ↦ false ]) at)
     by_plan (Absent name) at bad = both_ways _ goes (ap (λ x. elim (outcome_of x) as (λ y. Bool) [ Badly ↦ true | other ↦ false ]) at)
 
+-- a further lock that isn't had yet
+pub further_lock : (s : Backend) (command : Command) → IsAtRest s.progress → IsChoiceSound s → IsFree s.progress command → lacks_opened (kept_at s.progress) s.progress.opened ≡ false → (rel : Oid) (mode : Mode) → want_of (plan_at s.progress.opens s.progress.exec) ≡ wants.Lock rel mode → IsLockNext s.progress rel mode
+further_lock s command still chosen free whole rel mode want = record {
+  command = command;
+  free = free;
+  may = both_true (owes_nothing command s.progress && is_none s.progress.taken) (is_lock_at s.progress (plan_at s.progress.opens s.progress.exec) rel mode) (both_true (owes_nothing command s.progress) (is_none s.progress.taken) owes (none_taken s.progress.taken refl))
+      (ap (λ q. is_lock_at s.progress q rel mode) act.is ∙ both_true (same_oid rel rel) (same_mode mode mode) (eq-eqb rel.0 rel.0 refl) (eq-eqb (mode_number mode) (mode_number mode) refl));
+}
+  where
+    act : Wants (plan_at s.progress.opens s.progress.exec) (Lock rel mode)
+    act = plan_wanted (plan_at s.progress.opens s.progress.exec) (Lock rel mode) (ap wanted_act want)
+
+    owes : owes_nothing command s.progress ≡ true
+    owes = out_owes s.progress command free (lacks_is s.progress (Lock rel mode) act whole)
+
+    had : (taken : Oid) → s.progress.taken ≡ Some taken → list_any (λ lock. is_own rel mode lock && (lock.command == s.progress.finished + 1)) s.progress.locks.items ≡ true
+    had taken took = subst (TakesFit (s.progress.finished + 1) s.progress.locks.items (Some taken)) act.is (subst (λ o. TakesFit (s.progress.finished + 1) s.progress.locks.items o (plan_at s.progress.opens s.progress.exec)) took chosen.takes)
+
+    none_taken : (o : Option Oid) → s.progress.taken ≡ o → is_none o ≡ true
+    none_taken None took = refl
+    none_taken (Some taken) took = absurd (not_at_rest s.progress command (Lock rel mode) still free act owes
+      (λ i. is_some (if_locked (any-weaker (λ lock. is_own rel mode lock && (lock.command == s.progress.finished + 1)) (is_own rel mode) (λ lock is. (and_parts (is_own rel mode lock) _ is).0) s.progress.locks.items (had taken took) i) [])))
+
 -- what comes next of a lookup whose scan serves
 module _ (s : Backend) (command : Command) (still : IsAtRest s.progress) (chosen : IsChoiceSound s) (free : IsFree s.progress command) (name : List ℕ) (mode : Mode) (want : want_of (plan_at s.progress.opens s.progress.exec) ≡ wants.Lookup name mode) (owes : owes_nothing command s.progress ≡ true) where
   act : Wants (plan_at s.progress.opens s.progress.exec) (Lookup name mode)

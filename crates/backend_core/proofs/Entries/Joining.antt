@@ -123,4 +123,4 @@ join_enters scenario old new had has was p before played started kept same appen
     answers = start_answers scenario old was.progress p (no_entry before) played.spelled (sound_is_legal old played.sound) played.plays appends.comes.follows started kept same
 
     makes : MakesEntry scenario old new had has b
-    makes = appended_makes scenario old new had has e (before.waits.number, subst (λ o. MayPlayAt scenario old b o 0 events.Start) (sym before.session) tt) (record { needed = tt; truly = tt; columns = tt; names = tt; queue = tt }) appends
+    makes = appended_makes scenario old new had has e (before.waits.number, subst (λ o. MayPlayAt scenario old b o 0 events.Start) (sym before.session) tt) (record { needed = tt; truly = tt; columns = tt; indexes = tt; names = tt; queue = tt }) appends

@@ -1,5 +1,5 @@
 -- What a backend notes with an entry, and what of it stays where it goes on without one.
-use Rattle.std.proofs.Common.{◌≡◌, ◌+◌, ◌∙◌, ◌++◌, ◌∷◌, [], ℕ, false, List, Result, OnOk, refl, ap, arith}
+use Rattle.std.proofs.Common.{Bool, true, false, ◌&&◌, ◌≡◌, ◌+◌, ◌∙◌, ◌++◌, ◌∷◌, [], ℕ, false, List, Result, OnOk, refl, ap, arith}
 use Rattle.event_kinds.specs.declared.entry.Event.TheVariants as events
 use Rattle.lock_modes.specs.Rooms.{Roomy}
 use Rattle.seg_calls.specs.Calls.{Appends, entry_of}
@@ -9,7 +9,7 @@ use Rattle.cacheless.specs.State.{IsLockedIn}
 use Rattle.backend_core.specs.Types.{Oid, Mode, Exec, OwnLock, Scenario, Entry, Event, Line, Frame, Next, Progress, Backend}
 use Rattle.backend_core.specs.declared.next.Next.TheVariants as nexts
 use Rattle.backend_core.specs.Agrees.{AgreesNow}
-use Rattle.backend_core.specs.Noted.{noted_of, noted_by, IsNoted, Settles, Stays, Passes}
+use Rattle.backend_core.specs.Noted.{Noted, noted_of, noted_by, IsNoted, Settles, Stays, Acts, Passes}
 use Rattle.backend_core.proofs.Entries.Inside.{then_so}
 
 -- an entry that is appended, by which the backend stays in its command
@@ -46,10 +46,25 @@ written_noted old new was now q exec same noted = record {
   noted = noted.noted ∙ ap (λ (x : Progress). noted_by old (record was { progress = record x { exec = exec } }) nexts.Write noted.event) same.is ∙ write_alike old was q.locks exec noted.event;
 }
 
+both_true : (t : Bool) → (t && true) ≡ t
+both_true true = refl
+both_true false = refl
+
+both_false : (t : Bool) → (t && false) ≡ false
+both_false true = refl
+both_false false = refl
+
 -- it does an act, or works out what its command answers
-pub act_settles : {E : Type 0} (was : Backend) (p : Progress) (result : Result (Unit {0}) E) → OnOk result ((scenario : Scenario) (seen : List Entry) (held : Holds scenario seen was.progress) → HasActed scenario seen was.progress held p)
-    → OnOk result ((scenario : Scenario) (seen : List Entry) → AgreesNow scenario seen was → Settles was (record was { progress = p }))
-act_settles was p result acts = then_so result (λ acted scenario seen agrees. Stays (acted scenario seen agrees.holds).moves.finished refl) acts
+pub act_settles : (was : Backend) (p : Progress) (keeps told : Bool) → told ≡ was.told && keeps → ((scenario : Scenario) (seen : List Entry) (held : Holds scenario seen was.progress) → HasActed scenario seen was.progress held p)
+    → (scenario : Scenario) (seen : List Entry) → AgreesNow scenario seen was → Settles was (record was { progress = p; told = told })
+act_settles was p keeps told is acts scenario seen agrees = by_keeps keeps is
+  where
+    same : p.finished ≡ was.progress.finished
+    same = (acts scenario seen agrees.holds).moves.finished
+
+    by_keeps : (k : Bool) → told ≡ was.told && k → Settles was (record was { progress = p; told = told })
+    by_keeps true so = Stays same (λ i. record { looked = was.looked; frames = was.frames; told = (so ∙ both_true was.told) i })
+    by_keeps false so = Acts same (λ i. record { looked = was.looked; frames = was.frames; told = (so ∙ both_false was.told) i })
 
 pub answer_settles : {E : Type 0} (was : Backend) (p : Progress) (result : Result (Unit {0}) E) → OnOk result (HasAnswered was.progress p) → OnOk result ((scenario : Scenario) (seen : List Entry) → AgreesNow scenario seen was → Settles was (record was { progress = p }))
 answer_settles was p result answers = then_so result (λ answered scenario seen agrees. Stays (ap (λ (x : Progress). x.finished) answered.is) refl) answers
@@ -62,6 +77,11 @@ pass_settles was p frames lines passes none scenario seen agrees = Passes (omega
 -- one after another
 pub settles_on : (first was now : Backend) → Settles first was → Settles was now → Settles first now
 settles_on first was now (Stays same noted) (Stays still on) = Stays (still ∙ same) (on ∙ noted)
+settles_on first was now (Stays same noted) (Acts still on) = Acts (still ∙ same) (on ∙ ap (λ (x : Noted). record x { told = false }) noted)
+settles_on first was now (Acts same noted) (Stays still on) = Acts (still ∙ same) (on ∙ noted)
+settles_on first was now (Acts same noted) (Acts still on) = Acts (still ∙ same) (on ∙ ap (λ (x : Noted). record x { told = false }) noted)
+settles_on first was now (Acts same noted) (Passes more none) = Passes (omega (arith, same, more)) none
+settles_on first was now (Passes more none) (Acts still on) = Passes (omega (arith, still, more)) (on ∙ ap (λ (x : Noted). record x { told = false }) none)
 settles_on first was now (Stays same noted) (Passes more none) = Passes (omega (arith, same, more)) none
 settles_on first was now (Passes more none) (Stays still on) = Passes (omega (arith, still, more)) (on ∙ none)
 settles_on first was now (Passes more none) (Passes most nothing) = Passes (omega (arith, more, most)) nothing

@@ -1,10 +1,14 @@
 -- The write of a backend, where its draft is at hand.
-use Rattle.std.proofs.Common.{◌≡◌, ◌≤◌, ◌<◌, ◌+◌, ◌∙◌, ◌==◌, ◌&&◌, ◌||◌, inl, inr, ℕ, Bool, false, not, Some, None, Result, Ok, Err, OnOk, OnErr, List, [], ◌∷◌, refl, sym, ap, subst, length, drop, arith, true}
+use Rattle.std.proofs.Common.{◌≡◌, ◌≤◌, ◌<◌, ◌+◌, ◌∙◌, ◌==◌, ◌&&◌, ◌||◌, inl, inr, ℕ, Bool, false, not, Option, Some, None, Result, Ok, Err, OnOk, OnErr, List, [], ◌∷◌, refl, sym, ap, subst, length, drop, arith, true}
 use Rattle.std.specs.List.{AllByRecursion, flat_map, list_any}
 use Rattle.std.proofs.Math.Bool.{and-false}
 use Rattle.std.proofs.lemmas.Bool.{both_ways, ne_eqb, false_from_ne_true}
+use Rattle.std.specs.Option.{IfSome}
 use Rattle.base_types.specs.Modes.{same_mode}
+use Rattle.base_types.specs.declared.change.Change.{Change}
+use Rattle.base_types.specs.declared.change.Change.TheVariants.{Insert}
 use Rattle.base_types.specs.declared.mode.Mode.TheVariants.{AccessExclusive}
+use Rattle.base_types.specs.declared.row.Row.TheVariants as rows
 use Rattle.event_kinds.specs.declared.entry.Event.TheVariants as events
 use Rattle.row_visibility.specs.declared.clash.Clash.{Clash}
 use Rattle.row_visibility.specs.declared.clash.Clash.TheVariants as clashes
@@ -33,7 +37,7 @@ use Rattle.cacheless.specs.Owed.{owed_of, started_in}
 use Rattle.cacheless.specs.Plays.{IsWrite, IsClash, MayPlay, MayPlayIn}
 use Rattle.cacheless.specs.Session.{Session, Well, Badly, Unsettled, number_of, outcome_of, is_settled, held_before, held_in}
 use Rattle.cacheless.specs.Sessions.{written, entered}
-use Rattle.cacheless.specs.State.{lists_at, kept_at, kept_spared, is_kept, locks_made, messages_in, clash_event, error_of, one_if}
+use Rattle.cacheless.specs.State.{lists_at, kept_at, kept_spared, is_kept, messages_in, clash_event, error_of, one_if, relation_made, change_makes, locks_made}
 use Rattle.cacheless.proofs.Allowed.NamesRead.{read_as_now}
 use Rattle.cacheless.proofs.Allowed.NextKeeps.{spelled_at}
 use Rattle.cacheless.proofs.Plans.ClearLocks.{session_holds}
@@ -41,7 +45,8 @@ use Rattle.cacheless.proofs.Written.Listed.{lists_before_it}
 use Rattle.cacheless.proofs.Same.{owes_nothing_is}
 use Rattle.cacheless.proofs.Plans.SilentActs.{empty_list, on_its_way}
 use Rattle.cacheless.proofs.Written.NamesGiven.{AreReadAsNow}
-use Rattle.cacheless.proofs.Written.WriteFits.{WriteFits, write_fits}
+use Rattle.cacheless.proofs.Written.DraftFits.{WriteFits}
+use Rattle.cacheless.proofs.Written.WriteFits.{write_fits}
 use Rattle.backend_core.specs.Types.{Oid, Xid, Command, Draft, Item, Message, Opening, Purpose, Scenario, Entry, Event, Frame, Progress, Backend}
 use Rattle.backend_core.specs.Agrees.{IsPlayed, command_at, AwaitsEntry}
 use Rattle.backend_core.specs.Fits.{looks_due, looked_on_top, came_well, LooksFit, IsLookedFor, TakesFit, FramesFit, keeps_whole, is_lost}
@@ -119,7 +124,7 @@ module _ (scenario : Scenario) (old : List Entry) (was : Backend) (draft : Draft
 
   -- what it is about to write may be written
   suits : WriteFits old was.progress.id (was.progress.finished + 1) facts (made_in opening_by way.gave (plan_of s.opens next.command)) draft
-  suits = write_fits old was.progress.id (was.progress.finished + 1) facts s.opens next.command way.gave draft (λ given. Done tells.Ok) played.sound played.columns (spelled_at scenario was.progress.id (length s.finished) next.command played.spelled (at_session scenario old was waits ∙ next.free.at)) way.runs way.holds (sym way.plan ∙ at)
+  suits = write_fits old was.progress.id (was.progress.finished + 1) facts s.opens next.command way.gave draft (λ given. Done tells.Ok) played.sound played.columns played.indexes (spelled_at scenario was.progress.id (length s.finished) next.command played.spelled (at_session scenario old was waits ∙ next.free.at)) way.runs way.holds (sym way.plan ∙ at)
 
   -- and the row of its table was read as it is
   read : AreReadAsNow old was.progress.id facts (made_in opening_by way.gave (plan_of s.opens next.command))
@@ -137,8 +142,19 @@ module _ (scenario : Scenario) (old : List Entry) (was : Backend) (draft : Draft
       (lists_before_it was.progress.id old (was.progress.finished + 1) played.sound unwritten (subst (AllByRecursion (λ (list : Written). list.command ≤ was.progress.finished + 1)) (sym waits.rests.holds.facts.lists) waits.rests.holds.order))
 
   -- and the relation that it makes isn't locked before
-  pub new_free : (rel : Oid) → rel.0 ≡ next_oid old → has_lock was.progress.locks.items rel AccessExclusive ≡ false
+  new_free : (rel : Oid) → rel.0 ≡ next_oid old → has_lock was.progress.locks.items rel AccessExclusive ≡ false
   new_free rel new = sym (session_holds scenario old was.progress.id s played.sound (waiting_is scenario old was waits) rel AccessExclusive) ∙ none_held was.progress.id rel (next_oid old) (held_of old) new (locks_exclude old played.sound).drawn
+
+  pub made_free : (known : Option Oid) (first : Oid) → known ≡ relation_made draft.changes first → first.0 ≡ next_oid old → IfSome known (λ rel. has_lock was.progress.locks.items rel AccessExclusive ≡ false)
+  made_free known first same new = subst (λ o. IfSome o (λ rel. has_lock was.progress.locks.items rel AccessExclusive ≡ false)) (sym same) (of draft.changes)
+    where
+      by_change : (change : Change) → IfSome (change_makes first change) (λ rel. has_lock was.progress.locks.items rel AccessExclusive ≡ false)
+      by_change (Insert (rows.Class oid name kind fill)) = new_free first new
+      by_change change = tt
+
+      of : (changes : List Change) → IfSome (relation_made changes first) (λ rel. has_lock was.progress.locks.items rel AccessExclusive ≡ false)
+      of [] = tt
+      of (change ∷ changes) = by_change change
 
   write_own : (xid : Xid) → OwnEntry scenario old was (events.Write xid (items_drawn old draft)) waits
   write_own xid = record {
@@ -225,17 +241,17 @@ module _ (scenario : Scenario) (old : List Entry) (was : Backend) (draft : Draft
       }
 
   -- so it does where no memory is refused, neither for it nor for the rebuilds
-  pub wrote_agrees : {D : Type 0} (first : Backend) → was.progress.id ≡ first.progress.id → (new : List Entry) (had has : ℕ → ℕ) (p : Progress) (kept_then : Purpose → Bool) (frames : List Frame) (result : Result (Unit {0}) D) (made : Made) (messages : List Message) → MakesWrite old new had has was.progress.id (was.progress.finished + 1) draft made → messages ≡ made.messages.items → kept_at p ≡ kept_spared messages (kept_at was.progress) → p.answer ≡ None
-      → ((scenario : Scenario) (seen : List Entry) (items : List Item) → (rests : Rests scenario seen was.progress) → messages ≡ messages_in seen was.progress.id items → flat_map (locked_by (was.progress.finished + 1)) items ≡ locks_made draft.new_oids made.first_oid (was.progress.finished + 1) → HasEntered scenario seen was.progress (events.Write made.xid items) rests p)
+  pub wrote_agrees : {D : Type 0} (first : Backend) → was.progress.id ≡ first.progress.id → (new : List Entry) (had has : ℕ → ℕ) (p : Progress) (kept_then : Purpose → Bool) (frames : List Frame) (result : Result (Unit {0}) D) (made : Made) (messages : List Message) (known : Option Oid) → known ≡ relation_made draft.changes made.first_oid → MakesWrite old new had has was.progress.id (was.progress.finished + 1) draft made → messages ≡ made.messages.items → kept_at p ≡ kept_spared messages (kept_at was.progress) → p.answer ≡ None
+      → ((scenario : Scenario) (seen : List Entry) (items : List Item) → (rests : Rests scenario seen was.progress) → messages ≡ messages_in seen was.progress.id items → flat_map (locked_by (was.progress.finished + 1)) items ≡ locks_made (was.progress.finished + 1) known → HasEntered scenario seen was.progress (events.Write made.xid items) rests p)
       → (held : List Opening) (given : List Message) → held ≡ p.opened → given ≡ made.messages.items → OnOk result (frames ≡ frames_after kept_then held given was.frames)
       → OnOk result (Enters scenario old new had has first (record was { progress = p; frames = frames }))
-  wrote_agrees first id new had has p kept_then frames (Err e) made messages makes are kept none goes held given opens gives told = tt
-  wrote_agrees first id new had has p kept_then frames (Ok x) made messages makes are kept none goes held given opens gives told = alike_enters scenario old new had has first was (record was { progress = p; frames = frames }) id
+  wrote_agrees first id new had has p kept_then frames (Err e) made messages known same makes are kept none goes held given opens gives told = tt
+  wrote_agrees first id new had has p kept_then frames (Ok x) made messages known same makes are kept none goes held given opens gives told = alike_enters scenario old new had has first was (record was { progress = p; frames = frames }) id
       (subst (λ l. Enters scenario old new had has was (record was { progress = p; frames = l })) (sym frames_are)
       (wrote_enters new had has p kept_then made.xid entered_it (kept ∙ ap (λ m. kept_spared m (kept_at was.progress)) (are ∙ makes.messages)) none makes.appends))
     where
       entered_it : HasEntered scenario old was.progress (events.Write made.xid (items_drawn old draft)) waits.rests p
-      entered_it = goes scenario old (items_drawn old draft) waits.rests (are ∙ makes.messages) (suits.locks made.first_oid [] makes.first)
+      entered_it = goes scenario old (items_drawn old draft) waits.rests (are ∙ makes.messages) (suits.locks made.first_oid makes.first ∙ ap (locks_made (was.progress.finished + 1)) (sym same))
 
       frames_are : frames ≡ frames_wrote kept_then
       frames_are = told ∙ (λ i. frames_after kept_then ((opens ∙ ap (λ (x : Session). x.opened) entered_it.session ∙ ap (λ q. (written q s).opened) at) i) ((gives ∙ makes.messages) i) (acting.bare i))
@@ -248,11 +264,11 @@ module _ (scenario : Scenario) (old : List Entry) (was : Backend) (draft : Draft
       (clash_plays (next_oid old) facts next.command s name clash owed_none (subst (λ p. IsClash facts (next_oid old) p name) (sym at) (suits.names read name refused.is_new)))) goes kept none refused.appends)
 
   -- what is noted with it
-  pub wrote_noted : {D : Type 0} (new : List Entry) (had has : ℕ → ℕ) (p : Progress) (frames : List Frame) (result : Result (Unit {0}) D) (made : Made) (messages : List Message) → MakesWrite old new had has was.progress.id (was.progress.finished + 1) draft made → messages ≡ made.messages.items → kept_at p ≡ kept_spared messages (kept_at was.progress)
-      → ((scenario : Scenario) (seen : List Entry) (items : List Item) → (rests : Rests scenario seen was.progress) → messages ≡ messages_in seen was.progress.id items → flat_map (locked_by (was.progress.finished + 1)) items ≡ locks_made draft.new_oids made.first_oid (was.progress.finished + 1) → HasEntered scenario seen was.progress (events.Write made.xid items) rests p)
+  pub wrote_noted : {D : Type 0} (new : List Entry) (had has : ℕ → ℕ) (p : Progress) (frames : List Frame) (result : Result (Unit {0}) D) (made : Made) (messages : List Message) (known : Option Oid) → known ≡ relation_made draft.changes made.first_oid → MakesWrite old new had has was.progress.id (was.progress.finished + 1) draft made → messages ≡ made.messages.items → kept_at p ≡ kept_spared messages (kept_at was.progress)
+      → ((scenario : Scenario) (seen : List Entry) (items : List Item) → (rests : Rests scenario seen was.progress) → messages ≡ messages_in seen was.progress.id items → flat_map (locked_by (was.progress.finished + 1)) items ≡ locks_made (was.progress.finished + 1) known → HasEntered scenario seen was.progress (events.Write made.xid items) rests p)
       → (held : List Opening) (given : List Message) → held ≡ p.opened → given ≡ made.messages.items → OnOk result (frames ≡ frames_after (is_kept (kept_at p)) held given was.frames) → OnOk result (IsNoted old new was nexts.Write (record was { progress = p; frames = frames }))
-  wrote_noted new had has p frames (Err e) made messages makes are kept goes held given opens gives told = tt
-  wrote_noted new had has p frames (Ok x) made messages makes are kept goes held given opens gives told = record {
+  wrote_noted new had has p frames (Err e) made messages known same makes are kept goes held given opens gives told = tt
+  wrote_noted new had has p frames (Ok x) made messages known same makes are kept goes held given opens gives told = record {
     event = events.Write made.xid (items_drawn old draft);
     entered = makes.appends.entries;
     number = entered_it.moves.finished;
@@ -260,7 +276,7 @@ module _ (scenario : Scenario) (old : List Entry) (was : Backend) (draft : Draft
   }
     where
       entered_it : HasEntered scenario old was.progress (events.Write made.xid (items_drawn old draft)) waits.rests p
-      entered_it = goes scenario old (items_drawn old draft) waits.rests (are ∙ makes.messages) (suits.locks made.first_oid [] makes.first)
+      entered_it = goes scenario old (items_drawn old draft) waits.rests (are ∙ makes.messages) (suits.locks made.first_oid makes.first ∙ ap (locks_made (was.progress.finished + 1)) (sym same))
 
       now_kept : kept_at p ≡ kept_spared (messages_in old was.progress.id (items_drawn old draft)) (kept_at was.progress)
       now_kept = kept ∙ ap (λ m. kept_spared m (kept_at was.progress)) (are ∙ makes.messages)

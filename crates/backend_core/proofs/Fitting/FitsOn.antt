@@ -1,5 +1,5 @@
 -- What the choice keeps where a backend goes on without an entry.
-use Rattle.std.proofs.Common.{◌≡◌, ◌≤◌, ◌+◌, ◌∙◌, ◌==◌, ◌&&◌, ◌++◌, inl, inr, ℕ, Bool, true, false, Option, Some, None, List, [], refl, sym, ap, subst, map, is_none, arith, ◌||◌}
+use Rattle.std.proofs.Common.{◌≡◌, ◌≤◌, ◌+◌, ◌∙◌, ◌==◌, ◌&&◌, ◌++◌, ◌∷◌, inl, inr, ℕ, Bool, true, false, Option, Some, None, List, [], refl, sym, ap, subst, map, is_none, arith, ◌||◌}
 use Rattle.std.specs.Option.{option_map_or}
 use Rattle.std.proofs.lemmas.Bool.{both_ways, ne_eqb, and_parts, or_from}
 use Rattle.std.proofs.lemmas.List.{length_push}
@@ -18,7 +18,7 @@ use Rattle.cacheless.specs.Ends.{End, Ends, Commits, TakesBack, end_well, end_ba
 use Rattle.cacheless.specs.Settled.{act_done, is_finished, blocks_after, finished_as, next_session, class_oid, opened_by, opens_well, opens_badly}
 use Rattle.cacheless.proofs.Plans.SilentActs.{both_empty, empty_list, IsDoneHere, gives_class}
 use Rattle.backend_core.specs.Types.{Row, Command, Event, Frame, Opening}
-use Rattle.backend_core.specs.Fits.{looks_due, first_at, LevelsRise, RunsAt, RunsIn, RunsBy, RunsAfter, TransactionFits, IsPast, Fits, IsLookedFor, Lacks, Unfound, Said, FramesFit, IsUnheld, AreHeld, IsTakenBack, came_well}
+use Rattle.backend_core.specs.Fits.{looks_due, first_at, LevelsRise, RunsAt, RunsIn, RunsBy, RunsAfter, TransactionFits, IsPast, Fits, IsLookedFor, Lacks, Unfound, Said, FramesFit, IsUnheld, AreHeld, IsTakenBack, came_well, told_owed}
 use Rattle.backend_core.proofs.Fitting.NextTransaction.{LevelsFit, levels_next, next_silent, well_admitted, failed_mends}
 use Rattle.cacheless.specs.Types.{Mode}
 use Rattle.cacheless.specs.State.{is_absent}
@@ -48,6 +48,37 @@ absent_unheld held p is = absurd (cc is)
 opened_whole : (facts : Facts) (act : Act) (further : List Row → Plan) → act_owed facts (Do act further) ≡ [] → list_any (lacks facts.usable) (opened_by act) ≡ false
 opened_whole facts (Open rel kind) further owed = ap (λ t. t || false) (act_serves facts (Open rel kind) further owed)
 opened_whole facts act further owed = refl
+
+-- that fewer messages are noted as come since a lookup began loosens it
+told_less : (told keeps quiet : Bool) (frames : List Frame) → quiet ≡ told && keeps → told_owed quiet frames ≤ told_owed told frames
+told_less told keeps quiet (f ∷ frames) is = omega (arith)
+told_less true keeps true [] is = omega (arith)
+told_less told keeps false [] is = omega (arith)
+told_less false keeps true [] is = absurd (cc is)
+
+pub fits_quieter : (facts : Facts) (o : Option Command) (s : Session) (looked : Bool) (frames : List Frame) (told keeps quiet : Bool) → quiet ≡ told && keeps → Fits facts o s looked frames told → Fits facts o s looked frames quiet
+fits_quieter facts o s looked frames told keeps quiet is fits = record {
+  looks = let l = fits.looks in record { enough = l.enough; within = omega (arith, l.within, told_less told keeps quiet frames is); once = l.once };
+  rebuilds = fits.rebuilds;
+  transaction = fits.transaction;
+  first = fits.first;
+  opens = fits.opens;
+  levels = fits.levels;
+  plain = fits.plain;
+  blocked = fits.blocked;
+  settled = fits.settled;
+  written = fits.written;
+  visible = fits.visible;
+  taken = fits.taken;
+  accepts = fits.accepts;
+  past = fits.past;
+  relations = fits.relations;
+  since = fits.since;
+  free = fits.free;
+  sought = fits.sought;
+  takes = fits.takes;
+  unheld = fits.unheld;
+}
 
 -- an act that is done without an entry
 pub fits_act : (facts : Facts) (o : Option Command) (s : Session) (looked : Bool) (frames : List Frame) (told : Bool) (command : Command) (act : Act) (further : List Row → Plan) (given : List Row) → o ≡ Some command → s.left ≡ Do act further → s.ended ≡ false → IsDoneHere facts s act further given → ((name : List ℕ) (mode : Mode) → act ≡ Lookup name mode → class_oid given ≡ None → is_absent (further given) ≡ true) → Fits facts o s looked frames told → Fits facts o (act_done act given (further given) s) looked frames told

@@ -49,11 +49,11 @@ pub takes_cleared : (t : Bool) (number : ℕ) (locks : List OwnLock) (taken : Op
 takes_cleared true number locks taken p takes = takes
 takes_cleared false number locks None p takes = tt
 takes_cleared false number locks (Some rel) (Do (Lookup name mode) rest) takes = own_cleared rel mode number locks ∙ takes
+takes_cleared false number locks (Some taken) (Do (Lock rel mode) rest) takes = own_cleared rel mode number locks ∙ takes
 takes_cleared false number locks (Some rel) (Absent name) takes = takes
 takes_cleared false number locks (Some rel) (Do (Open of kind) rest) takes = tt
 takes_cleared false number locks (Some rel) (Do (Search scan) rest) takes = tt
 takes_cleared false number locks (Some rel) (Do (Read scan) rest) takes = tt
-takes_cleared false number locks (Some rel) (Do (Lock of mode) rest) takes = tt
 takes_cleared false number locks (Some rel) (Do (Write draft) rest) takes = tt
 takes_cleared false number locks (Some rel) (Done told) takes = tt
 takes_cleared false number locks (Some rel) (Fails error) takes = tt
@@ -239,7 +239,11 @@ takes_granted facts number c locks (Do (Lookup name wanted) rest) rel mode same 
   where
     new : OwnLock
     new = record { rel = rel; mode = mode; command = c; clear = false }
-takes_granted facts number c locks (Do (Lock of wanted) rest) rel mode same asks = tt
+takes_granted facts number c locks (Do (Lock of wanted) rest) rel mode same asks = any-right (λ (lock : OwnLock). is_own of wanted lock && (lock.command == number)) locks (new ∷ [])
+    (ap (λ t. t || false) (and_from (is_own of wanted new) (c == number) (and_from (rel.0 == of.0) (same_mode mode wanted) (eq-eqb rel.0 of.0 (ap (λ (o : Oid). o.0) asks.0)) (eq-eqb (mode_number mode) (mode_number wanted) (ap mode_number asks.1))) (eq-eqb c number same)))
+  where
+    new : OwnLock
+    new = record { rel = rel; mode = mode; command = c; clear = false }
 takes_granted facts number c locks (Do (Open of kind) rest) rel mode same asks = absurd asks
 takes_granted facts number c locks (Do (Search scan) rest) rel mode same asks = absurd asks
 takes_granted facts number c locks (Do (Read scan) rest) rel mode same asks = absurd asks

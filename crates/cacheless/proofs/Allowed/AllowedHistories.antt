@@ -9,7 +9,7 @@ use Rattle.cacheless.specs.OnCourse.{AllOnCourse}
 use Rattle.cacheless.specs.Played.{AreSpelled, IsPlayed}
 use Rattle.cacheless.specs.Plays.{IsNext, Plays}
 use Rattle.cacheless.specs.Output.{IsAllowed, IsOutput}
-use Rattle.cacheless.specs.TableWrites.{WritesColumns, WritesNamesApart}
+use Rattle.cacheless.specs.TableWrites.{WritesColumns, WritesIndexes, WritesNamesApart}
 use Rattle.cacheless.proofs.Allowed.Economical.{plays_needed}
 use Rattle.cacheless.proofs.Allowed.NextKeeps.{KeepsAllBy, next_keeps}
 use Rattle.cacheless.proofs.Allowed.NextOnCourse.{all_stay}
@@ -29,13 +29,14 @@ played_more scenario history e played courses follows next = (later, all_stay sc
       sound = EachEntry-more MayComeNext history e played.sound comes;
       plays = EachEntry-more (IsNext scenario) history e played.plays next;
       columns = EachEntry-more WritesColumns history e played.columns kept.columns;
+      indexes = EachEntry-more WritesIndexes history e played.indexes kept.indexes;
       names = EachEntry-more WritesNamesApart history e played.names kept.names;
       spelled = played.spelled;
     }
 
 -- nothing is played
 pub played_start : (scenario : Scenario) → AreSpelled scenario → IsPlayed scenario [] × AllOnCourse scenario []
-played_start scenario spelled = (record { sound = tt; plays = tt; columns = tt; names = tt; spelled = spelled }, λ b c. refl)
+played_start scenario spelled = (record { sound = tt; plays = tt; columns = tt; indexes = tt; names = tt; spelled = spelled }, λ b c. refl)
 
 -- a legal history in which backends do what the commands of a script say is played, and each is on its course
 pub plays_on_course : (scenario : Scenario) (history : List Entry) → AreSpelled scenario → IsLegal history → Plays scenario history → IsPlayed scenario history × AllOnCourse scenario history

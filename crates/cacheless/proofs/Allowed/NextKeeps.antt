@@ -23,7 +23,7 @@ use Rattle.cacheless.specs.Plays.{IsLock, IsWrite, MayPlay, MayPlayLast, MayPlay
 use Rattle.cacheless.specs.Session.{Session, Badly, number_of, outcome_of}
 use Rattle.cacheless.specs.Sessions.{session_of}
 use Rattle.cacheless.specs.Settled.{class_oid}
-use Rattle.cacheless.specs.TableWrites.{KeepsColumnsBy, WritesColumns, NamesApartBy}
+use Rattle.cacheless.specs.TableWrites.{KeepsColumnsBy, WritesColumns, KeepsIndexesBy, WritesIndexes, NamesApartBy}
 use Rattle.cacheless.proofs.FoundKept.{asked_drawn}
 use Rattle.cacheless.proofs.Plans.SilentActs.{both_empty, its_place, on_its_way}
 use Rattle.cacheless.proofs.Written.FitToWrite.{KeepsAll}
@@ -77,13 +77,13 @@ spelled_at scenario b n command spelled at = found n (commands_of scenario b)
     found (suc k) (first ∷ commands) all is = found k commands all.1 is
 
 -- what a command writes keeps order and tables
-pub write_orderly : (history : List Entry) (b : ℕ) (s : Session) (command : Command) (items : List Item) → IsSound history → EachEntry WritesColumns history → IsCommand command → FollowsPlan history b s command → IsWrite (next_oid history) s.left items → IsOrderlyWrite history b items × KeepsAll history b items
-write_orderly history b s command items sound columns spelled follows writes = by_plan s.left refl writes
+pub write_orderly : (history : List Entry) (b : ℕ) (s : Session) (command : Command) (items : List Item) → IsSound history → EachEntry WritesColumns history → EachEntry WritesIndexes history → IsCommand command → FollowsPlan history b s command → IsWrite (next_oid history) s.left items → IsOrderlyWrite history b items × KeepsAll history b items
+write_orderly history b s command items sound columns indexes spelled follows writes = by_plan s.left refl writes
   where
     by_plan : (p : Plan) → s.left ≡ p → IsWrite (next_oid history) p items → IsOrderlyWrite history b items × KeepsAll history b items
     by_plan (Do (Write draft) rest) at are =
         let way = on_its_way history b s command (Write draft) rest follows at in
-        let fits = write_fits history b (number_of s) (facts_of history b) s.opens command way.gave draft rest sound columns spelled way.runs way.holds (sym way.plan ∙ at) in
+        let fits = write_fits history b (number_of s) (facts_of history b) s.opens command way.gave draft rest sound columns indexes spelled way.runs way.holds (sym way.plan ∙ at) in
         (subst (IsOrderlyWrite history b) (sym are) fits.fit.orderly, subst (KeepsAll history b) (sym are) fits.keeps)
     by_plan (Do (Lookup name mode) rest) at are = absurd are
     by_plan (Do (Open rel kind) rest) at are = absurd are
@@ -99,11 +99,12 @@ write_orderly history b s command items sound columns spelled follows writes = b
 pub record KeepsAllBy (history : List Entry) (b : ℕ) (event : Event) : Type 0 where
   pub orderly : IsOrderlyEvent history b event
   pub columns : KeepsColumnsBy history b event
+  pub indexes : KeepsIndexesBy history b event
   pub names : NamesApartBy event
 
 -- so does a start
 pub start_keeps : (history : List Entry) (b : ℕ) (event : Event) → IsStart event → KeepsAllBy history b event
-start_keeps history b events.Start start = record { orderly = tt; columns = tt; names = tt }
+start_keeps history b events.Start start = record { orderly = tt; columns = tt; indexes = tt; names = tt }
 start_keeps history b event start = absurd start
 
 -- and what comes after the last command
@@ -111,17 +112,17 @@ pub last_keeps : (history : List Entry) (b : ℕ) (s : Session) (event : Event) 
 last_keeps history b s (events.LockOk rel mode) plays = absurd plays
 last_keeps history b s (events.LockHeld rel mode holder held) plays = absurd plays
 last_keeps history b s (events.Write xid items) plays = absurd plays
-last_keeps history b s event plays = record { orderly = tt; columns = tt; names = tt }
+last_keeps history b s event plays = record { orderly = tt; columns = tt; indexes = tt; names = tt }
 
 write_keeps : (history : List Entry) (b : ℕ) (xid : Xid) (items : List Item) → IsOrderlyWrite history b items × KeepsAll history b items → KeepsAllBy history b (events.Write xid items)
-write_keeps history b xid items keeps = record { orderly = keeps.0; columns = keeps.1.columns; names = keeps.1.names }
+write_keeps history b xid items keeps = record { orderly = keeps.0; columns = keeps.1.columns; indexes = keeps.1.indexes; names = keeps.1.names }
 
 -- and what comes next of a command on its course
 pub command_keeps : (scenario : Scenario) (history : List Entry) (b : ℕ) (s : Session) (command : Command) (event : Event) → IsPlayed scenario history → IsCommand command → FollowsPlan history b s command → MayPlay (next_oid history) (facts_of history b) command s event → KeepsAllBy history b event
-command_keeps scenario history b s command (events.LockOk rel mode) played spelled follows plays = record { orderly = lock_drawn history b s command rel mode played.sound follows plays.2; columns = tt; names = tt }
-command_keeps scenario history b s command (events.LockHeld rel mode holder held) played spelled follows plays = record { orderly = lock_drawn history b s command rel mode played.sound follows plays.2; columns = tt; names = tt }
-command_keeps scenario history b s command (events.Write xid items) played spelled follows plays = write_keeps history b xid items (write_orderly history b s command items played.sound played.columns spelled follows plays.1)
-command_keeps scenario history b s command event played spelled follows plays = record { orderly = tt; columns = tt; names = tt }
+command_keeps scenario history b s command (events.LockOk rel mode) played spelled follows plays = record { orderly = lock_drawn history b s command rel mode played.sound follows plays.2; columns = tt; indexes = tt; names = tt }
+command_keeps scenario history b s command (events.LockHeld rel mode holder held) played spelled follows plays = record { orderly = lock_drawn history b s command rel mode played.sound follows plays.2; columns = tt; indexes = tt; names = tt }
+command_keeps scenario history b s command (events.Write xid items) played spelled follows plays = write_keeps history b xid items (write_orderly history b s command items played.sound played.columns played.indexes spelled follows plays.1)
+command_keeps scenario history b s command event played spelled follows plays = record { orderly = tt; columns = tt; indexes = tt; names = tt }
 
 -- and so whatever may come next
 pub next_keeps : (scenario : Scenario) (history : List Entry) (e : Entry) → IsPlayed scenario history → AllOnCourse scenario history → IsNext scenario history e → KeepsAllBy history e.backend e.event

@@ -72,7 +72,7 @@ KeepsMissed p = (name : List ℕ) → plan_at p.opens p.exec ≡ Absent name →
 
 -- so a command that has come out answers what is told by the scans that are kept
 pub answer_kept : (scenario : Scenario) (seen : List Entry) (p : Progress) (rest : Rest) (command : Command) → HasComeOut scenario seen p.id (session_at p rest) command → FactsFit (facts_of seen p.id) p → AreLastScans seen p.id (kept_at p)
-    → KeepsMissed p → answer_judged scenario seen p.id (number_of (session_at p rest)) (finished_as (session_at p rest)) command rest.refused ≡ told_at p
+    → KeepsMissed p → answer_judged scenario seen p.id (number_of (session_at p rest)) (finished_as (session_at p rest)) command rest.refused ≡ told_at command p
 answer_kept scenario seen p rest command come fits at missed = answer_told_by (rows_kept (kept_at p)) (place_kept (kept_at p)) scenario seen p.id (session_at p rest) command come (record {
   opened = λ well tells. opened_alike seen p p.opened fits at (come.builds well tells);
   absent = λ name is. sym (kept_place (place_read seen p.id) (kept_at p) (scans.RelName name) (at (scans.RelName name)) (missed name is));
@@ -81,7 +81,7 @@ answer_kept scenario seen p rest command come fits at missed = answer_told_by (r
 
 -- and so says its line, where it is judged
 pub told_line : (scenario : Scenario) (seen : List Entry) (p : Progress) (rest : Rest) (command : Command) (text : List ℕ) → HasComeOut scenario seen p.id (session_at p rest) command → FactsFit (facts_of seen p.id) p → AreLastScans seen p.id (kept_at p)
-    → KeepsMissed p → length seen ≤ rest.judged → IsToldText p text
+    → KeepsMissed p → length seen ≤ rest.judged → IsToldText command p text
     → record { backend = p.id; command = number_of (session_at p rest); text = text } ≡ line_of scenario seen p.id (number_of (session_at p rest)) (finished_as (session_at p rest)) command
 told_line scenario seen p rest command text come fits at missed judged told =
     ap (λ t. record { backend = p.id; command = number_of (session_at p rest); text = t }) (told ∙ ap answer_text (sym (answer_kept scenario seen p rest command come fits at missed) ∙ answer_told scenario seen p.id (session_at p rest) command come))
@@ -102,7 +102,7 @@ failed_badly o is = absurd (cc is)
 
 -- so what the code answers is the line of its command, once that is to be answered, and while nothing of it is taken back or released
 pub told_now : (scenario : Scenario) (seen : List Entry) (p : Progress) (command : Command) (text : List ℕ) → IsPlayed scenario seen → (holds : Holds scenario seen p) → FollowsPlan seen p.id (session_at p holds.rest) command → TellsStill seen p.id (session_at p holds.rest) command → AreOfKinds seen p.opens p.opened → length seen ≤ holds.rest.judged
-    → AreLastScans seen p.id (kept_at p) → KeepsMissed p → is_to_answer command p ≡ true → IsToldText p text
+    → AreLastScans seen p.id (kept_at p) → KeepsMissed p → is_to_answer command p ≡ true → IsToldText command p text
     → record { backend = p.id; command = number_of (session_at p holds.rest); text = text } ≡ line_of scenario seen p.id (number_of (session_at p holds.rest)) (finished_as (session_at p holds.rest)) command
 told_now scenario seen p command text played holds follows stands kinds judged at missed out told = told_line scenario seen p holds.rest command text
     (has_come_out scenario seen p.id (session_at p holds.rest) command (session_held scenario seen p played holds) follows parts.0 stands kinds (by_failed (has_failed p) refl parts.1))

@@ -177,7 +177,7 @@ whole_now seen s session same stands = by_last (last_event_of seen s.id) refl st
     by_last (Some event) is going = record { untaken = λ from gone. absurd (let no : Some event ≡ Some (events.Gone from) = sym is ∙ gone in cc no); going = sym same ∙ going }
 
 -- what the code answers is the line of its command
-pub answered_line : (scenario : Scenario) (seen : List Entry) (s : Progress) (command : Command) (text : List ℕ) (holds : Holds scenario seen s) → TellsNow scenario seen s holds → PlacesFit seen s → slice_get s.commands s.finished ≡ Some command → is_to_answer command s ≡ true → s.answer ≡ None → IsToldText s text
+pub answered_line : (scenario : Scenario) (seen : List Entry) (s : Progress) (command : Command) (text : List ℕ) (holds : Holds scenario seen s) → TellsNow scenario seen s holds → PlacesFit seen s → slice_get s.commands s.finished ≡ Some command → is_to_answer command s ≡ true → s.answer ≡ None → IsToldText command s text
     → record { backend = s.id; command = number_of (session_at s holds.rest); text = text } ≡ line_of scenario seen s.id (number_of (session_at s holds.rest)) (finished_as (session_at s holds.rest)) command
 answered_line scenario seen s command text holds now places at out none told = told_now scenario seen s command text now.played holds (now.course.follows command (at_finished scenario seen s holds ∙ at)) here.stands now.course.kinds here.judged places.kept (λ name missed. places.absent name missed (whole_now seen s (session_at s holds.rest) refl (whole name missed here.stands))) out told
   where
@@ -189,7 +189,7 @@ answered_line scenario seen s command text holds now places at out none told = t
     here = now.here command at (ap (λ o. is_some o) none)
 
 -- so with its answer the code tells what the history says
-pub answer_tells : (scenario : Scenario) (seen : List Entry) (s : Progress) (command : Command) (text : List ℕ) (holds : Holds scenario seen s) → TellsNow scenario seen s holds → PlacesFit seen s → slice_get s.commands s.finished ≡ Some command → is_to_answer command s ≡ true → s.answer ≡ None → IsToldText s text
+pub answer_tells : (scenario : Scenario) (seen : List Entry) (s : Progress) (command : Command) (text : List ℕ) (holds : Holds scenario seen s) → TellsNow scenario seen s holds → PlacesFit seen s → slice_get s.commands s.finished ≡ Some command → is_to_answer command s ≡ true → s.answer ≡ None → IsToldText command s text
     → TellsNow scenario seen (with_answer s text) (answer_holds scenario seen s text holds)
 unfolding answer_holds
 answer_tells scenario seen s command text holds now places at out none told = record {
@@ -298,6 +298,10 @@ act_goes scenario seen was p held lines acted kept same now places = record {
   lines_are = act_lines scenario seen was p held acted lines;
 }
 
+-- the text is that of what the running command answers
+pub told_asked : (was p : Progress) (asked : Answers was) (has : HasAnswered was p) → IsToldText asked.command was has.text
+told_asked was p asked has = subst (λ c. IsToldText c was has.text) (let both : Some has.command ≡ Some asked.command = sym has.at ∙ asked.at in cc both) has.told
+
 pub answer_goes : (scenario : Scenario) (seen : List Entry) (was p : Progress) (held : Holds scenario seen was) (lines : List Line) → Answers was → HasAnswered was p → TellsNow scenario seen was held → PlacesFit seen was → HasGoneOn scenario seen was held lines p lines
 unfolding answer_holds
 answer_goes scenario seen was p held lines asked has now places = subst (λ x. HasGoneOn scenario seen was held lines x lines) (sym has.is) goes
@@ -305,7 +309,7 @@ answer_goes scenario seen was p held lines asked has now places = subst (λ x. H
     goes : HasGoneOn scenario seen was held lines (with_answer was has.text) lines
     goes = record {
       holds = answer_holds scenario seen was has.text held;
-      tells = answer_tells scenario seen was asked.command has.text held now places asked.at asked.asked asked.none has.told;
+      tells = answer_tells scenario seen was asked.command has.text held now places asked.at asked.asked asked.none (told_asked was p asked has);
       places = answer_places seen was has.text places;
       id = refl;
       lines_are = λ are. are;

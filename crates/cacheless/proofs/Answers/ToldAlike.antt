@@ -6,7 +6,6 @@ use Rattle.base_types.specs.Fields.{field_text, fields_of, has_field}
 use Rattle.base_types.specs.Scans.{build_scans}
 use Rattle.base_types.specs.declared.scan.Purpose.TheVariants as scans
 use Rattle.command_answers.specs.declared.answer.Answer.TheVariants as answers
-use Rattle.command_answers.specs.declared.error.CommandError.TheVariants as errors
 use Rattle.lock_modes.specs.Own.{clear_modes}
 use Rattle.txn_blocks.specs.Blocks.{Block}
 use Rattle.ddl_effect.specs.declared.told.Told.TheVariants as tells
@@ -17,6 +16,7 @@ use Rattle.cacheless.specs.Lines.{name_in, answer_judged}
 use Rattle.cacheless.specs.Protected.{protects}
 use Rattle.cacheless.specs.Session.{Session, Well, number_of, outcome_of}
 use Rattle.cacheless.specs.Settled.{finished_as}
+use Rattle.ddl_effect.specs.Commands.{absent_error}
 use Rattle.ddl_effect.specs.Stages.{told_of}
 use Rattle.cacheless.specs.Told.{tells_of_scans, told_field, told_name, told_well, told_left, told}
 use Rattle.cacheless.proofs.Plans.UnderLocks.{TellsOpen}
@@ -66,21 +66,21 @@ well_alike rows now places at locks block opened (tells.Regclass oid) is all nam
 well_alike rows now places at locks block opened told is all named = refl
 
 -- so a command that has come out is told alike
-pub told_alike : (rows now : Purpose → List Row) (places at : Purpose → ℕ) (scenario : Scenario) (seen : List Entry) (b : ℕ) (s : Session) (command : Command) → HasComeOut scenario seen b s command → TellsAlike rows now places at s → told now at s ≡ told rows places s
+pub told_alike : (rows now : Purpose → List Row) (places at : Purpose → ℕ) (scenario : Scenario) (seen : List Entry) (b : ℕ) (s : Session) (command : Command) → HasComeOut scenario seen b s command → TellsAlike rows now places at s → told now at command s ≡ told rows places command s
 told_alike rows now places at scenario seen b s command come alike = by_plan s.left refl
   where
     unrefused : (t : Told) → s.left ≡ Done t → (o : Option CommandError) → s.refused ≡ o → s.refused ≡ None
     unrefused t done None is = is
     unrefused t done (Some error) is = absurd (let both : Done t ≡ Fails error = sym done ∙ come.follows.refused error is in cc both)
 
-    by_plan : (p : Plan) → s.left ≡ p → told_left now at s.locks s.blocks.block p ≡ told_left rows places s.locks s.blocks.block p
+    by_plan : (p : Plan) → s.left ≡ p → told_left now at s.locks s.blocks.block command p ≡ told_left rows places s.locks s.blocks.block command p
     by_plan (Done t) done = well_alike rows now places at s.locks s.blocks.block s.opened t (stays_open seen b s command t (stays scenario seen b s command come (unrefused t done s.refused refl)) done) (λ tells. alike.opened (ap outcome_of done) (ap (λ p. tells_of_scans (told_of p)) done ∙ tells)) (λ oid is. alike.named oid (done ∙ ap Done is))
     by_plan (Fails error) is = refl
-    by_plan (Absent name) is = ap (λ place. answers.Error (errors.NoRelation name place)) (alike.absent name is)
+    by_plan (Absent name) is = ap (λ place. answers.Error (absent_error command name place)) (alike.absent name is)
     by_plan NotBuilt is = refl
     by_plan (Do act rest) is = refl
 
 -- and what it has to answer is what is told by all rows and places that are those of its backend's last scans
 pub answer_told_by : (now : Purpose → List Row) (at : Purpose → ℕ) (scenario : Scenario) (seen : List Entry) (b : ℕ) (s : Session) (command : Command) → HasComeOut scenario seen b s command → TellsAlike (rows_read seen b) now (place_read seen b) at s
-    → answer_judged scenario seen b (number_of s) (finished_as s) command s.refused ≡ told now at s
+    → answer_judged scenario seen b (number_of s) (finished_as s) command s.refused ≡ told now at command s
 answer_told_by now at scenario seen b s command come alike = answer_told scenario seen b s command come ∙ sym (told_alike (rows_read seen b) now (place_read seen b) at scenario seen b s command come alike)

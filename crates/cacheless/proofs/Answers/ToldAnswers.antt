@@ -99,49 +99,49 @@ well_told scenario seen b s command (tells.Regclass oid) come done opened = ap (
 well_told scenario seen b s command told come done opened = refl
 
 -- by the plan that is left
-left_told : (scenario : Scenario) (seen : List Entry) (b : ℕ) (s : Session) (p : Plan) → is_settled (outcome_of p) ≡ true → ((told : Told) → p ≡ Done told → answer_well scenario seen b (finished_as s) told ≡ well_read seen b s told)
-    → answer_by scenario seen b (finished_as s) (effect_at (answer_of seen b) [] p) ≡ told_left (rows_read seen b) (place_read seen b) s.locks s.blocks.block p
-left_told scenario seen b s (Done told) out well = well told refl
-left_told scenario seen b s (Fails error) out well = refl
-left_told scenario seen b s (Absent name) out well = refl
-left_told scenario seen b s NotBuilt out well = absurd (cc)
-left_told scenario seen b s (Do act rest) out well = absurd (cc)
+left_told : (scenario : Scenario) (seen : List Entry) (b : ℕ) (s : Session) (command : Command) (p : Plan) → is_settled (outcome_of p) ≡ true → ((told : Told) → p ≡ Done told → answer_well scenario seen b (finished_as s) told ≡ well_read seen b s told)
+    → answer_by scenario seen b (finished_as s) command (effect_at (answer_of seen b) [] p) ≡ told_left (rows_read seen b) (place_read seen b) s.locks s.blocks.block command p
+left_told scenario seen b s command (Done told) out well = well told refl
+left_told scenario seen b s command (Fails error) out well = refl
+left_told scenario seen b s command (Absent name) out well = refl
+left_told scenario seen b s command NotBuilt out well = absurd (cc)
+left_told scenario seen b s command (Do act rest) out well = absurd (cc)
 
 -- what a command answers that no error of an entry has ended
-stays_told : (scenario : Scenario) (seen : List Entry) (b : ℕ) (s : Session) (command : Command) → HasComeOut scenario seen b s command → Stays seen b s command → answer_judged scenario seen b (number_of s) (finished_as s) command None ≡ told_read seen b s
+stays_told : (scenario : Scenario) (seen : List Entry) (b : ℕ) (s : Session) (command : Command) → HasComeOut scenario seen b s command → Stays seen b s command → answer_judged scenario seen b (number_of s) (finished_as s) command None ≡ told_read seen b command s
 stays_told scenario seen b s command come (Written wrote) =
-    ap (λ t. answer_by scenario seen b (finished_as s) (effect_judged seen b (finished_as s) t command)) wrote.written
-    ∙ sym (ap (told_left (rows_read seen b) (place_read seen b) s.locks s.blocks.block) wrote.plan)
+    ap (λ t. answer_by scenario seen b (finished_as s) command (effect_judged seen b (finished_as s) t command)) wrote.written
+    ∙ sym (ap (told_left (rows_read seen b) (place_read seen b) s.locks s.blocks.block command) wrote.plan)
 stays_told scenario seen b s command come (Plain alone) =
-    ap (λ t. answer_by scenario seen b (finished_as s) (effect_judged seen b (finished_as s) t command)) alone.unwritten
-    ∙ ap (λ p. answer_by scenario seen b (finished_as s) (effect_at (answer_of seen b) s.found p)) alone.plan
+    ap (λ t. answer_by scenario seen b (finished_as s) command (effect_judged seen b (finished_as s) t command)) alone.unwritten
+    ∙ ap (λ p. answer_by scenario seen b (finished_as s) command (effect_at (answer_of seen b) s.found p)) alone.plan
     ∙ by_told alone.told alone.alone
-    ∙ sym (ap (told_left (rows_read seen b) (place_read seen b) s.locks s.blocks.block) alone.left)
+    ∙ sym (ap (told_left (rows_read seen b) (place_read seen b) s.locks s.blocks.block command) alone.left)
   where
     by_told : (told : Told) → tells_of_scans told ≡ false → answer_well scenario seen b (finished_as s) told ≡ well_read seen b s told
     by_told tells.Ok plain = refl
     by_told tells.Commit plain = refl
     by_told told plain = absurd (cc plain)
 stays_told scenario seen b s command come (Unwritten way admitted) =
-    ap (λ t. answer_by scenario seen b (finished_as s) (effect_judged seen b (finished_as s) t command)) way.unwritten
-    ∙ ap (answer_by scenario seen b (finished_as s)) (
+    ap (λ t. answer_by scenario seen b (finished_as s) command (effect_judged seen b (finished_as s) t command)) way.unwritten
+    ∙ ap (answer_by scenario seen b (finished_as s) command) (
     ap (λ l. effect_at (answer_of seen b) l (plan_of s.opens command)) (way.found ∙ sym (append-nil (made_in found_by way.gave (plan_of s.opens command))))
     ∙ effect_along (answer_of seen b) (plan_of s.opens command) way.gave [] (goes_by_relation s.opens command (built_alike s.opens none_open command ∙ way.runs)) way.holds.still
     ∙ ap (effect_at (answer_of seen b) []) (sym way.plan)
     )
-    ∙ left_told scenario seen b s s.left come.out (λ told done. well_told scenario seen b s command told come done (tells_open seen b s command told way admitted done))
+    ∙ left_told scenario seen b s command s.left come.out (λ told done. well_told scenario seen b s command told come done (tells_open seen b s command told way admitted done))
 
 -- what a command has to answer that has come out, at the entry where it is judged, is what its backend tells by its last scans and its locks
-pub answer_told : (scenario : Scenario) (seen : List Entry) (b : ℕ) (s : Session) (command : Command) → HasComeOut scenario seen b s command → answer_judged scenario seen b (number_of s) (finished_as s) command s.refused ≡ told_read seen b s
+pub answer_told : (scenario : Scenario) (seen : List Entry) (b : ℕ) (s : Session) (command : Command) → HasComeOut scenario seen b s command → answer_judged scenario seen b (number_of s) (finished_as s) command s.refused ≡ told_read seen b command s
 answer_told scenario seen b s command come = by_refused s.refused refl
   where
-    by_refused : (o : Option CommandError) → s.refused ≡ o → answer_judged scenario seen b (number_of s) (finished_as s) command s.refused ≡ told_read seen b s
-    by_refused (Some error) is = ap (answer_judged scenario seen b (number_of s) (finished_as s) command) is ∙ sym (ap (told_left (rows_read seen b) (place_read seen b) s.locks s.blocks.block) (come.follows.refused error is))
+    by_refused : (o : Option CommandError) → s.refused ≡ o → answer_judged scenario seen b (number_of s) (finished_as s) command s.refused ≡ told_read seen b command s
+    by_refused (Some error) is = ap (answer_judged scenario seen b (number_of s) (finished_as s) command) is ∙ sym (ap (told_left (rows_read seen b) (place_read seen b) s.locks s.blocks.block command) (come.follows.refused error is))
     by_refused None is = ap (answer_judged scenario seen b (number_of s) (finished_as s) command) is ∙ stays_told scenario seen b s command come (stays scenario seen b s command come is)
 
 -- and so is its line, which is judged there
 pub line_told : (scenario : Scenario) (seen : List Entry) (b : ℕ) (s : Session) (command : Command) → HasComeOut scenario seen b s command → length seen ≤ s.judged
-    → line_of scenario seen b (number_of s) (finished_as s) command ≡ record { backend = b; command = number_of s; text = answer_text (told_read seen b s) }
+    → line_of scenario seen b (number_of s) (finished_as s) command ≡ record { backend = b; command = number_of s; text = answer_text (told_read seen b command s) }
 line_told scenario seen b s command come judged = ap (λ h. line_by h) (take_all s.judged seen judged) ∙ ap (λ answer. record { backend = b; command = number_of s; text = answer_text answer }) (answer_told scenario seen b s command come)
   where
     line_by : List Entry → Line

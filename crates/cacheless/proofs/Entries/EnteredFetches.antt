@@ -7,7 +7,7 @@ use Rattle.local_caches.specs.Caches.{kept_of}
 use Rattle.local_caches.specs.Kept.{Read}
 use Rattle.local_caches.specs.declared.local_caches.LocalCaches.{LocalCaches}
 use Rattle.ddl_effect.specs.Plans.{Plan, Done, Fails, Absent, Do, NotBuilt}
-use Rattle.ddl_effect.specs.Stages.{plan_at, plan_again, altering_at, altering_again}
+use Rattle.ddl_effect.specs.Stages.{plan_at, plan_again, altered, altering_at, altering_again}
 use Rattle.ddl_effect.specs.declared.altering.Altering.{Altering}
 use Rattle.ddl_effect.specs.declared.altering.Altering.TheVariants as alters
 use Rattle.ddl_effect.specs.declared.exec.Exec.TheVariants as stages
@@ -26,6 +26,7 @@ use Rattle.cacheless.specs.Puts.{PutsOpened}
 use Rattle.txn_blocks.specs.Transactions.{begun_own}
 use Rattle.cacheless.specs.State.{owed_at, is_quiet, due_fetched, one_if, Kept, kept_at, nothing_kept, is_kept, kept_spared, is_absent, is_full, is_in_accept, locks_accepted, Rest, rest_of, tally_at, session_at}
 use Rattle.cacheless.specs.Holds.{AreRight, FactsFit, Rests, HasEntered}
+use Rattle.cacheless.proofs.ReadsBuilds.{opened_begins, begins_there}
 use Rattle.cacheless.proofs.Tests.{not_both}
 use Rattle.cacheless.proofs.Same.{full_same}
 use Rattle.cacheless.proofs.Written.Putting.{puts_again}
@@ -49,6 +50,7 @@ all-spared P messages kept holds scan = by_test (is_spared scan messages)
 
 -- a search that is made anew has found nothing yet
 alters_seek : (opens : List OpenRelation) (altering : Altering) → is_absent (altering_again opens altering) ≡ false
+alters_seek opens (alters.Opened rel alteration) = begins_there (altered opens alteration rel) (opened_begins opens alteration rel)
 alters_seek opens alters.Done = refl
 alters_seek opens stage = refl
 
@@ -59,10 +61,12 @@ never_absent opens stage = refl
 -- any other command stays as it is
 alters_same : (opens : List OpenRelation) (altering : Altering) → is_absent (altering_at opens altering) ≡ false → altering_again opens altering ≡ altering_at opens altering
 alters_same opens (alters.Missing name alteration) found = absurd (cc)
+alters_same opens (alters.MissingReferred rel key row) found = absurd (cc)
 alters_same opens stage found = refl
 
 pub again_same : (opens : List OpenRelation) (exec : Exec) → is_absent (plan_at opens exec) ≡ false → plan_again opens exec ≡ plan_at opens exec
 again_same opens (stages.Missing finding) found = absurd (cc)
+again_same opens (stages.MissingIndexed index) found = absurd (cc)
 again_same opens (stages.Altering altering) found = alters_same opens altering found
 again_same opens stage found = refl
 

@@ -14,7 +14,8 @@ use Rattle.local_caches.specs.Caches.{kept_of}
 use Rattle.local_caches.specs.declared.local_caches.LocalCaches.{LocalCaches}
 use Rattle.ddl_effect.specs.declared.told.Told.TheVariants as tells
 use Rattle.ddl_effect.specs.Plans.{Plan, Done, Fails, Absent, Do, NotBuilt, Lookup, Open, Search, Read, Lock, Write, after_act}
-use Rattle.ddl_effect.specs.Stages.{plan_at, altering_at, want_of}
+use Rattle.ddl_effect.specs.Stages.{plan_at, altered, altering_at, want_of}
+use Rattle.cacheless.proofs.ReadsBuilds.{opened_begins, begins_unwritten}
 use Rattle.ddl_effect.specs.declared.altering.Altering.{Altering}
 use Rattle.ddl_effect.specs.declared.altering.Altering.TheVariants as alters
 use Rattle.ddl_effect.specs.declared.exec.Exec.TheVariants as stages
@@ -33,7 +34,7 @@ use Rattle.cacheless.specs.Session.{Session, held_in, held_before}
 use Rattle.cacheless.specs.Sessions.{written}
 use Rattle.cacheless.specs.Puts.{PutsOpened}
 use Rattle.txn_blocks.specs.Transactions.{begun_own}
-use Rattle.cacheless.specs.State.{running_of, lists_at, kept_at, kept_spared, is_kept, is_absent, is_in_accept, locks_accepted, locks_made, messages_in, rest_of, session_at}
+use Rattle.cacheless.specs.State.{running_of, lists_at, kept_at, kept_spared, is_kept, is_absent, is_in_accept, locks_accepted, messages_in, rest_of, session_at, locks_made}
 use Rattle.cacheless.specs.Holds.{AreRight, Rests, HasEntered}
 use Rattle.cacheless.proofs.Tests.{not_both}
 use Rattle.cacheless.proofs.Written.WrittenMessages.{any_once}
@@ -74,6 +75,7 @@ spared_alike before b items scan = ap not (any_in_parts (covers scan) (cats_by b
 
 -- a write is the last act of a command
 alters_done : (opens : List OpenRelation) (altering : Altering) (given : List Row) → want_of (altering_at opens altering) ≡ wants.Write → after_act given (altering_at opens altering) ≡ Done tells.Ok
+alters_done opens (alters.Opened rel alteration) given is = absurd (begins_unwritten (altered opens alteration rel) (opened_begins opens alteration rel) is)
 alters_done opens (alters.Inserting row) given is = refl
 alters_done opens (alters.Replacing deleted row) given is = refl
 alters_done opens stage given is = absurd (cc)
@@ -114,12 +116,12 @@ runs_written : (number : ℕ) (xid : Xid) (own : Option RunningTransaction) → 
 runs_written number xid None = refl
 runs_written number xid (Some t) = refl
 
-pub write_holds : (scenario : Scenario) (old : List Entry) (was : Progress) (xid : Xid) (items : List Item) (messages : List Message) (new_oids : ℕ) (first : Oid) (caches : LocalCaches) (lists : Held) (exec : Exec) (locked locks : Roomy OwnLock) (rests : Rests scenario old was)
-    → want_of (plan_at was.opens was.exec) ≡ wants.Write → messages ≡ messages_in old was.id items → flat_map (locked_by (was.finished + 1)) items ≡ locks_made new_oids first (was.finished + 1)
-    → all_lists lists.lists ≡ lists_at was ++ with_messages messages (new_list (was.finished + 1)) ∷ [] → kept_of caches ≡ kept_spared messages (kept_at was) → plan_at was.opens exec ≡ after_act [] (plan_at was.opens was.exec) → locked.items ≡ was.locks.items ++ locks_made new_oids first (was.finished + 1)
+pub write_holds : (scenario : Scenario) (old : List Entry) (was : Progress) (xid : Xid) (items : List Item) (messages : List Message) (made : Option Oid) (caches : LocalCaches) (lists : Held) (exec : Exec) (locked locks : Roomy OwnLock) (rests : Rests scenario old was)
+    → want_of (plan_at was.opens was.exec) ≡ wants.Write → messages ≡ messages_in old was.id items → flat_map (locked_by (was.finished + 1)) items ≡ locks_made (was.finished + 1) made
+    → all_lists lists.lists ≡ lists_at was ++ with_messages messages (new_list (was.finished + 1)) ∷ [] → kept_of caches ≡ kept_spared messages (kept_at was) → plan_at was.opens exec ≡ after_act [] (plan_at was.opens was.exec) → locked.items ≡ was.locks.items ++ locks_made (was.finished + 1) made
     → locks.items ≡ locks_accepted (is_in_accept (wrote was xid caches lists exec locked) (slice_get was.commands was.finished)) locked.items
     → HasEntered scenario old was (events.Write xid items) rests (with_locks (wrote was xid caches lists exec locked) locks)
-write_holds scenario old was xid items messages new_oids first caches lists exec locked locks rests wants_it are makes pushed keeps goes held accepts = own_entered scenario old was now event locks rests (record { session = λ _ _ _ _ _ _. refl; finished = λ s. ends_same s.left s }) (record {
+write_holds scenario old was xid items messages made caches lists exec locked locks rests wants_it are makes pushed keeps goes held accepts = own_entered scenario old was now event locks rests (record { session = λ _ _ _ _ _ _. refl; finished = λ s. ends_same s.left s }) (record {
   moves = record { id = refl; commands = refl; finished = refl };
   session = whole ∙ sym (ap (λ t. session_at now (rest_of t)) whole);
   facts = let f = rests.holds.facts in record {

@@ -23,7 +23,7 @@ use Rattle.cacheless.specs.declared.progress.Progress.{Progress}
 use Rattle.cacheless.specs.Session.{opening_of, held_in}
 use Rattle.cacheless.specs.Locks.{locked_by}
 use Rattle.txn_blocks.specs.Transactions.{begun_own, ends_own, released_own}
-use Rattle.cacheless.specs.State.{due_looked, due_fetched, one_if, lists_at, lists_left, kept_at, nothing_kept, kept_with, kept_spared, is_full, is_in_accept, locks_accepted, locks_made, locks_written, messages_in, clash_event, error_of, failed_with, FailsWith, SearchesAgain, is_out}
+use Rattle.cacheless.specs.State.{due_looked, due_fetched, one_if, lists_at, lists_left, kept_at, nothing_kept, kept_with, kept_spared, is_full, is_in_accept, locks_accepted, messages_in, clash_event, error_of, failed_with, FailsWith, SearchesAgain, is_out, locks_made}
 use Rattle.cacheless.specs.May.{is_next_at}
 use Rattle.cacheless.specs.Holds.{Rests, HasEntered}
 use Rattle.cacheless.proofs.Entries.EnteredLooks.{looked, look_holds}
@@ -120,15 +120,15 @@ built_code was scan rows at own caches locks begins next pushed items scenario s
     subst (HasEntered scenario seen was (events.Scan scan count) rests) (λ i. record (built_scan was caches) { running = Some (sym begins i); locks = locks })
     (built_holds scenario seen was scan count rows.items at caches locks rests next are pushed items)
 
-pub write_code : (was : Progress) (xid : Xid) (messages : List Message) (new_oids : ℕ) (first : Oid) (own : RunningTransaction) (lists : Held) (caches : LocalCaches) (exec : Exec) (open_now : List OpenRelation) (opened : List Opening) (locked locks : Roomy OwnLock)
+pub write_code : (was : Progress) (xid : Xid) (messages : List Message) (made : Option Oid) (own : RunningTransaction) (lists : Held) (caches : LocalCaches) (exec : Exec) (open_now : List OpenRelation) (opened : List Opening) (locked locks : Roomy OwnLock)
     → own ≡ record (begun_own (was.finished + 1) was.running) { xid = Some xid } → want_of (plan_at was.opens was.exec) ≡ wants.Write → all_lists lists.lists ≡ lists_at was ++ with_messages messages (new_list (was.finished + 1)) ∷ []
-    → kept_of caches ≡ kept_spared messages (kept_at was) → open_now ≡ was.opens → plan_at open_now exec ≡ after_act [] (plan_at open_now was.exec) → opened ≡ held_in was.blocks.block was.opens → locked.items ≡ locks_written new_oids first (was.finished + 1) was.locks.items
+    → kept_of caches ≡ kept_spared messages (kept_at was) → open_now ≡ was.opens → plan_at open_now exec ≡ after_act [] (plan_at open_now was.exec) → opened ≡ held_in was.blocks.block was.opens → locked.items ≡ was.locks.items ++ locks_made (was.finished + 1) made
     → locks.items ≡ locks_accepted (is_in_accept (record was { lists = lists; caches = caches; running = Some own; due = dues.Nothing; exec = exec; opened = opened; taken = None; locks = locked }) (slice_get was.commands was.finished)) locked.items
-    → (scenario : Scenario) (seen : List Entry) (items : List Item) → (rests : Rests scenario seen was) → messages ≡ messages_in seen was.id items → flat_map (locked_by (was.finished + 1)) items ≡ locks_made new_oids first (was.finished + 1)
+    → (scenario : Scenario) (seen : List Entry) (items : List Item) → (rests : Rests scenario seen was) → messages ≡ messages_in seen was.id items → flat_map (locked_by (was.finished + 1)) items ≡ locks_made (was.finished + 1) made
     → HasEntered scenario seen was (events.Write xid items) rests (record was { lists = lists; caches = caches; running = Some own; due = dues.Nothing; exec = exec; opened = opened; taken = None; locks = locks; answer = None })
-write_code was xid messages new_oids first own lists caches exec open_now opened locked locks begins wants_it pushed keeps same goes opens held accepts scenario seen items rests are makes =
+write_code was xid messages made own lists caches exec open_now opened locked locks begins wants_it pushed keeps same goes opens held accepts scenario seen items rests are makes =
     subst (HasEntered scenario seen was (events.Write xid items) rests) (λ i. record (wrote was xid caches lists exec locks) { running = Some (sym begins i); opened = sym opens i })
-    (write_holds scenario seen was xid items messages new_oids first caches lists exec locked locks rests wants_it are makes pushed keeps (subst (λ o. plan_at o exec ≡ after_act [] (plan_at o was.exec)) same goes) held
+    (write_holds scenario seen was xid items messages made caches lists exec locked locks rests wants_it are makes pushed keeps (subst (λ o. plan_at o exec ≡ after_act [] (plan_at o was.exec)) same goes) held
     (accepts ∙ (λ i. locks_accepted (is_in_accept (record was { lists = lists; caches = caches; running = Some own; due = dues.Nothing; exec = exec; opened = opens i; taken = None; locks = locked }) (slice_get was.commands was.finished)) locked.items)))
 
 pub visible_code : (was : Progress) (xid : Xid) (own : RunningTransaction) (locks : Roomy OwnLock) → own ≡ begun_own (was.finished + 1) was.running

@@ -1,5 +1,6 @@
 -- A worked example: a backend has found a table, and holds no lock on it, while another drops it. The table is gone for the first, though the scan of its name still serves. What the drop writes is what the law says that it may write. A lock that is granted then is one on a table that is gone, which shows once its messages are fetched.
-use Rattle.std.proofs.Common.{◌≡◌, ◌++◌, true, false, None, List, [], ◌∷◌, codes, refl, arith}
+use Rattle.std.proofs.Common.{◌≡◌, ◌++◌, inl, inr, ℕ, true, false, None, List, [], ◌∷◌, codes, refl, arith}
+use Rattle.base_types.specs.declared.index_state.IndexState.{IndexState}
 use Rattle.base_types.specs.declared.kind.Kind.TheVariants.{Table}
 use Rattle.base_types.specs.declared.mode.Mode.TheVariants.{AccessShare, AccessExclusive}
 use Rattle.base_types.specs.declared.row.Row.TheVariants as rows
@@ -11,12 +12,15 @@ use Rattle.event_kinds.specs.declared.entry.Item.{Item}
 use Rattle.event_kinds.specs.declared.entry.Item.TheVariants.{Add, Remove}
 use Rattle.history_model.specs.Orderly.{MayComeNext, IsSound}
 use Rattle.history_model.specs.Read.{is_usable}
-use Rattle.history_model.specs.Versions.{answer_of}
+use Rattle.history_model.specs.Versions.{rows_of, answer_of}
+use Rattle.history_model.proofs.InOrder.{IsIn}
 use Rattle.history_model.proofs.Prefixes.{EachEntry-prefix}
 use Rattle.cacheless.specs.TableWrites.{KeepsColumns, AreNamedApart}
+use Rattle.cacheless.specs.Types.{Oid}
 use Rattle.cacheless.proofs.Histories.AlteredTable.{found}
 use Rattle.cacheless.proofs.Plans.Given.{oid, xid, entry}
-use Rattle.cacheless.proofs.Written.TableDropped.{DropsTable, table_removed_fits}
+use Rattle.cacheless.proofs.Written.TableDropped.{table_goes}
+use Rattle.cacheless.proofs.Written.WrittenParts.{MayAlter}
 
 -- the first backend locks the table that the second has found
 abbrev pub locked : List Entry
@@ -34,8 +38,22 @@ sound : IsSound (found ++ (locked ++ dropped))
 sound = search arith
 
 -- the law says so of these items
-pub may_drop : DropsTable (found ++ locked) 1 removed
-may_drop = table_removed_fits (found ++ locked) 1 (oid 16384) (codes "t") None [] (EachEntry-prefix MayComeNext (found ++ locked) dropped sound) refl refl
+pub may_drop : MayAlter (found ++ locked) 1 [] 0 None removed
+may_drop = table_goes (found ++ locked) 1 [] (oid 16384) (codes "t") None (record {
+  sound = EachEntry-prefix MayComeNext (found ++ locked) dropped sound;
+  has = refl;
+  seen = inl refl;
+  law = λ index table state nums there. absurd (no_index index table state nums there);
+  own = refl;
+  others = tt;
+  locked = tt;
+})
+  where
+    no_index : (index table : Oid) (state : IndexState) (nums : List ℕ) → IsIn (rows.Ind index table state nums) (rows_of (found ++ locked) 1) → ⊥
+    no_index index table state nums (inl same) = absurd (cc same)
+    no_index index table state nums (inr (inl same)) = absurd (cc same)
+    no_index index table state nums (inr (inr (inl same))) = absurd (cc same)
+    no_index index table state nums (inr (inr (inr none))) = absurd none
 
 -- the table is gone for the second backend
 pub is_gone : answer_of (found ++ (locked ++ dropped)) 2 (scans.Class (oid 16384)) ≡ []

@@ -9,18 +9,19 @@ use Rattle.base_types.specs.declared.command.Command.TheVariants as commands
 use Rattle.base_types.specs.declared.command.NewColumn.{NewColumn}
 use Rattle.base_types.specs.declared.dropped.TheConstants.{MOST_COLUMNS}
 use Rattle.base_types.specs.declared.kind.Kind.TheVariants.{Table, Index}
-use Rattle.base_types.specs.declared.mode.Mode.TheVariants.{AccessShare, ShareUpdateExclusive}
+use Rattle.base_types.specs.declared.mode.Mode.TheVariants.{AccessShare, ShareUpdateExclusive, Share, ShareRowExclusive}
 use Rattle.base_types.specs.declared.row.Row.TheVariants as rows
 use Rattle.base_types.specs.declared.scan.Purpose.TheVariants as scans
 use Rattle.command_answers.specs.declared.error.CommandError.TheVariants as errors
 use Rattle.ddl_effect.specs.declared.told.Told.TheVariants as tells
 use Rattle.ddl_effect.specs.Plans.{Plan, Done, is_built}
-use Rattle.ddl_effect.specs.Commands.{plan_of, if_passes, if_no_column, first_twice, writing, opening, showing, showing_field, told_fields, keeping, peeking, closing, is_table, locking, new_table, drop_table, dropping_table, renaming_table, rename_table, with_column, changing, reading, adding, add_column, dropping, drop_column, with_name, renaming, rename_column, targeting, set_statistics, filling, set_fillfactor, live_column, searching, telling_columns, listing_columns, telling_column, finding_column}
+use Rattle.ddl_effect.specs.Commands.{plan_of, if_passes, if_no_column, first_twice, writing, opening, showing, showing_field, told_fields, keeping, peeking, closing, is_table, locking, new_table, drop_table, renaming_table, rename_table, with_column, changing, reading, adding, add_column, drop_column, with_name, renaming, rename_column, targeting, set_statistics, filling, set_fillfactor, set_default, add_check, add_foreign, validate_constraint, drop_constraint, set_trigger, create_trigger, create_index, drop_index, live_column, searching, telling_columns, listing_columns, telling_column, finding_column}
 use Rattle.ddl_effect.specs.Opens.{latest_open}
 use Rattle.history_model.proofs.FixedRows.{fixed}
 use Rattle.cacheless.specs.Types.{Oid, Mode, AccessExclusive, Kind, Field, Row, Command, OpenRelation, Draft, Opening}
 use Rattle.cacheless.proofs.Plans.EffectAlong.{GoesByRelation}
 use Rattle.cacheless.proofs.Plans.Formers.{on_found, on_opened, of_one, f_passes, f_looking, f_opening, f_writing, f_column, f_no_column, f_reading, f_altering}
+use Rattle.cacheless.proofs.Plans.FurtherOrder.{drop_table_follows, drop_column_follows, set_default_follows, add_check_follows, add_foreign_follows, validate_follows, drop_constraint_follows, set_trigger_follows, create_trigger_follows, create_index_follows, drop_index_follows, rename_index_follows, f_altering_index}
 use Rattle.cacheless.proofs.Plans.UnderLocks.{at_first, with_rows, Follows, FollowsOrder, goes_order}
 
 -- the draft of `create table`
@@ -91,9 +92,6 @@ order_creating true (Some column) draft = tt
 changing_follows : (rel : Oid) (changes : List Change) → Follows (on_opened rel Table AccessExclusive) (changing changes)
 changing_follows rel changes = f_writing (on_opened rel Table AccessExclusive) (rows_draft changes) (inl (refl, refl), tt)
 
-drop_table_follows : (rel : Oid) → Follows (on_opened rel Table AccessExclusive) (drop_table rel)
-drop_table_follows rel = f_reading (on_opened rel Table AccessExclusive) (scans.Attribute rel) (dropping_table rel) (λ row. refl) (of_one rel Table (scans.Attribute rel) (1, omega arith, refl)) (inl (refl, refl)) (λ given. changing_follows rel [])
-
 renaming_table_follows : (rel : Oid) (to : List ℕ) (given : List Row) → Follows (with_rows given (on_opened rel Table AccessExclusive)) (renaming_table to given)
 renaming_table_follows rel to [] = tt
 renaming_table_follows rel to (row ∷ more) = changing_follows rel []
@@ -107,10 +105,6 @@ adding_follows rel column col_type columns = f_passes (with_rows columns (on_ope
 add_column_follows : (column : List ℕ) (col_type : ColType) (rel : Oid) → Follows (on_opened rel Table AccessExclusive) (add_column column col_type rel)
 add_column_follows column col_type rel = f_no_column (on_opened rel Table AccessExclusive) rel column (reading (scans.Attribute rel) (adding rel column col_type)) (inl (refl, refl))
     (f_reading (on_opened rel Table AccessExclusive) (scans.Attribute rel) (adding rel column col_type) (λ row. refl) (of_one rel Table (scans.Attribute rel) (1, omega arith, refl)) (inl (refl, refl)) (adding_follows rel column col_type))
-
-drop_column_follows : (column : List ℕ) (rel : Oid) → Follows (on_opened rel Table AccessExclusive) (drop_column column rel)
-drop_column_follows column rel = f_column (on_opened rel Table AccessExclusive) rel column (λ row. reading (scans.AttrDef rel) (dropping row)) (inl (refl, refl))
-    (λ row. f_reading (on_opened rel Table AccessExclusive) (scans.AttrDef rel) (dropping row) (λ other. refl) (of_one rel Table (scans.AttrDef rel) (2, omega arith, refl)) (inl (refl, refl)) (λ given. changing_follows rel []))
 
 rename_column_follows : (column to : List ℕ) (rel : Oid) → Follows (on_opened rel Table AccessExclusive) (rename_column column to rel)
 rename_column_follows column to rel = f_column (on_opened rel Table AccessExclusive) rel column (renaming to rel) (inl (refl, refl))
@@ -159,7 +153,7 @@ follows_order opens (commands.Column name column) built = f_looking at_first nam
 follows_order opens (commands.Regclass oid) built = (inl (λ given. refl), λ given. tt, refl)
 follows_order opens (commands.LockTable name mode) built = f_looking at_first name mode (locking name) (λ rel kind. f_passes (on_found rel kind mode) (is_table kind) (errors.NotTable name) (Done tells.Ok) tt)
 follows_order opens (commands.CreateTable name columns) built = order_creating (nat_le (length columns) MOST_COLUMNS) (first_twice [] (map (λ (c : NewColumn). c.name) columns)) (new_table name columns)
-follows_order opens (commands.DropTable name) built = f_altering opens name AccessExclusive drop_table drop_table_follows
+follows_order opens (commands.DropTable name) built = f_altering opens name AccessExclusive (drop_table opens name) (drop_table_follows opens name)
 follows_order opens (commands.RenameTable name to) built = f_altering opens name AccessExclusive (rename_table to) (rename_table_follows to)
 follows_order opens (commands.AddColumn name column col_type) built = f_altering opens name AccessExclusive (add_column column col_type) (add_column_follows column col_type)
 follows_order opens (commands.DropColumn name column) built = f_altering opens name AccessExclusive (drop_column column) (drop_column_follows column)
@@ -169,7 +163,16 @@ follows_order opens (commands.SetFillfactor name fill) built = f_altering opens 
 follows_order opens (commands.OpenRel name) built = f_looking at_first name AccessShare keeping (λ rel kind. f_opening (on_found rel kind AccessShare) rel kind (Done tells.Ok) (inl refl) tt)
 follows_order opens (commands.Peek name field) built = order_peeking name field (latest_open name opens)
 follows_order opens (commands.CloseRel name) built = order_closing name (latest_open name opens)
-follows_order opens command built = absurd (cc)
+follows_order opens (commands.SetDefault name column word) built = f_altering opens name AccessExclusive (set_default column word) (set_default_follows column word)
+follows_order opens (commands.AddCheck name constraint text valid) built = f_altering opens name AccessExclusive (add_check constraint text valid) (add_check_follows constraint text valid)
+follows_order opens (commands.AddForeign name constraint column refers ref_column valid) built = f_altering opens name ShareRowExclusive (add_foreign (record { constraint = constraint; column = column; refers = refers; ref_column = ref_column; valid = valid })) (add_foreign_follows (record { constraint = constraint; column = column; refers = refers; ref_column = ref_column; valid = valid }))
+follows_order opens (commands.ValidateConstraint name constraint) built = f_altering opens name ShareUpdateExclusive (validate_constraint constraint) (validate_follows constraint)
+follows_order opens (commands.DropConstraint name constraint) built = f_altering opens name AccessExclusive (drop_constraint opens constraint) (drop_constraint_follows opens constraint)
+follows_order opens (commands.SetTrigger name trigger on) built = f_altering opens name ShareRowExclusive (set_trigger trigger on) (set_trigger_follows trigger on)
+follows_order opens (commands.CreateTrigger name trigger) built = f_altering opens name ShareRowExclusive (create_trigger trigger) (create_trigger_follows trigger)
+follows_order opens (commands.CreateIndex name table columns) built = f_altering opens table Share (create_index name columns) (create_index_follows name columns)
+follows_order opens (commands.DropIndex name) built = f_altering_index opens name AccessExclusive (drop_index opens) (drop_index_follows opens)
+follows_order opens (commands.RenameIndex name to) built = f_altering_index opens name ShareUpdateExclusive (rename_table to) (rename_index_follows to)
 
 -- so it goes on by relations alone
 pub goes_by_relation : (opens : List OpenRelation) (command : Command) → is_built (plan_of opens command) ≡ true → GoesByRelation (plan_of opens command)

@@ -75,7 +75,7 @@ goes_later now later locked scan rest given stay (inr (inr (some, by_fixed))) st
     same = from_some (KeepsColumns scan) Same locked (every-weaker (StaysOn now later) (λ o. KeepsColumns scan o → Same) (λ o stays. stays.columns scan) locked stay) some
 
 -- of both parts of a list
-every_sides : {X : Type 0} (P : X → Type 0) (xs ys : List X) → AllByRecursion P (xs ++ ys) → AllByRecursion P xs × AllByRecursion P ys
+pub every_sides : {X : Type 0} (P : X → Type 0) (xs ys : List X) → AllByRecursion P (xs ++ ys) → AllByRecursion P xs × AllByRecursion P ys
 every_sides P [] ys all = (tt, all)
 every_sides P (x ∷ xs) ys all = let both = every_sides P xs ys all.1 in ((all.0, both.0), both.1)
 

@@ -17,13 +17,14 @@ use Rattle.base_types.specs.declared.row.Row.TheVariants as rows
 use Rattle.base_types.specs.declared.scan.Purpose.TheVariants as scans
 use Rattle.base_types.proofs.DroppedNumbers.{shown_digits, shown}
 use Rattle.base_types.proofs.Names.{name_parts}
-use Rattle.ddl_effect.specs.Commands.{first_twice, as_dropped}
+use Rattle.ddl_effect.specs.Tables.{first_twice}
+use Rattle.ddl_effect.specs.Columns.{as_dropped}
 use Rattle.history_model.specs.Orderly.{main_rel, IsSound}
 use Rattle.history_model.specs.Prefixes.{EachEntry}
 use Rattle.history_model.specs.Versions.{versions_of, sees, added_row, rows_of, answer_of}
-use Rattle.history_model.proofs.Every.{every-weaker, every, every-map, every-filter, SomeOf, from_some}
+use Rattle.history_model.proofs.Every.{every-weaker, every, every-map, every-filter, SomeOf}
 use Rattle.history_model.proofs.GivenRows.{row_given}
-use Rattle.history_model.proofs.InOrder.{IsIn, every_self}
+use Rattle.history_model.proofs.InOrder.{IsIn, of_in, every_self}
 use Rattle.cacheless.specs.Types.{Oid, Row, Entry}
 use Rattle.cacheless.specs.TableWrites.{AreNamesakes, IsCalledWell, IsCalledApart, CallsApart, AreCalledApart, WritesColumns}
 use Rattle.cacheless.proofs.NamedColumns.{apart_from}
@@ -38,9 +39,6 @@ class_apart seen rel name kind fill are = absurd are
 pub class_called : (before : List Entry) (b : ℕ) (rel : Oid) (name : List ℕ) (kind : Kind) (fill : Option ℕ) → IsCalledApart before b (rows.Class rel name kind fill)
 class_called before b rel name kind fill = (tt, every (λ seen. AreNamesakes seen (rows.Class rel name kind fill) → ⊥) (λ seen. class_apart seen rel name kind fill) (rows_of before b))
 
-of_seen : (P : Row → Type 0) (row : Row) (seen : List Row) → AllByRecursion P seen → IsIn row seen → P row
-of_seen P row seen all there = from_some (λ other. row ≡ other) (P row) seen (every-weaker P (λ other. row ≡ other → P row) (λ other is same. subst P (sym same) is) seen all) there
-
 namesakes_like : (seen : Row) (rel : Oid) (num : ℕ) (name : List ℕ) (col_type to : ColType) (stat stat' : ℤ) (live live' : Bool) → AreNamesakes seen (rows.Att rel num name to stat' live') → AreNamesakes seen (rows.Att rel num name col_type stat live)
 namesakes_like (rows.Att own n called t s l) rel num name col_type to stat stat' live live' are = are
 namesakes_like seen rel num name col_type to stat stat' live live' are = absurd are
@@ -49,7 +47,7 @@ namesakes_like seen rel num name col_type to stat stat' live live' are = absurd 
 pub kept_called : (before : List Entry) (b : ℕ) (rel : Oid) (num : ℕ) (name : List ℕ) (col_type to : ColType) (stat stat' : ℤ) (live live' : Bool) → IsSound before → EachEntry WritesColumns before → IsIn (rows.Att rel num name col_type stat live) (rows_of before b)
     → IsCalledApart before b (rows.Att rel num name to stat' live')
 kept_called before b rel num name col_type to stat stat' live live' sound writes seen = (
-  of_seen IsCalledWell (rows.Att rel num name col_type stat live) (rows_of before b) (whole_called before b sound writes) seen,
+  of_in IsCalledWell (rows.Att rel num name col_type stat live) (rows_of before b) (whole_called before b sound writes) seen,
   every-weaker (λ other. AreNamesakes other (rows.Att rel num name col_type stat live) → ⊥) (λ other. AreNamesakes other (rows.Att rel num name to stat' live') → ⊥)
       (λ other apart are. apart (namesakes_like other rel num name col_type to stat stat' live live' are)) (rows_of before b) (apart_from (rows.Att rel num name col_type stat live) (rows_of before b) (whole_apart before b sound writes) seen),
 )

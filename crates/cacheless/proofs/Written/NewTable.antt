@@ -1,11 +1,15 @@
 -- A new table may always be written, but for its name: its rows are new, and nobody else knows its oid.
-use Rattle.std.proofs.Common.{◌≡◌, ◌<◌, ◌+◌, ◌∙◌, ℕ, Bool, true, false, not, List, [], ◌∷◌, ◌++◌, ◌==◌, ◌&&◌, ◌||◌, refl, sym, ap, subst, fold, map, cond, arith}
+use Rattle.std.proofs.Common.{◌≡◌, ◌<◌, ◌+◌, ◌∙◌, ℕ, Bool, true, false, not, Option, Some, None, List, [], ◌∷◌, ◌++◌, ◌==◌, ◌&&◌, ◌||◌, refl, ap, subst, fold, map, cond, arith}
 use Rattle.std.specs.List.{AllByRecursion, flat_map, filter_map, list_any, list_all, enumerate_from, range_with_len}
+use Rattle.std.specs.Option.{IfSome}
+use Rattle.std.specs.Str.{bytes_eq}
 use Rattle.std.proofs.lemmas.Bool.{ne_eqb, eq-eqb, or_left, or_right}
 use Rattle.std.proofs.lemmas.List.Folds.{list_any-append}
 use Rattle.base_types.specs.RowKeys.{key_of, same_key, are_distinct_keys}
 use Rattle.base_types.specs.declared.command.NewColumn.{NewColumn}
 use Rattle.base_types.specs.declared.ids.Oid.{Oid}
+use Rattle.base_types.specs.Names.{IsName}
+use Rattle.base_types.specs.declared.kind.Kind.TheVariants.{Table}
 use Rattle.base_types.specs.declared.mode.Mode.TheVariants.{AccessExclusive}
 use Rattle.base_types.specs.declared.key.CacheId.TheVariants.{RelName, RelOid, AttName}
 use Rattle.base_types.specs.declared.key.KeyPart.TheVariants as parts
@@ -17,30 +21,34 @@ use Rattle.event_kinds.specs.declared.entry.Entry.{Entry}
 use Rattle.event_kinds.specs.declared.entry.Item.{Item}
 use Rattle.row_visibility.specs.declared.version.Version.{Version}
 use Rattle.lock_modes.specs.Grants.{holds}
-use Rattle.lock_modes.specs.declared.own_lock.OwnLock.{OwnLock}
+use Rattle.lock_modes.specs.Own.{new_lock}
 use Rattle.inval_messages.specs.declared.message.Message.{Message}
 use Rattle.inval_messages.specs.declared.message.Message.TheVariants.{Rel}
 use Rattle.inval_messages.specs.Messages.{message_for, same_message, covers}
 use Rattle.inval_messages.specs.Lists.{once_more}
 use Rattle.inval_messages.proofs.Covers.{same_message-itself}
-use Rattle.ddl_effect.specs.Commands.{new_table}
+use Rattle.ddl_effect.specs.Tables.{first_twice}
 use Rattle.history_model.specs.Covered.{scans_of, is_covered}
 use Rattle.history_model.specs.Drawn.{drawn_by, made_by, next_oid}
 use Rattle.history_model.specs.Names.{new_names}
 use Rattle.history_model.proofs.Covering.{covers_named, named_told}
 use Rattle.history_model.specs.Orderly.{main_rel, IsSound, is_fresh, keeps_relation}
 use Rattle.history_model.specs.Sent.{cats_by, rels_by, messages_written}
-use Rattle.history_model.specs.Versions.{versions_of, ended_key, old_row}
+use Rattle.history_model.specs.Versions.{versions_of, added_row, ended_key, old_row}
 use Rattle.history_model.specs.Writes.{changed_key, has_row, is_guarded, keeps_kind, rows_named}
 use Rattle.history_model.specs.Held.{held_of}
 use Rattle.history_model.proofs.DrawnRows.{rows_drawn}
 use Rattle.cacheless.specs.Facts.{Facts}
 use Rattle.cacheless.specs.Locks.{locked_by}
-use Rattle.cacheless.specs.Plays.{names_of, drafted}
-use Rattle.cacheless.proofs.Plans.ActOrder.{IsTableDraft}
-use Rattle.cacheless.proofs.Written.NewTableItems.{column_item, table_items, drafted_is}
-use Rattle.cacheless.specs.Types.{Draft}
+use Rattle.cacheless.specs.Plays.{names_of}
+use Rattle.cacheless.specs.TableWrites.{AreNamesakes, goes_together}
+use Rattle.cacheless.specs.Types.{Opening}
 use Rattle.cacheless.proofs.Written.FitToWrite.{IsFit}
+use Rattle.cacheless.proofs.Written.LeavingItems.{called_apart}
+use Rattle.cacheless.proofs.Written.NewNames.{table_called, table_apart}
+use Rattle.cacheless.proofs.Written.NewRows.{oid_drawn}
+use Rattle.cacheless.proofs.Written.NewTableItems.{column_item, table_items, table_named, TableKeeps, new_table_keeps}
+use Rattle.cacheless.proofs.Written.WrittenParts.{MayAlter}
 
 -- the columns of a new table draw no oid and make no relation
 columns_draw : (rel : Oid) (numbered : List (ℕ × NewColumn)) → (flat_map drawn_by (map (column_item rel) numbered) ≡ []) × (flat_map made_by (map (column_item rel) numbered) ≡ [])
@@ -198,35 +206,63 @@ may_add before b rel name columns drawn = record {
     numbered = enumerate_from 1 columns
 
 -- a backend may write a new table, unless its name is taken
-pub new_table_fits : (history : List Entry) (b : ℕ) (draft : Draft) → IsSound history → IsTableDraft draft → IsFit history b draft.new_oids (drafted (next_oid history) draft)
-new_table_fits history b draft sound table = subst (λ d. IsFit history b d.new_oids (drafted (next_oid history) d)) (sym table.is) (record {
+table_fits : (before : List Entry) (b : ℕ) (name : List ℕ) (columns : List NewColumn) → IsSound before → IsFit before b 1 (table_items (oid_drawn before) name (enumerate_from 1 columns))
+table_fits before b name columns sound = record {
   oids = may.oids;
   keys = may.keys;
   there = may.there;
   kinds = may.kinds;
   guarded = may.guarded;
-  orderly = record { fresh = may.fresh; keeps = may.keeps; told = named_told history b (drafted (next_oid history) (new_table table.name table.columns)) may.named };
-})
+  orderly = record { fresh = may.fresh; keeps = may.keeps; told = named_told before b (table_items (oid_drawn before) name (enumerate_from 1 columns)) may.named };
+}
   where
-    may : MayAdd history b (next_oid history) 1 (drafted (next_oid history) (new_table table.name table.columns))
-    may = subst (MayAdd history b (next_oid history) 1) (sym (drafted_is (next_oid history) table.name table.columns))
-        (may_add history b (record { 0 = next_oid history }) table.name table.columns (rows_drawn history sound))
-
--- the lock that a write of a new table takes
-pub new_table_locks : (c n : ℕ) (draft : Draft) → IsTableDraft draft → flat_map (locked_by c) (drafted n draft) ≡ record { rel = record { 0 = n }; mode = AccessExclusive; command = c; clear = true } ∷ []
-new_table_locks c n draft table = ap (λ d. flat_map (locked_by c) (drafted n d)) table.is ∙ ap (flat_map (locked_by c)) (drafted_is n table.name table.columns)
-    ∙ ap {B = List OwnLock} (λ l. record { rel = record { 0 = n }; mode = AccessExclusive; command = c; clear = true } ∷ l) (columns_lock c (record { 0 = n }) (enumerate_from 1 table.columns))
+    may : MayAdd before b (next_oid before) 1 (table_items (oid_drawn before) name (enumerate_from 1 columns))
+    may = may_add before b (oid_drawn before) name columns (rows_drawn before sound)
 
 columns_named : (before : List Entry) (b : ℕ) (facts : Facts) (rel : Oid) (numbered : List (ℕ × NewColumn)) → new_names before b (map (column_item rel) numbered) ≡ flat_map (names_of facts) (map (column_item rel) numbered)
 columns_named before b facts rel [] = refl
 columns_named before b facts rel (column ∷ numbered) = columns_named before b facts rel numbered
 
--- the new names of a new table, as the history and as its command say
-pub new_table_names : (history : List Entry) (b : ℕ) (facts : Facts) (draft : Draft) → IsTableDraft draft → new_names history b (drafted (next_oid history) draft) ≡ flat_map (names_of facts) (drafted (next_oid history) draft)
-new_table_names history b facts draft table =
-    ap (λ d. new_names history b (drafted (next_oid history) d)) table.is ∙ ap (new_names history b) same
-    ∙ ap (λ l. table.name ∷ l) (columns_named history b facts (record { 0 = next_oid history }) (enumerate_from 1 table.columns))
-    ∙ sym (ap (λ d. flat_map (names_of facts) (drafted (next_oid history) d)) table.is ∙ ap (flat_map (names_of facts)) same)
+any_row : (rel : Oid) (name : List ℕ) (o : Option Row) → IfSome o (λ other. AreNamesakes (rows.Class rel name Table None) other → ⊥)
+any_row rel name None = tt
+any_row rel name (Some other) = λ are. are
+
+table_alone : (rel : Oid) (name : List ℕ) (items : List Item) → AllByRecursion (λ later. IfSome (added_row later) (λ other. AreNamesakes (rows.Class rel name Table None) other → ⊥)) items
+table_alone rel name [] = tt
+table_alone rel name (item ∷ items) = (any_row rel name (added_row item), table_alone rel name items)
+
+columns_together : (before : List Entry) (b : ℕ) (items : List Item) (rel : Oid) (numbered : List (ℕ × NewColumn)) → list_all (goes_together before b items) (map (column_item rel) numbered) ≡ true
+columns_together before b items rel [] = refl
+columns_together before b items rel (column ∷ numbered) = columns_together before b items rel numbered
+
+-- so a new table may be written, whose columns have names of their own
+pub table_alters : (before : List Entry) (b : ℕ) (opened : List Opening) (name : List ℕ) (columns : List NewColumn) → IsSound before → AllByRecursion (λ column. IsName column.name) columns → first_twice [] (map (λ column. column.name) columns) ≡ None
+    → MayAlter before b opened 1 (Some (oid_drawn before)) (table_items (oid_drawn before) name (enumerate_from 1 columns))
+table_alters before b opened name columns sound spelled distinct = record {
+  fit = table_fits before b name columns sound;
+  keeps = record {
+    columns = record {
+      whole = keeps.whole;
+      columns = keeps.columns;
+      called = (called_apart before b (rows.Class rel name Table None) tt, table_called before b rel 1 columns (rows_drawn before sound) spelled);
+      apart = (table_alone rel name (map (column_item rel) numbered), table_apart rel 1 [] columns distinct);
+    };
+    indexes = record { together = columns_together before b items rel numbered };
+    names = table_named rel name numbered;
+  };
+  named = λ facts read own is. subst (λ l. list_any (bytes_eq own) l ≡ true) (ap (λ l. name ∷ l) (columns_named before b facts rel numbered)) is;
+  locked = λ c. ap (λ l. new_lock rel c ∷ l) (columns_lock c rel numbered);
+  some = omega arith;
+}
   where
-    same : drafted (next_oid history) (new_table table.name table.columns) ≡ table_items (record { 0 = next_oid history }) table.name (enumerate_from 1 table.columns)
-    same = drafted_is (next_oid history) table.name table.columns
+    rel : Oid
+    rel = oid_drawn before
+
+    numbered : List (ℕ × NewColumn)
+    numbered = enumerate_from 1 columns
+
+    items : List Item
+    items = table_items rel name numbered
+
+    keeps : TableKeeps before b items
+    keeps = new_table_keeps before b rel name columns

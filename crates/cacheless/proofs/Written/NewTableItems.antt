@@ -9,13 +9,14 @@ use Rattle.base_types.specs.declared.kind.Kind.TheVariants.{Table}
 use Rattle.base_types.specs.declared.row.Row.TheVariants as rows
 use Rattle.base_types.specs.declared.row_key.RowKey.TheVariants as keys
 use Rattle.event_kinds.specs.declared.entry.Item.TheVariants as forms
-use Rattle.ddl_effect.specs.Commands.{new_table, new_column}
+use Rattle.ddl_effect.specs.Tables.{new_table, new_column}
 use Rattle.ddl_effect.specs.Drawing.{drawn_change}
 use Rattle.history_model.specs.Changes.{item_of}
 use Rattle.history_model.specs.Versions.{added_row}
 use Rattle.history_model.specs.Writes.{has_row}
 use Rattle.cacheless.specs.Types.{Oid, Entry, Item, Row}
 use Rattle.cacheless.specs.Plays.{drafted}
+use Rattle.cacheless.proofs.Written.DraftFits.{first_drawn}
 use Rattle.cacheless.specs.TableWrites.{takes_whole, gives_key, is_next_column, AreNamedApart, ShareName}
 
 -- the item of a column
@@ -25,9 +26,6 @@ column_item rel (num, column) = forms.Add (rows.Att rel num column.name column.c
 -- the items of a table
 abbrev pub table_items : Oid → List ℕ → List (ℕ × NewColumn) → List Item
 table_items rel name numbered = forms.Add (rows.Class rel name Table None) ∷ map (column_item rel) numbered
-
-first_drawn : (n : ℕ) → ◌≡◌ {A = Oid} (record { 0 = n + 1 - 1 }) (record { 0 = n })
-first_drawn n = let e : n + 1 - 1 ≡ n = omega arith in ap {B = Oid} (λ k. record { 0 = k }) e
 
 columns_drawn : (n : ℕ) (numbered : List (ℕ × NewColumn)) → map item_of (map (drawn_change n 1) (map new_column numbered)) ≡ map (column_item (record { 0 = n })) numbered
 columns_drawn n [] = refl

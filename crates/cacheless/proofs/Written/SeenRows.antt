@@ -1,7 +1,7 @@
 -- A row that an answer gives is the one with its key that the backend sees.
 use Rattle.std.proofs.Common.{◌≡◌, ◌∙◌, ℕ, ℤ, Bool, true, false, Option, Some, None, List, [], ◌∷◌, refl, sym, ap, subst, cond}
 use Rattle.std.specs.List.{AllByRecursion, find}
-use Rattle.std.specs.Option.{option_map_or, IfSome}
+use Rattle.std.specs.Option.{option_map_or, option_to_list, IfSome}
 use Rattle.std.proofs.lemmas.Bool.{and_from, and_parts}
 use Rattle.base_types.specs.RowKeys.{key_of, same_key}
 use Rattle.base_types.specs.Scans.{same_oid, selects}
@@ -35,6 +35,23 @@ found_holds P p row (other ∷ given) all is = by_test (p other) is (found_holds
     by_test : (t : Bool) → cond t (Some other) (find p given) ≡ Some row → (find p given ≡ Some row → P row) → P row
     by_test true first later = let same : other ≡ row = cc in subst P same all.0
     by_test false rest later = later rest
+
+-- and one that is found passes the test
+pub found_passes : (p : Row → Bool) (row : Row) (given : List Row) → find p given ≡ Some row → p row ≡ true
+found_passes p row [] is = absurd (cc is)
+found_passes p row (other ∷ given) is = by_test (p other) refl is (found_passes p row given)
+  where
+    by_test : (t : Bool) → p other ≡ t → cond t (Some other) (find p given) ≡ Some row → (find p given ≡ Some row → p row ≡ true) → p row ≡ true
+    by_test true passes first later = let same : other ≡ row = cc first in ap p (sym same) ∙ passes
+    by_test false passes rest later = later rest
+
+-- so of the rows that are found, of which there is one at most
+pub found_given : (P : Row → Type 0) (p : Row → Bool) (given : List Row) → AllByRecursion P given → AllByRecursion P (option_to_list (find p given))
+found_given P p given all = of (find p given) refl
+  where
+    of : (o : Option Row) → find p given ≡ o → AllByRecursion P (option_to_list o)
+    of None is = tt
+    of (Some row) is = (found_holds P p row given all is, tt)
 
 itself : (o : Option Row) → IfSome o (λ row. o ≡ Some row)
 itself None = tt

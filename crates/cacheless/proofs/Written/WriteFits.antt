@@ -1,113 +1,66 @@
--- What a command is about to write, a new table or an alteration of one, may be written.
-use Rattle.std.proofs.Common.{◌≡◌, ◌∙◌, ◌⊎◌, inl, inr, ℕ, Bool, true, false, Option, Some, None, List, [], ◌∷◌, ◌++◌, refl, sym, ap, subst, map, length, nat_le, ◌<◌, arith}
-use Rattle.std.specs.List.{AllByRecursion, list_any, flat_map, enumerate_from}
-use Rattle.std.specs.Option.{IfSome}
-use Rattle.std.specs.Str.{bytes_eq}
-use Rattle.std.proofs.lemmas.List.{append-nil}
+-- What a command is about to write by the rows of now, under the locks that it has taken, may be written.
+use Rattle.std.proofs.Common.{◌≡◌, ◌∙◌, ℕ, Bool, true, false, Option, Some, None, List, [], ◌∷◌, refl, sym, ap, subst, map, length, nat_le, append-nil}
+use Rattle.std.specs.List.{AllByRecursion, enumerate_from}
 use Rattle.base_types.specs.Commands.{IsCommand}
 use Rattle.base_types.specs.Fields.{has_field}
 use Rattle.base_types.specs.Names.{IsName}
 use Rattle.base_types.specs.declared.command.Command.TheVariants as commands
 use Rattle.base_types.specs.declared.command.NewColumn.{NewColumn}
 use Rattle.base_types.specs.declared.dropped.TheConstants.{MOST_COLUMNS}
-use Rattle.base_types.specs.declared.kind.Kind.TheVariants.{Table}
-use Rattle.base_types.specs.declared.mode.Mode.TheVariants.{AccessShare, AccessExclusive}
+use Rattle.base_types.specs.declared.mode.Mode.TheVariants.{AccessShare, ShareUpdateExclusive, Share, ShareRowExclusive, AccessExclusive}
 use Rattle.base_types.specs.declared.row.Row.TheVariants as rows
 use Rattle.base_types.specs.declared.scan.Purpose.TheVariants as scans
 use Rattle.command_answers.specs.declared.error.CommandError.TheVariants as errors
 use Rattle.ddl_effect.specs.declared.told.Told.TheVariants as tells
-use Rattle.ddl_effect.specs.Plans.{Plan, Do, Done, Fails, Write}
-use Rattle.ddl_effect.specs.Effects.{no_changes}
-use Rattle.ddl_effect.specs.Commands.{plan_of, looking_up, if_passes, if_no_column, first_twice, writing, showing, showing_field, told_fields, keeping, peeking, closing, is_table, locking, searching, telling_columns, listing_columns, telling_column, finding_column, regclass_of, new_table}
+use Rattle.ddl_effect.specs.Plans.{Plan, Done, Fails, Absent, NotBuilt, Do, Lookup, Open, Search, Read, Lock, Write}
+use Rattle.ddl_effect.specs.Effects.{Writes, effect_at, row_found}
 use Rattle.ddl_effect.specs.Opens.{latest_open}
-use Rattle.cacheless.specs.Runs.{runs}
+use Rattle.ddl_effect.specs.Parts.{if_passes, looking_up, searching, writing, is_table}
+use Rattle.ddl_effect.specs.Columns.{add_column, drop_column, rename_column, set_default, set_statistics}
+use Rattle.ddl_effect.specs.Constraints.{add_check, add_foreign, validate_constraint, drop_constraint}
+use Rattle.ddl_effect.specs.Triggers.{set_trigger, create_trigger}
+use Rattle.ddl_effect.specs.Indexes.{create_index, drop_index}
+use Rattle.ddl_effect.specs.Tables.{first_twice, if_no_column, new_table, drop_table, rename_table, set_fillfactor}
+use Rattle.ddl_effect.specs.Reads.{told_fields, showing, showing_field, keeping, peeking, closing, locking, telling_columns, listing_columns, telling_column, finding_column, regclass_of}
+use Rattle.ddl_effect.specs.Commands.{plan_of}
+use Rattle.ddl_effect.proofs.HasPlan.{built_alike}
 use Rattle.history_model.specs.Drawn.{next_oid}
-use Rattle.history_model.specs.Names.{new_names}
 use Rattle.history_model.specs.Orderly.{IsSound}
 use Rattle.history_model.specs.Prefixes.{EachEntry}
-use Rattle.history_model.specs.Versions.{added_row, answer_of}
-use Rattle.history_model.proofs.DrawnRows.{rows_drawn}
-use Rattle.cacheless.specs.ActsDone.{reached, made_in, opening_by, WayHolds}
+use Rattle.history_model.specs.Versions.{answer_of}
+use Rattle.cacheless.specs.ActsDone.{reached, made_in, opening_by, locks_by, IsHeldOn, WayHolds}
 use Rattle.cacheless.specs.Facts.{Facts}
-use Rattle.cacheless.specs.Locks.{locked_by, locks_written}
-use Rattle.cacheless.specs.Plays.{names_of, drafted}
-use Rattle.cacheless.specs.TableWrites.{AreNamesakes, WritesColumns}
-use Rattle.cacheless.proofs.Plans.ActOrder.{IsTableDraft, IsRowsDraft}
-use Rattle.cacheless.proofs.Written.AlterationsFit.{MayBeWritten, IsAlteration}
-use Rattle.cacheless.proofs.Written.AlteringLocks.{alteration_may_write}
-use Rattle.cacheless.proofs.Written.NamesGiven.{AreReadAsNow}
-use Rattle.cacheless.proofs.Written.NewNames.{class_called, table_called, table_apart}
-use Rattle.cacheless.proofs.Written.NewTableItems.{column_item, table_items, drafted_is, table_named, TableKeeps, new_table_keeps}
-use Rattle.cacheless.proofs.Written.WrittenBy.{WritesBy, writes_by}
-use Rattle.cacheless.proofs.Plans.Ways.{acts, NeverWrites, never_reaches, none_reached, write_stays}
-use Rattle.cacheless.specs.Types.{Oid, Mode, Kind, Field, Row, Purpose, Command, CommandError, OpenRelation, Draft, Entry, Item, Opening, OwnLock}
-use Rattle.cacheless.proofs.Written.FitToWrite.{IsFit, KeepsAll}
-use Rattle.cacheless.proofs.Written.NewTable.{new_table_fits, new_table_locks, new_table_names}
+use Rattle.cacheless.specs.Runs.{runs}
+use Rattle.cacheless.specs.Session.{none_open}
+use Rattle.cacheless.specs.Settled.{found_by}
+use Rattle.cacheless.specs.TableWrites.{WritesColumns, WritesIndexes}
+use Rattle.cacheless.specs.Types.{Oid, Mode, Kind, Field, Row, Purpose, Command, CommandError, OpenRelation, Draft, Entry}
+use Rattle.cacheless.proofs.Plans.ActOrder.{goes_by_relation}
+use Rattle.cacheless.proofs.Plans.EffectAlong.{GoesByRelation, effect_along}
+use Rattle.cacheless.proofs.Plans.MadeAlong.{locks_at, opens_at, locks_of_relations, opens_of_relations, made_before}
+use Rattle.cacheless.proofs.Plans.Ways.{NeverWrites}
+use Rattle.cacheless.proofs.Written.AlterationsFit.{renamed_column, targeted_column, dropped_column, filled_table, renamed_table, renamed_index, added_column}
+use Rattle.cacheless.proofs.Written.ComesTo.{Writer, ComesTo, wrote, passed, table_altered, index_altered}
+use Rattle.cacheless.proofs.Written.DraftFits.{WriteFits, Fits, draft_fits}
+use Rattle.cacheless.proofs.Written.FurtherFits.{defaulted_column, added_check, added_foreign, validated_constraint, dropped_constraint, switched_trigger, created_trigger, created_index, dropped_index, removed_table}
+use Rattle.cacheless.proofs.Written.NewRows.{oid_drawn}
+use Rattle.cacheless.proofs.Written.NewTable.{table_alters}
+use Rattle.cacheless.proofs.Written.NewTableItems.{table_items, drafted_is}
+use Rattle.cacheless.proofs.WholeIndexes.{index_whole}
 
--- the draft of a command that has opened these descriptors may be written, but for its names and that its command has written nothing yet; it changes something; it keeps columns in order and names apart; the names that the history sees in it are those of its plan, where the rows of their relations were read as they are; and it takes the lock of the relation that it makes, if it makes one
-pub record WriteFits (history : List Entry) (b c : ℕ) (facts : Facts) (relations : List Opening) (draft : Draft) : Type 0 where
-  pub fit : IsFit history b draft.new_oids (drafted (next_oid history) draft)
-  pub some : 0 < length (drafted (next_oid history) draft)
-  pub keeps : KeepsAll history b (drafted (next_oid history) draft)
-  pub names : AreReadAsNow history b facts relations → (name : List ℕ) → list_any (bytes_eq name) (new_names history b (drafted (next_oid history) draft)) ≡ true → list_any (bytes_eq name) (flat_map (names_of facts) (drafted (next_oid history) draft)) ≡ true
-  pub locks : (rel : Oid) (locks : List OwnLock) → rel.0 ≡ next_oid history → locks ++ flat_map (locked_by c) (drafted (next_oid history) draft) ≡ locks_written draft.new_oids rel c locks
-
--- the command makes a new table, and this is its draft
-abbrev MakesTable : Command → Draft → Type 0
-MakesTable (commands.CreateTable name columns) draft = (draft ≡ new_table name columns) × (first_twice [] (map (λ column. column.name) columns) ≡ None)
-MakesTable command draft = ⊥
-
-table_keeps : (history : List Entry) (b : ℕ) (name : List ℕ) (columns : List NewColumn) → IsSound history → AllByRecursion (λ column. IsName column.name) columns → first_twice [] (map (λ column. column.name) columns) ≡ None
-    → KeepsAll history b (drafted (next_oid history) (new_table name columns))
-table_keeps history b name columns sound spelled distinct = subst (KeepsAll history b) (sym (drafted_is (next_oid history) name columns)) (record {
-  columns = record {
-    whole = keeps.whole;
-    columns = keeps.columns;
-    called = (class_called history b rel name Table None, table_called history b rel 1 columns (rows_drawn history sound) spelled);
-    apart = (alone (map (column_item rel) (enumerate_from 1 columns)), table_apart rel 1 [] columns distinct);
-  };
-  names = table_named rel name (enumerate_from 1 columns);
-})
-  where
-    rel : Oid
-    rel = record { 0 = next_oid history }
-
-    keeps : TableKeeps history b (table_items rel name (enumerate_from 1 columns))
-    keeps = new_table_keeps history b rel name columns
-
-    any_row : (o : Option Row) → IfSome o (λ other. AreNamesakes (rows.Class rel name Table None) other → ⊥)
-    any_row None = tt
-    any_row (Some other) = λ are. are
-
-    alone : (items : List Item) → AllByRecursion (λ later. IfSome (added_row later) (λ other. AreNamesakes (rows.Class rel name Table None) other → ⊥)) items
-    alone [] = tt
-    alone (item ∷ items) = (any_row (added_row item), alone items)
-
--- a new table
-table_fits : (history : List Entry) (b c : ℕ) (facts : Facts) (relations : List Opening) (command : Command) (draft : Draft) → IsSound history → IsCommand command → MakesTable command draft → WriteFits history b c facts relations draft
-table_fits history b c facts relations (commands.CreateTable name columns) draft sound spelled makes = record {
-  fit = new_table_fits history b draft sound table;
-  some = subst (λ d. 0 < length (drafted (next_oid history) d)) (sym table.is) (omega arith);
-  keeps = subst (λ d. KeepsAll history b (drafted (next_oid history) d)) (sym table.is) (table_keeps history b name columns sound spelled.1 makes.1);
-  names = λ read name is. ap (list_any (bytes_eq name)) (sym (new_table_names history b facts draft table)) ∙ is;
-  locks = λ rel locks first.
-      ap (λ l. locks ++ l) (new_table_locks c (next_oid history) draft table ∙ (λ i. record { rel = record { 0 = sym first i }; mode = AccessExclusive; command = c; clear = true } ∷ []))
-      ∙ sym (ap (λ d. locks_written d.new_oids rel c locks) table.is);
-}
-  where
-    table : IsTableDraft draft
-    table = record { name = name; columns = columns; is = makes.0 }
-table_fits history b c facts relations command draft sound spelled makes = absurd makes
-
--- an alteration
-rows_fit : (history : List Entry) (b c : ℕ) (facts : Facts) (relations : List Opening) (draft : Draft) → IsRowsDraft draft → MayBeWritten history b relations draft → WriteFits history b c facts relations draft
-rows_fit history b c facts relations draft drawn may = record {
-  fit = may.fit;
-  some = may.some;
-  keeps = may.keeps;
-  names = may.named facts;
-  locks = λ rel locks first. ap (λ l. locks ++ l) (may.lockless c) ∙ append-nil locks ∙ sym (ap (λ d. locks_written d.new_oids rel c locks) drawn.is);
-}
+-- a plan that never writes comes to no write
+never_comes : (now : Purpose → List Row) (found : List (Option Oid)) (plan : Plan) (draft : Draft) → NeverWrites plan → effect_at now found plan ≡ Writes draft → ⊥
+never_comes now found (Done told) draft never is = cc is
+never_comes now found (Fails error) draft never is = cc is
+never_comes now found (Absent name) draft never is = cc is
+never_comes now found NotBuilt draft never is = cc is
+never_comes now found (Do (Write other) rest) draft never is = absurd never
+never_comes now [] (Do (Lookup name mode) rest) draft never is = never_comes now [] (rest (now (scans.RelName name))) draft (never (now (scans.RelName name))) is
+never_comes now (rel ∷ found) (Do (Lookup name mode) rest) draft never is = never_comes now found (rest (row_found now rel)) draft (never (row_found now rel)) is
+never_comes now found (Do (Open rel kind) rest) draft never is = never_comes now found (rest []) draft (never []) is
+never_comes now found (Do (Search scan) rest) draft never is = never_comes now found (rest (now scan)) draft (never (now scan)) is
+never_comes now found (Do (Read scan) rest) draft never is = never_comes now found (rest (now scan)) draft (never (now scan)) is
+never_comes now found (Do (Lock rel mode) rest) draft never is = never_comes now found (rest []) draft (never []) is
 
 -- a lookup after which nothing is written
 lookup_never : (name : List ℕ) (mode : Mode) (further : Oid → Kind → Plan) → ((rel : Oid) (kind : Kind) → NeverWrites (further rel kind)) → NeverWrites (looking_up name mode further)
@@ -124,82 +77,101 @@ told_never column [] = tt
 told_never column (rows.Att rel num own col_type stat live ∷ more) = tt
 told_never column (row ∷ more) = tt
 
--- neither `peek` nor `close` does an act
-peek_acts : (name : List ℕ) (field : Option Field) (latest : Option OpenRelation) → acts (peeking name field latest) ≡ false
-peek_acts name field None = refl
-peek_acts name None (Some o) = refl
-peek_acts name (Some field) (Some o) = by_test (has_field o.kind field)
+peek_never : (name : List ℕ) (field : Option Field) (latest : Option OpenRelation) → NeverWrites (peeking name field latest)
+peek_never name field None = tt
+peek_never name None (Some o) = tt
+peek_never name (Some field) (Some o) = passes_never (has_field o.kind field) (errors.NoField name field) (Done (told_fields (Some field) o.rel o.kind)) tt
+
+close_never : (name : List ℕ) (latest : Option OpenRelation) → NeverWrites (closing name latest)
+close_never name None = tt
+close_never name (Some o) = tt
+
+show_never : (name : List ℕ) (field : Option Field) (opens : List OpenRelation) → NeverWrites (plan_of opens (commands.Show name field))
+show_never name None opens = lookup_never name AccessShare (showing None) (λ rel kind given. tt)
+show_never name (Some field) opens = lookup_never name AccessShare (showing_field name field) (λ rel kind. passes_never (has_field kind field) (errors.NoField name field) (showing (Some field) rel kind) (λ given. tt))
+
+-- `create table`
+not_twice : (w : Writer) (found : List (Option Oid)) (twice : Option (List ℕ)) (draft : Draft) → ComesTo w found (if_no_column twice (writing draft)) → (twice ≡ None) × ComesTo w found (writing draft)
+not_twice w found None draft c = (refl, c)
+not_twice w found (Some name) draft c = absurd (cc (c.effect))
+
+created_table : (w : Writer) (c : ℕ) (facts : Facts) (found : List (Option Oid)) (name : List ℕ) (columns : List NewColumn) → IsSound w.history → AllByRecursion (λ column. IsName column.name) columns
+    → ComesTo w found (if_passes (nat_le (length columns) MOST_COLUMNS) errors.TooManyColumns (if_no_column (first_twice [] (map (λ column. column.name) columns)) (writing (new_table name columns)))) → Fits w c facts
+created_table w c facts found name columns sound spelled comes =
+    let few = passed w found (nat_le (length columns) MOST_COLUMNS) errors.TooManyColumns (if_no_column (first_twice [] (map (λ column. column.name) columns)) (writing (new_table name columns))) comes in
+    let once = not_twice w found (first_twice [] (map (λ column. column.name) columns)) (new_table name columns) few.1 in
+    draft_fits w c facts (new_table name columns) (table_items (oid_drawn w.history) name (enumerate_from 1 columns)) (Some (oid_drawn w.history)) (wrote w found (new_table name columns) once.1) (drafted_is (next_oid w.history) name columns) (λ rel first. λ i. Some (record { 0 = first i }))
+    (table_alters w.history w.backend w.opened name columns sound spelled once.0)
+
+-- what is known of the history: it is sound, and its writes keep columns, and indexes whole
+record Known (w : Writer) : Type 0 where
+  sound : IsSound w.history
+  columns : EachEntry WritesColumns w.history
+  indexes : EachEntry WritesIndexes w.history
+
+fits_by : (w : Writer) (c : ℕ) (facts : Facts) (opens : List OpenRelation) (command : Command) (found : List (Option Oid)) → Known w → IsCommand command → ComesTo w found (plan_of opens command) → Fits w c facts
+fits_by w c facts opens commands.Begin found known spelled comes = absurd (cc (comes.effect))
+fits_by w c facts opens commands.Commit found known spelled comes = absurd (cc (comes.effect))
+fits_by w c facts opens commands.Rollback found known spelled comes = absurd (cc (comes.effect))
+fits_by w c facts opens (commands.Savepoint name) found known spelled comes = absurd (cc (comes.effect))
+fits_by w c facts opens (commands.Release name) found known spelled comes = absurd (cc (comes.effect))
+fits_by w c facts opens (commands.RollbackTo name) found known spelled comes = absurd (cc (comes.effect))
+fits_by w c facts opens (commands.Show name field) found known spelled comes = absurd (never_comes (answer_of w.history w.backend) found (plan_of opens (commands.Show name field)) w.draft (show_never name field opens) comes.effect)
+fits_by w c facts opens (commands.Columns name) found known spelled comes = absurd (never_comes (answer_of w.history w.backend) found (plan_of opens (commands.Columns name)) w.draft
+    (lookup_never name AccessShare (listing_columns name) (λ rel kind. passes_never (is_table kind) (errors.NotTable name) (searching (scans.AttList rel) telling_columns) (λ given. tt))) comes.effect)
+fits_by w c facts opens (commands.Column name column) found known spelled comes = absurd (never_comes (answer_of w.history w.backend) found (plan_of opens (commands.Column name column)) w.draft
+    (lookup_never name AccessShare (finding_column name column) (λ rel kind. passes_never (is_table kind) (errors.NotTable name) (searching (scans.AttName rel column) (telling_column column)) (told_never column))) comes.effect)
+fits_by w c facts opens (commands.Regclass oid) found known spelled comes = absurd (never_comes (answer_of w.history w.backend) found (regclass_of oid) w.draft (λ given. tt) comes.effect)
+fits_by w c facts opens (commands.LockTable name mode) found known spelled comes = absurd (never_comes (answer_of w.history w.backend) found (plan_of opens (commands.LockTable name mode)) w.draft
+    (lookup_never name mode (locking name) (λ rel kind. passes_never (is_table kind) (errors.NotTable name) (Done tells.Ok) tt)) comes.effect)
+fits_by w c facts opens (commands.OpenRel name) found known spelled comes = absurd (never_comes (answer_of w.history w.backend) found (plan_of opens (commands.OpenRel name)) w.draft (lookup_never name AccessShare keeping (λ rel kind given. tt)) comes.effect)
+fits_by w c facts opens (commands.Peek name field) found known spelled comes = absurd (never_comes (answer_of w.history w.backend) found (plan_of opens (commands.Peek name field)) w.draft (peek_never name field (latest_open name opens)) comes.effect)
+fits_by w c facts opens (commands.CloseRel name) found known spelled comes = absurd (never_comes (answer_of w.history w.backend) found (plan_of opens (commands.CloseRel name)) w.draft (close_never name (latest_open name opens)) comes.effect)
+fits_by w c facts opens (commands.CreateTable name columns) found known spelled comes = created_table w c facts found name columns known.sound spelled.1 comes
+fits_by w c facts opens (commands.DropTable name) found known spelled comes = removed_table w c facts opens name known.sound (λ index table state nums there. index_whole w.history w.backend index table state nums known.sound known.indexes there) (table_altered w found name AccessExclusive opens (drop_table opens name) comes)
+fits_by w c facts opens (commands.RenameTable name to) found known spelled comes = renamed_table w c facts to known.sound (table_altered w found name AccessExclusive opens (rename_table to) comes)
+fits_by w c facts opens (commands.AddColumn name column col_type) found known spelled comes = added_column w c facts column col_type known.sound known.columns spelled.1 (table_altered w found name AccessExclusive opens (add_column column col_type) comes)
+fits_by w c facts opens (commands.DropColumn name column) found known spelled comes = dropped_column w c facts column known.sound known.columns (table_altered w found name AccessExclusive opens (drop_column column) comes)
+fits_by w c facts opens (commands.RenameColumn name column to) found known spelled comes = renamed_column w c facts column to known.sound spelled.2 (table_altered w found name AccessExclusive opens (rename_column column to) comes)
+fits_by w c facts opens (commands.SetDefault name column word) found known spelled comes = defaulted_column w c facts column word known.sound (table_altered w found name AccessExclusive opens (set_default column word) comes)
+fits_by w c facts opens (commands.SetStatistics name column stat) found known spelled comes = targeted_column w c facts column stat known.sound known.columns (table_altered w found name ShareUpdateExclusive opens (set_statistics column stat) comes)
+fits_by w c facts opens (commands.SetFillfactor name fill) found known spelled comes = filled_table w c facts fill known.sound (table_altered w found name ShareUpdateExclusive opens (set_fillfactor fill) comes)
+fits_by w c facts opens (commands.AddCheck name constraint text valid) found known spelled comes = added_check w c facts constraint text valid known.sound (table_altered w found name AccessExclusive opens (add_check constraint text valid) comes)
+fits_by w c facts opens (commands.AddForeign name constraint column refers ref_column valid) found known spelled comes =
+    added_foreign w c facts (record { constraint = constraint; column = column; refers = refers; ref_column = ref_column; valid = valid }) known.sound
+    (table_altered w found name ShareRowExclusive opens (add_foreign (record { constraint = constraint; column = column; refers = refers; ref_column = ref_column; valid = valid })) comes)
+fits_by w c facts opens (commands.ValidateConstraint name constraint) found known spelled comes = validated_constraint w c facts constraint known.sound (table_altered w found name ShareUpdateExclusive opens (validate_constraint constraint) comes)
+fits_by w c facts opens (commands.DropConstraint name constraint) found known spelled comes = dropped_constraint w c facts opens constraint known.sound (table_altered w found name AccessExclusive opens (drop_constraint opens constraint) comes)
+fits_by w c facts opens (commands.SetTrigger name trigger on) found known spelled comes = switched_trigger w c facts trigger on known.sound (table_altered w found name ShareRowExclusive opens (set_trigger trigger on) comes)
+fits_by w c facts opens (commands.CreateTrigger name trigger) found known spelled comes = created_trigger w c facts trigger known.sound (table_altered w found name ShareRowExclusive opens (create_trigger trigger) comes)
+fits_by w c facts opens (commands.CreateIndex name on_table columns) found known spelled comes = created_index w c facts name columns known.sound (table_altered w found on_table Share opens (create_index name columns) comes)
+fits_by w c facts opens (commands.DropIndex name) found known spelled comes = dropped_index w c facts opens known.sound (index_altered w found name AccessExclusive opens (drop_index opens) comes)
+fits_by w c facts opens (commands.RenameIndex name to) found known spelled comes = renamed_index w c facts to known.sound (index_altered w found name ShareUpdateExclusive opens (rename_table to) comes)
+
+-- what a command comes to write, by its plan, the rows of now and the locks that it takes
+pub fits_at : (history : List Entry) (b c : ℕ) (facts : Facts) (opens : List OpenRelation) (command : Command) (found : List (Option Oid)) (draft : Draft) → IsSound history → EachEntry WritesColumns history → EachEntry WritesIndexes history
+    → IsCommand command → effect_at (answer_of history b) found (plan_of opens command) ≡ Writes draft
+    → AllByRecursion (IsHeldOn history b) (locks_at (answer_of history b) found (plan_of opens command)) → WriteFits history b c facts (opens_at (answer_of history b) found (plan_of opens command)) draft
+fits_at history b c facts opens command found draft sound columns indexes spelled comes held = fits_by w c facts opens command found (record { sound = sound; columns = columns; indexes = indexes }) spelled (record { effect = comes; held = held; read = λ f read. read })
   where
-    by_test : (t : Bool) → acts (if_passes t (errors.NoField name field) (Done (told_fields (Some field) o.rel o.kind))) ≡ false
-    by_test true = refl
-    by_test false = refl
-
-close_acts : (name : List ℕ) (latest : Option OpenRelation) → acts (closing name latest) ≡ false
-close_acts name None = refl
-close_acts name (Some o) = refl
-
-abbrev draft_next : Plan → Draft
-draft_next (Do (Write draft) rest) = draft
-draft_next plan = no_changes
-
--- a plan of `create table` that is about to write
-creates_table : (gave : List (List Row)) (passes : Bool) (twice : Option (List ℕ)) (new draft : Draft) (rest : List Row → Plan) → reached gave (if_passes passes errors.TooManyColumns (if_no_column twice (writing new))) ≡ Do (Write draft) rest → (draft ≡ new) × (twice ≡ None)
-creates_table gave true None new draft rest on = (ap draft_next (sym on ∙ write_stays gave new (λ given. Done tells.Ok)), refl)
-creates_table gave true (Some name) new draft rest on = absurd (none_reached gave _ (Write draft) rest refl on)
-creates_table gave false twice new draft rest on = absurd (none_reached gave (Fails errors.TooManyColumns) (Write draft) rest refl on)
-
--- a command that is about to write alters a table or makes one
-alters_or_makes : (opens : List OpenRelation) (command : Command) (gave : List (List Row)) (draft : Draft) (rest : List Row → Plan) → runs command ≡ true → reached gave (plan_of opens command) ≡ Do (Write draft) rest → IsAlteration command ⊎ MakesTable command draft
-alters_or_makes opens commands.Begin gave draft rest built on = absurd (none_reached gave (Done tells.Ok) (Write draft) rest refl on)
-alters_or_makes opens commands.Commit gave draft rest built on = absurd (none_reached gave (Done tells.Commit) (Write draft) rest refl on)
-alters_or_makes opens commands.Rollback gave draft rest built on = absurd (none_reached gave (Done tells.Ok) (Write draft) rest refl on)
-alters_or_makes opens (commands.Savepoint name) gave draft rest built on = absurd (none_reached gave (Done tells.Ok) (Write draft) rest refl on)
-alters_or_makes opens (commands.Release name) gave draft rest built on = absurd (none_reached gave (Done tells.Ok) (Write draft) rest refl on)
-alters_or_makes opens (commands.RollbackTo name) gave draft rest built on = absurd (none_reached gave (Done tells.Ok) (Write draft) rest refl on)
-alters_or_makes opens (commands.Show name None) gave draft rest built on = absurd (never_reaches gave (looking_up name AccessShare (showing None)) draft rest (lookup_never name AccessShare (showing None) (λ rel kind given. tt)) on)
-alters_or_makes opens (commands.Show name (Some field)) gave draft rest built on =
-    absurd (never_reaches gave (looking_up name AccessShare (showing_field name field)) draft rest (lookup_never name AccessShare (showing_field name field) (λ rel kind. passes_never (has_field kind field) (errors.NoField name field) (showing (Some field) rel kind) (λ given. tt))) on)
-alters_or_makes opens (commands.Columns name) gave draft rest built on =
-    absurd (never_reaches gave (looking_up name AccessShare (listing_columns name)) draft rest (lookup_never name AccessShare (listing_columns name) (λ rel kind. passes_never (is_table kind) (errors.NotTable name) (searching (scans.AttList rel) telling_columns) (λ given. tt))) on)
-alters_or_makes opens (commands.Column name column) gave draft rest built on =
-    absurd (never_reaches gave (looking_up name AccessShare (finding_column name column)) draft rest (lookup_never name AccessShare (finding_column name column) (λ rel kind. passes_never (is_table kind) (errors.NotTable name) (searching (scans.AttName rel column) (telling_column column)) (told_never column))) on)
-alters_or_makes opens (commands.Regclass oid) gave draft rest built on = absurd (never_reaches gave (regclass_of oid) draft rest (λ given. tt) on)
-alters_or_makes opens (commands.LockTable name mode) gave draft rest built on =
-    absurd (never_reaches gave (looking_up name mode (locking name)) draft rest (lookup_never name mode (locking name) (λ rel kind. passes_never (is_table kind) (errors.NotTable name) (Done tells.Ok) tt)) on)
-alters_or_makes opens (commands.CreateTable name columns) gave draft rest built on = inr (creates_table gave (nat_le (length columns) MOST_COLUMNS) (first_twice [] (map (λ (c : NewColumn). c.name) columns)) (new_table name columns) draft rest on)
-alters_or_makes opens (commands.DropTable name) gave draft rest built on = inl tt
-alters_or_makes opens (commands.RenameTable name to) gave draft rest built on = inl tt
-alters_or_makes opens (commands.AddColumn name column col_type) gave draft rest built on = inl tt
-alters_or_makes opens (commands.DropColumn name column) gave draft rest built on = inl tt
-alters_or_makes opens (commands.RenameColumn name column to) gave draft rest built on = inl tt
-alters_or_makes opens (commands.SetStatistics name column stat) gave draft rest built on = inl tt
-alters_or_makes opens (commands.SetFillfactor name fill) gave draft rest built on = inl tt
-alters_or_makes opens (commands.OpenRel name) gave draft rest built on =
-    absurd (never_reaches gave (looking_up name AccessShare keeping) draft rest (lookup_never name AccessShare keeping (λ rel kind given. tt)) on)
-alters_or_makes opens (commands.Peek name field) gave draft rest built on = absurd (none_reached gave (peeking name field (latest_open name opens)) (Write draft) rest (peek_acts name field (latest_open name opens)) on)
-alters_or_makes opens (commands.CloseRel name) gave draft rest built on = absurd (none_reached gave (closing name (latest_open name opens)) (Write draft) rest (close_acts name (latest_open name opens)) on)
-alters_or_makes opens command gave draft rest built on = absurd (cc)
-
--- an alteration changes rows alone
-alters_rows : (now : Purpose → List Row) (opened : List Opening) (command : Command) (draft : Draft) → IsAlteration command → WritesBy now opened command draft → IsRowsDraft draft
-alters_rows now opened (commands.DropTable name) draft alters writes = record { changes = _; is = writes.is }
-alters_rows now opened (commands.RenameTable name to) draft alters writes = record { changes = _; is = writes.is }
-alters_rows now opened (commands.AddColumn name column col_type) draft alters writes = record { changes = _; is = writes.is }
-alters_rows now opened (commands.DropColumn name column) draft alters writes = record { changes = _; is = writes.is }
-alters_rows now opened (commands.RenameColumn name column to) draft alters writes = record { changes = _; is = writes.is }
-alters_rows now opened (commands.SetStatistics name column stat) draft alters writes = record { changes = _; is = writes.is }
-alters_rows now opened (commands.SetFillfactor name fill) draft alters writes = record { changes = _; is = writes.is }
-alters_rows now opened command draft alters writes = absurd alters
+    w : Writer
+    w = record { history = history; backend = b; opened = opens_at (answer_of history b) found (plan_of opens command); draft = draft }
 
 -- what a command is about to write, by its way
-pub write_fits : (history : List Entry) (b c : ℕ) (facts : Facts) (opens : List OpenRelation) (command : Command) (gave : List (List Row)) (draft : Draft) (rest : List Row → Plan) → IsSound history → EachEntry WritesColumns history → IsCommand command → runs command ≡ true → WayHolds history b gave (plan_of opens command)
+pub write_fits : (history : List Entry) (b c : ℕ) (facts : Facts) (opens : List OpenRelation) (command : Command) (gave : List (List Row)) (draft : Draft) (rest : List Row → Plan) → IsSound history → EachEntry WritesColumns history → EachEntry WritesIndexes history
+    → IsCommand command → runs command ≡ true → WayHolds history b gave (plan_of opens command)
     → reached gave (plan_of opens command) ≡ Do (Write draft) rest → WriteFits history b c facts (made_in opening_by gave (plan_of opens command)) draft
-write_fits history b c facts opens command gave draft rest sound kept spelled built way on = by_command (alters_or_makes opens command gave draft rest built on)
+write_fits history b c facts opens command gave draft rest sound columns indexes spelled built way on =
+    subst (λ opened. WriteFits history b c facts opened draft) (made_before opening_by opens_of_relations now plan gave draft rest goes way.still on)
+    (fits_at history b c facts opens command (made_in found_by gave plan) draft sound columns indexes spelled
+    (ap (λ l. effect_at now l plan) (sym (append-nil (made_in found_by gave plan))) ∙ effect_along now plan gave [] goes way.still ∙ ap (effect_at now []) on)
+    (subst (AllByRecursion (IsHeldOn history b)) (sym (made_before locks_by locks_of_relations now plan gave draft rest goes way.still on)) way.locked))
   where
-    opened : List Opening
-    opened = made_in opening_by gave (plan_of opens command)
+    plan : Plan
+    plan = plan_of opens command
 
-    by_command : IsAlteration command ⊎ MakesTable command draft → WriteFits history b c facts opened draft
-    by_command (inr makes) = table_fits history b c facts opened command draft sound spelled makes
-    by_command (inl alters) = rows_fit history b c facts opened draft (alters_rows (answer_of history b) opened command draft alters (writes_by (answer_of history b) opens command gave draft rest way.still on))
-        (alteration_may_write history b opens command gave draft rest sound kept spelled alters way on)
+    now : Purpose → List Row
+    now = answer_of history b
+
+    goes : GoesByRelation plan
+    goes = goes_by_relation opens command (built_alike opens none_open command ∙ built)

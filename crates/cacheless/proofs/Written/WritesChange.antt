@@ -18,20 +18,20 @@ use Rattle.cacheless.specs.Played.{AreSpelled, IsPlayed}
 use Rattle.cacheless.specs.Plays.{IsWrite, MayPlay, MayPlayLast, MayPlayIn, IsStart, MayPlayAt, IsNext, Plays}
 use Rattle.cacheless.specs.Session.{Session, number_of}
 use Rattle.cacheless.specs.Sessions.{session_of}
-use Rattle.cacheless.specs.TableWrites.{WritesColumns}
+use Rattle.cacheless.specs.TableWrites.{WritesColumns, WritesIndexes}
 use Rattle.cacheless.proofs.Allowed.AllowedHistories.{played_more, played_start}
 use Rattle.cacheless.proofs.Allowed.NextKeeps.{spelled_at}
 use Rattle.cacheless.proofs.Plans.SilentActs.{on_its_way}
 use Rattle.cacheless.proofs.Written.WriteFits.{write_fits}
 
 -- what a command writes is something
-write_some : (history : List Entry) (b : ℕ) (s : Session) (command : Command) (items : List Item) → IsSound history → EachEntry WritesColumns history → IsCommand command → FollowsPlan history b s command → IsWrite (next_oid history) s.left items → 0 < length items
-write_some history b s command items sound columns spelled follows writes = by_plan s.left refl writes
+write_some : (history : List Entry) (b : ℕ) (s : Session) (command : Command) (items : List Item) → IsSound history → EachEntry WritesColumns history → EachEntry WritesIndexes history → IsCommand command → FollowsPlan history b s command → IsWrite (next_oid history) s.left items → 0 < length items
+write_some history b s command items sound columns indexes spelled follows writes = by_plan s.left refl writes
   where
     by_plan : (p : Plan) → s.left ≡ p → IsWrite (next_oid history) p items → 0 < length items
     by_plan (Do (Write draft) rest) at are =
         let way = on_its_way history b s command (Write draft) rest follows at in
-        subst (λ l. 0 < length l) (sym are) (write_fits history b (number_of s) (facts_of history b) s.opens command way.gave draft rest sound columns spelled way.runs way.holds (sym way.plan ∙ at)).some
+        subst (λ l. 0 < length l) (sym are) (write_fits history b (number_of s) (facts_of history b) s.opens command way.gave draft rest sound columns indexes spelled way.runs way.holds (sym way.plan ∙ at)).some
     by_plan (Do (Lookup name mode) rest) at are = absurd are
     by_plan (Do (Open rel kind) rest) at are = absurd are
     by_plan (Do (Search scan) rest) at are = absurd are
@@ -51,7 +51,7 @@ last_some history b s (events.Write xid items) plays = absurd plays
 last_some history b s event plays = tt
 
 command_some : (scenario : Scenario) (history : List Entry) (b : ℕ) (s : Session) (command : Command) (event : Event) → IsPlayed scenario history → IsCommand command → FollowsPlan history b s command → MayPlay (next_oid history) (facts_of history b) command s event → HasChange event
-command_some scenario history b s command (events.Write xid items) played spelled follows plays = write_some history b s command items played.sound played.columns spelled follows plays.1
+command_some scenario history b s command (events.Write xid items) played spelled follows plays = write_some history b s command items played.sound played.columns played.indexes spelled follows plays.1
 command_some scenario history b s command event played spelled follows plays = tt
 
 next_some : (scenario : Scenario) (history : List Entry) (e : Entry) → IsPlayed scenario history → AllOnCourse scenario history → IsNext scenario history e → HasChange e.event

@@ -1,10 +1,11 @@
-use Rattle.std.proofs.Common.{◌≡◌, ◌<◌, ◌∙◌, List, ap, sym, rules}
+use Rattle.std.proofs.Common.{◌≡◌, ◌<◌, ◌∙◌, List, Err, ap, sym, subst, refl, rules}
 use Rattle.ddl_effect.specs.Types.{Row, Purpose}
 use Rattle.base_types.specs.Scans.{scan_of}
-use Rattle.ddl_effect.specs.Effects.{effect_of, given_for}
+use Rattle.ddl_effect.specs.Effects.{effect_of, given_for, IsEffect}
+use Rattle.ddl_effect.specs.declared.facts.EffectRefusal.TheVariants.{Cause, Absent}
 use Rattle.ddl_effect.specs.Plans.{after_act}
 use Rattle.ddl_effect.specs.Stages.{plan_at, want_of, acts_left}
-use Rattle.ddl_effect.proofs.Driven.{acts_some, effect_of-after}
+use Rattle.ddl_effect.proofs.Driven.{acts_some, effect_of-after, fails_is, absent_is}
 use Rattle.ddl_effect.proofs.facts.effect.Goals as goal
 
 pub acts-preserved : goal.acts-preserved
@@ -21,3 +22,15 @@ pub acts-smaller : goal.acts-smaller
 acts-smaller c =
     let less : 0 < acts_left c.acts.exec → acts_left c.give.new.self < acts_left c.acts.exec = search rules in
     less (acts_some c.args.facts.now.opened c.acts.exec (λ scan is. c.in_default-next.not-Done scan (c.next.ensures c.args.facts.now.opened ∙ is)) (λ error is. c.in_default-next.not-Fails error (c.next.ensures c.args.facts.now.opened ∙ is)) (λ name is. c.in_default-next.not-Absent name (c.next.ensures c.args.facts.now.opened ∙ is)))
+
+pub returns-in-Fails : goal.returns-in-Fails
+returns-in-Fails c =
+    let rows : Purpose → List Row = λ scan. scan_of scan c.args.facts.now.rows in
+    subst (λ effect. IsEffect effect (Err (Cause c.in-Fails.error)))
+    (sym (ap (effect_of rows) (fails_is (plan_at c.args.facts.now.opened c.acts.exec) c.in-Fails.error (sym (c.next.ensures c.args.facts.now.opened) ∙ c.in-Fails.is))) ∙ c.acts.invariant) refl
+
+pub returns-in-Absent : goal.returns-in-Absent
+returns-in-Absent c =
+    let rows : Purpose → List Row = λ scan. scan_of scan c.args.facts.now.rows in
+    subst (λ effect. IsEffect effect (Err (Absent c.in-Absent.name)))
+    (sym (ap (effect_of rows) (absent_is (plan_at c.args.facts.now.opened c.acts.exec) c.in-Absent.name (sym (c.next.ensures c.args.facts.now.opened) ∙ c.in-Absent.is))) ∙ c.acts.invariant) refl

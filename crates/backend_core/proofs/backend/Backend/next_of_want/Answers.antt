@@ -1,5 +1,5 @@
 use Rattle.std.proofs.Common.{◌∙◌, sym, refl, inl, inr}
-use Rattle.backend_core.proofs.Choosing.NextActs.{search_next, open_next, read_none, fails_none}
+use Rattle.backend_core.proofs.Choosing.NextActs.{search_next, open_next, read_none, fails_none, further_lock}
 use Rattle.backend_core.proofs.Choosing.Nexting.{done_accepted, whole_of}
 use Rattle.backend_core.proofs.backend.Backend.next_of_want.Goals as goal
 
@@ -17,3 +17,7 @@ unreachable-requires-in-Read c = elim c.in-Read.is [
 
 pub next_of_end-requires-clause-accepted : goal.next_of_end-requires-clause-accepted
 next_of_end-requires-clause-accepted c = done_accepted c.args.self.now _ (c.requires.want ∙ c.in-Done.is)
+
+pub returns-in-Lock : goal.returns-in-Lock
+returns-in-Lock c =
+    further_lock c.args.self.now c.args.command.now c.requires.still c.requires.chosen c.requires.free (whole_of _ _ _ c.requires.whole (c.requires.want ∙ c.in-Lock.is) refl) c.in-Lock.rel c.in-Lock.mode (c.requires.want ∙ c.in-Lock.is)

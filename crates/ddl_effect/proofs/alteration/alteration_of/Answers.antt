@@ -3,7 +3,7 @@ use Rattle.std.proofs.lemmas.Int.{to_z-of_z}
 use Rattle.base_types.specs.declared.command.Command.TheVariants.{SetStatistics}
 use Rattle.ddl_effect.specs.Commands.{plan_of}
 use Rattle.ddl_effect.specs.Stages.{altering_at}
-use Rattle.ddl_effect.proofs.altering.alteration_of.Goals as goal
+use Rattle.ddl_effect.proofs.alteration.alteration_of.Goals as goal
 
 pub returns-in-AddColumn : goal.returns-in-AddColumn
 returns-in-AddColumn c = λ opens. ap (altering_at opens) c.alters.ensures ∙ sym (ap (plan_of opens) c.in-AddColumn.is)
@@ -27,3 +27,18 @@ returns-in-SetFillfactor c = λ opens. ap (altering_at opens) c.alters-in-SetFil
 
 pub returns-in-RenameTable : goal.returns-in-RenameTable
 returns-in-RenameTable c = λ opens. ap (altering_at opens) c.alters-in-RenameTable.ensures ∙ sym (ap (plan_of opens) c.in-RenameTable.is)
+
+pub returns-in-SetDefault : goal.returns-in-SetDefault
+returns-in-SetDefault c = λ opens. ap (altering_at opens) c.alters-in-SetDefault.ensures ∙ sym (ap (plan_of opens) c.in-SetDefault.is)
+
+pub returns-in-AddCheck : goal.returns-in-AddCheck
+returns-in-AddCheck c = λ opens. ap (altering_at opens) c.alters-in-AddCheck.ensures ∙ sym (ap (plan_of opens) c.in-AddCheck.is)
+
+pub returns-in-AddForeign : goal.returns-in-AddForeign
+returns-in-AddForeign c = λ opens. ap (altering_at opens) c.alters-in-AddForeign.ensures ∙ sym (ap (plan_of opens) c.in-AddForeign.is)
+
+pub returns-in-SetTrigger : goal.returns-in-SetTrigger
+returns-in-SetTrigger c = λ opens. ap (altering_at opens) c.alters-in-SetTrigger.ensures ∙ sym (ap (plan_of opens) c.in-SetTrigger.is)
+
+pub returns-in-RenameIndex : goal.returns-in-RenameIndex
+returns-in-RenameIndex c = λ opens. ap (altering_at opens) c.alters-in-RenameIndex.ensures ∙ sym (ap (plan_of opens) c.in-RenameIndex.is)

@@ -1,0 +1,152 @@
+-- What is asked of a plan by what it wants next.
+use Rattle.std.proofs.Common.{◌≡◌, ℕ, Bool, false, not, Option, None, List, [], ap, ◌∷◌, ◌&&◌, refl, is_some}
+use Rattle.std.specs.Option.{option_map_or}
+use Rattle.std.specs.List.{cons_option, find}
+use Rattle.base_types.specs.Scans.{same_oid, build_scans}
+use Rattle.base_types.specs.Modes.{same_mode}
+use Rattle.base_types.specs.declared.scan.Purpose.TheVariants as scans
+use Rattle.ddl_effect.specs.declared.want.Want.{Want}
+use Rattle.ddl_effect.specs.declared.want.Want.TheVariants as wants
+use Rattle.ddl_effect.specs.Plans.{Plan, Done, Fails, Absent, Do, NotBuilt, Lookup, Open, Search, Read, Lock, Write, left_rests_on, told_rests_on}
+use Rattle.ddl_effect.specs.Stages.{want_of}
+use Rattle.txn_blocks.specs.Blocks.{Blocks, Level, blocks_badly}
+use Rattle.ddl_effect.proofs.Driven.{fails_is, absent_is}
+use Rattle.cacheless.specs.Types.{Oid, Mode, Kind, Row, Purpose, Command, CommandError, OpenRelation, Opening}
+use Rattle.cacheless.specs.Session.{Well, Badly, Unsettled, outcome_of}
+use Rattle.cacheless.specs.Settled.{opens_badly, opens_passed}
+use Rattle.cacheless.specs.State.{kept_at, is_kept, row_sought, row_next, blocks_passed}
+use Rattle.cacheless.specs.May.{is_missing, is_first_missing, is_next_of_act, lacks_to_build, is_lock_at, is_unlock_at, names_relation}
+use Rattle.cacheless.specs.declared.progress.Progress.{Progress}
+
+-- the lock that it asks for
+abbrev pub lock_of_want : Progress → Want → Oid → Mode → Bool
+lock_of_want s (wants.Lookup name wanted) rel mode = names_relation rel (row_sought s name) && same_mode mode wanted
+lock_of_want s (wants.Lock other wanted) rel mode = same_oid rel other && same_mode mode wanted
+lock_of_want s want rel mode = false
+
+pub lock_wanted : (s : Progress) (plan : Plan) (rel : Oid) (mode : Mode) → is_lock_at s plan rel mode ≡ lock_of_want s (want_of plan) rel mode
+lock_wanted s (Do (Lookup name wanted) rest) rel mode = refl
+lock_wanted s (Do (Lock other wanted) rest) rel mode = refl
+lock_wanted s (Do act rest) rel mode = refl
+lock_wanted s plan rel mode = refl
+
+pub no_lock : (s : Progress) (want : Want) (rel : Oid) (mode : Mode) → ((name : List ℕ) (m : Mode) → want ≡ wants.Lookup name m → ⊥) → ((other : Oid) (m : Mode) → want ≡ wants.Lock other m → ⊥) → lock_of_want s want rel mode ≡ false
+no_lock s (wants.Lookup name m) rel mode lookup lock = absurd (lookup name m refl)
+no_lock s (wants.Lock other m) rel mode lookup lock = absurd (lock other m refl)
+no_lock s want rel mode lookup lock = refl
+
+-- the lock that it gives back
+abbrev pub unlock_of_want : Progress → Want → Oid → Mode → Bool
+unlock_of_want s (wants.Lookup name wanted) rel mode = option_map_or (same_oid rel) s.taken false && same_mode mode wanted && not (names_relation rel (row_sought s name))
+unlock_of_want s want rel mode = false
+
+pub unlock_wanted : (s : Progress) (plan : Plan) (rel : Oid) (mode : Mode) → is_unlock_at s plan rel mode ≡ unlock_of_want s (want_of plan) rel mode
+unlock_wanted s (Do (Lookup name wanted) rest) rel mode = refl
+unlock_wanted s (Do act rest) rel mode = refl
+unlock_wanted s plan rel mode = refl
+
+pub no_unlock : (s : Progress) (want : Want) (rel : Oid) (mode : Mode) → ((name : List ℕ) (m : Mode) → want ≡ wants.Lookup name m → ⊥) → unlock_of_want s want rel mode ≡ false
+no_unlock s (wants.Lookup name m) rel mode lookup = absurd (lookup name m refl)
+no_unlock s want rel mode lookup = refl
+
+-- the scan of a descriptor that it lacks
+abbrev pub build_of_want : Progress → Want → Bool
+build_of_want s (wants.Open rel kind) = is_some (find (λ scan. not (is_kept (kept_at s) scan)) (build_scans kind rel))
+build_of_want s (wants.Read scan) = not (is_kept (kept_at s) scan)
+build_of_want s want = false
+
+pub build_wanted : (s : Progress) (plan : Plan) → lacks_to_build s plan ≡ build_of_want s (want_of plan)
+build_wanted s (Do (Open rel kind) rest) = refl
+build_wanted s (Do (Read scan) rest) = refl
+build_wanted s (Do act rest) = refl
+build_wanted s plan = refl
+
+pub no_build : (s : Progress) (want : Want) → ((rel : Oid) (kind : Kind) → want ≡ wants.Open rel kind → ⊥) → ((scan : Purpose) → want ≡ wants.Read scan → ⊥) → build_of_want s want ≡ false
+no_build s (wants.Open rel kind) opens reads = absurd (opens rel kind refl)
+no_build s (wants.Read scan) opens reads = absurd (reads scan refl)
+no_build s want opens reads = refl
+
+-- the scan is the first that it lacks
+abbrev pub next_of_want : Purpose → Progress → Want → Bool
+next_of_want scan s (wants.Lookup name mode) = is_missing scan (kept_at s) (scans.RelName name)
+next_of_want scan s (wants.Search wanted) = is_missing scan (kept_at s) wanted
+next_of_want scan s (wants.Done told) = option_map_or (is_missing scan (kept_at s)) told false
+next_of_want scan s (wants.Open rel kind) = is_first_missing scan (kept_at s) kind rel
+next_of_want scan s want = false
+
+pub next_wanted : (scan : Purpose) (s : Progress) (plan : Plan) → is_next_of_act scan s plan ≡ next_of_want scan s (want_of plan)
+next_wanted scan s (Do (Lookup name mode) rest) = refl
+next_wanted scan s (Do (Search wanted) rest) = refl
+next_wanted scan s (Do (Open rel kind) rest) = refl
+next_wanted scan s (Do act rest) = refl
+next_wanted scan s plan = refl
+
+pub no_next : (scan : Purpose) (s : Progress) (want : Want) → ((name : List ℕ) (m : Mode) → want ≡ wants.Lookup name m → ⊥) → ((wanted : Purpose) → want ≡ wants.Search wanted → ⊥) → ((rel : Oid) (kind : Kind) → want ≡ wants.Open rel kind → ⊥) → ((told : Option Purpose) → want ≡ wants.Done told → ⊥)
+    → next_of_want scan s want ≡ false
+no_next scan s (wants.Lookup name m) lookup search opens done = absurd (lookup name m refl)
+no_next scan s (wants.Search wanted) lookup search opens done = absurd (search wanted refl)
+no_next scan s (wants.Open rel kind) lookup search opens done = absurd (opens rel kind refl)
+no_next scan s (wants.Done told) lookup search opens done = absurd (done told refl)
+no_next scan s want lookup search opens done = refl
+
+-- the scans on which it rests
+abbrev pub scans_of_want : Want → List Purpose
+scans_of_want (wants.Done told) = cons_option told []
+scans_of_want (wants.Lookup name mode) = scans.RelName name ∷ []
+scans_of_want (wants.Open rel kind) = build_scans kind rel
+scans_of_want (wants.Search scan) = scan ∷ []
+scans_of_want (wants.Read scan) = scan ∷ []
+scans_of_want want = []
+
+pub scans_wanted : (plan : Plan) → left_rests_on plan ≡ scans_of_want (want_of plan)
+scans_wanted (Done told) = refl
+scans_wanted (Do (Lookup name mode) rest) = refl
+scans_wanted (Do act rest) = refl
+scans_wanted plan = refl
+
+pub no_scans : (want : Want) → ((name : List ℕ) (mode : Mode) → want ≡ wants.Lookup name mode → ⊥) → ((rel : Oid) (kind : Kind) → want ≡ wants.Open rel kind → ⊥) → ((scan : Purpose) → want ≡ wants.Search scan → ⊥) → ((scan : Purpose) → want ≡ wants.Read scan → ⊥) → ((told : Option Purpose) → want ≡ wants.Done told → ⊥)
+    → scans_of_want want ≡ []
+no_scans (wants.Done told) lookup opens search reads done = absurd (done told refl)
+no_scans (wants.Lookup name mode) lookup opens search reads done = absurd (lookup name mode refl)
+no_scans (wants.Open rel kind) lookup opens search reads done = absurd (opens rel kind refl)
+no_scans (wants.Search scan) lookup opens search reads done = absurd (search scan refl)
+no_scans (wants.Read scan) lookup opens search reads done = absurd (reads scan refl)
+no_scans want lookup opens search reads done = refl
+
+-- whether its command has come out
+pub came_badly : (plan : Plan) (error : CommandError) → want_of plan ≡ wants.Fails error → outcome_of plan ≡ Badly
+came_badly plan error is = ap outcome_of (fails_is plan error is)
+
+pub came_absent : (plan : Plan) (name : List ℕ) → want_of plan ≡ wants.Absent name → outcome_of plan ≡ Badly
+came_absent plan name is = ap outcome_of (absent_is plan name is)
+
+pub goes_on : (plan : Plan) → ((told : Option Purpose) → want_of plan ≡ wants.Done told → ⊥) → ((error : CommandError) → want_of plan ≡ wants.Fails error → ⊥) → ((name : List ℕ) → want_of plan ≡ wants.Absent name → ⊥) → outcome_of plan ≡ Unsettled
+goes_on (Done told) done fails absent = absurd (done (told_rests_on told) refl)
+goes_on (Fails error) done fails absent = absurd (fails error refl)
+goes_on (Absent name) done fails absent = absurd (absent name refl)
+goes_on (Do act rest) done fails absent = refl
+goes_on NotBuilt done fails absent = refl
+
+-- one that hasn't done what it says leaves blocks and open relations as after a failure
+pub passed_badly : (plan : Plan) (number : ℕ) (command : Command) (blocks : Blocks) → ((told : Option Purpose) → want_of plan ≡ wants.Done told → ⊥) → blocks_passed plan number command blocks ≡ blocks_badly blocks
+passed_badly (Done told) number command blocks done = absurd (done (told_rests_on told) refl)
+passed_badly plan number command blocks done = refl
+
+pub opened_badly : (plan : Plan) (number : ℕ) (command : Command) (blocked : Bool) (levels : List Level) (opened : List Opening) (opens : List OpenRelation) → ((told : Option Purpose) → want_of plan ≡ wants.Done told → ⊥)
+    → opens_passed plan number command blocked levels opened opens ≡ opens_badly number blocked levels opens
+opened_badly (Done told) number command blocked levels opened opens done = absurd (done (told_rests_on told) refl)
+opened_badly plan number command blocked levels opened opens done = refl
+
+-- the row of a lookup
+abbrev pub row_of_want : Progress → Want → Option Row
+row_of_want s (wants.Lookup name mode) = row_sought s name
+row_of_want s want = None
+
+pub row_wanted : (s : Progress) (plan : Plan) → row_next s plan ≡ row_of_want s (want_of plan)
+row_wanted s (Do (Lookup name mode) rest) = refl
+row_wanted s (Do act rest) = refl
+row_wanted s plan = refl
+
+pub no_row : (s : Progress) (want : Want) → ((name : List ℕ) (m : Mode) → want ≡ wants.Lookup name m → ⊥) → row_of_want s want ≡ None
+no_row s (wants.Lookup name m) lookup = absurd (lookup name m refl)
+no_row s want lookup = refl

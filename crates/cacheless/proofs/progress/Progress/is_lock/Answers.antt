@@ -1,0 +1,16 @@
+use Rattle.std.proofs.Common.{◌≡◌, ◌∙◌, false, ap, sym, rules}
+use Rattle.ddl_effect.specs.declared.want.Want.TheVariants as wants
+use Rattle.ddl_effect.specs.Stages.{plan_at}
+use Rattle.cacheless.proofs.WantedPlans.{lock_of_want, lock_wanted, no_lock}
+use Rattle.cacheless.proofs.progress.Progress.is_lock.Goals as goal
+
+pub returns-then-names_relation : goal.returns-then-names_relation
+returns-then-names_relation c =
+    let goes : c.same_mode.result ≡ lock_of_want c.args.self.now (wants.Lookup c.in-Lookup.name c.in-Lookup.wanted) c.args.rel c.args.mode = search rules in
+    goes ∙ sym (lock_wanted c.args.self.now (plan_at c.args.self.now.opens c.args.self.now.exec) c.args.rel c.args.mode ∙ ap (λ w. lock_of_want c.args.self.now w c.args.rel c.args.mode) (sym (c.next.ensures c.args.self.now.opens) ∙ c.in-Lookup.is))
+
+pub returns-in_default : goal.returns-in_default
+returns-in_default c =
+    sym (lock_wanted c.args.self.now (plan_at c.args.self.now.opens c.args.self.now.exec) c.args.rel c.args.mode
+    ∙ ap (λ w. lock_of_want c.args.self.now w c.args.rel c.args.mode) (sym (c.next.ensures c.args.self.now.opens))
+    ∙ no_lock c.args.self.now c.next.result c.args.rel c.args.mode c.in_default.not-Lookup c.in_default.not-Lock)

@@ -1,0 +1,9 @@
+use Rattle.std.proofs.Common.{rules, tests, ◌∙◌}
+use Rattle.std.proofs.lemmas.Iterator.{YieldsList-from_slice}
+use Rattle.std.proofs.lemmas.Iterator.Search.{find_from_yields_List}
+use Rattle.ddl_effect.specs.Triggers.{is_trigger}
+use Rattle.ddl_effect.proofs.triggers.trigger.Goals as goal
+
+pub returns : goal.returns
+returns c =
+    c.copied.ensures ∙ find_from_yields_List (is_trigger c.args.name) _ _ c.find.result c.find.ensures.ran (YieldsList-from_slice c.args.triggers.now cc) (λ x b q k. search (rules, tests))
