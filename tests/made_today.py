@@ -23,7 +23,7 @@ LINES = {
     "Scans": r"^h \d+ \d+ scan FORM rows \d+$",
     "text": r"^h .* write .* FORM(?: |$)",
     "catalog": r"^h .* write .*[+=]FORM",
-    "change of": r"^h .* write .*[-+=]FORM\(",
+    "change of": r"^h .* write .*(?:[-+=]FORM\(| FORM(?: |$))",
     "Answers": r"^l \d+ \d+ FORM$",
     "code": r"^l \d+ \d+ error FORM$",
 }

@@ -870,10 +870,8 @@ class Explorer(unittest.TestCase):
                  (["--program", "/bin/echo"], TWO_CREATORS, "/bin/echo: what it prints isn't an output of catsync"),
                  ([], b"", "line 1: "), (["--merge"], TWO_CREATORS, "--merge needs FILEs; "),
                  (["x"], b"", "it reads its standard input: explore < x; ")]
-        for name in ("bad_line", "not_built_yet"):
-            error = os.path.join(examples, name + ".error")
-            if os.path.exists(error):
-                cases.append(([], content_of(os.path.join(examples, name + ".script")), content_of(error).decode()))
+        bad = os.path.join(examples, "bad_line")
+        cases.append(([], content_of(bad + ".script"), content_of(bad + ".error").decode()))
         status, _, said = call("explore", "--merge", "x", "--program", PROGRAM)
         self.assertEqual((status, said), (2, "explore: --program doesn't go with --merge; explore --help says more\n"))
         for words, script, expected in cases:

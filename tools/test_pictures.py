@@ -1,7 +1,7 @@
 #!/usr/bin/env python3
 """Tests of tools/picture: python3 tools/test_pictures.py
 
-The pictures are those of all outputs in examples/ and in tools/samples/; the latter have entries that no command of today
+The pictures are those of all outputs in examples/ and in tools/samples/; of the latter some have entries that no command
 makes. What is expected is worked out from the lines alone, or by hand. The keys of a page are tried in a browser, if
 there is one (chromium).
 """
@@ -507,6 +507,27 @@ class Sentences(unittest.TestCase):
                                    "of 7, 8 and 9.",
         ("serves_until_fetched", 25): "Backend 1 fetches its own 4 messages of 21 and 22: the name t (read at 5) and the "
                                       "descriptor of t (built at 9 to 19) are stale.",
+        ("key_to_an_open_table", 57): "Backend 1 scans pg_class for customers, scan 1 of 6 for its descriptor: 1 row. The last "
+                                      "one, built at 22 to 32, is stale since 55, but in use: this one is built in its place.",
+        ("key_to_an_open_table", 71): "Backend 1 scans pg_class for customers, scan 1 of 6 for its descriptor: 1 row. The last "
+                                      "one, built at 57 to 67, is stale since 68, but in use: this one is built in its place.",
+        ("index_renamed_by_another", 65): "Backend 2 scans pg_index for the index orders_id, scan 2 of 2 for its descriptor: 1 "
+                                          "row. The descriptor is built, and kept from here on.",
+        ("index_beside_readers", 28): "Backend 1 writes as transaction 2: it adds 1 row to pg_class and 1 row to pg_index. Its commit "
+                                      "has to send 4 messages, for the name by_id, the oid 16385, the descriptor of by_id and the "
+                                      "descriptor of orders. The descriptor of orders, built at 15 to 25, is stale. It holds "
+                                      "AccessExclusive on by_id, its new relation, and that is clear at once.",
+        ("drops_that_cross", 48): "Backend 1 is refused AccessExclusive on orders: backend 2 holds AccessExclusive since 42, and the "
+                                  "two conflict.",
+        ("further", 122): "Backend 1 looks for messages after the grant at 121, and none waits. With that the lock of 121 is clear. "
+                          "The descriptor of t, built at 96 to 106, serves command 20 without a scan.",
+        ("further", 124): "Backend 1 looks for messages after the grant at 123, and none waits. With that the lock of 123 is clear. "
+                          "The column a of t, read at 52, serves command 20 without a scan. The column a of u, read at 54, serves "
+                          "command 20 without a scan.",
+        ("further", 166): "Backend 1 looks for messages after the grant at 165, and none waits. With that the lock of 165 is clear.",
+        ("further", 227): "Backend 1 looks for messages after the grant at 226, and none waits. With that the lock of 226 is clear. "
+                          "The descriptor of t, built at 213 to 223, serves command 28 without a scan. The column a of t, read at "
+                          "52, serves command 28 without a scan.",
         ("nothing_to_find", 14): "Backend 3 joins the queue of messages, past all that were published before: it has read "
                                  "nothing that they could be for.",
     }

@@ -23,7 +23,7 @@ from catsync_tools.folder import Folder
 from catsync_tools.postgres import Server, folder_of_programs
 from catsync_tools.program import Program
 from catsync_tools.sources import read_source
-from catsync_tools.sql import Answer, Closed, Listed, Opened, Peeked, Regclass, Shown, statement_of
+from catsync_tools.sql import Answer, Closed, Listed, Opened, Peeked, Regclass, Shown, referred_in, statement_of
 
 HAS_SERVER = folder_of_programs() is not None
 SCRIPTS = int(os.environ.get("CATSYNC_SERVER_SCRIPTS", "20"))
@@ -43,16 +43,23 @@ COMMANDS = (
     (10, "open T"), (6, "peek T"), (5, "peek T FIELD"), (4, "close T"),
     (9, "create table T (COLUMNS)"), (7, "alter table T add column C TYPE"), (6, "alter table T drop column C"),
     (6, "alter table T rename column C to C"), (7, "alter table T alter column C set statistics STAT"),
-    (6, "alter table T set (fillfactor = FILL)"))
+    (6, "alter table T set (fillfactor = FILL)"), (4, "alter table T alter column C set default WORD"),
+    (4, "alter table T add constraint K check (CHECK) VALID"),
+    (6, "alter table T add constraint K foreign key (C) references T (C) VALID"), (3, "alter table T validate constraint K"),
+    (3, "alter table T drop constraint K"), (4, "create trigger G on T"), (4, "alter table T SWITCH trigger G"),
+    (7, "create index I on T (C)"), (3, "create index I on T (C, C)"), (3, "drop index I"), (4, "alter index I rename to I"),
+    (3, "show I"), (3, "show I FIELD"))
+INDEXES, CONSTRAINTS, TRIGGERS = ("i", "j", "i", "t"), ("k", "l"), ("g", "h")
 
 
 def random_command(draw, columns):
-    """A command, of today's."""
+    """A command."""
     text = draw.choices([form for _, form in COMMANDS], [weight for weight, _ in COMMANDS])[0]
     if "COLUMNS" in text:
         text = text.replace("COLUMNS", ", ".join("C TYPE" for _ in range(draw.randint(0, 4))))
     choices = {"T": TABLES, "C": columns, "TYPE": TYPES, "MODE": MODES, "FIELD": FIELDS, "OID": OIDS,
-               "FILL": ("0", "9", "10", "50", "100", "101"),
+               "FILL": ("0", "9", "10", "50", "100", "101"), "WORD": ("7", "-3", "now", "x_y"), "CHECK": ("a > 0", "b > 0", "d > 0"), "VALID": ("", "not valid"),
+               "SWITCH": ("enable", "disable"), "K": CONSTRAINTS, "G": TRIGGERS, "I": INDEXES,
                "STAT": ("-2", "-1", "0", "1", "100", "9999", "10000", "10001", "999999999")}
     words = text.replace("(", "( ").replace(")", " )").replace(",", " ,").split(" ")
     return " ".join(draw.choice(choices[word]) if word in choices else word for word in words)
@@ -82,7 +89,7 @@ class Statements(unittest.TestCase):
     """Commands as SQL, and answers beside each other."""
 
     def test_statements(self):
-        """Each command of today has its SQL, with names in quotes."""
+        """Each command has its SQL, with names in quotes."""
         for command, statement in (
                 ("BEGIN;", "begin"), ("commit", "commit"), ("rollback ;", "rollback"),
                 ("show t", Shown("t", None)), ("show t statistics", Shown("t", "statistics")),
@@ -97,8 +104,27 @@ class Statements(unittest.TestCase):
                 ("alter table t alter column a set statistics -1", 'alter table "t" alter column "a" set statistics -1'),
                 ("alter table t set (fillfactor=70)", 'alter table "t" set (fillfactor = 70)'),
                 ("drop table t;", 'drop table "t"'), ("alter table t rename to order", 'alter table "t" rename to "order"'),
-                ("drop index i", None), ("show", None), ("create table t (a)", None)):
+                ("savepoint s", 'savepoint "s"'), ("release s", 'release savepoint "s"'),
+                ("rollback to savepoint s;", 'rollback to savepoint "s"'),
+                ("alter table t alter column a set default x-y", "alter table \"t\" alter column \"a\" set default 'x-y'"),
+                ("alter table t add constraint k check(a - 1 >= 0) NOT valid;",
+                 'alter table "t" add constraint "k" check (a-1>=0) not valid'),
+                ("alter table t add constraint k foreign key(a) references u(b)",
+                 'alter table "t" add constraint "k" foreign key ("a") references "u" ("b")'),
+                ("alter table t validate constraint k", 'alter table "t" validate constraint "k"'),
+                ("alter table t drop constraint k ;", 'alter table "t" drop constraint "k"'),
+                ("alter table t disable trigger g", 'alter table "t" disable trigger "g"'),
+                ("create trigger g on t", 'create trigger "g" before update on "t" for each row execute function '
+                                          'suppress_redundant_updates_trigger()'),
+                ("create index i on t(a,b);", 'create index "i" on "t" ("a", "b")'), ("drop index i", 'drop index "i"'),
+                ("alter index i rename to j", 'alter index "i" rename to "j"'),
+                ("drop view v", None), ("show", None), ("create table t (a)", None)):
             self.assertEqual(statement_of(command), statement)
+        referred = referred_in(["alter table t add constraint k foreign key (a) references u (b)", "drop table u"])
+        self.assertEqual(referred, {("u", "b")})
+        self.assertEqual(statement_of("create table u (a int4, b text)", referred), 'create table "u" ("a" int4, "b" text unique)')
+        self.assertEqual(statement_of("alter table u add column b text", referred), 'alter table "u" add column "b" text unique')
+        self.assertEqual(statement_of("alter table t add column b text", referred), 'alter table "t" add column "b" text')
 
     def test_differences(self):
         """What differs is told by fields; oids needn't be the same, errors are compared by their codes."""
@@ -112,7 +138,16 @@ class Statements(unittest.TestCase):
                 ("table 1; name t", Answer("table 6; name u", []), ["table", "name"]),
                 ("table 2; name t", Answer("table 5; name t", []), ["table"]),
                 ("statistics 1:-1", Answer("statistics 1:-1", []), []),
-                ("statistics 1:-1", Answer("statistics 1:5", []), ["statistics"])):
+                ("statistics 1:-1", Answer("statistics 1:5", []), ["statistics"]),
+                ("index 7; name i; of 1:2+1; valid v", Answer("index 8; name i; of 5:2+1; valid v", []), []),
+                ("of 1:2", Answer("of 6:2", []), ["of"]), ("of 1:2", Answer("of 5:1", []), ["of"]),
+                ("indexes 7:v:1 9:v:2", Answer("indexes 8:v:1 11:v:2", []), []),
+                ("indexes 7:v:1", Answer("indexes 8:v:1 11:v:2", []), ["indexes"]),
+                ("referenced 12:1:1", Answer("referenced 13:5:1", []), []),
+                ("referenced 12:1:1", Answer("referenced 13:6:1", []), ["referenced"]),
+                ("constraints k:check:v:a>0 l:fk:n:1:1:2", Answer("constraints k:check:v:a>0 l:fk:n:1:5:2", []), []),
+                ("constraints l:fk:n:1:1:2", Answer("constraints l:fk:n:1:6:2", []), ["constraints"]),
+                ("constraints l:fk:n:1:1:2", Answer("constraints l:fk:v:1:5:2", []), ["constraints"])):
             with self.subTest((here, server)):
                 self.assertEqual(differences(here, server, pairs), expected)
 
@@ -198,7 +233,7 @@ class Beside(unittest.TestCase):
             self.assertFalse([each for each in found if each.is_new], (data, compared))
 
     def test_examples(self):
-        """The examples that the program runs, and the races."""
+        """The examples and the races."""
         races = glob.glob(os.path.join(TOP, "examples", "races", "*.script"))
         for path in sorted(glob.glob(os.path.join(TOP, "examples", "*.output"))) + sorted(races):
             with self.subTest(path), open(os.path.splitext(path)[0] + ".script", "rb") as file:

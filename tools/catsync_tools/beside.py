@@ -6,9 +6,13 @@ from .counting import counted_script
 from .faults import Fault
 from .outputs import PLACE
 from .runner import Runner
-from .sql import FIELDS, Answer, Asked, statement_of
+from .sql import FIELDS, OTHER_FIELDS, Answer, Asked, referred_in, statement_of
 
 Command = Tuple[int, int]       # a backend, and the number of a command of it
+
+# The fields with oids in their values, and where these stand.
+OIDS = {"table": "[0-9]+", "index": "[0-9]+", "of": "^[0-9]+", "indexes": r"(?<!\S)[0-9]+",
+        "referenced": r"(?<!\S)[0-9]+|(?<=:)[0-9]+(?=:)", "constraints": r"(?<=:)[0-9]+(?=:[0-9]+(?: |$))"}
 
 
 class Compared(NamedTuple):
@@ -65,9 +69,9 @@ class Pairs:
 
 
 def parts_of(text):
-    """An answer that shows a table, by fields; None where it shows none."""
+    """An answer that shows a table or an index, by fields; None where it shows none."""
     parts = [part.split(" ", 1) for part in text.split("; ")]
-    if parts[0][0] not in ("table",) + FIELDS or any(len(part) != 2 for part in parts):
+    if parts[0][0] not in ("table", "index") + FIELDS + OTHER_FIELDS or any(len(part) != 2 for part in parts):
         return None
     return dict(parts)
 
@@ -90,7 +94,20 @@ def differences(here, server: Answer, pairs: Pairs):
 
 def is_same(field, here, server, pairs: Pairs):
     """Whether a field has one value here and in the server; oids needn't be the same numbers."""
-    return pairs.are_same(here, server) if field == "table" else here == server
+    if field not in OIDS:
+        return here == server
+    (ours, left), (theirs, other) = oids_in(field, here), oids_in(field, server)
+    return left == other and len(ours) == len(theirs) and all([pairs.are_same(*pair) for pair in zip(ours, theirs)])
+
+
+def oids_in(field, value):
+    """The oids in the value of a field, and the value without them."""
+    found: List[str] = []
+
+    def note(oid):
+        found.append(oid[0])
+        return "-"
+    return found, re.sub(OIDS[field], note, value)
 
 
 def compare(source, program, server, order: Optional[List[Command]] = None) -> List[Compared]:
@@ -98,7 +115,8 @@ def compare(source, program, server, order: Optional[List[Command]] = None) -> L
     ends them."""
     runner = Runner(source._replace(setup=[]), program)      # the set-up is made with the other commands
     commands = source.script.commands()
-    statements = {command: statement_of(text) for command, text in commands.items()}
+    referred = referred_in(commands.values())
+    statements = {command: statement_of(text, referred) for command, text in commands.items()}
     for (backend, number), statement in sorted(statements.items()):
         if statement is None:
             raise Fault("command %d of backend %d isn't compared with a server: %s" % (
@@ -108,7 +126,7 @@ def compare(source, program, server, order: Optional[List[Command]] = None) -> L
     run = runner.with_turns(serial_turns(runner, order))
     made: Dict[Command, List[Tuple[str, str]]] = {}
     for backend, number, text in run.steps:
-        made.setdefault((backend, number), []).extend(re.findall(r"\+class\(([0-9]+),([^,]+),r,", text))
+        made.setdefault((backend, number), []).extend(re.findall(r"\+class\(([0-9]+),([^,]+),", text))
     here = {(int(words[1]), int(words[2])): PLACE.sub("", words[3]) for words in (
         line.split(" ", 3) for line in run.answers)}
     there = answers_of(server, order, statements, made)
@@ -119,7 +137,7 @@ def compare(source, program, server, order: Optional[List[Command]] = None) -> L
 
 def answers_of(server, order: List[Command], statements, made) -> Dict[Command, Answer]:
     """What a server answers to these commands in this order, in a database of its own; `made` has the oids and names of the
-    tables that commands have made here."""
+    relations that commands have made here."""
     database = server.new_database()
     last = {backend: number for backend, number in sorted(order)}
     sessions: Dict[int, Asked] = {}

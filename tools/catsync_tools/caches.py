@@ -6,9 +6,10 @@ scans; every other scan is an entry or a list of a catalog cache, also one that 
 where another's transaction becomes visible that changes what the scan would give.
 
 A descriptor in use, by `open` or by the running command, is built anew in its place by the command that was told that it is
-stale. The entries don't say what is in use. It is told by this: the command has made nothing but looks, fetches and builds
-since it was told; and it had built the descriptor itself, or builds none for itself, or has neither locked the relation nor
-found it by its name.
+stale; or, where that was by a rollback, after the `release` of the `rollback to`. The entries don't say what is in use. It is
+told by this: the command has made nothing but looks, fetches and builds since it was told; and it had built the descriptor
+itself, or builds none for itself, or has not found the relation as its own, which is the first one that it locks or finds by
+name. After its write or its `release` a command builds only what is in use.
 """
 from typing import Dict, List, NamedTuple, Optional, Set, Tuple
 
@@ -90,26 +91,38 @@ class Cache:
         self.descriptors: Dict[int, Kept] = {}
         self.command, self.may_build = 0, False
         self.found: Set[int] = set()                # relations that the command may build a descriptor of for itself
+        self.named: Set[int] = set()                # those that it has found by a scan for a name
         self.in_use: Dict[int, Kept] = {}           # descriptors in use that are to be built anew
+        self.whole: Dict[int, Kept] = {}            # of each relation the last one that was whole, and isn't kept
 
     def begin(self, entry, may_build):
         """One more entry of the backend, before it counts, and whether its command may build a descriptor for itself. One
         that doesn't seem to may be an `open`, which locks its relation in AccessShare where it hasn't done so before."""
         (kind, parts), is_other = entry.event, entry.command != self.command
         if is_other:
-            self.command, self.found = entry.command, set()
+            self.command, self.found, self.named = entry.command, set(), set()
         if is_other or kind not in ACCEPTING and parts.get("purpose") not in BUILD_SCANS:
-            self.in_use = {}
+            self.in_use = dict(self.whole) if kind == "release" else {}
         self.may_build = may_build
-        if kind == "lock ok" and (may_build or parts["mode"] == "as"):
-            self.found.add(parts["rel"])
+        if kind == "lock ok" and not self.found and (may_build or parts["mode"] == "as"):
+            self.found = {parts["rel"]}
+        if kind == "unlock" and parts["rel"] in self.found:
+            self.found = set(self.named)
 
-    def note_in_use(self, kept):
-        """A descriptor is stale by a fetch or a reset; whether it is in use."""
-        if kept.is_descriptor and (kept.built is None or kept.command == self.command or kept.rel not in self.found):
-            whole = kept if kept.built else kept.replaced
-            if whole is not None:
-                self.in_use[kept.rel] = whole
+    def note_found(self, rels):
+        """The command finds relations by a name."""
+        self.named = set(rels)
+        self.found = self.found or set(self.named)
+
+    def note_in_use(self, kept, cause):
+        """A descriptor is stale; whether it is in use, where that is by a fetch, a reset or the command's own write."""
+        whole = kept if kept.built else kept.replaced
+        if not kept.is_descriptor or whole is None:
+            return
+        self.whole[kept.rel] = whole
+        is_own = kept.built is not None and kept.command != self.command and kept.rel in self.found
+        if cause == OWN_WRITE or cause in (FETCHED, RESET) and not is_own:
+            self.in_use[kept.rel] = whole
 
     def keep(self, datum, scanned):
         """A scan is kept from now on."""
@@ -153,7 +166,7 @@ class Caches:
         if not kept.is_descriptor or datum[0] in LAST_SCANS:
             kept.finish(entry.number)
         if datum[0] == "relname" and cache.may_build:
-            cache.found.update(int(row.columns[0]) for row in rows)
+            cache.note_found(int(row.columns[0]) for row in rows)
         return kept
 
     def part_of(self, cache: Cache, entry, datum, rows, name):
@@ -200,8 +213,7 @@ class Caches:
                 ended.append(kept)
         for kept in ended:
             self.end(entry, kept, cause)
-            if cause in (FETCHED, RESET):
-                cache.note_in_use(kept)
+            cache.note_in_use(kept, cause)
         return sorted(ended, key=lambda kept: kept.first)
 
     def process(self, entry, messages, cause):

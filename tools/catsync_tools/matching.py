@@ -6,7 +6,7 @@ from .spellings import respelled, tokens_of
 TYPES = {"boolean": "bool", "smallint": "int2", "integer": "int4", "int": "int4", "bigint": "int8"}
 MODES = {"access share": "as", "row share": "rs", "row exclusive": "rx", "share update exclusive": "su", "share": "sh",
          "share row exclusive": "sr", "exclusive": "ex", "access exclusive": "ax"}
-NAMED = {"class": (1,), "att": (2, 3)}      # of a row that is new, the columns that its command has
+NAMED = {"class": (1,), "att": (2, 3), "con": (2,), "trg": (2,)}        # of a row that is new, the columns that its command has
 OF_NO_COMMAND = ("gone", "release", "stop")
 ANSWERED_BY_WORD = ("columns", "column", "regclass")
 SHOWS_FIELDS = ("show", "peek")

@@ -3,9 +3,10 @@ descriptor, or a name, serves a command that makes no scan for it.
 
 An answer tells that its command opened a descriptor: one that shows fields, and an error of a column or of another part of
 the relation; but not where the command scans for a list of columns, as `columns` does, or where a column is missing under the
-lock that `column` asks for. What is built anew in its place, since it is in use, isn't found by a command. One that writes has opened the descriptor of the relation that it changes, and looked up
-the columns. A command without an answer and without a write (`lock table`, or one that the history doesn't finish) isn't said
-to open any.
+lock that `column` asks for. What is built anew in its place, since it is in use, isn't found by a command. One that writes has
+opened the descriptor of the relation that it changes, and looked up the columns. What it locks or looks up besides (a table
+that a foreign key refers to, the indexes of a table that is dropped, the table of an index) it doesn't open. A command without
+an answer and without a write (`lock table`, or one that the history doesn't finish) isn't said to open any.
 """
 import re
 from bisect import bisect_left, bisect_right
@@ -24,6 +25,7 @@ READ_AT = re.compile(r" as of ([0-9]+)")
 NO_COLUMN = re.compile(r"error 42703 column (\S+) does not exist")
 PASSED = ("start", "look", "fetch", "fetch reset", "unlock")
 NUMBER, NAME, TYPE, LIVE = 1, 2, 3, 5       # of a row of pg_attribute
+RELATION = {"class": 0, "att": 0, "def": 1, "ind": 1, "con": 1, "trg": 1}      # where a row says which relation it belongs to
 
 
 def opens(answer):
@@ -34,11 +36,26 @@ def opens(answer):
     return words[0] in FIELDS or bool(SHOWN.match(answer.text))
 
 
-def changes_known(event):
-    """Whether a write changes a relation that it doesn't make itself."""
+def changed_by(event):
+    """The relation that a write changes, by the last row in it; None where the write itself makes that."""
     changes = event.parts["changes"]
     new = {change.columns[0] for change in changes if change.catalog == "class" and change.sign == "+"}
-    return any(change.catalog not in ("class", "att", "ind") or change.columns[0] not in new for change in changes)
+    last = [change for change in changes if change.sign != "!"][-1]
+    if last.sign == "-" and last.catalog not in ("class", "att"):
+        forced = [change.columns[0] for change in changes if change.sign == "!"]
+        return int(forced[0]) if forced else None
+    rel = last.columns[RELATION[last.catalog]]
+    return None if rel in new else int(rel)
+
+
+def columns_of(change):
+    """The columns that a new row names by their numbers: each with its relation."""
+    columns = change.columns
+    if change.sign != "+" or change.catalog not in ("def", "ind", "con"):
+        return []
+    if change.catalog == "con":
+        return [(columns[1], columns[5]), (columns[6], columns[7])] if columns[3] == "f" else []
+    return [(columns[1], number) for number in columns[2 if change.catalog == "def" else 3].split("+")]
 
 
 def columns_by(rows, part):
@@ -60,7 +77,18 @@ class Course:
     def __init__(self, command, before=None):
         self.command, self.before = command, before
         self.rel: Optional[int] = None
+        self.locked: Optional[int] = None       # the relation that it has locked first
         self.by_scan = self.is_over = False
+
+    def goes_further(self, model, event, changed):
+        """Whether a command goes on to another relation than its own, which is the one that it will change, if it will, or else
+        the first that it has locked."""
+        (kind, parts), own = event, self.locked if changed is None else changed
+        if own is None or kind == "unlock":
+            return False
+        if kind in ("lock ok", "lock held"):
+            return parts["rel"] != own
+        return kind == "scan" and parts["purpose"] == "relname" and own not in model.names.rels.get(parts["name"], ())
 
 
 class Uses:
@@ -68,8 +96,9 @@ class Uses:
 
     def __init__(self, output):
         self.opening = {(answer.backend, answer.command) for answer in output.answers if opens(answer)}
-        self.opening |= {(entry.backend, entry.command) for entry in output.entries
-                         if entry.event.kind == "write" and changes_known(entry.event)}
+        self.changed = {(entry.backend, entry.command): changed_by(entry.event) for entry in output.entries
+                        if entry.event.kind == "write"}
+        self.opening |= {place for place, rel in self.changed.items() if rel is not None}
         self.shown: Dict[tuple, int] = {}
         self.scanned: Dict[tuple, int] = {}
         self.missing: Dict[tuple, str] = {}
@@ -103,10 +132,17 @@ class Uses:
             self.finish(model, entry.backend, last, entry.command)
             course = self.courses[entry.backend] = Course(entry.command, last)
         (kind, parts), place = entry.event, (entry.backend, entry.command)
-        if kind == "scan" and parts["purpose"] == "relname":
+        if course.goes_further(model, entry.event, self.changed.get(place)):
+            if not course.is_over and course.rel is not None:
+                course.is_over = True
+                self.go_on(model, course, entry, last)
+        elif kind == "scan" and parts["purpose"] == "relname":
             course.rel, course.by_scan = model.rows.named(entry.backend, parts["name"]), True
             course.is_over = False
+        elif kind == "unlock":
+            course.locked = None
         elif kind in ("lock ok", "lock held"):
+            course.locked = course.locked or parts["rel"]
             course.rel = parts["rel"]
             if parts["mode"] == "as" and place in self.missing:
                 self.opening.discard(place)
@@ -116,6 +152,7 @@ class Uses:
             course.is_over = True
             self.go_on(model, course, entry, last)
         if kind == "write":
+            self.serve_changed(model, course, place, last)
             self.serve_written(model, entry, last)
 
     def go_on(self, model, course, entry, last):
@@ -131,9 +168,21 @@ class Uses:
         if self.opened(model, (entry.backend, entry.command)):
             self.serve(model, course, last)
 
+    def serve_changed(self, model, course, place, last):
+        """A write changes a relation of which its command has asked for no lock."""
+        if self.changed[place] not in (None, course.rel):
+            course.rel, course.by_scan, course.is_over = self.changed[place], False, True
+            self.serve(model, course, last)
+
     def serve_written(self, model, entry, last):
-        """A write changes columns by names that its command looked up, in entries of earlier commands."""
+        """A write changes columns by names that its command looked up, in entries of earlier commands; or has rows that name
+        columns."""
         scans = model.caches.cache(entry.backend).scans
+        for rel, number in dict.fromkeys(pair for change in entry.event.parts["changes"] for pair in columns_of(change)):
+            for row in model.rows.answer(entry.backend, ("attribute", int(rel))):
+                scanned = scans.get(("attname", int(rel), row.columns[NAME])) if row.columns[NUMBER] == number else None
+                if scanned and scanned.kept.command != entry.command:
+                    note(scanned.kept, last, entry.command)
         for change in (change for change in entry.event.parts["changes"] if change.catalog == "att" and change.sign in "+="):
             old = model.rows.seen(model.rows.by_key.get(key_of("att", change.columns), ()), entry.backend)
             for name in dict.fromkeys([version.row.columns[NAME] for version in old] + [change.columns[NAME]]):
