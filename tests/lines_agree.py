@@ -27,13 +27,12 @@ from typing import List, NamedTuple
 
 sys.dont_write_bytecode = True
 
-from built_scripts import built
 from random_scripts import script_of
 
 TOP = os.path.dirname(os.path.dirname(os.path.abspath(__file__)))
 CRATE = os.path.join(TOP, "crates", "lines_replay")
 FLAGS = re.search(r"--stage (\d+)", os.environ.get("CATSYNC_ORACLE_FLAGS", ""))
-STAGE = int(FLAGS[1]) if FLAGS else 10      # of the second reading, of whose commands only those that can be run today are taken
+STAGE = int(FLAGS[1]) if FLAGS else 10      # of the second reading
 SIZES = ("small", "small", "medium")
 BATCH = 200                 # cases of one run of the program: its answers stay below a MiB
 MOST_PLAYED = 300           # entries of a history that is played by the rules
@@ -75,7 +74,7 @@ class Oracle:
     def script(self, seed):
         """A random script, whose last line is `end` and nothing else."""
         script = script_of(seed) if seed // 4 % 2 else self.scripts.make(seed, STAGE, SIZES[seed % len(SIZES)])
-        lines = built(script).rstrip("\n").split("\n")
+        lines = script.rstrip("\n").split("\n")
         return "".join(line + "\n" for line in lines[:-1] + ["end"])
 
     def walked(self, script):

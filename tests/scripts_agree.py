@@ -1,7 +1,7 @@
 #!/usr/bin/env python3
 """Runs random scripts through the program and through a second reading of the rules, as CATSYNC_ORACLE/checks/agree does, whose
-arguments these are; half of them that reading's, half our own (random_scripts.py), both without the commands that the program
-can't run yet. With --faults they are changed, so that most are no scripts any more."""
+arguments these are; half of them that reading's, half our own (random_scripts.py). With --faults they are changed, so that most are
+no scripts any more."""
 import importlib.machinery
 import importlib.util
 import os
@@ -9,7 +9,6 @@ import sys
 
 sys.dont_write_bytecode = True
 
-from built_scripts import built
 from random_scripts import script_of
 
 
@@ -24,7 +23,7 @@ def load(path):
 def main():
     agree = load(os.path.join(os.environ["CATSYNC_ORACLE"], "checks", "agree"))
     theirs = agree.good_script
-    agree.good_script = lambda seed, stage: built(script_of(seed) if seed // 4 % 2 else theirs(seed, stage).decode()).encode()
+    agree.good_script = lambda seed, stage: script_of(seed).encode() if seed // 4 % 2 else theirs(seed, stage)
     return agree.main()
 
 

@@ -14,7 +14,6 @@ import sys
 
 sys.dont_write_bytecode = True
 
-from built_scripts import built
 from random_scripts import script_of
 
 TOP = os.path.dirname(os.path.dirname(os.path.abspath(__file__)))
@@ -64,7 +63,7 @@ def main():
     options = parser.parse_args()
     total = differ = 0
     for seed in range(options.first, options.last + 1):
-        found, entries = differences(options.program, built(script_of(seed)))
+        found, entries = differences(options.program, script_of(seed))
         total += entries
         differ += bool(found)
         for text in found:

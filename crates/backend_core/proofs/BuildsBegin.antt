@@ -13,7 +13,7 @@ use Rattle.event_kinds.specs.declared.entry.Event.TheVariants as events
 use Rattle.inval_messages.specs.Messages.{is_spared}
 use Rattle.inval_messages.specs.Lists.{lists_from, sent_in}
 use Rattle.ddl_effect.specs.declared.told.Told.TheVariants as tells
-use Rattle.ddl_effect.specs.Plans.{Plan, Act, Done, Fails, Absent, NotBuilt, Do, Lookup, Open, Search, Read, Lock, Write, is_built}
+use Rattle.ddl_effect.specs.Plans.{Plan, Act, Done, Fails, Absent, Do, Lookup, Open, Search, Read, Lock, Write}
 use Rattle.ddl_effect.specs.Commands.{plan_of, found, commands_of}
 use Rattle.txn_blocks.specs.Blocks.{Blocks, no_block, refused_by}
 use Rattle.history_model.specs.Drawn.{next_oid}
@@ -91,17 +91,9 @@ named_order : (plan : Plan) → FollowsOrder plan → SearchesNamed plan
 named_order (Do act rest) follows = named_follows at_first (Do act rest) follows
 named_order plan follows = tt
 
-named_unbuilt : (plan : Plan) → is_built plan ≡ false → SearchesNamed plan
-named_unbuilt (Do act rest) is = absurd (cc is)
-named_unbuilt plan is = tt
-
 -- so does each command from its beginning
 named_plan : (opens : List OpenRelation) (command : Command) → SearchesNamed (plan_of opens command)
-named_plan opens command = by_built (is_built (plan_of opens command)) refl
-  where
-    by_built : (t : Bool) → is_built (plan_of opens command) ≡ t → SearchesNamed (plan_of opens command)
-    by_built true is = named_order (plan_of opens command) (follows_order opens command is)
-    by_built false is = named_unbuilt (plan_of opens command) is
+named_plan opens command = named_order (plan_of opens command) (follows_order opens command)
 
 named_first : (blocks : Blocks) (opens : List OpenRelation) (o : Option Command) → SearchesNamed (plan_first blocks opens o)
 named_first blocks opens None = tt
@@ -136,7 +128,6 @@ named_acts : (facts : Facts) (p : Plan) (s : Session) → SearchesNamed p → Is
 named_acts facts (Done told) s plan named = named
 named_acts facts (Fails error) s plan named = named
 named_acts facts (Absent name) s plan named = named
-named_acts facts NotBuilt s plan named = named
 named_acts facts (Do act rest) s plan named = by_given (done_here facts s act (Do act rest)) (λ given. named_acts facts (rest given) (act_done act given (rest given) s) (named_after act rest given plan) (named_done act rest given s plan named))
   where
     by_given : (o : Option (List Row)) → ((given : List Row) → IsNamed (acted_on facts (rest given) (act_done act given (rest given) s))) → IsNamed (elim o as (λ x. Session) [ None ↦ s | Some given ↦ acted_on facts (rest given) (act_done act given (rest given) s) ])
@@ -264,7 +255,6 @@ act_first facts scan (Done (tells.Regclass oid)) named builds is = not_named fac
 act_first facts scan (Done told) named builds is = absurd (cc is)
 act_first facts scan (Fails error) named builds is = absurd (cc is)
 act_first facts scan (Absent name) named builds is = absurd (cc is)
-act_first facts scan NotBuilt named builds is = absurd (cc is)
 
 next_first : (facts : Facts) (scan : Purpose) (s : Session) → IsNamed s → is_build_scan scan ≡ true → is_next_scan scan facts s ≡ true → Begins facts scan
 next_first facts scan s named built is = by_outcome (outcome_of s.left) is

@@ -20,7 +20,6 @@ awaits-other scenario seen e s other waits = record {
   keeps = let k = waits.keeps in record {
     alive = k.alive;
     life = record { last = k.life.last; alive = life_of-other seen e s.progress.id other ∙ k.life.alive; most = k.life.most };
-    built = k.built;
     places = still.places;
   };
   rests = still.rests;
@@ -37,7 +36,6 @@ awaits-other scenario seen e s other waits = record {
 not_joined-other : (scenario : Scenario) (seen : List Entry) (e : Entry) (s : Backend) → (e.backend == s.progress.id) ≡ false → HasNotJoined scenario seen s → HasNotJoined scenario (seen ++ e ∷ []) s
 not_joined-other scenario seen e s other before = record {
   waits = none.waits;
-  built = before.built;
   new = before.new;
   session = none.session;
   facts = none.facts;

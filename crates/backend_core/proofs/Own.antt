@@ -14,7 +14,6 @@ use Rattle.cacheless.specs.Holds.{HasEntered, entry_of, with_own}
 use Rattle.cacheless.specs.MayEnter.{SuitsHistory}
 use Rattle.cacheless.specs.OnCourse.{FollowsPlan, TellsAlone, IsOnCourse, CourseOf, AllOnCourse}
 use Rattle.cacheless.specs.Plays.{MayPlayIn, IsNext}
-use Rattle.cacheless.specs.Runs.{runs}
 use Rattle.cacheless.specs.Schedule.{LooksTruly}
 use Rattle.cacheless.specs.Session.{Session, Well, outcome_of}
 use Rattle.cacheless.specs.Sessions.{session_of}
@@ -147,7 +146,6 @@ own_enters scenario old new had has was now event waits played courses own goes 
         alive = ap (life_of (with_own old was.progress event)) goes.moves.id ∙ life_of-own old (entry_of b (was.progress.finished + 1) event) b (eq-eqb b b refl) ∙ lives;
         most = omega (arith, goes.moves.finished);
       };
-      built = subst (All (λ c. runs c ≡ true)) (sym goes.moves.commands) waits.keeps.built;
       places = own_places scenario old was.progress now.progress event was.lines (session_waits waits) courses appends.comes.follows own.plays (record { goes = goes; kept = kept; answer = answer });
     }
 

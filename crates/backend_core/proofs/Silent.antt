@@ -6,7 +6,6 @@ use Rattle.history_model.specs.Lives.{life_of}
 use Rattle.cacheless.specs.Facts.{facts_of}
 use Rattle.cacheless.specs.Holds.{Holds, HasActed, HasPassed}
 use Rattle.cacheless.specs.OnCourse.{EntersCourse, TellsAlone}
-use Rattle.cacheless.specs.Runs.{runs}
 use Rattle.cacheless.specs.Answering.{IsToldText}
 use Rattle.cacheless.specs.Session.{Session, outcome_of, is_settled}
 use Rattle.cacheless.specs.Silently.{is_to_answer, IsSettled, Answers, HasAnswered, IsLineOf}
@@ -39,7 +38,6 @@ act_agrees scenario seen was p keeps told quiet now acted kept same = record {
   keeps = record {
     alive = now.keeps.alive;
     life = record { last = now.keeps.life.last; alive = ap (life_of seen) acted.moves.id ∙ now.keeps.life.alive; most = omega (arith, now.keeps.life.most, acted.moves.finished) };
-    built = subst (All (λ c. runs c ≡ true)) (sym acted.moves.commands) now.keeps.built;
     places = act_places scenario seen was.progress p now.holds now.tells.course acted kept now.keeps.places;
   };
   holds = acted.holds;
@@ -76,7 +74,7 @@ answer_agrees : (scenario : Scenario) (seen : List Entry) (s : Backend) (command
     → AgreesNow scenario seen (record s { progress = with_answer s.progress text })
 unfolding answer_holds
 answer_agrees scenario seen s command text now at asked none told = record {
-  keeps = let k = now.keeps in record { alive = k.alive; life = record { last = k.life.last; alive = k.life.alive; most = k.life.most }; built = k.built; places = answer_places seen s.progress text k.places };
+  keeps = let k = now.keeps in record { alive = k.alive; life = record { last = k.life.last; alive = k.life.alive; most = k.life.most }; places = answer_places seen s.progress text k.places };
   holds = answer_holds scenario seen s.progress text now.holds;
   fits = now.fits;
   tells = answer_tells scenario seen s.progress command text now.holds now.tells now.keeps.places at asked none told;
@@ -94,7 +92,6 @@ pass_agrees scenario seen was p lines line now passed kept none says pushed = re
   keeps = record {
     alive = now.keeps.alive;
     life = record { last = now.keeps.life.last; alive = ap (life_of seen) passed.id ∙ now.keeps.life.alive; most = omega (arith, now.keeps.life.most, passed.finished) };
-    built = subst (All (λ c. runs c ≡ true)) (sym passed.commands) now.keeps.built;
     places = pass_places scenario seen was.progress p now.holds passed kept now.keeps.places;
   };
   holds = passed.holds;

@@ -1,5 +1,5 @@
 -- How a backend agrees with a history.
-use Rattle.std.specs.Prelude.{◌≡◌, ◌≤◌, ◌+◌, ℕ, true, false, Option, None, List, [], slice_get, is_some, All}
+use Rattle.std.specs.Prelude.{◌≡◌, ◌≤◌, ◌+◌, ℕ, true, false, Option, None, List, [], slice_get, is_some}
 use Rattle.history_model.specs.Lives.{Life, Unstarted, Alive, Stopped, life_of}
 use Rattle.history_model.specs.Writes.{has_written}
 pub use Rattle.cacheless.specs.Answering.{AreLastScans, IsWhole, KeepsAbsent, PlacesFit}
@@ -8,7 +8,6 @@ use Rattle.cacheless.specs.Holds.{Holds, Rests, HasNotStarted}
 use Rattle.cacheless.specs.Lines.{lines_of_backend}
 use Rattle.cacheless.specs.OnCourse.{AllOnCourse}
 pub use Rattle.cacheless.specs.Played.{AreSpelled, IsPlayed}
-use Rattle.cacheless.specs.Runs.{runs}
 use Rattle.cacheless.specs.Sessions.{session_of}
 use Rattle.cacheless.specs.Silently.{is_to_answer_at}
 use Rattle.cacheless.specs.State.{kept_at, session_at}
@@ -32,7 +31,6 @@ pub record IsAlive (life : Life) (s : Backend) : Type 0 where
 pub record Keeps (seen : List Entry) (s : Backend) : Type 0 where
   pub alive : s.life ≡ lives.Alive
   pub life : IsAlive (life_of seen s.progress.id) s
-  pub built : All (λ command. runs command ≡ true) s.progress.commands
   pub places : PlacesFit seen s.progress
 
 -- a backend whose last entry is the history's last, before it has gone on without entries, or on the way
@@ -75,7 +73,6 @@ pub record IsNew (s : Backend) (id : ℕ) (commands : List Command) : Type 0 whe
 -- a backend that hasn't joined has no entry
 pub record HasNotJoined (scenario : Scenario) (seen : List Entry) (s : Backend) : Type 0 where
   pub waits : HasNotStarted scenario seen s.progress
-  pub built : All (λ command. runs command ≡ true) s.progress.commands
   pub new : IsNew s s.progress.id s.progress.commands
   pub session : session_of scenario seen s.progress.id ≡ None
   pub facts : facts_of seen s.progress.id ≡ facts_of [] s.progress.id

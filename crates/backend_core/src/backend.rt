@@ -35,7 +35,6 @@ impl Drop for Backend {
 
 impl Backend {
     ghost use Rattle.std.specs.Prelude.{◌≡◌, ◌≢◌, ◌≤◌, ◌<◌, true, false, length, All, OnOk, OnErr, IfOk};
-    ghost use Rattle.cacheless.specs.Runs.{runs};
     ghost use Rattle.backend_core.specs.Words.{has_left};
     ghost use Rattle.history_model.specs.Legal.{IsLegal};
     ghost use Rattle.cacheless.specs.Plays.{Plays};
@@ -45,7 +44,6 @@ impl Backend {
 
     /// The backend of this number with its commands in order, which hasn't joined.
     pub fn new(alloc: Global, id: u32, commands: Listed<Command>) -> Result<Backend, NoMemory>
-        requires built { All (λ command. runs command ≡ true) commands }
         ensures { IfOk result (λ s. IsNew s id commands) }
     {
         Ok(Backend {

@@ -16,7 +16,6 @@ use seg_calls::Seg;
 use std::alloc::Global;
 
 impl Backend {
-    ghost use Rattle.cacheless.specs.Runs.{runs};
     ghost use Rattle.backend_core.specs.Agrees.{AgreesNow, GoesOn, AwaitsEntry};
     ghost use Rattle.backend_core.specs.Noted.{Settles};
 
@@ -69,7 +68,6 @@ impl Backend {
 
     // It passes to its next command.
     fn pass(&mut self, alloc: Global) -> Result<(), NoMemory>
-        requires built { All (λ command. runs command ≡ true) self.old.progress.commands }
         requires few { length self.old.progress.commands ≤ 20000 }
         requires finishes { Finishes self.old.progress }
         ensures keeps { OnOk result ((scenario : Scenario) (seen : List Entry) → AgreesNow scenario seen self.old → GoesOn scenario seen self.old self.new) }

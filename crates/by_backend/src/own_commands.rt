@@ -1,17 +1,14 @@
 ghost use Rattle.std.specs.Prelude.{◌≡◌, ◌-◌, ◌++◌, ◌∷◌, [], true, length, replicate, slice_index_or, slice_set, IfOk, OnOk};
 ghost use Rattle.base_types.specs.Scenario.{IsBackend};
 ghost use Rattle.ddl_effect.specs.Stages.{alters_table};
-ghost use Rattle.by_backend.specs.Built.{is_built as is_built_scenario};
 ghost use Rattle.by_backend.specs.OwnCommands.{HaveCommands};
 
 use base_types::{Command, Listed, Name, NewColumn, NoMemory, Placed};
 use script_text::Script;
 use std::alloc::{AllocError, Global};
 
-/// The commands of each backend, in order; `NoMemory` where memory is short. Condition: those of the
-/// script can be run.
+/// The commands of each backend, in order; `NoMemory` where memory is short.
 pub fn commands_by_backend(alloc: Global, script: &Script) -> Result<Vec<Listed<Command>>, NoMemory>
-    requires { is_built_scenario script.now ≡ true }
     ensures { IfOk result (λ lists. HaveCommands script.now.commands script.now.backends lists.items) }
 {
     let mut lists = empty_lists(alloc, script.backends())?;

@@ -22,7 +22,7 @@ use Rattle.lock_modes.specs.declared.grant.Grant.{Grant}
 use Rattle.lock_modes.specs.Grants.{is_lock, holds, stays}
 use Rattle.lock_modes.specs.declared.own_lock.OwnLock.{OwnLock}
 use Rattle.lock_modes.specs.Own.{is_own, has_lock, cleared}
-use Rattle.ddl_effect.specs.Plans.{Plan, Done, Fails, Absent, NotBuilt, Do}
+use Rattle.ddl_effect.specs.Plans.{Plan, Done, Fails, Absent, Do}
 use Rattle.ddl_effect.specs.Commands.{commands_of}
 use Rattle.txn_blocks.specs.Blocks.{no_block}
 use Rattle.history_model.specs.Prefixes.{EachEntry}
@@ -187,7 +187,6 @@ acted_on-locks : (facts : Facts) (p : Plan) (s : Session) → (acted_on facts p 
 acted_on-locks facts (Done told) s = refl
 acted_on-locks facts (Fails error) s = refl
 acted_on-locks facts (Absent name) s = refl
-acted_on-locks facts NotBuilt s = refl
 acted_on-locks facts (Do act rest) s = by_given (done_here facts s act (Do act rest)) (λ given. acted_on-locks facts (rest given) (act_done act given (rest given) s))
   where
     by_given : (o : Option (List Row)) → ((given : List Row) → (acted_on facts (rest given) (act_done act given (rest given) s)).locks ≡ s.locks)

@@ -10,7 +10,7 @@ use Rattle.local_caches.specs.declared.local_caches.LocalCaches.{LocalCaches}
 use Rattle.lock_modes.specs.Own.{has_lock}
 use Rattle.inval_messages.specs.Lists.{Written}
 use Rattle.txn_blocks.specs.Blocks.{Blocks}
-use Rattle.ddl_effect.specs.Plans.{Plan, Act, Done, Fails, Absent, Do, NotBuilt, Lookup, Open, Search, Read, Lock, Write, after_act}
+use Rattle.ddl_effect.specs.Plans.{Plan, Act, Done, Fails, Absent, Do, Lookup, Open, Search, Read, Lock, Write, after_act}
 use Rattle.ddl_effect.specs.Stages.{plan_at, plan_again, acts_left, want_of, want_of_act}
 use Rattle.ddl_effect.specs.declared.want.Want.{Want}
 use Rattle.ddl_effect.specs.declared.want.Want.TheVariants as wants
@@ -79,7 +79,6 @@ absent_or (Absent name) is go = go name refl
 absent_or (Done told) is go = absurd (cc)
 absent_or (Fails error) is go = absurd (cc)
 absent_or (Do act rest) is go = absurd (cc)
-absent_or NotBuilt is go = absurd (cc)
 
 -- a finished command has come out
 pub out_of : (command : Command) (s : Progress) → is_finished_at command s ≡ true → is_out s ≡ true
@@ -305,7 +304,6 @@ act_is_left s acts = by_plan (plan_at s.opens s.exec) refl (and_true (owes_nothi
     by_plan (Done told) at is = absurd (cc)
     by_plan (Fails error) at is = absurd (cc)
     by_plan (Absent name) at is = absurd (cc)
-    by_plan NotBuilt at is = absurd (cc)
 
 -- the act that is done without an entry
 pub acted_keeps : (was : Progress) (exec : Exec) (opened : List Opening) (caches : LocalCaches) (want : Want) (acts : Acts was) → want ≡ want_of (plan_at was.opens was.exec)
@@ -325,7 +323,6 @@ acted_keeps was exec opened caches want acts wants on again opens keeps scenario
     by_plan (Done told) at parts = absurd (let both : false ≡ true = sym (ap (gives_next was) at) ∙ parts.1 in cc)
     by_plan (Fails error) at parts = absurd (let both : false ≡ true = sym (ap (gives_next was) at) ∙ parts.1 in cc)
     by_plan (Absent name) at parts = absurd (let both : false ≡ true = sym (ap (gives_next was) at) ∙ parts.1 in cc)
-    by_plan NotBuilt at parts = absurd (let both : false ≡ true = sym (ap (gives_next was) at) ∙ parts.1 in cc)
 
 -- the same by the rows that the code gives, and by the relations that it goes by
 pub acted_code : (was : Progress) (exec : Exec) (opened : List Opening) (caches : LocalCaches) (want : Want) (opens : List OpenRelation) (given : List Row) (acts : Acts was) → want ≡ want_of (plan_at was.opens was.exec) → given ≡ rows_given was want → opens ≡ was.opens

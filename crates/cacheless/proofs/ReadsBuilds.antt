@@ -5,7 +5,7 @@ use Rattle.base_types.specs.Scans.{is_build_scan}
 use Rattle.base_types.specs.declared.scan.Purpose.TheVariants as scans
 use Rattle.command_answers.specs.declared.error.CommandError.TheVariants as errors
 use Rattle.ddl_effect.specs.Commands.{if_passes, with_column, reading, targeting, filling}
-use Rattle.ddl_effect.specs.Plans.{Plan, Fails, Do, Search, Read, NotBuilt, is_built}
+use Rattle.ddl_effect.specs.Plans.{Plan, Fails, Do, Search, Read}
 use Rattle.ddl_effect.specs.Stages.{plan_at, altering_at, altered, want_of}
 use Rattle.ddl_effect.specs.declared.alteration.Alteration.{Alteration}
 use Rattle.ddl_effect.specs.declared.alteration.Alteration.TheVariants as alterations
@@ -46,11 +46,6 @@ begins_reads (Do (Search scan) rest) begins = begins
 begins_reads (Do (Read scan) rest) begins = begins
 begins_reads plan begins = absurd begins
 
-begins_built : (plan : Plan) → BeginsReading plan → is_built plan ≡ true
-begins_built (Fails error) begins = refl
-begins_built (Do act rest) begins = refl
-begins_built plan begins = absurd begins
-
 pub begins_there : (plan : Plan) → BeginsReading plan → is_absent plan ≡ false
 begins_there (Fails error) begins = refl
 begins_there (Do act rest) begins = refl
@@ -86,16 +81,3 @@ stage_reads opens (stages.ListingColumns rel) = refl
 stage_reads opens (stages.FindingColumn rel column) = refl
 stage_reads opens (stages.FindingOid oid) = refl
 stage_reads opens stage = tt
-
--- each is built
-alters_built : (opens : List OpenRelation) (altering : Altering) → is_built (altering_at opens altering) ≡ true
-alters_built opens (alters.Opened rel alteration) = begins_built (altered opens alteration rel) (opened_begins opens alteration rel)
-alters_built opens alters.Done = refl
-alters_built opens stage = refl
-
-all_built : (opens : List OpenRelation) (exec : Exec) → is_built (plan_at opens exec) ≡ true
-all_built opens (stages.Altering altering) = alters_built opens altering
-all_built opens stage = refl
-
-pub stage_built : (opens : List OpenRelation) (exec : Exec) → plan_at opens exec ≡ NotBuilt → ⊥
-stage_built opens exec is = let both : true ≡ false = sym (all_built opens exec) ∙ ap is_built is in cc both

@@ -6,7 +6,7 @@ use Rattle.std.proofs.lemmas.Option.{slice_get_cases, slice_get_within, get_or_f
 use Rattle.base_types.specs.declared.row.Row.TheVariants as rows
 use Rattle.base_types.specs.declared.scan.Purpose.TheVariants as scans
 use Rattle.local_caches.specs.Kept.{Read as KeptRead}
-use Rattle.ddl_effect.specs.Plans.{Plan, Act, Done, Fails, Absent, Do, NotBuilt, Lookup, Open, Search, Read, Lock, Write}
+use Rattle.ddl_effect.specs.Plans.{Plan, Act, Done, Fails, Absent, Do, Lookup, Open, Search, Read, Lock, Write}
 use Rattle.ddl_effect.specs.Stages.{plan_at}
 use Rattle.history_model.specs.Writes.{is_empty}
 use Rattle.cacheless.specs.Types.{Mode, Row, Purpose, Command, Scenario, Entry, Event}
@@ -129,7 +129,6 @@ stays_act : (facts : Facts) (command : Command) (s : Progress) (r : Rest) → Fa
 stays_act facts command s r fits count stays (Done told) at free = refl
 stays_act facts command s r fits count stays (Fails error) at free = refl
 stays_act facts command s r fits count stays (Absent name) at free = refl
-stays_act facts command s r fits count stays NotBuilt at free = refl
 stays_act facts command s r fits count stays (Do act plan) at free = ap (λ o. elim o [ None ↦ session_at s r | Some given ↦ acted_on facts (plan given) (act_done act given (plan given) (session_at s r)) ]) (by_lacks (lacks_any s) refl)
   where
     owed : List Purpose

@@ -9,7 +9,7 @@ use Rattle.base_types.specs.declared.scan.Purpose.{Purpose}
 use Rattle.base_types.specs.declared.command.Command.{Command}
 use Rattle.base_types.proofs.SameScan.{same_scan-itself}
 use Rattle.event_kinds.specs.declared.entry.Event.{Event}
-use Rattle.ddl_effect.specs.Plans.{Plan, Done, Fails, Absent, NotBuilt, Do, Act}
+use Rattle.ddl_effect.specs.Plans.{Plan, Done, Fails, Absent, Do, Act}
 use Rattle.history_model.specs.Writes.{is_empty}
 use Rattle.cacheless.specs.declared.opening.Opening.{Opening}
 use Rattle.cacheless.specs.Facts.{Facts}
@@ -44,7 +44,6 @@ acted_on-out : (facts : Facts) (p : Plan) (s : Session) → is_settled (outcome_
 acted_on-out facts (Done told) s out = refl
 acted_on-out facts (Fails error) s out = refl
 acted_on-out facts (Absent name) s out = refl
-acted_on-out facts NotBuilt s out = refl
 acted_on-out facts (Do act rest) s out = absurd (cc)
 
 -- a command that has come out has no act to do
@@ -97,7 +96,6 @@ acted_on-owed : (facts : Facts) (p : Plan) (s : Session) → is_empty (elim (out
 acted_on-owed facts (Done told) s owed = refl
 acted_on-owed facts (Fails error) s owed = refl
 acted_on-owed facts (Absent name) s owed = refl
-acted_on-owed facts NotBuilt s owed = refl
 acted_on-owed facts (Do act rest) s owed = ap (λ o. elim o [ None ↦ s | Some given ↦ acted_on facts (rest given) (act_done act given (rest given) s) ]) (ap (λ t. elim t [ true ↦ gives facts s act | false ↦ None ]) owed)
 
 -- a scan is owed

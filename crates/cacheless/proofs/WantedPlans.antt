@@ -7,7 +7,7 @@ use Rattle.base_types.specs.Modes.{same_mode}
 use Rattle.base_types.specs.declared.scan.Purpose.TheVariants as scans
 use Rattle.ddl_effect.specs.declared.want.Want.{Want}
 use Rattle.ddl_effect.specs.declared.want.Want.TheVariants as wants
-use Rattle.ddl_effect.specs.Plans.{Plan, Done, Fails, Absent, Do, NotBuilt, Lookup, Open, Search, Read, Lock, Write, left_rests_on, told_rests_on}
+use Rattle.ddl_effect.specs.Plans.{Plan, Done, Fails, Absent, Do, Lookup, Open, Search, Read, Lock, Write, left_rests_on, told_rests_on}
 use Rattle.ddl_effect.specs.Stages.{want_of}
 use Rattle.txn_blocks.specs.Blocks.{Blocks, Level, blocks_badly}
 use Rattle.ddl_effect.proofs.Driven.{fails_is, absent_is}
@@ -125,7 +125,6 @@ goes_on (Done told) done fails absent = absurd (done (told_rests_on told) refl)
 goes_on (Fails error) done fails absent = absurd (fails error refl)
 goes_on (Absent name) done fails absent = absurd (absent name refl)
 goes_on (Do act rest) done fails absent = refl
-goes_on NotBuilt done fails absent = refl
 
 -- one that hasn't done what it says leaves blocks and open relations as after a failure
 pub passed_badly : (plan : Plan) (number : ℕ) (command : Command) (blocks : Blocks) → ((told : Option Purpose) → want_of plan ≡ wants.Done told → ⊥) → blocks_passed plan number command blocks ≡ blocks_badly blocks

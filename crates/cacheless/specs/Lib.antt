@@ -1,5 +1,4 @@
 pub mod Types
-pub mod Runs
 pub mod Facts
 pub mod Locks
 pub mod Session

@@ -5,7 +5,7 @@ use Rattle.base_types.specs.declared.scan.Purpose.TheVariants as scans
 use Rattle.event_kinds.specs.declared.entry.Event.TheVariants as events
 use Rattle.lock_modes.specs.Own.{cleared}
 use Rattle.ddl_effect.specs.declared.told.Told.TheVariants as tells
-use Rattle.ddl_effect.specs.Plans.{Act, Lookup, Write, Plan, Done, Fails, Absent, Do, NotBuilt}
+use Rattle.ddl_effect.specs.Plans.{Act, Lookup, Write, Plan, Done, Fails, Absent, Do}
 use Rattle.ddl_effect.specs.Commands.{plan_of, commands_of}
 use Rattle.txn_blocks.specs.Blocks.{refused_by}
 use Rattle.history_model.specs.Lives.{last_event_of}
@@ -16,7 +16,6 @@ use Rattle.history_model.specs.Writes.{has_written}
 use Rattle.cacheless.specs.Types.{Oid, Mode, Row, Command, CommandError, Opening, OpenRelation, Draft, Told, Scenario, Entry, Event}
 use Rattle.cacheless.specs.Facts.{Facts, facts_of}
 use Rattle.cacheless.specs.Owed.{owes_accept}
-use Rattle.cacheless.specs.Runs.{runs}
 use Rattle.cacheless.specs.Session.{Session, Well, held_before, number_of, outcome_of, is_settled}
 use Rattle.cacheless.specs.Settled.{class_oid, found_by, is_finished}
 use Rattle.cacheless.specs.Sessions.{session_of}
@@ -33,13 +32,12 @@ abbrev pub TakesNew : List LockOn → Plan → Option Oid → Type 0
 TakesNew locked (Do (Lookup name mode) rest) (Some rel) = AllByRecursion (IsOtherLock rel mode) locked
 TakesNew locked plan taken = ⊤
 
--- a command that the program runs and that hasn't written, by what its acts gave so far
+-- a command that hasn't written, by what its acts gave so far
 pub record OnItsWay (seen : List Entry) (b : ℕ) (s : Session) (command : Command) : Type 0 where
   pub gave : List (List Row)
   pub plan : s.left ≡ reached gave (plan_of s.opens command)
   pub found : s.found ≡ made_in found_by gave (plan_of s.opens command)
   pub opened : s.opened ≡ held_before s ++ made_in opening_by gave (plan_of s.opens command)
-  pub runs : runs command ≡ true
   pub holds : WayHolds seen b gave (plan_of s.opens command)
   pub newly : TakesNew (made_in locks_by gave (plan_of s.opens command)) s.left s.taken
   pub unwritten : has_written seen b (number_of s) ≡ false
@@ -52,10 +50,6 @@ pub record HasWritten (seen : List Entry) (b : ℕ) (s : Session) (command : Com
   pub came : reached gave (plan_of s.opens command) ≡ Do (Write draft) further
   pub plan : s.left ≡ Done tells.Ok
   pub written : has_written seen b (number_of s) ≡ true
-
--- a command that isn't built, and so never ends
-pub record IsNotBuilt (s : Session) : Type 0 where
-  pub plan : s.left ≡ NotBuilt
 
 -- the last entry took writes of the command back, or its release is made
 abbrev pub is_over : Option Event → Session → Bool
@@ -71,7 +65,6 @@ pub record IsOver (seen : List Entry) (b : ℕ) (s : Session) : Type 0 where
 pub data Way (seen : List Entry) (b : ℕ) (s : Session) (command : Command) : Type 0 where
   Begun : (way : OnItsWay seen b s command) → Way seen b s command
   Wrote : (written : HasWritten seen b s command) → Way seen b s command
-  Unbuilt : (unbuilt : IsNotBuilt s) → Way seen b s command
   Over : (over : IsOver seen b s) → Way seen b s command
 
 -- what an act gave is so, as far as the rest of its plan goes, the relations of which it read are drawn, and the lock under which it goes on is held
@@ -92,7 +85,6 @@ pub record WasSought (seen : List Entry) (b : ℕ) (s : Session) (command : Comm
   pub rest : List Row → Plan
   pub looks : s.sought ≡ Do (Lookup name mode) rest
   pub plan : s.sought ≡ reached gave (plan_of s.opens command)
-  pub runs : runs command ≡ true
   pub found : s.found ≡ made_in found_by gave (plan_of s.opens command) ++ None ∷ []
   pub opened : s.ended ≡ false → s.opened ≡ held_before s ++ made_in opening_by gave (plan_of s.opens command)
   pub holds : is_over (last_event_of seen b) s ≡ false → WayHolds seen b gave (plan_of s.opens command)

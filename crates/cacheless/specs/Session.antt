@@ -1,7 +1,7 @@
 -- The session of a backend: how far it is in its commands.
 use Rattle.std.specs.Prelude.{ℕ, Bool, true, false, Option, Some, None, List, [], ◌∷◌, ◌+◌, map, length, is_some}
 use Rattle.ddl_effect.specs.declared.told.Told.TheVariants as tells
-use Rattle.ddl_effect.specs.Plans.{Plan, Done, Fails, Absent, Do, NotBuilt}
+use Rattle.ddl_effect.specs.Plans.{Plan, Done, Fails, Absent, Do}
 use Rattle.ddl_effect.specs.Commands.{plan_of}
 use Rattle.txn_blocks.specs.Blocks.{Block, Inside, Failed, Blocks, refused_by}
 use Rattle.cacheless.specs.Types.{Oid, Command, CommandError, OpenRelation, Opening, OwnLock}
@@ -132,7 +132,6 @@ outcome_of (Done told) = Well
 outcome_of (Fails error) = Badly
 outcome_of (Absent name) = Badly
 outcome_of (Do act rest) = Unsettled
-outcome_of NotBuilt = Unsettled
 
 -- a command has come out
 abbrev pub is_settled : Outcome → Bool

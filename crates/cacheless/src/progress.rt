@@ -1,7 +1,6 @@
 ghost use Rattle.std.specs.Prelude.{◌≡◌, ◌≤◌, [], true, All, IfOk, length};
 ghost use Rattle.base_types.specs.Scenario.{Scenario, IsBackend};
 ghost use Rattle.ddl_effect.specs.Commands.{commands_of};
-ghost use Rattle.cacheless.specs.Runs.{runs};
 ghost use Rattle.cacheless.specs.State.{IsNew};
 ghost use Rattle.cacheless.specs.Holds.{HasNotStarted};
 
@@ -115,7 +114,6 @@ impl Drop for Progress {
 impl Progress {
     /// The backend of this number with its commands in order, before it has started.
     pub fn new(alloc: Global, id: u32, commands: Listed<Command>) -> Result<Progress, NoMemory>
-        requires built { All (λ command. runs command ≡ true) commands }
         ensures new { IfOk result (λ s. IsNew id commands s) }
         ensures waits { IfOk result (λ s. (scenario : Scenario) → IsBackend scenario.backends id → commands ≡ commands_of scenario id → length commands ≤ 20000 → HasNotStarted scenario [] s) }
     {

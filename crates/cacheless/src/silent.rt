@@ -3,7 +3,6 @@
 ghost use Rattle.std.specs.Prelude.{◌≡◌, ◌≤◌, ◌<◌, ◌&&◌, List, [], None, true, All, OnOk, OnErr, IfOk, is_none, is_some, slice_get, length};
 ghost use Rattle.ddl_effect.specs.Stages.{plan_at, told_of, want_of};
 ghost use Rattle.cacheless.specs.Told.{tells_of_scans as rests_on_scans};
-ghost use Rattle.cacheless.specs.Runs.{runs};
 ghost use Rattle.cacheless.specs.State.{blocks_passed, rows_kept as kept_rows};
 ghost use Rattle.cacheless.specs.Silently.{rows_for as gives_rows};
 ghost use Rattle.local_caches.specs.Caches.{kept_of};
@@ -42,7 +41,6 @@ impl Progress {
     /// Goes on as far as it can without an entry, and adds the lines of the commands that it passes over.
     /// Out of memory, it may not be used any more.
     pub fn settle(&mut self, alloc: Global, lines: &mut Listed<Line>) -> Result<(), NoMemory>
-        requires built { All (λ command. runs command ≡ true) self.old.commands }
         requires few { length self.old.commands ≤ 20000 }
         ensures rests { OnOk result ((scenario : Scenario) (seen : List Entry) → Holds scenario seen self.old → Rests scenario seen self.new) }
         ensures answered { OnOk result (is_to_answer_at self.new ≡ true → is_some self.new.answer ≡ true) }
@@ -256,7 +254,6 @@ impl Progress {
     /// It passes to its next command, and gives the line of the one before. Condition: the running one is
     /// finished and answered. Out of memory, it may not be used any more.
     pub fn finish(&mut self, alloc: Global) -> Result<Line, NoMemory>
-        requires built { All (λ command. runs command ≡ true) self.old.commands }
         requires few { length self.old.commands ≤ 20000 }
         requires finishes { Finishes self.old }
         ensures passes { OnOk result ((scenario : Scenario) (seen : List Entry) (held : Holds scenario seen self.old) → HasPassed scenario seen self.old held self.new) }

@@ -1,7 +1,3 @@
-ghost use Rattle.std.specs.Prelude.{◌≡◌, true};
-ghost use Rattle.ddl_effect.specs.Plans.{is_built};
-ghost use Rattle.ddl_effect.specs.Commands.{plan_of};
-
 use crate::events::text_of;
 use crate::row_texts::rows_of;
 use crate::scripts::{script_of, text_of_command};
@@ -239,11 +235,8 @@ fn wants_in_turn(
     Ok(first && second && wanted(&exec) == turns[2])
 }
 
-// A command at its beginning, or none where it has no plan.
+// A command at its beginning.
 fn begun(alloc: Global, command: &Command) -> Result<Exec, NoMemory> {
-    if !has_plan(command) {
-        return Ok(Exec::Done(Told::Ok));
-    }
     Exec::new(alloc, &[], command)
 }
 
@@ -706,19 +699,10 @@ fn open_relations(
 
 // What a command changes by these facts, or why it changes nothing.
 fn changed(alloc: Global, command: &Command, facts: &Facts) -> Result<Vec<u8>, NoMemory> {
-    if !has_plan(command) {
-        return Ok(Vec::new(alloc));
-    }
     match effect(alloc, command, facts) {
         Ok(draft) => draft_text(alloc, &draft),
         Err(refusal) => refusal_text(alloc, &refusal),
     }
-}
-
-fn has_plan(command: &Command) -> bool
-    ensures { result ≡ true → (opened : _) → is_built (plan_of opened command.now) ≡ true }
-{
-    Exec::has_plan(command)
 }
 
 fn refusal_text(alloc: Global, refusal: &EffectRefusal) -> Result<Vec<u8>, NoMemory> {

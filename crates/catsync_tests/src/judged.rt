@@ -1,10 +1,6 @@
-ghost use Rattle.std.specs.Prelude.{◌≡◌, true};
-ghost use Rattle.by_backend.specs.Built.{is_built as is_built_scenario};
-
 use crate::ledgers::entries_with;
 use crate::scripts::script_of;
 use base_types::NoMemory;
-use by_backend::is_built;
 use event_kinds::{Entry, Line};
 use history_lines::lines;
 use script_text::Script;
@@ -98,9 +94,7 @@ fn allows(
     count: u64,
     finished: usize,
     last: &[u8],
-) -> Result<bool, NoMemory>
-    requires { is_built_scenario script.now ≡ true }
-{
+) -> Result<bool, NoMemory> {
     let answered = lines(alloc, script, entries)?;
     Ok(answered.entries == count && ends_with(answered.lines.as_slice(), finished, last))
 }
@@ -124,9 +118,6 @@ fn allows_with(
 ) -> Result<bool, NoMemory> {
     let script = script_of(alloc, SCRIPT)?;
     let entries = entries_with(alloc, line, other)?;
-    if !is_built(&script) {
-        return Ok(false);
-    }
     allows(alloc, &script, &entries, count, finished, last)
 }
 

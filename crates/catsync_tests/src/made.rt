@@ -1,6 +1,5 @@
 use crate::scripts::script_of;
 use base_types::NoMemory;
-use by_backend::is_built;
 use make_script::{made_text, make};
 use script_text::write_script;
 use std::alloc::Global;
@@ -55,12 +54,9 @@ backends 1
 end
 ";
 
-// The text of a script under what comes of its walk; nothing for one that can't be walked.
+// The text of a script under what comes of its walk.
 fn counted(alloc: Global, script: &[u8]) -> Result<Vec<u8>, NoMemory> {
     let script = script_of(alloc, script)?;
-    if !is_built(&script) {
-        return Ok(Vec::new(alloc));
-    }
     let world = walk(alloc, &script)?;
     made_text(
         alloc,

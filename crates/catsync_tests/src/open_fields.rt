@@ -1,10 +1,6 @@
-ghost use Rattle.std.specs.Prelude.{◌≡◌, true};
-ghost use Rattle.by_backend.specs.Built.{is_built as is_built_scenario};
-
 use crate::scripts::script_of;
 use backend_core::Backend;
 use base_types::{Field, Name, NoMemory};
-use by_backend::is_built;
 use event_kinds::LineText;
 use script_text::Script;
 use std::alloc::Global;
@@ -123,17 +119,12 @@ fn second_shows(backends: &[Backend], rows: &[Shown]) -> bool {
 }
 
 // Whether the second backend shows these after the walk of a script.
-fn walk_shows(alloc: Global, script: &Script, rows: &[Shown]) -> Result<bool, NoMemory>
-    requires { is_built_scenario script.now ≡ true }
-{
+fn walk_shows(alloc: Global, script: &Script, rows: &[Shown]) -> Result<bool, NoMemory> {
     Ok(second_shows(walk(alloc, script)?.backends.as_slice(), rows))
 }
 
 fn shows(alloc: Global, text: &[u8], rows: &[Shown]) -> Result<bool, NoMemory> {
     let script = script_of(alloc, text)?;
-    if !is_built(&script) {
-        return Ok(false);
-    }
     walk_shows(alloc, &script, rows)
 }
 

@@ -2,13 +2,11 @@ ghost use Rattle.std.specs.Prelude.{◌≡◌, ◌≤◌, ◌<◌, [], ◌∷◌
 ghost use Rattle.event_kinds.specs.declared.entry.Event.TheVariants.{Start};
 ghost use Rattle.seg_calls.specs.Calls.{entry_of};
 ghost use Rattle.shared_seg.specs.Places.{promised_in};
-ghost use Rattle.by_backend.specs.Built.{is_built as is_built_scenario};
 
 use crate::ends::{STEADY, sink_of};
 use crate::scripts::script_of;
 use backend_core::Backend;
 use base_types::{Mode, NoMemory, Oid};
-use by_backend::is_built;
 use event_kinds::Entry;
 use out_text::put_output;
 use script_text::Script;
@@ -82,9 +80,7 @@ end
 pub(crate) fn walked_segment(
     alloc: Global,
     script: &Script,
-) -> Result<(Shared, Vec<Backend>), NoMemory>
-    requires { is_built_scenario script.now ≡ true }
-{
+) -> Result<(Shared, Vec<Backend>), NoMemory> {
     let mut seg = Shared::new(alloc, script)?;
     let backends = walk_on(alloc, script, &mut seg)?;
     Ok((seg, backends))
@@ -104,9 +100,7 @@ fn is_quiet(seg: &Shared, backends: &[Backend]) -> bool {
 }
 
 // Whether a walk of this script leaves a segment with the history, and nothing that waits.
-fn leaves_history(alloc: Global, script: &Script) -> Result<bool, NoMemory>
-    requires { is_built_scenario script.now ≡ true }
-{
+fn leaves_history(alloc: Global, script: &Script) -> Result<bool, NoMemory> {
     let (seg, backends) = walked_segment(alloc, script)?;
     let is_so = is_quiet(&seg, &backends) && has_text(alloc, seg.history(), history());
     Ok(is_so && seg.into_history().len() == 32)
@@ -114,9 +108,6 @@ fn leaves_history(alloc: Global, script: &Script) -> Result<bool, NoMemory>
 
 fn has_its_history(alloc: Global) -> Result<bool, NoMemory> {
     let script = script_of(alloc, script())?;
-    if !is_built(&script) {
-        return Ok(false);
-    }
     leaves_history(alloc, &script)
 }
 
@@ -150,15 +141,10 @@ const WAITING: &[(&[u8], [bool; 3])] = &[
 // For which of the backends of a script messages wait after its walk.
 fn waits(alloc: Global, text: &[u8]) -> Result<[bool; 3], NoMemory> {
     let script = script_of(alloc, text)?;
-    if !is_built(&script) {
-        return Err(NoMemory);
-    }
     waits_after(alloc, &script)
 }
 
-fn waits_after(alloc: Global, script: &Script) -> Result<[bool; 3], NoMemory>
-    requires { is_built_scenario script.now ≡ true }
-{
+fn waits_after(alloc: Global, script: &Script) -> Result<[bool; 3], NoMemory> {
     let (seg, _backends) = walked_segment(alloc, script)?;
     Ok([seg.waits(1), seg.waits(2), seg.waits(3)])
 }

@@ -1,12 +1,8 @@
-ghost use Rattle.std.specs.Prelude.{◌≡◌, true};
-ghost use Rattle.by_backend.specs.Built.{is_built as is_built_scenario};
-
 use crate::calls::walked;
 use crate::scripts::script_of;
 use crate::segments::walked_segment;
 use backend_core::Backend;
 use base_types::{Listed, NoMemory};
-use by_backend::is_built;
 use event_kinds::Line;
 use script_text::Script;
 use std::alloc::Global;
@@ -103,15 +99,15 @@ fn is_answer(line: &Line, backend: u32, i: usize, answers: &[&[u8]]) -> bool {
 }
 
 // Whether a walk of a script has these sessions, its backends being made by it or over a segment.
-fn walk_has_sessions(alloc: Global, script: &Script, wanted: Sessions) -> Result<bool, NoMemory>
-    requires { is_built_scenario script.now ≡ true }
-{
+fn walk_has_sessions(alloc: Global, script: &Script, wanted: Sessions) -> Result<bool, NoMemory> {
     Ok(are_sessions(walk(alloc, script)?.backends.as_slice(), wanted))
 }
 
-fn segment_has_sessions(alloc: Global, script: &Script, wanted: Sessions) -> Result<bool, NoMemory>
-    requires { is_built_scenario script.now ≡ true }
-{
+fn segment_has_sessions(
+    alloc: Global,
+    script: &Script,
+    wanted: Sessions,
+) -> Result<bool, NoMemory> {
     let (_seg, backends) = walked_segment(alloc, script)?;
     Ok(are_sessions(&backends, wanted))
 }
@@ -119,17 +115,11 @@ fn segment_has_sessions(alloc: Global, script: &Script, wanted: Sessions) -> Res
 // The same of the script of a text, and of the top call.
 fn walk_gives(alloc: Global, text: &[u8], wanted: Sessions) -> Result<bool, NoMemory> {
     let script = script_of(alloc, text)?;
-    if !is_built(&script) {
-        return Ok(false);
-    }
     walk_has_sessions(alloc, &script, wanted)
 }
 
 fn segment_gives(alloc: Global, text: &[u8], wanted: Sessions) -> Result<bool, NoMemory> {
     let script = script_of(alloc, text)?;
-    if !is_built(&script) {
-        return Ok(false);
-    }
     segment_has_sessions(alloc, &script, wanted)
 }
 

@@ -1,5 +1,4 @@
 pub mod Words
-pub mod NotBuilt
 pub mod Running
 pub mod Readable
 pub mod Checked

@@ -1,5 +1,5 @@
 -- What the making of a script wrote, made of what its steps ensure; and how it may end.
-use Rattle.std.proofs.Common.{◌≡◌, ◌∙◌, ℕ, Bool, true, Option, List, codes, refl, sym, ap, subst}
+use Rattle.std.proofs.Common.{◌≡◌, ◌∙◌, ℕ, Option, List, codes, refl, sym, ap, subst}
 use Rattle.event_kinds.specs.Texts.{text_of}
 use Rattle.event_kinds.specs.declared.entry.Entry.{Entry}
 use Rattle.event_kinds.specs.declared.entry.Line.{Line}
@@ -9,7 +9,6 @@ use Rattle.script_text.specs.declared.fault.ScriptCause.{ScriptCause}
 use Rattle.make_script.specs.Scripts.{made_script}
 use Rattle.make_script.specs.Texts.{made_text}
 use Rattle.cacheless.specs.Lines.{lines_of}
-use Rattle.by_backend.specs.Built.{is_built}
 use Rattle.walk_run.specs.Walks.{IsWalk}
 use Rattle.catsync_top.specs.declared.arguments.Word.{Word}
 use Rattle.catsync_top.specs.declared.arguments.Word.TheVariants as words
@@ -18,12 +17,11 @@ use Rattle.catsync_top.specs.declared.status.Status.TheVariants as statuses
 use Rattle.catsync_top.specs.Top.{Ask, AskToMake, HasMade, IsEndOfMaking, IfBadScript, IfDiffers}
 
 -- a script that was walked, and written under what came of the walk
-pub has_made : (script made : Scenario) (taken now : Option (List ℕ)) (Writes : Option (List ℕ) → Option (List ℕ) → List ℕ → Type 0) (history seen : List Entry) (answers said : List Line) (text sent : List ℕ) (built : Bool)
-    → script ≡ made → built ≡ is_built script → built ≡ true → IsWalk script history answers → seen ≡ history → said ≡ answers → text ≡ made_text script seen said → IsReadBack script text → sent ≡ text → Writes taken now sent → HasMade made taken now Writes
-has_made script made taken now Writes history seen answers said text sent built are is test walk entries lines text_is back all written =
+pub has_made : (script made : Scenario) (taken now : Option (List ℕ)) (Writes : Option (List ℕ) → Option (List ℕ) → List ℕ → Type 0) (history seen : List Entry) (answers said : List Line) (text sent : List ℕ)
+    → script ≡ made → IsWalk script history answers → seen ≡ history → said ≡ answers → text ≡ made_text script seen said → IsReadBack script text → sent ≡ text → Writes taken now sent → HasMade made taken now Writes
+has_made script made taken now Writes history seen answers said text sent are walk entries lines text_is back all written =
     let spelled : text ≡ made_text script history (lines_of script history) = text_is ∙ ap (λ h. made_text script h said) entries ∙ ap (made_text script history) (lines ∙ walk.lines_are) in
     subst (λ s. HasMade s taken now Writes) are (record {
-      built = sym is ∙ test;
       output = text_of history (lines_of script history);
       is = record { history = history; allowed = walk.allowed; follows = walk.follows; looks = walk.looks; complete = walk.complete; text_is = refl };
       sound = walk.sound;

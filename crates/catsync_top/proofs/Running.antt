@@ -1,5 +1,5 @@
 -- What a run wrote, made of what its steps ensure.
-use Rattle.std.proofs.Common.{◌≡◌, ◌≤◌, ◌∙◌, ℕ, Bool, true, Option, Ok, List, length, sym, ap, subst}
+use Rattle.std.proofs.Common.{◌≡◌, ◌≤◌, ◌∙◌, ℕ, Option, Ok, List, length, sym, ap, subst}
 use Rattle.std.specs.List.{All}
 use Rattle.event_kinds.specs.declared.entry.Line.{Line}
 use Rattle.edge_io.specs.Reads.{ReadsAll}
@@ -10,7 +10,6 @@ use Rattle.cacheless.specs.Lines.{lines_of}
 use Rattle.cacheless.specs.Output.{IsOutput}
 use Rattle.backend_core.specs.Agrees.{AreSpelled}
 use Rattle.backend_core.specs.declared.backend.Backend.{Backend}
-use Rattle.by_backend.specs.Built.{is_built}
 use Rattle.walk_run.specs.Sessions.{AreSessions}
 use Rattle.out_text.specs.Typed.{IsTyped, IsLine}
 use Rattle.out_text.proofs.OneHistory.{spells_only}
@@ -18,17 +17,16 @@ use Rattle.cacheless.proofs.Written.WritesChange.{allowed_changes}
 use Rattle.catsync_top.proofs.Readable.{all_read}
 use Rattle.catsync_top.specs.Top.{Ran}
 
--- a script that was read and can be walked, and an output for it that was written, whose entries and lines are typed
-pub has_run : (left rest taken now : Option (List ℕ)) (Writes : Option (List ℕ) → Option (List ℕ) → List ℕ → Type 0) (items input output : List ℕ) (reading : Reading) (built : Bool) (answers : List Line) (sessions backends : List Backend)
-    → ReadsAll left rest 1048576 items → length items ≤ 1048576 → input ≡ items → script_of Refused input ≡ Ok reading → built ≡ is_built reading.script → built ≡ true
+-- a script that was read, and an output for it that was written, whose entries and lines are typed
+pub has_run : (left rest taken now : Option (List ℕ)) (Writes : Option (List ℕ) → Option (List ℕ) → List ℕ → Type 0) (items input output : List ℕ) (reading : Reading) (answers : List Line) (sessions backends : List Backend)
+    → ReadsAll left rest 1048576 items → length items ≤ 1048576 → input ≡ items → script_of Refused input ≡ Ok reading
     → (is : IsOutput reading.script output) → IsSound is.history → AreSpelled reading.script → All IsTyped is.history → All IsLine (lines_of reading.script is.history)
     → AreSessions reading.script is.history answers backends → answers ≡ lines_of reading.script is.history → sessions ≡ backends → Writes taken now output → Ran left rest taken now Writes sessions
-has_run left rest taken now Writes items input output reading built answers sessions backends all short same spelled are test is sound commands entries lines have as_defined handed written = record {
+has_run left rest taken now Writes items input output reading answers sessions backends all short same spelled is sound commands entries lines have as_defined handed written = record {
   input = items;
   whole = record { read = all.consumed; ended = all.ended short; short = short };
   reading = reading;
   spelled = ap (script_of Refused) (sym same) ∙ spelled;
-  built = sym are ∙ test;
   output = output;
   is = is;
   sound = sound;

@@ -9,7 +9,6 @@ use Rattle.base_types.specs.Scenario.{Scenario}
 use Rattle.event_kinds.specs.Entries.{IsEntry}
 use Rattle.history_model.specs.Orderly.{IsSound}
 use Rattle.out_text.specs.Typed.{IsLine, SpellsOnly}
-use Rattle.by_backend.specs.Built.{is_built}
 use Rattle.walk_run.specs.Sessions.{AreSessions}
 use Rattle.script_text.specs.Grammar.{Reading, script_of}
 use Rattle.script_text.specs.declared.fault.Rest.{Rest}
@@ -21,7 +20,6 @@ use Rattle.backend_core.specs.declared.backend.Backend.{Backend}
 use Rattle.check_tool.specs.Verdicts.{IsOutputOf, DiffersAt}
 use Rattle.script_text.specs.ReadBack.{IsReadBack}
 use Rattle.make_script.specs.declared.making.TheConstants.{MOST_NUMBER}
-use Rattle.make_script.specs.Scripts.{made_script}
 use Rattle.make_script.specs.Texts.{made_text}
 use Rattle.catsync_top.specs.declared.top.TheConstants.{MOST_INPUT, MOST_CHECKED}
 use Rattle.catsync_top.specs.declared.arguments.Word.{Word}
@@ -101,7 +99,6 @@ exit_code_of statuses.ReadFault = 4
 exit_code_of statuses.WriteFault = 5
 exit_code_of statuses.NoMemory = 6
 exit_code_of (statuses.Differs entry) = 7
-exit_code_of statuses.NotYet = 9
 
 -- the input was read to its end, and is no longer than that of the word may be
 pub record IsInput (word : Word) (left rest : Option (List ℕ)) (input : List ℕ) : Type 0 where
@@ -109,13 +106,12 @@ pub record IsInput (word : Word) (left rest : Option (List ℕ)) (input : List �
   pub ended : IsAtEnd rest
   pub short : length input ≤ most_of word
 
--- the input is a script that can be walked; an output of the program for that script was written, or a prefix of one; its history is sound, and the script's commands have forms that lines may have, so that each law of such histories is one of it; its entries and lines are such as a reader of texts takes, and that output spells them alone; and the sessions are the backends that were run, with their parts of the answers
+-- the input is a script; an output of the program for that script was written, or a prefix of one; its history is sound, and the script's commands have forms that lines may have, so that each law of such histories is one of it; its entries and lines are such as a reader of texts takes, and that output spells them alone; and the sessions are the backends that were run, with their parts of the answers
 pub record Ran (left rest : Option (List ℕ)) (taken now : Option (List ℕ)) (Writes : Option (List ℕ) → Option (List ℕ) → List ℕ → Type 0) (sessions : List Backend) : Type 0 where
   pub input : List ℕ
   pub whole : IsInput words.Walk left rest input
   pub reading : Reading
   pub spelled : script_of Refused input ≡ Ok reading
-  pub built : is_built reading.script ≡ true
   pub output : List ℕ
   pub is : IsOutput reading.script output
   pub sound : IsSound is.history
@@ -130,13 +126,12 @@ pub record Ran (left rest : Option (List ℕ)) (taken now : Option (List ℕ)) (
 abbrev pub checked_text : ℕ → List ℕ
 checked_text entries = codes "checked " ++ decimal entries ++ codes " entries\n"
 
--- the input is a script that can be walked, and after it something that may be an output
+-- the input is a script, and after it something that may be an output
 pub record IsChecked (left rest : Option (List ℕ)) : Type 0 where
   pub input : List ℕ
   pub whole : IsInput words.Check left rest input
   pub reading : Reading
   pub spelled : script_of Given input ≡ Ok reading
-  pub built : is_built reading.script ≡ true
 
 -- what follows the script is an output of it, of a sound history, and spells that history and its answer lines alone (`IsOutputOf` has the rest of what `Ran` says of a history); and the number of its entries was written, or a prefix of that line
 pub record HasFound (left rest : Option (List ℕ)) (taken now : Option (List ℕ)) (Writes : Option (List ℕ) → Option (List ℕ) → List ℕ → Type 0) : Type 0 where
@@ -151,18 +146,13 @@ pub record HasDiffered (left rest : Option (List ℕ)) (entry : ℕ) : Type 0 wh
   pub is : IsChecked left rest
   pub differs : DiffersAt is.reading.script (drop is.reading.rest_at is.input) entry
 
--- the script can be walked; it was written, or a prefix of it, under a comment that counts what is in an output of it: the entries of the history, those that publish, those that are resets, and the answers that are errors; that history is sound; and the whole text is read as the script
+-- the script was written, or a prefix of it, under a comment that counts what is in an output of it: the entries of the history, those that publish, those that are resets, and the answers that are errors; that history is sound; and the whole text is read as the script
 pub record HasMade (script : Scenario) (taken now : Option (List ℕ)) (Writes : Option (List ℕ) → Option (List ℕ) → List ℕ → Type 0) : Type 0 where
-  pub built : is_built script ≡ true
   pub output : List ℕ
   pub is : IsOutput script output
   pub sound : IsSound is.history
   pub back : IsReadBack script (made_text script is.history (lines_of script is.history))
   pub written : Writes taken now (made_text script is.history (lines_of script is.history))
-
--- the script of a number has a command that isn't built
-abbrev pub IsUnbuilt : ℕ → Type 0
-IsUnbuilt number = is_built (made_script number) ≡ false
 
 -- that line of the input is the first that breaks a rule, and that rule is the first that it breaks
 pub record IsBad (word : Word) (left rest : Option (List ℕ)) (line : ℕ) (cause : ScriptCause) : Type 0 where
@@ -177,24 +167,15 @@ pub record IsTooLong (word : Word) (left rest : Option (List ℕ)) : Type 0 wher
   pub long : most_of word < length input
   pub bounded : length input ≤ most_of word + PIECE
 
--- the input is a script with a command that isn't built
-pub record IsNotYet (word : Word) (left rest : Option (List ℕ)) : Type 0 where
-  pub input : List ℕ
-  pub whole : IsInput word left rest input
-  pub reading : Reading
-  pub spelled : script_of (rest_of word) input ≡ Ok reading
-  pub unbuilt : is_built reading.script ≡ false
-
--- the bytes are, or begin with, a script that can be walked
+-- the bytes are, or begin with, a script, and are no more than the word's input may have
 pub record CanBeTaken (word : Word) (input : List ℕ) : Type 0 where
   pub short : length input ≤ most_of word
   pub reading : Reading
   pub spelled : script_of (rest_of word) input ≡ Ok reading
-  pub built : is_built reading.script ≡ true
 
--- the source tells that it has a script that can be walked
-abbrev pub CanRun : Word → Option (List ℕ) → Type 0
-CanRun word left = IsSomeAnd left (CanBeTaken word)
+-- the source tells that it has such bytes
+abbrev pub HasScript : Word → Option (List ℕ) → Type 0
+HasScript word left = IsSomeAnd left (CanBeTaken word)
 
 -- a count of faults didn't rise
 abbrev pub HadNoFault : ℕ → ℕ → Type 0
@@ -212,7 +193,6 @@ abbrev pub IsEndOfMaking : Status → Type 0
 IsEndOfMaking statuses.Done = ⊤
 IsEndOfMaking statuses.WriteFault = ⊤
 IsEndOfMaking statuses.NoMemory = ⊤
-IsEndOfMaking statuses.NotYet = ⊤
 IsEndOfMaking status = ⊥
 
 -- what holds of the line and the rule that a refusal of a script names

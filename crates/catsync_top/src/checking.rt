@@ -2,12 +2,11 @@ ghost use Rattle.std.specs.Prelude.{◌≡◌, ◌≢◌};
 ghost use Rattle.edge_io.specs.Causes.{Rose, HasCause};
 ghost use Rattle.edge_io.specs.Taken.{Grows, GrowsByFront, Sends};
 ghost use Rattle.catsync_top.specs.declared.arguments.Word.TheVariants as words;
-ghost use Rattle.catsync_top.specs.Top.{HasFound, HasDiffered, IsBad, IsTooLong, IsNotYet, CanRun, HadNoFault, IfBadScript, IfDiffers, HasEnded, checked_text};
+ghost use Rattle.catsync_top.specs.Top.{HasFound, HasDiffered, IsBad, IsTooLong, HasScript, HadNoFault, IfBadScript, IfDiffers, HasEnded, checked_text};
 
 use crate::Status;
 use crate::top::MOST_CHECKED;
 use base_types::{LineBuffer, NoMemory};
-use by_backend::is_built;
 use check_tool::{Checked, check};
 use edge_io::{Failed, ReadRefusal, Sink, Source, read_all, send};
 use script_text::{Rest, ScriptFault, read_script};
@@ -26,12 +25,11 @@ pub(crate) fn check_output<S: Source, K: Sink>(
     ensures nothing { result ≢ Status.Done → result ≢ Status.WriteFault → K.taken sink.new ≡ K.taken sink.old }
     ensures bad_script { IfBadScript result (IsBad words.Check (S.left source.old) (S.left source.new)) }
     ensures too_long { result ≡ Status.TooLong → IsTooLong words.Check (S.left source.old) (S.left source.new) }
-    ensures not_yet { result ≡ Status.NotYet → IsNotYet words.Check (S.left source.old) (S.left source.new) }
     ensures read_fault { result ≡ Status.ReadFault → Rose (S.faults source.old) (S.faults source.new) }
     ensures write_fault { result ≡ Status.WriteFault → Rose (K.faults sink.old) (K.faults sink.new) }
     ensures source_steady { result ≢ Status.ReadFault → S.faults source.new ≡ S.faults source.old }
     ensures sink_steady { result ≢ Status.WriteFault → K.faults sink.new ≡ K.faults sink.old }
-    ensures complete { CanRun words.Check (S.left source.old) → HadNoFault (S.faults source.old) (S.faults source.new) → HadNoFault (K.faults sink.old) (K.faults sink.new) → HasEnded words.Check result }
+    ensures complete { HasScript words.Check (S.left source.old) → HadNoFault (S.faults source.old) (S.faults source.new) → HadNoFault (K.faults sink.old) (K.faults sink.new) → HasEnded words.Check result }
 {
     let input = match read_all(alloc, source, MOST_CHECKED) {
         Ok(input) => input,
@@ -46,9 +44,6 @@ pub(crate) fn check_output<S: Source, K: Sink>(
         Err(ScriptFault::Bad { line, cause }) => return Status::BadScript { line, cause },
         Err(ScriptFault::NoMemory) => return Status::NoMemory,
     };
-    if !is_built(&read.script) {
-        return Status::NotYet;
-    }
     let output = &input[read.rest_at.min(input.len())..];
     let count = match check(alloc, &read.script, output) {
         Ok(Checked::Output { entries }) => entries,

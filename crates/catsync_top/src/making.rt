@@ -2,10 +2,9 @@ ghost use Rattle.std.specs.Prelude.{◌≡◌, ◌≢◌, ◌≤◌};
 ghost use Rattle.edge_io.specs.Causes.{Rose};
 ghost use Rattle.edge_io.specs.Taken.{Grows, GrowsByFront};
 ghost use Rattle.make_script.specs.Scripts.{made_script};
-ghost use Rattle.catsync_top.specs.Top.{HasMade, IsUnbuilt, IsEndOfMaking};
+ghost use Rattle.catsync_top.specs.Top.{HasMade, IsEndOfMaking};
 
 use crate::Status;
-use by_backend::is_built;
 use edge_io::{Sink, send};
 use make_script::{MOST_NUMBER, made_text, make};
 use std::alloc::Global;
@@ -18,7 +17,6 @@ pub(crate) fn write_made<K: Sink>(alloc: Global, number: u32, sink: &mut K) -> S
     ensures made { result ≡ Status.Done → HasMade (made_script number) (K.taken sink.old) (K.taken sink.new) Grows }
     ensures write_front { result ≡ Status.WriteFault → HasMade (made_script number) (K.taken sink.old) (K.taken sink.new) GrowsByFront }
     ensures nothing { result ≢ Status.Done → result ≢ Status.WriteFault → K.taken sink.new ≡ K.taken sink.old }
-    ensures not_yet { result ≡ Status.NotYet → IsUnbuilt number }
     ensures ends { IsEndOfMaking result }
     ensures write_fault { result ≡ Status.WriteFault → Rose (K.faults sink.old) (K.faults sink.new) }
     ensures sink_steady { result ≢ Status.WriteFault → K.faults sink.new ≡ K.faults sink.old }
@@ -26,9 +24,6 @@ pub(crate) fn write_made<K: Sink>(alloc: Global, number: u32, sink: &mut K) -> S
     let Ok(script) = make(alloc, number) else {
         return Status::NoMemory;
     };
-    if !is_built(&script) {
-        return Status::NotYet;
-    }
     let Ok(world) = walk(alloc, &script) else {
         return Status::NoMemory;
     };

@@ -35,9 +35,6 @@ pub enum Status {
     /// them differs.
     #[error("entry {entry} differs")]
     Differs { entry: u64 },
-    /// The input, or the script to make, is one with a command that isn't built yet.
-    #[error("the script holds a command that isn't built yet")]
-    NotYet,
 }
 
 impl Status {
@@ -54,7 +51,6 @@ impl Status {
             Status::WriteFault => 5,
             Status::NoMemory => 6,
             Status::Differs { .. } => 7,
-            Status::NotYet => 9,
         }
     }
 }

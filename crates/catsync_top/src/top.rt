@@ -5,7 +5,7 @@ ghost use Rattle.edge_io.specs.Taken.{Grows, GrowsByFront};
 ghost use Rattle.make_script.specs.Scripts.{made_script};
 ghost use Rattle.catsync_top.specs.declared.arguments.Word.{Word};
 ghost use Rattle.catsync_top.specs.declared.arguments.Word.TheVariants as words;
-ghost use Rattle.catsync_top.specs.Top.{Ask, AskToMake, AskNothing, AskSomething, Ran, HasFound, HasDiffered, HasMade, IsBad, IsTooLong, IsNotYet, IsUnbuilt, CanRun, HadNoFault, IfBadScript, IfDiffers, HasEnded, IsEndOfMaking};
+ghost use Rattle.catsync_top.specs.Top.{Ask, AskToMake, AskNothing, AskSomething, Ran, HasFound, HasDiffered, HasMade, IsBad, IsTooLong, HasScript, HadNoFault, IfBadScript, IfDiffers, HasEnded, IsEndOfMaking};
 
 use crate::Status;
 use crate::arguments::{Word, made_of, word_of};
@@ -43,8 +43,6 @@ pub const MOST_CHECKED: usize = 268_435_456;
 ///   `walk`, [`MOST_CHECKED`] for `check walk`.
 /// - `BadScript`: exactly where that line is the first that breaks a rule of scripts, and that rule
 ///   is the first that it breaks.
-/// - `NotYet`: exactly where the input is a script, or begins with one, or the made script is one,
-///   with a command that isn't built yet.
 /// - `NoMemory`: at any point before writing.
 /// - `Differs`: of `check walk`, exactly where what follows the script isn't an output of it whose
 ///   entries have texts.
@@ -81,8 +79,6 @@ pub fn catsync<S: Source, K: Sink, G: Gate>(
     ensures differs { IfDiffers result (λ entry. Ask (map string_bytes arguments.now) words.Check × HasDiffered (S.left source.old) (S.left source.new) entry) }
     ensures bad_script { (word : Word) → Ask (map string_bytes arguments.now) word → IfBadScript result (IsBad word (S.left source.old) (S.left source.new)) }
     ensures too_long { (word : Word) → Ask (map string_bytes arguments.now) word → result ≡ Status.TooLong → IsTooLong word (S.left source.old) (S.left source.new) }
-    ensures not_yet { (word : Word) → Ask (map string_bytes arguments.now) word → result ≡ Status.NotYet → IsNotYet word (S.left source.old) (S.left source.new) }
-    ensures unbuilt { (number : ℕ) → AskToMake (map string_bytes arguments.now) number → result ≡ Status.NotYet → IsUnbuilt number }
     ensures made_ends { (number : ℕ) → AskToMake (map string_bytes arguments.now) number → IsEndOfMaking result }
     ensures read_fault { result ≡ Status.ReadFault → Rose (S.faults source.old) (S.faults source.new) }
     ensures write_fault { result ≡ Status.WriteFault → Rose (K.faults sink.old) (K.faults sink.new) }
@@ -94,8 +90,8 @@ pub fn catsync<S: Source, K: Sink, G: Gate>(
     ensures made_unread { (number : ℕ) → AskToMake (map string_bytes arguments.now) number → S.left source.new ≡ S.left source.old }
     ensures gates { gates.new ≡ gates.old }
 
-    // A script that can be walked is walked, and what follows it is checked, where neither source nor sink fails.
-    ensures complete { (word : Word) → Ask (map string_bytes arguments.now) word → CanRun word (S.left source.old) → HadNoFault (S.faults source.old) (S.faults source.new) → HadNoFault (K.faults sink.old) (K.faults sink.new) → HasEnded word result }
+    // A script is walked, and what follows it is checked, where neither source nor sink fails.
+    ensures complete { (word : Word) → Ask (map string_bytes arguments.now) word → HasScript word (S.left source.old) → HadNoFault (S.faults source.old) (S.faults source.new) → HadNoFault (K.faults sink.old) (K.faults sink.new) → HasEnded word result }
 {
     let _ = gates;
     if let Some(number) = made_of(arguments) {

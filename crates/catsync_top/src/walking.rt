@@ -2,12 +2,11 @@ ghost use Rattle.std.specs.Prelude.{◌≡◌, ◌≢◌, []};
 ghost use Rattle.edge_io.specs.Causes.{Rose};
 ghost use Rattle.edge_io.specs.Taken.{Grows, GrowsByFront};
 ghost use Rattle.catsync_top.specs.declared.arguments.Word.TheVariants as words;
-ghost use Rattle.catsync_top.specs.Top.{Ran, IsBad, IsTooLong, IsNotYet, CanRun, HadNoFault, IfBadScript, IfDiffers, HasEnded};
+ghost use Rattle.catsync_top.specs.Top.{Ran, IsBad, IsTooLong, HasScript, HadNoFault, IfBadScript, IfDiffers, HasEnded};
 
 use crate::Status;
 use crate::top::MOST_INPUT;
 use backend_core::Backend;
-use by_backend::is_built;
 use edge_io::{ReadRefusal, Sink, Source, read_all};
 use out_text::put_output;
 use script_text::{Rest, ScriptFault, read_script};
@@ -29,13 +28,12 @@ pub(crate) fn walk_script<S: Source, K: Sink>(
     ensures no_sessions { result ≢ Status.Done → result ≢ Status.WriteFault → sessions.new.items ≡ [] }
     ensures bad_script { IfBadScript result (IsBad words.Walk (S.left source.old) (S.left source.new)) }
     ensures too_long { result ≡ Status.TooLong → IsTooLong words.Walk (S.left source.old) (S.left source.new) }
-    ensures not_yet { result ≡ Status.NotYet → IsNotYet words.Walk (S.left source.old) (S.left source.new) }
     ensures never_differs { IfDiffers result (λ entry. ⊥) }
     ensures read_fault { result ≡ Status.ReadFault → Rose (S.faults source.old) (S.faults source.new) }
     ensures write_fault { result ≡ Status.WriteFault → Rose (K.faults sink.old) (K.faults sink.new) }
     ensures source_steady { result ≢ Status.ReadFault → S.faults source.new ≡ S.faults source.old }
     ensures sink_steady { result ≢ Status.WriteFault → K.faults sink.new ≡ K.faults sink.old }
-    ensures complete { CanRun words.Walk (S.left source.old) → HadNoFault (S.faults source.old) (S.faults source.new) → HadNoFault (K.faults sink.old) (K.faults sink.new) → HasEnded words.Walk result }
+    ensures complete { HasScript words.Walk (S.left source.old) → HadNoFault (S.faults source.old) (S.faults source.new) → HadNoFault (K.faults sink.old) (K.faults sink.new) → HasEnded words.Walk result }
 {
     let input = match read_all(alloc, source, MOST_INPUT) {
         Ok(input) => input,
@@ -50,9 +48,6 @@ pub(crate) fn walk_script<S: Source, K: Sink>(
         Err(ScriptFault::Bad { line, cause }) => return Status::BadScript { line, cause },
         Err(ScriptFault::NoMemory) => return Status::NoMemory,
     };
-    if !is_built(&read.script) {
-        return Status::NotYet;
-    }
     let Ok(world) = walk(alloc, &read.script) else {
         return Status::NoMemory;
     };

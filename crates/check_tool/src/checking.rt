@@ -1,6 +1,5 @@
-ghost use Rattle.std.specs.Prelude.{◌≡◌, true, None, IfOk};
+ghost use Rattle.std.specs.Prelude.{◌≡◌, None, IfOk};
 ghost use Rattle.std.specs.Bool.{Decides};
-ghost use Rattle.by_backend.specs.Built.{is_built};
 ghost use Rattle.check_tool.specs.Verdicts.{IsVerdict};
 
 use crate::answer_lines::are_lines;
@@ -23,9 +22,8 @@ pub enum Checked {
 
 /// Whether the bytes are an output of `walk` for the script. Outputs are meant whose entries have texts, as all
 /// that `walk` writes do: numbers of four bytes, names as they may be, and at least one change in a write.
-/// Condition: the script's commands can be run. `NoMemory` comes where memory is short, or a number can't be counted.
+/// `NoMemory` comes where memory is short, or a number can't be counted.
 pub fn check(alloc: Global, script: &Script, output: &[u8]) -> Result<Checked, NoMemory>
-    requires { is_built script.now ≡ true }
     ensures { IfOk result (IsVerdict script.now output.now) }
 {
     let leading = leading_entries(alloc, output)?;

@@ -1,5 +1,4 @@
-ghost use Rattle.std.specs.Prelude.{◌≡◌, true, IfOk};
-ghost use Rattle.by_backend.specs.Built.{is_built};
+ghost use Rattle.std.specs.Prelude.{IfOk};
 ghost use Rattle.check_tool.specs.Walked.{HaveWalked};
 
 use crate::looking::true_looks;
@@ -21,10 +20,9 @@ pub struct Walked {
     pub lines: Listed<Line>,
 }
 
-/// How far a walk of the script may have made these entries. Condition: the script's commands can be run.
-/// `NoMemory` comes where memory is short, or a number can't be counted.
+/// How far a walk of the script may have made these entries. `NoMemory` comes where memory is short, or a number
+/// can't be counted.
 pub fn walked_prefix(alloc: Global, script: &Script, entries: &[Entry]) -> Result<Walked, NoMemory>
-    requires { is_built script.now ≡ true }
     ensures { IfOk result (λ w. HaveWalked script.now entries.now w.entries w.turn w.lines) }
 {
     let answered = lines(alloc, script, entries)?;

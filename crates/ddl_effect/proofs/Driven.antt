@@ -7,8 +7,9 @@ use Rattle.ddl_effect.specs.declared.alteration.Alteration.TheVariants as altera
 use Rattle.ddl_effect.specs.declared.altering.Altering.TheVariants as alters
 use Rattle.ddl_effect.specs.declared.exec.Exec.TheVariants as stages
 use Rattle.ddl_effect.specs.declared.finding.Finding.TheVariants as findings
+use Rattle.ddl_effect.specs.declared.told.Told.TheVariants as tells
 use Rattle.ddl_effect.specs.declared.want.Want.TheVariants as wants
-use Rattle.ddl_effect.specs.Plans.{Act, Plan, Done, Fails, Absent, Do, NotBuilt, Lookup, Open, Search, Read, Lock, Write, after_act, told_rests_on}
+use Rattle.ddl_effect.specs.Plans.{Act, Plan, Done, Fails, Absent, Do, Lookup, Open, Search, Read, Lock, Write, after_act, told_rests_on}
 use Rattle.ddl_effect.specs.Parts.{if_passes, column_there}
 use Rattle.ddl_effect.specs.Tables.{filling}
 use Rattle.ddl_effect.specs.Columns.{targeting}
@@ -20,7 +21,6 @@ pub effect_of-after : (rows : Purpose → List Row) (plan : Plan) (given : List 
 effect_of-after rows (Done told) given other is = refl
 effect_of-after rows (Fails error) given other is = refl
 effect_of-after rows (Absent name) given other is = refl
-effect_of-after rows NotBuilt given other is = refl
 effect_of-after rows (Do (Write draft) rest) given other is = absurd (other refl)
 effect_of-after rows (Do (Lookup name mode) rest) given other is = ap (λ l. effect_of rows (rest l)) is
 effect_of-after rows (Do (Open rel kind) rest) given other is = ap (λ l. effect_of rows (rest l)) is
@@ -35,9 +35,8 @@ fails_is (Fails own) error is = ap (λ want. fails want) is
   where
     fails : Want → Plan
     fails (wants.Fails e) = Fails e
-    fails want = NotBuilt
+    fails want = Done tells.Ok
 fails_is (Absent name) error is = absurd (cc is)
-fails_is NotBuilt error is = absurd (cc is)
 fails_is (Do (Lookup name mode) rest) error is = absurd (cc is)
 fails_is (Do act rest) error is = absurd (cc is)
 
@@ -48,8 +47,7 @@ absent_is (Absent own) name is = ap (λ want. absent want) is
   where
     absent : Want → Plan
     absent (wants.Absent n) = Absent n
-    absent want = NotBuilt
-absent_is NotBuilt name is = absurd (cc is)
+    absent want = Done tells.Ok
 absent_is (Do (Lookup own mode) rest) name is = absurd (cc is)
 absent_is (Do act rest) name is = absurd (cc is)
 

@@ -3,7 +3,6 @@ mod ByOid
 mod Dependents
 pub mod Driven
 mod Examples
-pub mod HasPlan
 mod LatestOpen
 mod Listing
 mod Reading

@@ -5,7 +5,7 @@ use Rattle.ddl_effect.specs.declared.want.Want.TheVariants as wants
 use Rattle.ddl_effect.specs.declared.facts.EffectRefusal.TheVariants as refusals
 use Rattle.ddl_effect.specs.declared.told.Told.TheVariants as tells
 use Rattle.ddl_effect.specs.Types.{Oid, Row, Purpose, Draft, Told, CommandError, EffectRefusal, Want}
-use Rattle.ddl_effect.specs.Plans.{Act, Lookup, Search, Read, Write, Plan, Done, Fails, Absent, Do, NotBuilt}
+use Rattle.ddl_effect.specs.Plans.{Act, Lookup, Search, Read, Write, Plan, Done, Fails, Absent, Do}
 
 -- nothing but what it answers, the first cause that the rows show, a name that no row has, or the changes of a write
 pub data Effect : Type 0 where
@@ -33,7 +33,6 @@ abbrev pub effect_of : (Purpose → List Row) → Plan → Effect
 effect_of rows (Done told) = Nothing told
 effect_of rows (Fails error) = Refuses error
 effect_of rows (Absent name) = Unknown name
-effect_of rows NotBuilt = Nothing tells.Ok
 effect_of rows (Do (Write draft) rest) = Writes draft
 effect_of rows (Do act rest) = effect_of rows (rest (given_over rows act))
 
@@ -47,7 +46,6 @@ abbrev pub effect_at : (Purpose → List Row) → List (Option Oid) → Plan →
 effect_at rows found (Done told) = Nothing told
 effect_at rows found (Fails error) = Refuses error
 effect_at rows found (Absent name) = Unknown name
-effect_at rows found NotBuilt = Nothing tells.Ok
 effect_at rows found (Do (Write draft) rest) = Writes draft
 effect_at rows [] (Do (Lookup name mode) rest) = effect_at rows [] (rest (rows (scans.RelName name)))
 effect_at rows (rel ∷ found) (Do (Lookup name mode) rest) = effect_at rows found (rest (row_found rows rel))

@@ -1,5 +1,5 @@
 -- Plans: what a command does, an act at a time, by the rows that each act gives.
-use Rattle.std.specs.Prelude.{ℕ, Bool, true, false, Option, Some, None, List, [], ◌∷◌}
+use Rattle.std.specs.Prelude.{ℕ, Option, Some, None, List, [], ◌∷◌}
 use Rattle.std.specs.List.{cons_option}
 use Rattle.base_types.specs.Scans.{build_scans}
 use Rattle.base_types.specs.declared.scan.Purpose.TheVariants as scans
@@ -15,23 +15,17 @@ pub data Act : Type 0 where
   Lock : (rel : Oid) → (mode : Mode) → Act
   Write : (draft : Draft) → Act
 
--- what is left of a command: nothing but what it answers, an error, the error that no relation has a name, an act and what comes after it, or what isn't built yet and so never ends
+-- what is left of a command: nothing but what it answers, an error, the error that no relation has a name, or an act and what comes after it
 pub data Plan : Type 0 where
   Done : (told : Told) → Plan
   Fails : (error : CommandError) → Plan
   Absent : (name : List ℕ) → Plan
   Do : (act : Act) → (rest : List Row → Plan) → Plan
-  NotBuilt : Plan
 
 -- the plan after its first act, which gave these rows
 abbrev pub after_act : List Row → Plan → Plan
 after_act given (Do act rest) = rest given
 after_act given plan = plan
-
--- the command has a plan
-abbrev pub is_built : Plan → Bool
-is_built NotBuilt = false
-is_built plan = true
 
 -- the scans on which an act rests
 abbrev pub rests_on : Act → List Purpose

@@ -9,7 +9,7 @@ use Rattle.ddl_effect.specs.declared.finding.Finding.TheVariants as findings
 use Rattle.ddl_effect.specs.declared.told.Told.TheVariants as tells
 use Rattle.ddl_effect.specs.declared.want.Want.TheVariants as wants
 use Rattle.ddl_effect.specs.Types.{Oid, Kind, Command, Mode, AccessShare, ShareUpdateExclusive, Share, ShareRowExclusive, AccessExclusive, Table, Index, Insert, Replace, OpenRelation, Alteration, Altering, Finding, Told, Exec, Want}
-use Rattle.ddl_effect.specs.Plans.{Act, Lookup, Open, Search, Read, Lock, Write, Plan, Done, Fails, Absent, Do, NotBuilt, told_rests_on}
+use Rattle.ddl_effect.specs.Plans.{Act, Lookup, Open, Search, Read, Lock, Write, Plan, Done, Fails, Absent, Do, told_rests_on}
 use Rattle.ddl_effect.specs.Parts.{looking_up, opening, writing, altering, altering_index, if_closed, locking_further, locking_all, searching, reading, changing, with_column, deleting}
 use Rattle.ddl_effect.specs.Reads.{showing, showing_field, keeping, locking, telling_columns, listing_columns, telling_column, finding_column, regclass_of}
 use Rattle.ddl_effect.specs.Tables.{set_fillfactor, rename_table, drop_table, drop_indexes, drop_defaults, drop_triggers, dropping_table}
@@ -171,13 +171,12 @@ want_of_act (Read scan) = wants.Read scan
 want_of_act (Lock rel mode) = wants.Lock rel mode
 want_of_act (Write draft) = wants.Write
 
--- what a plan wants next; what isn't built wants nothing
+-- what a plan wants next
 abbrev pub want_of : Plan → Want
 want_of (Done told) = wants.Done (told_rests_on told)
 want_of (Fails error) = wants.Fails error
 want_of (Absent name) = wants.Absent name
 want_of (Do act rest) = want_of_act act
-want_of NotBuilt = wants.Done None
 
 -- at most so many acts of an alteration are left
 abbrev pub alter_acts_left : Altering → ℕ

@@ -1,6 +1,6 @@
 ghost use Rattle.std.specs.Prelude.{◌≡◌, ◌<◌, ◌≤◌, ◌+◌, ◌*◌, ℕ, List, true, [], None, Ok, IfOk, IfSome, OnOk, OnErr, MatchOption};
 ghost use Rattle.std.specs.List.{filter_map};
-ghost use Rattle.ddl_effect.specs.Plans.{Absent, Done, is_built, after_act, told_rests_on};
+ghost use Rattle.ddl_effect.specs.Plans.{Absent, Done, after_act, told_rests_on};
 ghost use Rattle.ddl_effect.specs.Parts.{found as found_rows, if_closed, opening, writing};
 ghost use Rattle.ddl_effect.specs.Reads.{live_column as column_live, telling_column, regclass_of, told_fields, showing_field, peeking, closing};
 ghost use Rattle.ddl_effect.specs.Tables.{drop_table};
@@ -24,7 +24,7 @@ use command_answers::{Column, CommandError};
 use std::alloc::Global;
 use std::mem::replace;
 
-/// How far a command that has a plan is: what is left of it.
+/// How far a command is: what is left of it.
 #[derive(Drop)]
 pub enum Exec {
     /// It has done what it says, and answers this.
@@ -123,18 +123,8 @@ pub enum Exec {
 }
 
 impl Exec {
-    /// Whether a command has a plan, so that the program can run it: each has.
-    #[tactic(auto, using(crate::proofs::HasPlan::all_built))]
-    pub fn has_plan(command: &Command) -> bool
-        ensures { (opens : List OpenRelation) → result ≡ is_built (plan_of opens command.now) }
-    {
-        let _value = command;
-        true
-    }
-
-    /// A command at its beginning, by the relations that its session has open. Condition: it has a plan.
+    /// A command at its beginning, by the relations that its session has open.
     pub fn new(alloc: Global, opens: &[OpenRelation], command: &Command) -> Result<Exec, NoMemory>
-        requires { is_built (plan_of opens.now command.now) ≡ true }
         ensures plan { IfOk result (λ exec. plan_at opens.now exec ≡ plan_of opens.now command.now) }
         ensures few { IfOk result (λ exec. acts_left exec ≤ most_acts) }
     {

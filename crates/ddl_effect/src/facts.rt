@@ -1,6 +1,5 @@
-ghost use Rattle.std.specs.Prelude.{◌≡◌, true, IfOk};
+ghost use Rattle.std.specs.Prelude.{◌≡◌, IfOk};
 ghost use Rattle.base_types.specs.Scans.{scan_of};
-ghost use Rattle.ddl_effect.specs.Plans.{is_built};
 ghost use Rattle.ddl_effect.specs.Commands.{plan_of};
 ghost use Rattle.ddl_effect.specs.Effects.{effect_of, given_for, IsEffect};
 
@@ -28,10 +27,9 @@ pub enum EffectRefusal {
     NoMemory,
 }
 
-/// The changes that a command makes, worked out from facts alone. Condition: the command has a plan.
+/// The changes that a command makes, worked out from facts alone.
 /// `Cause` and `Absent`: exactly where the facts show them.
 pub fn effect(alloc: Global, command: &Command, facts: &Facts) -> Result<Draft, EffectRefusal>
-    requires { is_built (plan_of facts.now.opened command.now) ≡ true }
     ensures { IsEffect (effect_of (λ scan. scan_of scan facts.now.rows) (plan_of facts.now.opened command.now)) result }
 {
     let Ok(mut exec) = Exec::new(alloc, facts.opened.as_slice(), command) else {

@@ -7,8 +7,7 @@
 //! goes on by the rows that the act gave. There is one clause of a plan for each command (`specs/Commands.antt`), and all
 //! that is said of commands elsewhere is said of plans.
 //!
-//! An [`Exec`] is how far a command is: the plan that is left of it. The program runs a command where
-//! its plan is built ([`Exec::has_plan`]).
+//! An [`Exec`] is how far a command is: the plan that is left of it.
 #![tactic(auto)]
 
 mod absent;

@@ -1,5 +1,5 @@
 //! What helps with a script that is refused: which word of a faulty command goes wrong and what could
-//! stand there, which byte of a line is none that a script may have, and which command isn't built.
+//! stand there, and which byte of a line is none that a script may have.
 //!
 //! That a script is refused, in which line and for which cause, is the reader's and the top call's to
 //! say, and proved of them (`script_text`, `catsync_top`). The texts here stand beside that, and their
@@ -26,8 +26,6 @@ mod near;
 mod symbols;
 mod tokens;
 mod tool_lines;
-mod unbuilt;
 
 pub use hints::hint;
 pub use kept::KeptSource;
-pub use unbuilt::unbuilt_command;

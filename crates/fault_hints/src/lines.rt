@@ -12,18 +12,12 @@ pub(crate) fn line_at(text: &[u8], number: u32) -> &[u8] {
     &[]
 }
 
-pub(crate) fn bare(line: &[u8]) -> &[u8] {
+fn bare(line: &[u8]) -> &[u8] {
     match line {
         [front @ .., b'\r', b'\n'] => front,
         [front @ .., b'\n'] => front,
         _ => line,
     }
-}
-
-// Whether a line is neither blank nor a comment.
-pub(crate) fn counts(line: &[u8]) -> bool {
-    let text = line.trim_ascii();
-    !text.is_empty() && !text.starts_with(b"--")
 }
 
 // The text of a command's line after its colon.

@@ -25,7 +25,7 @@ use Rattle.history_lines.specs.Answered.{IsAnswered}
 use Rattle.history_lines.specs.Comes.{comes_at}
 use Rattle.history_lines.specs.Stands.{IsSessionOf, AreSessions, Follows}
 use Rattle.history_lines.specs.declared.answering.Answered.{Answered}
-use Rattle.history_lines.specs.AllowedNext.{IsAllowedNext, CanCome, CanTake, lines_held}
+use Rattle.history_lines.specs.AllowedNext.{IsAllowedNext, CanTake, lines_held}
 use Rattle.history_lines.specs.Types.{Scenario, Entry, Line, Ledger, Session}
 use Rattle.history_lines.proofs.Coming.{comes_decides}
 use Rattle.history_lines.proofs.HeldLines.{lines_are}
@@ -80,7 +80,7 @@ can_take scenario size seen ledger sessions next e s t comes same there at decid
   backend = there;
   session = λ x here.
       let one : s ≡ x = cc in
-      subst (λ y. CanCome ledger.next_oid y e) one (record { built = (session_there scenario seen ledger sessions e.backend s k there at).built; comes = subst (λ n. comes_at n s e.command e.event ≡ true) (same ∙ sym k.reads.next_oid_is) comes });
+      subst (λ y. comes_at ledger.next_oid y e.command e.event ≡ true) one (subst (λ n. comes_at n s e.command e.event ≡ true) (same ∙ sym k.reads.next_oid_is) comes);
   enters = can_enter seen ledger e k.reads (decides.0 is).0;
 }
 
@@ -96,7 +96,7 @@ can_answers scenario size seen ledger sessions next e s (Ok t) comes same there 
 can_answers scenario size seen ledger sessions next e s (Err error) comes same there at decides k = tt
 
 -- the session at the place of the backend can take it
-pub come_read : (ledger : Ledger) (sessions : List Session) (e : Entry) (was : Session) → CanTake ledger sessions e → was ≡ get_or sessions (e.backend - 1) was → CanCome ledger.next_oid was e
+pub come_read : (ledger : Ledger) (sessions : List Session) (e : Entry) (was : Session) → CanTake ledger sessions e → was ≡ get_or sessions (e.backend - 1) was → comes_at ledger.next_oid was e.command e.event ≡ true
 come_read ledger sessions e was can read = can.session was (session_read sessions e.backend was can.backend read)
 
 -- the sessions after an entry that one of them took

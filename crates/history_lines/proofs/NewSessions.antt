@@ -1,10 +1,9 @@
 -- The sessions before the first entry.
 use Rattle.std.proofs.Common.{◌≡◌, ◌≤◌, ◌<◌, ◌+◌, ◌∙◌, ℕ, false, Some, None, List, [], ◌∷◌, ◌++◌, refl, sym, ap, subst, length, slice_get, arith, ◌⊎◌, inl, inr}
-use Rattle.std.specs.List.{All}
 use Rattle.std.proofs.lemmas.List.{length_push}
 use Rattle.base_types.specs.Scenario.{IsBackend, IsScript}
 use Rattle.ddl_effect.specs.Commands.{commands_of}
-use Rattle.by_backend.proofs.OwnParts.{CanRun, few_among}
+use Rattle.by_backend.proofs.OwnParts.{few_among}
 use Rattle.by_backend.proofs.Places.{last_or_before}
 use Rattle.history_ledger.specs.Reads.{Reads}
 use Rattle.cacheless.specs.Holds.{HasNotStarted}
@@ -13,11 +12,10 @@ use Rattle.history_lines.specs.Stands.{IsSessionOf, Follows}
 use Rattle.history_lines.specs.Types.{Command, Scenario, Progress, Line, Ledger, Session}
 
 -- a new session
-pub new_session : (scenario : Scenario) (b : ℕ) (commands : List Command) (progress : Progress) (lines : List Line) → lines ≡ [] → All CanRun commands → IsNew b commands progress → HasNotStarted scenario [] progress
+pub new_session : (scenario : Scenario) (b : ℕ) (commands : List Command) (progress : Progress) (lines : List Line) → lines ≡ [] → IsNew b commands progress → HasNotStarted scenario [] progress
     → IsSessionOf scenario [] b (record { progress = progress; is_started = false; lines = lines })
-new_session scenario b commands progress lines none built new waits = record {
+new_session scenario b commands progress lines none new waits = record {
   id = new.number;
-  built = subst (All CanRun) (sym new.commands_are) built;
   stands = record { none = record { waits = waits; session = refl; facts = refl; unwritten = λ c. refl }; lines_are = none };
 }
 

@@ -26,4 +26,4 @@ Stands-other scenario seen e s other stands = by_start s.is_started stands
 
 -- its session is where it was
 pub session-other : (scenario : Scenario) (seen : List Entry) (e : Entry) (b : ℕ) (s : Held) → (e.backend == b) ≡ false → IsSessionOf scenario seen b s → IsSessionOf scenario (seen ++ e ∷ []) b s
-session-other scenario seen e b s other is = record { id = is.id; built = is.built; stands = Stands-other scenario seen e s (ap (λ n. e.backend == n) is.id ∙ other) is.stands }
+session-other scenario seen e b s other is = record { id = is.id; stands = Stands-other scenario seen e s (ap (λ n. e.backend == n) is.id ∙ other) is.stands }

@@ -15,7 +15,6 @@ use Rattle.cacheless.specs.May.{may_play_at, may_last_at, may_play_now}
 use Rattle.cacheless.specs.OnCourse.{AllOnCourse}
 use Rattle.cacheless.specs.Played.{AreSpelled, IsPlayed}
 use Rattle.cacheless.specs.Plays.{IsNext, Plays, MayPlayIn, MayPlayAt}
-use Rattle.cacheless.specs.Runs.{runs}
 use Rattle.cacheless.specs.Silently.{is_to_answer_at}
 use Rattle.cacheless.specs.State.{kept_at, session_at}
 use Rattle.cacheless.specs.Telling.{TellsNow, HasGoneOn}
@@ -131,45 +130,39 @@ settles (Ok done) was now rests answered goes_on = λ scenario seen old.
     }
 settles (Err e) was now rests answered goes_on = tt
 
--- and its commands can be run still
-pub built_still : {E : Type 0} (result : Result (Unit {0}) E) (was now : List Command) → OnOk result (now ≡ was) → All (λ command. runs command ≡ true) was → OnOk result (All (λ command. runs command ≡ true) now)
-built_still (Ok done) was now same built = subst (All (λ command. runs command ≡ true)) (sym same) built
-built_still (Err e) was now same built = tt
-
 -- the session of a backend that awaits an entry
-awaiting_session : (scenario : Scenario) (seen : List Entry) (b : ℕ) (s : Session) → s.is_started ≡ true → s.progress.id ≡ b → All (λ command. runs command ≡ true) s.progress.commands → AwaitsEntry scenario seen s.progress s.lines → IsSessionOf scenario seen b s
-awaiting_session scenario seen b s is id built waits = record { id = id; built = built; stands = stands_started scenario seen s is (Awaits waits) }
+awaiting_session : (scenario : Scenario) (seen : List Entry) (b : ℕ) (s : Session) → s.is_started ≡ true → s.progress.id ≡ b → AwaitsEntry scenario seen s.progress s.lines → IsSessionOf scenario seen b s
+awaiting_session scenario seen b s is id waits = record { id = id; stands = stands_started scenario seen s is (Awaits waits) }
 
 -- after an entry of its own, but for its stop
-pub gone_on : {E : Type 0} (result : Result (Unit {0}) E) (ledger : Ledger) (at : ℕ) (event : Event) (was mid now : Session) → was.is_started ≡ true → mid.is_started ≡ was.is_started → mid.lines ≡ was.lines → OnOk result (All (λ command. runs command ≡ true) now.progress.commands) → is_stop event ≡ false
+pub gone_on : {E : Type 0} (result : Result (Unit {0}) E) (ledger : Ledger) (at : ℕ) (event : Event) (was mid now : Session) → was.is_started ≡ true → mid.is_started ≡ was.is_started → mid.lines ≡ was.lines → is_stop event ≡ false
     → ((scenario : Scenario) (seen : List Entry) (rests : Rests scenario seen was.progress) → Reads seen ledger → at ≡ length seen + 1 → HasTaken scenario seen was.progress event rests mid.progress)
     → OnOk result ((scenario : Scenario) (seen : List Entry) → AnswersNow scenario seen mid.progress mid.lines → HasSettled scenario seen mid now) → now.is_started ≡ mid.is_started
     → OnOk result ((scenario : Scenario) (seen : List Entry) → Reads seen ledger → at ≡ length seen + 1 → AwaitsEntry scenario seen was.progress was.lines → ComesNext scenario seen (entry_of was.progress.id (was.progress.finished + 1) event) → IsSessionOf scenario (with_own seen was.progress event) was.progress.id now)
-gone_on (Ok done) ledger at event was mid now is mid_is lines built inside takes settled now_is = λ scenario seen reads place waits comes.
+gone_on (Ok done) ledger at event was mid now is mid_is lines inside takes settled now_is = λ scenario seen reads place waits comes.
     let taken = takes scenario seen waits.rests reads place in
     let after = settled scenario (with_own seen was.progress event) (subst (AnswersNow scenario (with_own seen was.progress event) mid.progress) (sym lines) (own_now scenario seen was.progress mid.progress event was.lines waits comes inside taken)) in
-    awaiting_session scenario (with_own seen was.progress event) was.progress.id now (now_is ∙ mid_is ∙ is) (after.id ∙ taken.goes.moves.id) built after.waits
-gone_on (Err e) ledger at event was mid now is mid_is lines built inside takes settled now_is = tt
+    awaiting_session scenario (with_own seen was.progress event) was.progress.id now (now_is ∙ mid_is ∙ is) (after.id ∙ taken.goes.moves.id) after.waits
+gone_on (Err e) ledger at event was mid now is mid_is lines inside takes settled now_is = tt
 
 -- after its start
-pub started : {E : Type 0} (result : Result (Unit {0}) E) (was mid now : Session) → mid.is_started ≡ true → mid.lines ≡ was.lines → OnOk result (All (λ command. runs command ≡ true) now.progress.commands)
+pub started : {E : Type 0} (result : Result (Unit {0}) E) (was mid now : Session) → mid.is_started ≡ true → mid.lines ≡ was.lines
     → kept_at mid.progress ≡ kept_at was.progress → mid.progress.answer ≡ was.progress.answer → ((scenario : Scenario) (seen : List Entry) → HasNotStarted scenario seen was.progress → HasStarted scenario seen was.progress mid.progress)
     → OnOk result ((scenario : Scenario) (seen : List Entry) → AnswersNow scenario seen mid.progress mid.lines → HasSettled scenario seen mid now) → now.is_started ≡ mid.is_started
     → OnOk result ((scenario : Scenario) (seen : List Entry) → HasNoEntry scenario seen was → ComesNext scenario seen (entry_of was.progress.id 0 events.Start) → IsSessionOf scenario (seen ++ entry_of was.progress.id 0 events.Start ∷ []) was.progress.id now)
-started (Ok done) was mid now mid_is lines built kept answer starts settled now_is = λ scenario seen before comes.
+started (Ok done) was mid now mid_is lines kept answer starts settled now_is = λ scenario seen before comes.
     let has = starts scenario seen before.none.waits in
     let after = settled scenario (seen ++ entry_of was.progress.id 0 events.Start ∷ []) (subst (AnswersNow scenario (seen ++ entry_of was.progress.id 0 events.Start ∷ []) mid.progress) (sym (lines ∙ before.lines_are))
     (start_answers scenario seen was.progress mid.progress before.none comes.spelled comes.legal comes.plays comes.follows has kept answer)) in
-    awaiting_session scenario (seen ++ entry_of was.progress.id 0 events.Start ∷ []) was.progress.id now (now_is ∙ mid_is) (after.id ∙ has.moves.id) built after.waits
-started (Err e) was mid now mid_is lines built kept answer starts settled now_is = tt
+    awaiting_session scenario (seen ++ entry_of was.progress.id 0 events.Start ∷ []) was.progress.id now (now_is ∙ mid_is) (after.id ∙ has.moves.id) after.waits
+started (Err e) was mid now mid_is lines kept answer starts settled now_is = tt
 
 -- after its stop
-pub stopped : (was now : Session) → now.is_started ≡ true → now.lines ≡ was.lines → All (λ command. runs command ≡ true) was.progress.commands
+pub stopped : (was now : Session) → now.is_started ≡ true → now.lines ≡ was.lines
     → ((scenario : Scenario) (seen : List Entry) (rests : Rests scenario seen was.progress) → HasEntered scenario seen was.progress events.Stop rests now.progress)
     → (scenario : Scenario) (seen : List Entry) → AwaitsEntry scenario seen was.progress was.lines → ComesNext scenario seen (entry_of was.progress.id (was.progress.finished + 1) events.Stop) → IsSessionOf scenario (with_own seen was.progress events.Stop) was.progress.id now
-stopped was now is lines built enters scenario seen waits comes = record {
+stopped was now is lines enters scenario seen waits comes = record {
   id = goes.moves.id;
-  built = subst (All (λ command. runs command ≡ true)) (sym goes.moves.commands) built;
   stands = stands_started scenario (with_own seen was.progress events.Stop) now is (Over (record {
     life = ap (life_of (with_own seen was.progress events.Stop)) goes.moves.id ∙ life_of-own seen (entry_of was.progress.id (was.progress.finished + 1) events.Stop) was.progress.id (eq-eqb was.progress.id was.progress.id refl);
     lines_are = lines ∙ stop_lines scenario seen was.progress now.progress was.lines waits (own_plays scenario seen was.progress events.Stop waits.rests comes.next) goes;

@@ -1,5 +1,5 @@
 -- What is held agrees with the entries so far.
-use Rattle.std.specs.Prelude.{◌≡◌, ◌+◌, ℕ, true, false, Some, List, [], length, slice_get, All}
+use Rattle.std.specs.Prelude.{◌≡◌, ◌+◌, ℕ, true, false, Some, List, [], length, slice_get}
 use Rattle.history_model.specs.Lapped.{FollowsQueue}
 use Rattle.history_model.specs.Legal.{IsLegal}
 use Rattle.history_model.specs.Lives.{Stopped, life_of}
@@ -7,7 +7,6 @@ use Rattle.history_ledger.specs.Reads.{Reads}
 use Rattle.cacheless.specs.Lines.{lines_of_backend}
 use Rattle.cacheless.specs.Played.{AreSpelled}
 use Rattle.cacheless.specs.Plays.{Plays}
-use Rattle.cacheless.specs.Runs.{runs}
 use Rattle.session_laws.specs.Awaiting as session
 use Rattle.session_laws.specs.Awaiting.{AwaitsEntry}
 use Rattle.history_lines.specs.Types.{Scenario, Entry, Ledger, Session}
@@ -31,10 +30,9 @@ pub data IsGoing (scenario : Scenario) (seen : List Entry) (s : Session) : Type 
 abbrev pub Stands : Scenario → List Entry → Session → Type 0
 Stands scenario seen s = elim s.is_started [ true ↦ IsGoing scenario seen s | false ↦ HasNoEntry scenario seen s ]
 
--- the session of the backend of this number, whose commands can be run
+-- the session of the backend of this number
 pub record IsSessionOf (scenario : Scenario) (seen : List Entry) (b : ℕ) (s : Session) : Type 0 where
   pub id : s.progress.id ≡ b
-  pub built : All (λ command. runs command ≡ true) s.progress.commands
   pub stands : Stands scenario seen s
 
 -- the sessions of all backends, in order

@@ -3,7 +3,6 @@ ghost use Rattle.std.specs.Bool.{Decides};
 ghost use Rattle.base_types.specs.Scenario.{Scenario, IsBackend};
 ghost use Rattle.event_kinds.specs.declared.entry.Entry.{Entry};
 ghost use Rattle.history_ledger.specs.Reads.{Reads};
-ghost use Rattle.by_backend.specs.Built.{is_built};
 ghost use Rattle.history_lines.specs.Answered.{IsAnswered};
 ghost use Rattle.history_lines.specs.Stands.{Follows};
 ghost use Rattle.history_lines.specs.AllowedNext.{IsAllowedNext, CanTake, lines_held};
@@ -26,10 +25,8 @@ pub struct Answered {
 }
 
 /// The longest prefix of these entries that the script allows, and the lines that backends without caches
-/// answer by it. Condition: the script's commands can be run. `NoMemory` comes where memory is short, or a
-/// number can't be counted.
+/// answer by it. `NoMemory` comes where memory is short, or a number can't be counted.
 pub fn lines(alloc: Global, script: &Script, entries: &[Entry]) -> Result<Answered, NoMemory>
-    requires { is_built script.now ≡ true }
     ensures { IfOk result (λ a. IsAnswered script.now entries.now a.entries a.lines) }
 {
     let mut held = Held::new(alloc, script)?;
@@ -53,7 +50,6 @@ struct Held {
 impl Held {
     // That of no entry.
     fn new(alloc: Global, script: &Script) -> Result<Held, NoMemory>
-        requires { is_built script.now ≡ true }
         ensures { IfOk result (λ held. Follows script.now [] held.ledger held.sessions.items) }
     {
         Ok(Held {
@@ -120,7 +116,6 @@ impl Held {
 
 // The sessions of a script's backends, before the first entry.
 fn new_sessions(alloc: Global, script: &Script) -> Result<Vec<Session>, NoMemory>
-    requires { is_built script.now ≡ true }
     ensures { IfOk result (λ sessions. (ledger : Ledger) → Reads [] ledger → Follows script.now [] ledger sessions.items) }
 {
     let mut lists = commands_by_backend(alloc, script)?;

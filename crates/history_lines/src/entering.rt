@@ -8,7 +8,6 @@ ghost use Rattle.cacheless.specs.Holds.{entry_of, with_own};
 ghost use Rattle.cacheless.specs.May.{may_play_now};
 ghost use Rattle.cacheless.specs.Played.{AreSpelled};
 ghost use Rattle.cacheless.specs.Plays.{IsNext, Plays};
-ghost use Rattle.cacheless.specs.Runs.{runs};
 ghost use Rattle.base_types.specs.Scenario.{Scenario};
 ghost use Rattle.session_laws.specs.Awaiting.{AwaitsEntry, AnswersNow};
 ghost use Rattle.history_lines.specs.Comes.{comes_at};
@@ -34,7 +33,6 @@ impl Session {
         at: u64,
         e: &Entry,
     ) -> Result<(), NoMemory>
-        requires built { All (λ command. runs command ≡ true) self.old.progress.commands }
         requires comes { comes_at ledger.now.next_oid self.old e.now.command e.now.event ≡ true }
         ensures { OnOk result ((scenario : Scenario) (seen : List Entry) → Reads seen ledger.now → at ≡ length seen + 1 → AreSpelled scenario → IsLegal seen → Plays scenario seen → MayFollow seen e.now → IsNext scenario seen e.now → IsSessionOf scenario seen e.now.backend self.old → IsSessionOf scenario (seen ++ e.now ∷ []) e.now.backend self.new) }
     {
@@ -47,7 +45,6 @@ impl Session {
 
     // It starts, and goes on to its first entry.
     fn start(&mut self, alloc: Global) -> Result<(), NoMemory>
-        requires { All (λ command. runs command ≡ true) self.old.progress.commands }
         ensures { OnOk result ((scenario : Scenario) (seen : List Entry) → HasNoEntry scenario seen self.old → ComesNext scenario seen (entry_of self.old.progress.id 0 Event.Start) → IsSessionOf scenario (seen ++ entry_of self.old.progress.id 0 Event.Start ∷ []) self.old.progress.id self.new) }
     {
         self.progress.enter_start();
@@ -57,7 +54,6 @@ impl Session {
 
     // It stops.
     fn stop(&mut self) -> Result<(), NoMemory>
-        requires built { All (λ command. runs command ≡ true) self.old.progress.commands }
         requires going { self.old.is_started ≡ true }
         ensures { OnOk result ((scenario : Scenario) (seen : List Entry) → AwaitsEntry scenario seen self.old.progress self.old.lines → ComesNext scenario seen (entry_of self.old.progress.id (self.old.progress.finished + 1) Event.Stop) → IsSessionOf scenario (with_own seen self.old.progress Event.Stop) self.old.progress.id self.new) }
     {
@@ -76,7 +72,6 @@ impl Session {
         at: u64,
         event: &Event,
     ) -> Result<(), NoMemory>
-        requires built { All (λ command. runs command ≡ true) self.old.progress.commands }
         requires going { self.old.is_started ≡ true }
         requires comes { may_play_now ledger.now.next_oid self.old.progress event.now ≡ true }
         requires inside { is_stop event.now ≡ false }
@@ -88,9 +83,7 @@ impl Session {
 
     // It goes on as far as it can without an entry.
     fn settle(&mut self, alloc: Global) -> Result<(), NoMemory>
-        requires { All (λ command. runs command ≡ true) self.old.progress.commands }
         ensures goes_on { OnOk result ((scenario : Scenario) (seen : List Entry) → AnswersNow scenario seen self.old.progress self.old.lines → HasSettled scenario seen self.old self.new) }
-        ensures built { OnOk result (All (λ command. runs command ≡ true) self.new.progress.commands) }
         ensures started { self.new.is_started ≡ self.old.is_started }
     {
         if self.progress.commands.as_slice().len() > MOST_COMMANDS {

@@ -2,7 +2,6 @@ ghost use Rattle.std.specs.Prelude.{◌≡◌, ◌≤◌, true, [], length, All,
 ghost use Rattle.base_types.specs.Scenario.{Scenario, IsBackend};
 ghost use Rattle.ddl_effect.specs.Commands.{commands_of};
 ghost use Rattle.cacheless.specs.May.{HasRoom};
-ghost use Rattle.cacheless.specs.Runs.{runs};
 ghost use Rattle.history_lines.specs.Comes.{comes_at};
 ghost use Rattle.history_lines.specs.Stands.{IsSessionOf};
 
@@ -32,7 +31,6 @@ impl Session {
         id: u32,
         commands: Listed<Command>,
     ) -> Result<Session, NoMemory>
-        requires { All (λ command. runs command ≡ true) commands }
         ensures { IfOk result (λ s. (scenario : Scenario) → IsBackend scenario.backends id → commands ≡ commands_of scenario id → length commands ≤ 20000 → IsSessionOf scenario [] id s) }
     {
         Ok(Session {

@@ -1,4 +1,3 @@
-use by_backend::is_built;
 use edge_io::StdSink;
 use event_kinds::{Entry, read_entry};
 use history_lines::lines;
@@ -96,9 +95,6 @@ fn answer<R: Print>(
     let count = entries.len();
     if matches!(wanted, Wanted::Entries) {
         return println!(rt; "{count} entries").ok();
-    }
-    if !is_built(script) {
-        return None;
     }
     let Ok(answered) = lines(alloc, script, entries) else {
         return println!(rt; "N/A of {count} entries").ok();

@@ -1,10 +1,6 @@
-ghost use Rattle.std.specs.Prelude.{◌≡◌, true};
-ghost use Rattle.by_backend.specs.Built.{is_built};
-
 use crate::answers::wrong_line;
 use crate::reasons::reason;
 use base_types::NoMemory;
-use by_backend::is_built;
 use check_tool::{leading_entries, walked_prefix};
 use event_kinds::Entry;
 use script_text::{Rest, Script, ScriptFault, read_script};
@@ -28,17 +24,12 @@ pub fn difference(alloc: Global, input: &[u8]) -> Result<Option<String>, NoMemor
         Err(ScriptFault::NoMemory) => return Err(NoMemory),
         Err(_) => return Ok(None),
     };
-    if !is_built(&read.script) {
-        return Ok(None);
-    }
     let output = input.get(read.rest_at..).unwrap_or(&[]);
     Ok(Some(of_output(alloc, &read.script, output)?))
 }
 
-// The same of a script whose commands can be run, and an output.
-fn of_output(alloc: Global, script: &Script, output: &[u8]) -> Result<String, NoMemory>
-    requires { is_built script.now ≡ true }
-{
+// The same of a script and an output.
+fn of_output(alloc: Global, script: &Script, output: &[u8]) -> Result<String, NoMemory> {
     let leading = leading_entries(alloc, output)?;
     let entries = leading.entries.as_slice();
     let walked = walked_prefix(alloc, script, entries)?;

@@ -6,7 +6,7 @@ use Rattle.base_types.specs.declared.ids.Xid.{Xid}
 use Rattle.base_types.specs.declared.scan.Purpose.TheVariants as scans
 use Rattle.event_kinds.specs.declared.entry.Event.TheVariants as events
 use Rattle.ddl_effect.specs.Commands.{commands_of}
-use Rattle.ddl_effect.specs.Plans.{Lookup, Open, Search, Read, Lock, Write, Plan, Done, Fails, Absent, NotBuilt, Do}
+use Rattle.ddl_effect.specs.Plans.{Lookup, Open, Search, Read, Lock, Write, Plan, Done, Fails, Absent, Do}
 use Rattle.ddl_effect.specs.Stages.{plan_at}
 use Rattle.inval_messages.specs.Lists.{cats_in, rels_in, lists_from}
 use Rattle.local_caches.specs.Kept.{Kept, Read as KeptRead, kept_with, kept_spared, is_kept}
@@ -105,7 +105,6 @@ write_there next seen b s command items follows writes = by_plan s.left refl wri
     by_plan (Done told) at writes = absurd writes
     by_plan (Fails error) at writes = absurd writes
     by_plan (Absent name) at writes = absurd writes
-    by_plan NotBuilt at writes = absurd writes
 
 -- the running command of a session that waits does what its plan says
 follows_plan : (scenario : Scenario) (seen : List Entry) (s : Progress) (rests : Rests scenario seen s) → AllOnCourse scenario seen → (command : Command) → slice_get s.commands s.finished ≡ Some command → FollowsPlan seen s.id (session_at s rests.holds.rest) command

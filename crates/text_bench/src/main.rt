@@ -3,7 +3,6 @@
 //! written of it (`walk`). Its exit status is 0, or 1 where an argument, a text, memory or the outside fails.
 #![tactic(auto)]
 
-use by_backend::is_built;
 use edge_io::{Sink, StdSink, StdSource, read_all, send};
 use event_kinds::{Entry, read_entry};
 use out_text::put_output;
@@ -53,9 +52,6 @@ fn walk_script(alloc: Global, input: &[u8]) -> Option<()> {
         return None;
     }
     let read = read_script(alloc, input, Rest::Refused).ok()?;
-    if !is_built(&read.script) {
-        return None;
-    }
     walk(alloc, &read.script).ok().map(|_| ())
 }
 

@@ -1,6 +1,5 @@
 -- The backends of a walk before its first step.
 use Rattle.std.proofs.Common.{◌≡◌, ◌≤◌, ◌<◌, ◌+◌, ◌∙◌, ℕ, true, Some, None, List, [], ◌∷◌, ◌++◌, refl, sym, ap, subst, length, slice_get, arith, ◌⊎◌, inl, inr}
-use Rattle.std.specs.List.{All}
 use Rattle.std.proofs.lemmas.List.{length_push}
 use Rattle.base_types.specs.declared.command.Command.{Command}
 use Rattle.base_types.specs.Scenario.{Scenario, IsBackend}
@@ -8,8 +7,7 @@ use Rattle.ddl_effect.specs.Commands.{commands_of}
 use Rattle.backend_core.specs.declared.backend.Backend.{Backend}
 use Rattle.backend_core.specs.Agrees.{IsNew, Stands}
 use Rattle.backend_core.proofs.NewFacts.{facts_none}
-use Rattle.by_backend.specs.Built.{is_built}
-use Rattle.by_backend.proofs.OwnParts.{CanRun, built_own, few_among}
+use Rattle.by_backend.proofs.OwnParts.{few_among}
 use Rattle.by_backend.proofs.Places.{last_or_before}
 use Rattle.walk_run.specs.Walks.{StandsAt}
 use Rattle.walk_run.proofs.ScheduleSteps.{StandsAs}
@@ -24,8 +22,8 @@ pub begins_none : (s : Scenario) → Begins s [] 0
 begins_none s = record { count = refl; each = λ i x (at : None ≡ Some x). absurd (cc) }
 
 -- a new backend stands before the first entry
-new_stands : (s : Scenario) (x : Backend) (b : ℕ) → is_built s ≡ true → length s.commands ≤ 20000 → IsBackend s.backends b → IsNew x b (commands_of s b) → Stands s [] x
-new_stands s x b built few number new = subst (StandsAs s [] x) (sym new.life) (record {
+new_stands : (s : Scenario) (x : Backend) (b : ℕ) → length s.commands ≤ 20000 → IsBackend s.backends b → IsNew x b (commands_of s b) → Stands s [] x
+new_stands s x b few number new = subst (StandsAs s [] x) (sym new.life) (record {
   waits = record {
     number = subst (IsBackend s.backends) (sym new.progress.number) number;
     commands = commands;
@@ -33,7 +31,6 @@ new_stands s x b built few number new = subst (StandsAs s [] x) (sym new.life) (
     new = own.progress;
     facts = facts_none x.progress.id x.progress.commands x.progress own.progress;
   };
-  built = subst (All CanRun) (sym new.progress.commands_are) (built_own s b built);
   new = own;
   session = refl;
   facts = refl;
@@ -48,9 +45,9 @@ new_stands s x b built few number new = subst (StandsAs s [] x) (sym new.life) (
     own = subst (IsNew x x.progress.id) (sym new.progress.commands_are) (subst (λ k. IsNew x k (commands_of s b)) (sym new.progress.number) new)
 
 -- one more
-pub begins_more : (s : Scenario) (bs : List Backend) (n : ℕ) (y : Backend) (commands : List Command) → is_built s ≡ true → length s.commands ≤ 20000 → commands ≡ commands_of s (n + 1) → Begins s bs n → n < s.backends → IsNew y (n + 1) commands
+pub begins_more : (s : Scenario) (bs : List Backend) (n : ℕ) (y : Backend) (commands : List Command) → length s.commands ≤ 20000 → commands ≡ commands_of s (n + 1) → Begins s bs n → n < s.backends → IsNew y (n + 1) commands
     → Begins s (bs ++ y ∷ []) (n + 1)
-begins_more s bs n y commands built few copies begins within new = record {
+begins_more s bs n y commands few copies begins within new = record {
   count = length_push bs y ∙ ap (λ k. k + 1) begins.count;
   each = λ i x at. by_place i x (last_or_before bs y x i at);
 }
@@ -59,4 +56,4 @@ begins_more s bs n y commands built few copies begins within new = record {
     by_place i x (inl before) = begins.each i x before
     by_place i x (inr last) =
         let here : n + 1 ≡ i + 1 = omega (arith, last.0, begins.count) in
-        subst (StandsAt s [] (i + 1)) last.1 (record { id = new.progress.number ∙ here; stands = new_stands s y (n + 1) built few (omega arith, omega (arith, within)) (subst (IsNew y (n + 1)) copies new) })
+        subst (StandsAt s [] (i + 1)) last.1 (record { id = new.progress.number ∙ here; stands = new_stands s y (n + 1) few (omega arith, omega (arith, within)) (subst (IsNew y (n + 1)) copies new) })

@@ -15,9 +15,7 @@
 //! which are handed back.
 //!
 //! ```text
-//! if is_built(&script) {
-//!     let world = walk(alloc, &script)?;
-//! }
+//! let world = walk(alloc, &script)?;
 //! ```
 #![tactic(auto)]
 

@@ -3,7 +3,6 @@ ghost use Rattle.std.specs.List.{All, AllByRecursion};
 ghost use Rattle.base_types.specs.Scenario.{IsBackend, AreTurns, turns_of, schedule_of};
 ghost use Rattle.backend_core.specs.Agrees.{Stands};
 ghost use Rattle.backend_core.specs.Coherent.{IsCoherent};
-ghost use Rattle.by_backend.specs.Built.{is_built};
 ghost use Rattle.walk_run.specs.Sessions.{transcripts_of, AreSessions};
 ghost use Rattle.walk_run.specs.Walks.{IsWalk};
 
@@ -32,9 +31,8 @@ pub struct World {
 // How many places in the history are promised to a backend before its step.
 const PLACES: u32 = 2;
 
-/// The walk of a script in plain memory. Condition: its commands can be run.
+/// The walk of a script in plain memory.
 pub fn walk(alloc: Global, script: &Script) -> Result<World, NoMemory>
-    requires { is_built script.now ≡ true }
     ensures walk { IfOk result (λ world. IsWalk script.now world.entries world.lines) }
     ensures sessions { IfOk result (λ world. AreSessions script.now world.entries world.lines world.backends) }
     ensures stand { IfOk result (λ world. All (Stands script.now world.entries) world.backends) }
@@ -51,14 +49,12 @@ pub fn walk(alloc: Global, script: &Script) -> Result<World, NoMemory>
 }
 
 /// The walk of a script on a segment: the backends that were run, in order of their numbers.
-/// Conditions: the commands of the script can be run, the segment was made for it, and its history is
-/// empty.
+/// Conditions: the segment was made for the script, and its history is empty.
 pub fn walk_on<L: Seg>(
     alloc: Global,
     script: &Script,
     seg: &mut L,
 ) -> Result<Vec<Backend>, NoMemory>
-    requires built { is_built script.now ≡ true }
     requires script { L.script seg.old ≡ script.now }
     requires start { L.history seg.old ≡ [] }
     ensures script { L.script seg.new ≡ L.script seg.old }
@@ -88,7 +84,6 @@ impl Walker {
 
     // All backends of the script, none of which has joined.
     fn new(alloc: Global, script: &Script) -> Result<Walker, NoMemory>
-        requires { is_built script.now ≡ true }
         ensures { IfOk result (λ walker. AllStand script.now [] walker.backends.items) }
     {
         let mut lists = commands_by_backend(alloc, script)?;

@@ -20,7 +20,6 @@ use Rattle.cacheless.specs.Facts.{Facts, facts_of}
 use Rattle.cacheless.specs.May.{is_missing, is_first_missing, is_next_of_act, has_failed, is_next_at}
 use Rattle.cacheless.specs.OnCourse.{OnItsWay, AllOnCourse}
 use Rattle.cacheless.specs.Owed.{Owes, OwesLook, begins, owed_at_start}
-use Rattle.cacheless.specs.Runs.{runs}
 use Rattle.cacheless.specs.Session.{opening_of, held_in, held_before, Session, Unsettled, Well, Badly, outcome_of, is_settled, plan_admitted, plan_first, refused_first, is_blocked}
 use Rattle.cacheless.specs.State.{kept_at, owed_first, is_absent}
 use Rattle.cacheless.specs.Types.{Field, Draft, CommandError, Told, OpenRelation}
@@ -103,20 +102,20 @@ ends_none opens commands.Commit acts = absurd (acts tells.Commit refl)
 ends_none opens commands.Rollback acts = absurd (acts tells.Ok refl)
 ends_none opens command acts = refl
 
--- and one that the program runs mends none
-mends_none : (opens : List OpenRelation) (command : Command) → runs command ≡ true → DoesSome (plan_of opens command) → ends_failure command ≡ false
-mends_none opens commands.Commit built acts = absurd (acts tells.Commit refl)
-mends_none opens commands.Rollback built acts = absurd (acts tells.Ok refl)
-mends_none opens (commands.RollbackTo name) built acts = absurd (acts tells.Ok refl)
-mends_none opens command built acts = refl
+-- and it mends none
+mends_none : (opens : List OpenRelation) (command : Command) → DoesSome (plan_of opens command) → ends_failure command ≡ false
+mends_none opens commands.Commit acts = absurd (acts tells.Commit refl)
+mends_none opens commands.Rollback acts = absurd (acts tells.Ok refl)
+mends_none opens (commands.RollbackTo name) acts = absurd (acts tells.Ok refl)
+mends_none opens command acts = refl
 
 none_left : {X : Type 0} (o : Option X) → is_some o ≡ false → is_none o ≡ true
 none_left None is = refl
 none_left (Some x) is = absurd (cc is)
 
-pub acts_run : (facts : Facts) (o : Option Command) (s : Session) (looked : Bool) (frames : List Frame) (told : Bool) (command : Command) → o ≡ Some command → Fits facts o s looked frames told → s.ended ≡ false → s.blocked ≡ false → runs command ≡ true → DoesSome (plan_of s.opens command) → owed_at_start facts command s ≡ []
+pub acts_run : (facts : Facts) (o : Option Command) (s : Session) (looked : Bool) (frames : List Frame) (told : Bool) (command : Command) → o ≡ Some command → Fits facts o s looked frames told → s.ended ≡ false → s.blocked ≡ false → DoesSome (plan_of s.opens command) → owed_at_start facts command s ≡ []
     → is_some facts.running ≡ true
-acts_run facts o s looked frames told command at fits going unblocked built acts free = by_block s.blocks.block refl (subst (TransactionFits facts o s) going fits.transaction)
+acts_run facts o s looked frames told command at fits going unblocked acts free = by_block s.blocks.block refl (subst (TransactionFits facts o s) going fits.transaction)
   where
     admitted : (block : Block) → s.blocks.block ≡ block → elim block as (λ x. Bool) [ Inside ↦ false | other ↦ is_some (refused_by s.blocks command) ] ≡ false
     admitted block here = ap (λ b. elim b as (λ x. Bool) [ Inside ↦ false | other ↦ is_some (refused_by s.blocks command) ]) (sym here) ∙ ap (is_blocked s.blocks) (sym at) ∙ sym fits.blocked ∙ unblocked
@@ -131,13 +130,10 @@ acts_run facts o s looked frames told command at fits going unblocked built acts
     by_block Outside is (inr alone) = some_first facts.running _ alone.first
     by_block Inside is block = block.runs
     by_block Failed is none = absurd (both_ways _ (admitted Failed is) (ap (λ b. is_some (option_or (refused_in b command) (refused_of s.blocks.levels command))) is
-        ∙ ap (λ t. is_some (option_or (elim t as (λ x. Option CommandError) [ true ↦ None | false ↦ Some errors.BlockFailed ]) (refused_of s.blocks.levels command))) (mends_none s.opens command built acts)))
+        ∙ ap (λ t. is_some (option_or (elim t as (λ x. Option CommandError) [ true ↦ None | false ↦ Some errors.BlockFailed ]) (refused_of s.blocks.levels command))) (mends_none s.opens command acts)))
 
 -- a backend that waits in a command whose transaction's first look is made
 module _ (scenario : Scenario) (seen : List Entry) (s : Backend) (waits : AwaitsEntry scenario seen s) (courses : AllOnCourse scenario seen) (command : Command) (at : command_at s ≡ Some command) where
-  built : runs command ≡ true
-  built = subst (λ c. runs c ≡ true) (get_or_from_slice_get s.progress.commands s.progress.finished command command at) (waits.keeps.built s.progress.finished command (slice_get_within s.progress.commands s.progress.finished command at))
-
   -- the blocks haven't refused it, where it hasn't failed
   unblocked_here : outcome_of (plan_at s.progress.opens s.progress.exec) ≢ Badly → s.progress.blocked ≡ false
   unblocked_here goes = by_test s.progress.blocked refl
@@ -147,7 +143,7 @@ module _ (scenario : Scenario) (seen : List Entry) (s : Backend) (waits : Awaits
       by_test true is = absurd (let badly : outcome_of (plan_first (waiting waits).blocks (waiting waits).opens (command_at s)) ≡ Badly = refused_badly (command_at s) (waiting waits) (sym waits.fits.blocked ∙ is) in goes (ap outcome_of (waits.fits.settled (ap is_settled badly)) ∙ badly))
 
   runs_here : owed_first s.progress command ≡ [] → outcome_of (plan_at s.progress.opens s.progress.exec) ≢ Badly → DoesSome (plan_of s.progress.opens command) → (waiting waits).ended ≡ false → is_some (facts_of seen s.progress.id).running ≡ true
-  runs_here free goes acts on = acts_run (facts_of seen s.progress.id) (command_at s) (waiting waits) s.looked s.frames s.told command at waits.fits on (unblocked_here goes) built acts
+  runs_here free goes acts on = acts_run (facts_of seen s.progress.id) (command_at s) (waiting waits) s.looked s.frames s.told command at waits.fits on (unblocked_here goes) acts
       (start_owed (facts_of seen s.progress.id) command s.progress waits.rests.holds.rest waits.rests.holds.facts ∙ free)
 
   -- its plan isn't an answer alone
@@ -162,7 +158,7 @@ module _ (scenario : Scenario) (seen : List Entry) (s : Backend) (waits : Awaits
 
   -- where the command says that there is no relation of a name
   absent_runs : (name : List ℕ) → plan_at s.progress.opens s.progress.exec ≡ Absent name → owed_first s.progress command ≡ [] → is_some (facts_of seen s.progress.id).running ≡ true
-  absent_runs name says free = acts_run (facts_of seen s.progress.id) (command_at s) (waiting waits) s.looked s.frames s.told command at waits.fits (going scenario seen s waits courses command at (λ well. let no : Badly ≡ Well = sym (ap outcome_of says) ∙ well in cc no)) unblocked built acts
+  absent_runs name says free = acts_run (facts_of seen s.progress.id) (command_at s) (waiting waits) s.looked s.frames s.told command at waits.fits (going scenario seen s waits courses command at (λ well. let no : Badly ≡ Well = sym (ap outcome_of says) ∙ well in cc no)) unblocked acts
       (start_owed (facts_of seen s.progress.id) command s.progress waits.rests.holds.rest waits.rests.holds.facts ∙ free)
     where
       unblocked : s.progress.blocked ≡ false

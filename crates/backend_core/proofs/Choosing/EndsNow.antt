@@ -19,7 +19,6 @@ use Rattle.cacheless.specs.Ends.{End, Ends, Commits, TakesBack, end_of_all, end_
 use Rattle.cacheless.specs.Facts.{Facts}
 use Rattle.cacheless.specs.Owed.{Owes, OwesScan, owed_at_start, owed_after, scans_owed, owed_of}
 use Rattle.cacheless.specs.Plays.{IsEnd, IsLastEnd, MayPlay, MayPlayLast, MayPlayIn}
-use Rattle.cacheless.specs.Runs.{runs}
 use Rattle.cacheless.specs.Session.{Session, Outcome, Well, Badly, Unsettled, number_of, outcome_of, is_settled, plan_admitted, plan_first, is_blocked}
 use Rattle.cacheless.specs.Sessions.{ends_command}
 use Rattle.cacheless.specs.Types.{CommandError, OpenRelation}
@@ -199,11 +198,11 @@ level_outside [] n is = refl
 level_outside (level ∷ levels) n is = absurd (cc is)
 
 -- a failed block admits what ends it, which does no act
-ends_failed : (opens : List OpenRelation) (command : Command) → is_some (refused_in Failed command) ≡ false → runs command ≡ true → outcome_of (plan_of opens command) ≡ Well
-ends_failed opens commands.Commit admitted built = refl
-ends_failed opens commands.Rollback admitted built = refl
-ends_failed opens (commands.RollbackTo name) admitted built = refl
-ends_failed opens command admitted built = absurd (cc admitted)
+ends_failed : (opens : List OpenRelation) (command : Command) → is_some (refused_in Failed command) ≡ false → outcome_of (plan_of opens command) ≡ Well
+ends_failed opens commands.Commit admitted = refl
+ends_failed opens commands.Rollback admitted = refl
+ends_failed opens (commands.RollbackTo name) admitted = refl
+ends_failed opens command admitted = absurd (cc admitted)
 
 admitted_plan : (opens : List OpenRelation) (error : Option CommandError) (command : Command) → is_some error ≡ false → plan_admitted opens error command ≡ plan_of opens command
 admitted_plan opens None command none = refl
@@ -248,8 +247,8 @@ module _ (facts : Facts) (o : Option Command) (s : Session) (looked : Bool) (fra
       by_outcome Badly end = absurd (badly_back s first end)
       by_outcome Unsettled end = absurd (let no : Ends ≡ Commits first = end in cc no)
 
-  failed_done : runs command ≡ true → s.blocks.block ≡ Failed → s.blocked ≡ false → outcome_of s.left ≡ Well
-  failed_done built failed admitted = ap outcome_of (fits.settled (ap is_settled first)) ∙ first
+  failed_done : s.blocks.block ≡ Failed → s.blocked ≡ false → outcome_of s.left ≡ Well
+  failed_done failed admitted = ap outcome_of (fits.settled (ap is_settled first)) ∙ first
     where
       free : is_some (refused_by s.blocks command) ≡ false
       free = (λ i. elim (sym failed i) as (λ x. Bool) [ Inside ↦ false | block ↦ is_some (refused_by s.blocks command) ]) ∙ ap (is_blocked s.blocks) (sym at) ∙ sym fits.blocked ∙ admitted
@@ -259,7 +258,7 @@ module _ (facts : Facts) (o : Option Command) (s : Session) (looked : Bool) (fra
       failed_free (Some error) is = absurd (cc is)
 
       first : outcome_of (plan_first s.blocks s.opens o) ≡ Well
-      first = ap (λ c. outcome_of (plan_first s.blocks s.opens c)) at ∙ ap outcome_of (admitted_plan s.opens (refused_by s.blocks command) command free) ∙ ends_failed s.opens command (failed_free (refused_in Failed command) (ap (λ b. is_some (option_or (refused_in b command) (refused_of s.blocks.levels command))) (sym failed) ∙ free)) built
+      first = ap (λ c. outcome_of (plan_first s.blocks s.opens c)) at ∙ ap outcome_of (admitted_plan s.opens (refused_by s.blocks command) command free) ∙ ends_failed s.opens command (failed_free (refused_in Failed command) (ap (λ b. is_some (option_or (refused_in b command) (refused_of s.blocks.levels command))) (sym failed) ∙ free))
 
   -- what fits the blocks after the command, by how it came out
   after_well : (later : Facts) → outcome_of s.left ≡ Well → RunsIn later (blocks_well (number_of s) command s.blocks) → RunsAfter later o s
@@ -298,14 +297,14 @@ module _ (facts : Facts) (o : Option Command) (s : Session) (looked : Bool) (fra
       })
 
   -- what a command that failed takes back
-  from_badly : (from : ℕ) → runs command ≡ true → outcome_of s.left ≡ Badly → end_from (end_badly s) ≡ Some from → Releases facts o s from
-  from_badly from built badly is = by_blocked s.blocked refl is
+  from_badly : (from : ℕ) → outcome_of s.left ≡ Badly → end_from (end_badly s) ≡ Some from → Releases facts o s from
+  from_badly from badly is = by_blocked s.blocked refl is
     where
       by_block : (block : Block) → s.blocks.block ≡ block → s.blocked ≡ false → RunsBy facts o s block → innermost (number_of s) s.blocks.levels ≡ from → Releases facts o s from
       by_block Outside outside admitted by to = Whole (first_alone facts o s by ∙ sym (level_outside s.blocks.levels (number_of s) (ap (λ b. elim b as (λ x. Bool) [ Outside ↦ false | block ↦ true ]) (sym outside) ∙ fits.opens)) ∙ to) (outside_from from outside)
           (λ later none. after_badly later Outside badly outside (subst (RunsAt later s.blocks.levels) (sym outside) none))
       by_block Inside inside admitted by to = from_inside from badly inside by to
-      by_block Failed failed admitted by to = absurd (let no : Well ≡ Badly = sym (failed_done built failed admitted) ∙ badly in cc no)
+      by_block Failed failed admitted by to = absurd (let no : Well ≡ Badly = sym (failed_done failed admitted) ∙ badly in cc no)
 
       by_blocked : (t : Bool) → s.blocked ≡ t → end_from (elim t as (λ x. End) [ true ↦ Ends | false ↦ TakesBack (innermost (number_of s) s.blocks.levels) ]) ≡ Some from → Releases facts o s from
       by_blocked true blocked end = absurd (cc end)
@@ -390,12 +389,12 @@ module _ (facts : Facts) (o : Option Command) (s : Session) (looked : Bool) (fra
       by_command c same is = alone c same stays is
 
   -- what an end with an entry releases
-  released_by : (from : ℕ) → runs command ≡ true → end_from (end_of facts command s) ≡ Some from → Releases facts o s from
-  released_by from built is = by_outcome (outcome_of s.left) refl is
+  released_by : (from : ℕ) → end_from (end_of facts command s) ≡ Some from → Releases facts o s from
+  released_by from is = by_outcome (outcome_of s.left) refl is
     where
       by_outcome : (x : Outcome) → outcome_of s.left ≡ x → end_from (elim x as (λ y. End) [ Well ↦ end_well facts command s | Badly ↦ end_badly s | Unsettled ↦ Ends ]) ≡ Some from → Releases facts o s from
       by_outcome Well outcome end = from_well from outcome end
-      by_outcome Badly outcome end = from_badly from built outcome end
+      by_outcome Badly outcome end = from_badly from outcome end
       by_outcome Unsettled outcome end = absurd (cc end)
 
 -- a commit is that of the running transaction as a whole
@@ -404,9 +403,9 @@ commit_first facts None s looked frames told first fits going is = from_all fact
 commit_first facts (Some command) s looked frames told first fits going is = first_of_commit facts (Some command) s looked frames told command refl fits going first is
 
 -- what an end releases; after the last command all that runs
-pub end_releases : (facts : Facts) (o : Option Command) (s : Session) (looked : Bool) (frames : List Frame) (told : Bool) (from : ℕ) → ((command : Command) → o ≡ Some command → runs command ≡ true) → Fits facts o s looked frames told → s.ended ≡ false → end_from (end_by facts o s) ≡ Some from → Releases facts o s from
-end_releases facts None s looked frames told from built fits going is = Whole (from_all facts.running (number_of s) from is) (ap (λ n. opens_before n s.opens) (sym (from_all facts.running 0 from is)) ∙ fits.since) (λ later none. none)
-end_releases facts (Some command) s looked frames told from built fits going is = released_by facts (Some command) s looked frames told command refl fits going from (built command refl) is
+pub end_releases : (facts : Facts) (o : Option Command) (s : Session) (looked : Bool) (frames : List Frame) (told : Bool) (from : ℕ) → Fits facts o s looked frames told → s.ended ≡ false → end_from (end_by facts o s) ≡ Some from → Releases facts o s from
+end_releases facts None s looked frames told from fits going is = Whole (from_all facts.running (number_of s) from is) (ap (λ n. opens_before n s.opens) (sym (from_all facts.running 0 from is)) ∙ fits.since) (λ later none. none)
+end_releases facts (Some command) s looked frames told from fits going is = released_by facts (Some command) s looked frames told command refl fits going from is
 
 -- a visible transaction is on its commit
 pub commit_end : (facts : Facts) (o : Option Command) (s : Session) (looked : Bool) (frames : List Frame) (told : Bool) → Fits facts o s looked frames told → is_visible facts.running ≡ true → end_by facts o s ≡ Commits (first_at facts)

@@ -10,7 +10,7 @@ use Rattle.base_types.specs.declared.row.Row.TheVariants as rows
 use Rattle.base_types.specs.declared.scan.Purpose.TheVariants as scans
 use Rattle.base_types.proofs.SameScan.{same_scan-itself}
 use Rattle.lock_modes.specs.Own.{has_lock, is_own}
-use Rattle.ddl_effect.specs.Plans.{Plan, Act, Done, Fails, Absent, NotBuilt, Do, Lookup, Open, Search, Read, Lock, Write}
+use Rattle.ddl_effect.specs.Plans.{Plan, Act, Done, Fails, Absent, Do, Lookup, Open, Search, Read, Lock, Write}
 use Rattle.ddl_effect.specs.Stages.{plan_at, want_of_act, want_of}
 use Rattle.ddl_effect.specs.declared.want.Want.{Want}
 use Rattle.ddl_effect.specs.declared.want.Want.TheVariants as wants
@@ -50,7 +50,6 @@ plan_wanted : (plan : Plan) (act : Act) → wanted_act (want_of plan) ≡ Some a
 plan_wanted (Done told) act is = absurd (cc is)
 plan_wanted (Fails error) act is = absurd (cc is)
 plan_wanted (Absent name) act is = absurd (cc is)
-plan_wanted NotBuilt act is = absurd (cc is)
 plan_wanted (Do done rest) act is = record { rest = rest; is = ap (λ a. Do a rest) (again done is) }
   where
     again : (a : Act) → wanted_act (want_of_act a) ≡ Some act → a ≡ act
@@ -190,7 +189,6 @@ fails_none p want goes is failing = by_plan (plan_at p.opens p.exec) refl (ap fa
 
     by_plan : (q : Plan) → plan_at p.opens p.exec ≡ q → fails (want_of q) ≡ true → ⊥
     by_plan (Done told) at bad = cc bad
-    by_plan NotBuilt at bad = cc bad
     by_plan (Do act rest) at bad = by_act act bad
     by_plan (Fails error) at bad = both_ways _ goes (ap (λ x. elim (outcome_of x) as (λ y. Bool) [ Badly ↦ true | other ↦ false ]) at)
     by_plan (Absent name) at bad = both_ways _ goes (ap (λ x. elim (outcome_of x) as (λ y. Bool) [ Badly ↦ true | other ↦ false ]) at)
@@ -216,7 +214,7 @@ further_lock s command still chosen free whole rel mode want = record {
     none_taken : (o : Option Oid) → s.progress.taken ≡ o → is_none o ≡ true
     none_taken None took = refl
     none_taken (Some taken) took = absurd (not_at_rest s.progress command (Lock rel mode) still free act owes
-      (λ i. is_some (if_locked (any-weaker (λ lock. is_own rel mode lock && (lock.command == s.progress.finished + 1)) (is_own rel mode) (λ lock is. (and_parts (is_own rel mode lock) _ is).0) s.progress.locks.items (had taken took) i) [])))
+        (λ i. is_some (if_locked (any-weaker (λ lock. is_own rel mode lock && (lock.command == s.progress.finished + 1)) (is_own rel mode) (λ lock is. (and_parts (is_own rel mode lock) _ is).0) s.progress.locks.items (had taken took) i) [])))
 
 -- what comes next of a lookup whose scan serves
 module _ (s : Backend) (command : Command) (still : IsAtRest s.progress) (chosen : IsChoiceSound s) (free : IsFree s.progress command) (name : List ℕ) (mode : Mode) (want : want_of (plan_at s.progress.opens s.progress.exec) ≡ wants.Lookup name mode) (owes : owes_nothing command s.progress ≡ true) where

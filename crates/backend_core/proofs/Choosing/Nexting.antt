@@ -8,7 +8,7 @@ use Rattle.base_types.specs.Scans.{same_scan, build_scans}
 use Rattle.base_types.proofs.SameScan.{same_scan-itself}
 use Rattle.txn_blocks.specs.Blocks.{refused_by}
 use Rattle.ddl_effect.specs.Commands.{plan_of, commands_of}
-use Rattle.ddl_effect.specs.Plans.{Plan, Act, Done, Fails, Absent, NotBuilt, Do, Lookup, Open, Search, Read, Lock, Write}
+use Rattle.ddl_effect.specs.Plans.{Plan, Act, Done, Fails, Absent, Do, Lookup, Open, Search, Read, Lock, Write}
 use Rattle.ddl_effect.specs.Stages.{plan_at, want_of}
 use Rattle.ddl_effect.specs.declared.want.Want.TheVariants as wants
 use Rattle.history_model.specs.Writes.{is_empty}
@@ -16,9 +16,8 @@ use Rattle.cacheless.specs.ActsDone.{reached, made_in, opening_by}
 use Rattle.cacheless.specs.Ends.{End, Ends, Commits, TakesBack}
 use Rattle.ddl_effect.specs.declared.want.Want.{Want}
 use Rattle.cacheless.specs.May.{owes_no_end, has_failed, is_first_missing, is_next_of_act, lacks_opened, lacks_any, owes_nothing, is_next_of_end, may_end_at}
-use Rattle.cacheless.specs.OnCourse.{Way, Begun, Wrote, Unbuilt, Over, FollowsPlan, IsOnCourse, AllOnCourse}
+use Rattle.cacheless.specs.OnCourse.{Way, Begun, Wrote, Over, FollowsPlan, IsOnCourse, AllOnCourse}
 use Rattle.cacheless.specs.OpenedReads.{ReadsOpened}
-use Rattle.cacheless.specs.Runs.{runs}
 use Rattle.cacheless.specs.Settled.{opened_by}
 use Rattle.cacheless.specs.Session.{held_before, plan_admitted}
 use Rattle.cacheless.specs.Silently.{is_ends, IsAtRest}
@@ -134,7 +133,6 @@ reads_reached (given ∷ gave) opened plan reads = by_plan (reads_reached gave) 
     by_plan further (Done told) has = further opened (Done told) tt
     by_plan further (Fails error) has = further opened (Fails error) tt
     by_plan further (Absent name) has = further opened (Absent name) tt
-    by_plan further NotBuilt has = further opened NotBuilt tt
 
 pub reads_now : (scenario : Scenario) (seen : List Entry) (s : Backend) → AwaitsEntry scenario seen s → AllOnCourse scenario seen → ReadsOpened s.progress.opened (plan_at s.progress.opens s.progress.exec)
 reads_now scenario seen s waits courses = by_command (command_at s) refl
@@ -145,13 +143,12 @@ reads_now scenario seen s waits courses = by_command (command_at s) refl
     held : List Opening
     held = held_before (waiting waits)
 
-    first : (command : Command) → refused_by s.progress.blocks command ≡ None → runs command ≡ true → ReadsOpened held (plan_of s.progress.opens command)
-    first command admitted runs_it = subst (λ e. ReadsOpened held (plan_admitted s.progress.opens e command)) admitted (reads_first held s.progress.blocks s.progress.opens (Some command) (λ c is. let one : command ≡ c = cc is in subst (λ x. runs x ≡ true) one runs_it))
+    first : (command : Command) → refused_by s.progress.blocks command ≡ None → ReadsOpened held (plan_of s.progress.opens command)
+    first command admitted = subst (λ e. ReadsOpened held (plan_admitted s.progress.opens e command)) admitted (reads_first held s.progress.blocks s.progress.opens (Some command))
 
     by_way : (command : Command) → refused_by s.progress.blocks command ≡ None → Way seen s.progress.id (waiting waits) command → ReadsOpened s.progress.opened (plan_at s.progress.opens s.progress.exec)
-    by_way command admitted (Begun way) = subst (ReadsOpened s.progress.opened) (sym way.plan) (subst (λ o. ReadsOpened o (reached way.gave (plan_of s.progress.opens command))) (sym way.opened) (reads_reached way.gave held (plan_of s.progress.opens command) (first command admitted way.runs)))
+    by_way command admitted (Begun way) = subst (ReadsOpened s.progress.opened) (sym way.plan) (subst (λ o. ReadsOpened o (reached way.gave (plan_of s.progress.opens command))) (sym way.opened) (reads_reached way.gave held (plan_of s.progress.opens command) (first command admitted)))
     by_way command admitted (Wrote w) = subst (ReadsOpened s.progress.opened) (sym w.plan) tt
-    by_way command admitted (Unbuilt w) = subst (ReadsOpened s.progress.opened) (sym w.plan) tt
     by_way command admitted (Over w) = reads_out s.progress.opened (plan_at s.progress.opens s.progress.exec) w.out
 
     by_refused : (command : Command) → FollowsPlan seen s.progress.id (waiting waits) command → (o : Option CommandError) → (waiting waits).refused ≡ o → ReadsOpened s.progress.opened (plan_at s.progress.opens s.progress.exec)

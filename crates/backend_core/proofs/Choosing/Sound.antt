@@ -23,7 +23,7 @@ use Rattle.backend_core.specs.Frames.{lacks, IsStack, IsRebuilt}
 use Rattle.std.specs.List.{list_any, cons_option}
 use Rattle.seg_calls.specs.Calls.{took_back}
 use Rattle.backend_core.specs.Words.{has_error}
-use Rattle.ddl_effect.specs.Plans.{Plan, Fails, Done, Do, NotBuilt, left_rests_on, told_rests_on}
+use Rattle.ddl_effect.specs.Plans.{Plan, Fails, Done, Do, left_rests_on, told_rests_on}
 use Rattle.ddl_effect.specs.declared.want.Want.TheVariants as wants
 use Rattle.cacheless.specs.Ends.{TakesBack, end_of_all}
 use Rattle.cacheless.proofs.CommandEnds.{end_same}
@@ -74,7 +74,6 @@ choice_sound scenario seen s waits courses = record {
             by_rests None none = refl
             by_rests (Some scan) none = absurd (cc none)
         by_plan (Do act rest) well out plain = absurd (cc out)
-        by_plan NotBuilt well out plain = absurd (cc out)
         by_plan p well out plain = absurd (cc well)
 
     whole_now : (command : Command) → command_at s ≡ Some command → s.frames ≡ [] → has_failed s.progress ≡ false → (last : Option Event) → facts.last ≡ last → IsWhole s command

@@ -54,7 +54,6 @@ module _ (scenario : Scenario) (seen : List Entry) (s : Backend) (exec : Exec) (
     keeps = let k = waits.keeps in record {
       alive = k.alive;
       life = record { last = k.life.last; alive = k.life.alive; most = k.life.most };
-      built = k.built;
       places = record { kept = k.places.kept; absent = λ name missed whole. k.places.absent name (sym plan ∙ missed) (record { untaken = whole.untaken; going = whole.going }) };
     };
     rests = record { holds = holds_same waits.rests.holds; still = still };

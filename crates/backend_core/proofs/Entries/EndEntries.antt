@@ -16,7 +16,6 @@ use Rattle.cacheless.specs.Holds.{HasEntered, with_own}
 use Rattle.cacheless.specs.May.{is_next_of_back, is_next_of_end, may_end_at, may_play_at, may_last_at, may_play_now}
 use Rattle.cacheless.specs.OnCourse.{AllOnCourse}
 use Rattle.cacheless.specs.Plays.{MayPlayIn}
-use Rattle.cacheless.specs.Runs.{runs}
 use Rattle.cacheless.specs.Schedule.{LooksTruly}
 use Rattle.cacheless.specs.Sessions.{ends_command, entered}
 use Rattle.cacheless.specs.State.{owed_at, has_write_since, end_of_running}
@@ -118,10 +117,6 @@ module _ (scenario : Scenario) (seen : List Entry) (s : Backend) (waits : Awaits
       event = allows;
     };
   }
-
--- the program runs the running command
-pub built_at : (scenario : Scenario) (seen : List Entry) (s : Backend) → AwaitsEntry scenario seen s → (command : Command) → command_at s ≡ Some command → runs command ≡ true
-built_at scenario seen s waits command at = subst (λ c. runs c ≡ true) (get_or_from_slice_get s.progress.commands s.progress.finished command command at) (waits.keeps.built s.progress.finished command (slice_get_within s.progress.commands s.progress.finished command at))
 
 -- what the script and the segment ask of it
 pub end_own : (scenario : Scenario) (old : List Entry) (was : Backend) (waits : AwaitsEntry scenario old was) (event : Event) → ends_command event ≡ true → EndsNext was event → OwnEntry scenario old was event waits

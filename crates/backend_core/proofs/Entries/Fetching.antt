@@ -8,7 +8,7 @@ use Rattle.std.proofs.lemmas.Bool.{lt-ltb, and_parts, both_ways, or_cases, eq-eq
 use Rattle.base_types.specs.declared.fetched.Fetched.TheVariants as fetches
 use Rattle.base_types.specs.declared.scan.Purpose.TheVariants as scans
 use Rattle.event_kinds.specs.declared.entry.Event.TheVariants as events
-use Rattle.ddl_effect.specs.Plans.{Plan, Done, Absent, Do, Lookup, Search, told_rests_on, Fails, Open, NotBuilt}
+use Rattle.ddl_effect.specs.Plans.{Plan, Done, Absent, Do, Lookup, Search, told_rests_on, Fails, Open}
 use Rattle.ddl_effect.specs.Stages.{plan_at}
 use Rattle.history_model.specs.Drawn.{next_oid}
 use Rattle.history_model.specs.Lapped.{is_lapped}
@@ -328,7 +328,6 @@ resumed_goes (Absent name) s at errs again = again name refl
 resumed_goes (Fails error) s at errs again = absurd (cc errs)
 resumed_goes (Done told) s at errs again = subst IsGoing (sym at) (record { goes = λ badly. cc badly; errs = refl })
 resumed_goes (Do act rest) s at errs again = subst IsGoing (sym at) (record { goes = λ badly. cc badly; errs = refl })
-resumed_goes NotBuilt s at errs again = subst IsGoing (sym at) (record { goes = λ badly. cc badly; errs = refl })
 
 -- one that has failed stays so
 resumed_errs : (p : Plan) (s : Session) → s.left ≡ p → has_error p ≡ true → has_error (resumed p s).left ≡ true

@@ -16,7 +16,6 @@ use Rattle.cacheless.specs.Facts.{Facts, facts_of, facts_by}
 use Rattle.cacheless.specs.Holds.{HasStarted}
 use Rattle.cacheless.specs.Owed.{owed_after, started_in}
 use Rattle.cacheless.specs.Plays.{MayPlayAt}
-use Rattle.cacheless.specs.Runs.{runs}
 use Rattle.cacheless.specs.Session.{none_open, at_command}
 use Rattle.cacheless.specs.State.{kept_at, session_at}
 use Rattle.cacheless.proofs.Reading.{facts_of-own}
@@ -82,7 +81,6 @@ join_enters scenario old new had has was p before played started kept same appen
     keeps = record {
       alive = refl;
       life = record { last = 0; alive = ap (life_of (old ++ e ∷ [])) started.moves.id ∙ life_of-own old e b own; most = omega arith };
-      built = subst (All (λ c. runs c ≡ true)) (sym started.moves.commands) before.built;
       places = answers.places;
     };
     holds = started.holds;

@@ -8,7 +8,7 @@ use Rattle.lock_modes.specs.Grants.{holds}
 use Rattle.lock_modes.specs.Own.{has_lock}
 use Rattle.lock_modes.specs.declared.granted.LockRefusal.{LockRefusal}
 use Rattle.lock_modes.specs.declared.granted.LockRefusal.TheVariants.{Conflict}
-use Rattle.ddl_effect.specs.Plans.{Act, Plan, Done, Fails, Absent, NotBuilt, Do, Lookup, Open, Search, Read, Lock, Write}
+use Rattle.ddl_effect.specs.Plans.{Act, Plan, Done, Fails, Absent, Do, Lookup, Open, Search, Read, Lock, Write}
 use Rattle.ddl_effect.specs.Stages.{plan_at}
 use Rattle.history_model.specs.Drawn.{next_oid}
 use Rattle.history_model.specs.Held.{held_of}
@@ -77,7 +77,6 @@ locks_act facts (Do act rest) rel mode asks = record { act = act; rest = rest; i
 locks_act facts (Done told) rel mode asks = absurd asks
 locks_act facts (Fails error) rel mode asks = absurd asks
 locks_act facts (Absent name) rel mode asks = absurd asks
-locks_act facts NotBuilt rel mode asks = absurd asks
 
 -- the entry of a lock that is refused, by what the call answered
 pub held_appends : (old new : List Entry) (had has : ℕ → ℕ) (b c : ℕ) (rel : Oid) (mode : Mode) (refusal : LockRefusal) (holder of : ℕ) (held under : Mode) → refusal ≡ Conflict holder held → of ≡ holder → under ≡ held → Locks old new had has b c rel mode (Err refusal)

@@ -16,7 +16,7 @@ use Rattle.cacheless.specs.Holds.{Rests, HasEntered}
 use Rattle.cacheless.specs.May.{has_failed}
 use Rattle.cacheless.specs.Owed.{started_in}
 use Rattle.ddl_effect.specs.Opens.{opens_before}
-use Rattle.ddl_effect.specs.Plans.{Plan, Done, Fails, Absent, Do, NotBuilt}
+use Rattle.ddl_effect.specs.Plans.{Plan, Done, Fails, Absent, Do}
 use Rattle.ddl_effect.specs.Stages.{plan_at}
 use Rattle.cacheless.specs.OnCourse.{AllOnCourse}
 use Rattle.cacheless.specs.Session.{Session, Well, opening_of, number_of, outcome_of, is_settled}
@@ -28,7 +28,7 @@ use Rattle.backend_core.specs.Frames.{unless, with_rest}
 use Rattle.backend_core.specs.Noted.{noted_of, IsNoted}
 use Rattle.backend_core.specs.declared.next.Next.TheVariants as nexts
 use Rattle.backend_core.specs.Steps.{EndsNext, InCommand, AfterAll, MakesEntry, Enters}
-use Rattle.backend_core.proofs.Entries.EndEntries.{end_now, end_own, end_call, built_at, end_enters, end_bare}
+use Rattle.backend_core.proofs.Entries.EndEntries.{end_now, end_own, end_call, end_enters, end_bare}
 use Rattle.backend_core.proofs.Fitting.Released.{fails_at, frames_left, left_fits, left_unlooked, left_top, left_looks, plain_unlooked}
 use Rattle.backend_core.proofs.Fitting.Rebuilding.{usable_is}
 use Rattle.backend_core.proofs.Fitting.OpenRelations.{since_none}
@@ -105,7 +105,7 @@ module _ (scenario : Scenario) (old : List Entry) (was : Backend) (from : ℕ) (
 
   -- what it releases
   part : Releases facts (command_at was) s from
-  part = end_releases facts (command_at was) s was.looked was.frames was.told from (built_at scenario old was waits) waits.fits now.going (from_of facts (end_by facts (command_at was) s) from lets)
+  part = end_releases facts (command_at was) s was.looked was.frames was.told from waits.fits now.going (from_of facts (end_by facts (command_at was) s) from lets)
 
   -- where that is all of its transaction, it is released from its first command on
   first_here : first_begun facts s ≡ from → option_map_or (λ (t : Running). t.first) facts.running (was.progress.finished + 1) ≡ from
@@ -171,7 +171,6 @@ module _ (scenario : Scenario) (old : List Entry) (was : Backend) (from : ℕ) (
           by_plan (Fails error) out is = absurd (cc is)
           by_plan (Absent name) out is = absurd (cc is)
           by_plan (Do act rest) out is = absurd (cc out)
-          by_plan NotBuilt out is = absurd (cc out)
 
           by_looked : (t : Bool) → was.looked ≡ t → t ≡ false
           by_looked false is = refl

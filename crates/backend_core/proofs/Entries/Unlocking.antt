@@ -5,7 +5,7 @@ use Rattle.std.proofs.lemmas.Bool.{and_parts, false_from_ne_true, leb-true}
 use Rattle.event_kinds.specs.declared.entry.Event.TheVariants as events
 use Rattle.lock_modes.specs.Own.{has_lock, is_own}
 use Rattle.inval_messages.specs.Lists.{Written, has_write_from}
-use Rattle.ddl_effect.specs.Plans.{Act, Plan, Done, Fails, Absent, NotBuilt, Do, Lookup, Open, Search, Read, Lock, Write}
+use Rattle.ddl_effect.specs.Plans.{Act, Plan, Done, Fails, Absent, Do, Lookup, Open, Search, Read, Lock, Write}
 use Rattle.ddl_effect.specs.Stages.{plan_at}
 use Rattle.history_model.specs.Held.{held_of}
 use Rattle.history_model.specs.Legal.{AllowsUnlock}
@@ -61,7 +61,6 @@ unlocks_lookup facts taken (Do (Write draft) rest) rel mode asks = absurd asks
 unlocks_lookup facts taken (Done told) rel mode asks = absurd asks
 unlocks_lookup facts taken (Fails error) rel mode asks = absurd asks
 unlocks_lookup facts taken (Absent name) rel mode asks = absurd asks
-unlocks_lookup facts taken NotBuilt rel mode asks = absurd asks
 
 none_standing : (n : ℕ) (lists : List Written) → AllByRecursion (λ (list : Written). list.command < n) lists → has_write_from n lists ≡ false
 none_standing n [] all = refl

@@ -124,7 +124,7 @@ module _ (scenario : Scenario) (old : List Entry) (was : Backend) (draft : Draft
 
   -- what it is about to write may be written
   suits : WriteFits old was.progress.id (was.progress.finished + 1) facts (made_in opening_by way.gave (plan_of s.opens next.command)) draft
-  suits = write_fits old was.progress.id (was.progress.finished + 1) facts s.opens next.command way.gave draft (λ given. Done tells.Ok) played.sound played.columns played.indexes (spelled_at scenario was.progress.id (length s.finished) next.command played.spelled (at_session scenario old was waits ∙ next.free.at)) way.runs way.holds (sym way.plan ∙ at)
+  suits = write_fits old was.progress.id (was.progress.finished + 1) facts s.opens next.command way.gave draft (λ given. Done tells.Ok) played.sound played.columns played.indexes (spelled_at scenario was.progress.id (length s.finished) next.command played.spelled (at_session scenario old was waits ∙ next.free.at)) way.holds (sym way.plan ∙ at)
 
   -- and the row of its table was read as it is
   read : AreReadAsNow old was.progress.id facts (made_in opening_by way.gave (plan_of s.opens next.command))

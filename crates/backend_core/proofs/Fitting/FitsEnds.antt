@@ -8,7 +8,7 @@ use Rattle.base_types.specs.declared.command.Command.TheVariants as commands
 use Rattle.event_kinds.specs.declared.entry.Event.TheVariants as events
 use Rattle.inval_messages.specs.Lists.{Written, has_write_from, lists_before}
 use Rattle.txn_blocks.specs.Blocks.{Block, Outside, Inside, Failed}
-use Rattle.ddl_effect.specs.Plans.{Plan, left_rests_on, Done, Fails, Absent, NotBuilt, Do, told_rests_on}
+use Rattle.ddl_effect.specs.Plans.{Plan, left_rests_on, Done, Fails, Absent, Do, told_rests_on}
 use Rattle.history_model.specs.Sent.{ends_transaction}
 use Rattle.history_model.specs.Transactions.{Running, begun, after_release, is_visible}
 use Rattle.history_model.specs.Writes.{is_empty}
@@ -92,7 +92,6 @@ owed_later facts later command s locks at goes out built =
     by_plan (Fails error) at is none = refl
     by_plan (Absent name) at is none = refl
     by_plan (Do act rest) at is none = absurd (cc is)
-    by_plan NotBuilt at is none = absurd (cc is)
 
 -- a look that was made for a command that has come out: for its answer, or to say that there is no relation of a name
 sought_out : (facts later : Facts) (frames now : List Frame) (taken : Option Oid) (p : Plan) → is_settled (outcome_of p) ≡ true → ((scan : Purpose) → facts.usable scan ≡ false → later.usable scan ≡ false) → IsLookedFor facts frames taken p → IsLookedFor later now taken p
@@ -105,12 +104,10 @@ sought_out facts later frames now taken (Done told) out spares (Lacks is) = Lack
 sought_out facts later frames now taken (Do act rest) out spares (Lacks is) = absurd (cc out)
 sought_out facts later frames now taken (Fails error) out spares (Lacks is) = absurd (cc is)
 sought_out facts later frames now taken (Absent name) out spares (Lacks is) = absurd (cc is)
-sought_out facts later frames now taken NotBuilt out spares (Lacks is) = absurd (cc is)
 sought_out facts later frames now taken (Do act rest) out spares (Unfound is look bare) = absurd (cc out)
 sought_out facts later frames now taken (Done told) out spares (Unfound is look bare) = absurd (cc is)
 sought_out facts later frames now taken (Fails error) out spares (Unfound is look bare) = absurd (cc is)
 sought_out facts later frames now taken (Absent name) out spares (Unfound is look bare) = absurd (cc is)
-sought_out facts later frames now taken NotBuilt out spares (Unfound is look bare) = absurd (cc is)
 
 -- such a command needs no lock that its lookup took
 takes_out : (number : ℕ) (locks : List OwnLock) (number' : ℕ) (locks' : List OwnLock) (taken : Option Oid) (p : Plan) → is_settled (outcome_of p) ≡ true → TakesFit number locks taken p → TakesFit number' locks' taken p
@@ -119,7 +116,6 @@ takes_out number locks number' locks' (Some rel) (Do act rest) out takes = absur
 takes_out number locks number' locks' (Some rel) (Absent name) out takes = takes
 takes_out number locks number' locks' (Some rel) (Done told) out takes = tt
 takes_out number locks number' locks' (Some rel) (Fails error) out takes = tt
-takes_out number locks number' locks' (Some rel) NotBuilt out takes = tt
 
 module _ (facts later : Facts) (o : Option Command) (s : Session) (looked : Bool) (frames : List Frame) (told : Bool) (event : Event) (locks : List OwnLock) (at : ℕ) (fits : Fits facts o s looked frames told) (ends : EndsBy facts o s event) where
   runs_later : GoesOn facts later → (t : Bool) → TransactionFits facts o s t → s.ended ≡ t → TransactionFits later o (later_at s locks at) t

@@ -4,7 +4,7 @@ use Rattle.std.specs.List.{cons_option}
 use Rattle.std.specs.Option.{option_map_or}
 use Rattle.std.proofs.lemmas.Bool.{both_ways}
 use Rattle.seg_calls.specs.Calls.{took_back}
-use Rattle.ddl_effect.specs.Plans.{Plan, Done, Fails, Absent, Do, NotBuilt, left_rests_on, told_rests_on}
+use Rattle.ddl_effect.specs.Plans.{Plan, Done, Fails, Absent, Do, left_rests_on, told_rests_on}
 use Rattle.cacheless.specs.Facts.{Facts}
 use Rattle.cacheless.specs.Owed.{owed_after, started_in}
 use Rattle.cacheless.specs.Session.{Session, Well, Badly, number_of, outcome_of, is_settled}
@@ -42,7 +42,6 @@ left_fits facts o s out ended last bare = by_plan s.left refl out
     by_plan (Fails error) at is = failed (Fails error) at refl refl
     by_plan (Absent name) at is = failed (Absent name) at refl refl
     by_plan (Do act rest) at is = absurd (cc is)
-    by_plan NotBuilt at is = absurd (cc is)
 
 -- no look is made for them yet
 pub left_unlooked : (has : Purpose → Bool) (plan : Plan) (held : List Opening) → looked_in (frames_left has plan held) ≡ 0

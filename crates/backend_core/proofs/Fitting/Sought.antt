@@ -10,7 +10,7 @@ use Rattle.base_types.specs.declared.row.Row.TheVariants as rows
 use Rattle.base_types.specs.declared.scan.Purpose.TheVariants as scans
 use Rattle.ddl_effect.specs.declared.told.Told.TheVariants as tells
 use Rattle.lock_modes.specs.Own.{is_own, cleared}
-use Rattle.ddl_effect.specs.Plans.{Plan, Act, Done, Fails, Absent, NotBuilt, Do, Lookup, Open, Search, Read, Lock, Write}
+use Rattle.ddl_effect.specs.Plans.{Plan, Act, Done, Fails, Absent, Do, Lookup, Open, Search, Read, Lock, Write}
 use Rattle.history_model.proofs.Every.{any-right}
 use Rattle.base_types.specs.Modes.{mode_number, same_mode}
 use Rattle.cacheless.specs.Facts.{Facts}
@@ -57,7 +57,6 @@ takes_cleared false number locks (Some rel) (Do (Read scan) rest) takes = tt
 takes_cleared false number locks (Some rel) (Do (Write draft) rest) takes = tt
 takes_cleared false number locks (Some rel) (Done told) takes = tt
 takes_cleared false number locks (Some rel) (Fails error) takes = tt
-takes_cleared false number locks (Some rel) NotBuilt takes = tt
 
 -- a look more leaves what one was made for
 pub sought_looked : (facts later : Facts) (frames : List Frame) (taken : Option Oid) (p : Plan) → later.usable ≡ facts.usable → later.rows ≡ facts.rows → is_look later.last ≡ true → IsLookedFor facts frames taken p → IsLookedFor later frames taken p
@@ -76,7 +75,6 @@ pub well_most : (p : Plan) → came_well p ≤ 1
 well_most (Done told) = omega arith
 well_most (Fails error) = omega arith
 well_most (Absent name) = omega arith
-well_most NotBuilt = omega arith
 well_most (Do act rest) = omega arith
 
 -- one that hasn't come out hasn't come out well
@@ -251,7 +249,6 @@ takes_granted facts number c locks (Do (Write draft) rest) rel mode same asks = 
 takes_granted facts number c locks (Done told) rel mode same asks = absurd asks
 takes_granted facts number c locks (Fails error) rel mode same asks = absurd asks
 takes_granted facts number c locks (Absent name) rel mode same asks = absurd asks
-takes_granted facts number c locks NotBuilt rel mode same asks = absurd asks
 
 -- a lookup that took a lock has a relation to give back
 pub unlock_found : (facts : Facts) (taken : Option Oid) (p : Plan) (rel : Oid) → taken ≡ Some rel → finds_no_name facts taken p ≡ false

@@ -8,7 +8,7 @@ use Rattle.base_types.specs.declared.scan.Purpose.TheVariants as scans
 use Rattle.base_types.proofs.SameScan.{same_scan-true}
 use Rattle.event_kinds.specs.declared.entry.Event.TheVariants as events
 use Rattle.ddl_effect.specs.declared.told.Told.TheVariants as tells
-use Rattle.ddl_effect.specs.Plans.{Lookup, Open, Search, Read, Lock, Write, Plan, Done, Fails, Absent, NotBuilt, Do}
+use Rattle.ddl_effect.specs.Plans.{Lookup, Open, Search, Read, Lock, Write, Plan, Done, Fails, Absent, Do}
 use Rattle.ddl_effect.specs.Commands.{commands_of}
 use Rattle.history_model.specs.Drawn.{next_oid}
 use Rattle.history_model.specs.Read.{ScansOnlyIfNeeded}
@@ -55,7 +55,6 @@ act_lacked facts scan (Done (tells.Regclass oid)) is = first_lacked facts scan (
 act_lacked facts scan (Done told) is = absurd (cc is)
 act_lacked facts scan (Fails error) is = absurd (cc is)
 act_lacked facts scan (Absent name) is = absurd (cc is)
-act_lacked facts scan NotBuilt is = absurd (cc is)
 
 -- a scan that comes next isn't usable
 next_lacked : (facts : Facts) (scan : Purpose) (s : Session) → is_next_scan scan facts s ≡ true → facts.usable scan ≡ false

@@ -5,10 +5,9 @@ use Rattle.base_types.specs.declared.command.Command.TheVariants as commands
 use Rattle.base_types.specs.declared.row.Row.TheVariants as rows
 use Rattle.base_types.specs.declared.scan.Purpose.TheVariants as scans
 use Rattle.event_kinds.specs.declared.entry.Event.TheVariants as events
-use Rattle.ddl_effect.proofs.HasPlan.{built_alike}
 use Rattle.ddl_effect.specs.Commands.{plan_of}
 use Rattle.ddl_effect.specs.Opens.{place_latest, without_latest, opens_before}
-use Rattle.ddl_effect.specs.Plans.{Act, Lookup, Open, Search, Read, Lock, Write, Plan, Do, Done, Fails, Absent, NotBuilt}
+use Rattle.ddl_effect.specs.Plans.{Act, Lookup, Open, Search, Read, Lock, Write, Plan, Do, Done, Fails, Absent}
 use Rattle.txn_blocks.specs.Blocks.{Block, Blocks, Outside, Inside, Failed, Level}
 use Rattle.history_model.specs.OfKind.{IsOfKind}
 use Rattle.history_model.specs.Orderly.{MayComeNext, IsSound}
@@ -17,7 +16,7 @@ use Rattle.history_model.proofs.Every.{every-weaker, every-append, every-kept, e
 use Rattle.history_model.proofs.OneKind.{TellsKind, given_kinds, kind_more}
 use Rattle.cacheless.specs.ActsDone.{after_given, made_first, made_in, relation_by, BeginWith, IsFirstStill, AreStill}
 use Rattle.cacheless.specs.OnCourse.{AreOfKinds, OnItsWay, FollowsPlan}
-use Rattle.cacheless.specs.Session.{Session, none_open, Outcome, Unsettled, Well, Badly, outcome_of, opening_of, held_in}
+use Rattle.cacheless.specs.Session.{Session, Outcome, Unsettled, Well, Badly, outcome_of, opening_of, held_in}
 use Rattle.cacheless.specs.Sessions.{written, resumed, noted}
 use Rattle.cacheless.specs.Settled.{opened_by, act_done, opens_with, opens_well, opens_badly, opens_after}
 use Rattle.cacheless.specs.Types.{Oid, Kind, Row, Command, OpenRelation, Opening, Entry, Event}
@@ -55,7 +54,6 @@ first_kind seen b given (Do (Write draft) rest) sound still = tt
 first_kind seen b given (Done told) sound still = tt
 first_kind seen b given (Fails error) sound still = tt
 first_kind seen b given (Absent name) sound still = tt
-first_kind seen b given NotBuilt sound still = tt
 
 found_kinds : (seen : List Entry) (b : ℕ) (gave : List (List Row)) (plan : Plan) → IsSound seen → AreStill (answer_of seen b) plan gave → AllByRecursion (IsKind seen) (made_in relation_by gave plan)
 found_kinds seen b [] plan sound still = tt
@@ -66,7 +64,7 @@ act_opens : (seen : List Entry) (b : ℕ) (s : Session) (command : Command) (act
 act_opens seen b s command (Open rel kind) rest sound way at = (
   from_some (λ found. found ≡ record { rel = rel; kind = kind }) (IsOfKind seen rel kind) (made_in relation_by way.gave (plan_of s.opens command))
       (every-weaker (IsKind seen) (λ found. found ≡ record { rel = rel; kind = kind } → IsOfKind seen rel kind) (λ found is same. subst (IsKind seen) same is) (made_in relation_by way.gave (plan_of s.opens command)) (found_kinds seen b way.gave (plan_of s.opens command) sound way.holds.still))
-      (follows_at way.gave (plan_of s.opens command) (Open rel kind) rest (follows_order s.opens command (built_alike s.opens none_open command ∙ way.runs)) (sym way.plan ∙ at)).2,
+      (follows_at way.gave (plan_of s.opens command) (Open rel kind) rest (follows_order s.opens command) (sym way.plan ∙ at)).2,
   tt,
 )
 act_opens seen b s command (Lookup name mode) rest sound way at = tt
@@ -157,7 +155,6 @@ written_kinds seen (Do (Lock rel mode) rest) s kinds = kinds
 written_kinds seen (Done told) s kinds = kinds
 written_kinds seen (Fails error) s kinds = kinds
 written_kinds seen (Absent name) s kinds = kinds
-written_kinds seen NotBuilt s kinds = kinds
 
 resumed_kinds : (seen : List Entry) (plan : Plan) (s : Session) → AreOfKinds seen s.opens s.opened → AreOfKinds seen (resumed plan s).opens (resumed plan s).opened
 resumed_kinds seen (Absent name) s kinds = kinds

@@ -6,7 +6,7 @@ use Rattle.base_types.specs.declared.row.Row.TheVariants as rows
 use Rattle.base_types.specs.declared.ids.Xid.{Xid}
 use Rattle.base_types.specs.declared.scan.Purpose.TheVariants as scans
 use Rattle.event_kinds.specs.declared.entry.Event.TheVariants as events
-use Rattle.ddl_effect.specs.Plans.{Act, Lookup, Open, Search, Read, Lock, Write, Plan, Done, Fails, Absent, NotBuilt, Do}
+use Rattle.ddl_effect.specs.Plans.{Act, Lookup, Open, Search, Read, Lock, Write, Plan, Done, Fails, Absent, Do}
 use Rattle.ddl_effect.specs.Commands.{plan_of, commands_of}
 use Rattle.history_model.specs.Drawn.{next_oid}
 use Rattle.history_model.specs.Orderly.{IsOrderlyWrite, IsOrderlyEvent, IsSound}
@@ -64,7 +64,6 @@ lock_drawn history b s command rel mode sound follows lock = by_plan s.left refl
     by_plan (Done told) at asks = absurd asks
     by_plan (Fails error) at asks = absurd asks
     by_plan (Absent name) at asks = absurd asks
-    by_plan NotBuilt at asks = absurd asks
 
 -- a command of a script has a form that a line may have
 pub spelled_at : (scenario : Scenario) (b n : ℕ) (command : Command) → AreSpelled scenario → slice_get (commands_of scenario b) n ≡ Some command → IsCommand command
@@ -83,7 +82,7 @@ write_orderly history b s command items sound columns indexes spelled follows wr
     by_plan : (p : Plan) → s.left ≡ p → IsWrite (next_oid history) p items → IsOrderlyWrite history b items × KeepsAll history b items
     by_plan (Do (Write draft) rest) at are =
         let way = on_its_way history b s command (Write draft) rest follows at in
-        let fits = write_fits history b (number_of s) (facts_of history b) s.opens command way.gave draft rest sound columns indexes spelled way.runs way.holds (sym way.plan ∙ at) in
+        let fits = write_fits history b (number_of s) (facts_of history b) s.opens command way.gave draft rest sound columns indexes spelled way.holds (sym way.plan ∙ at) in
         (subst (IsOrderlyWrite history b) (sym are) fits.fit.orderly, subst (KeepsAll history b) (sym are) fits.keeps)
     by_plan (Do (Lookup name mode) rest) at are = absurd are
     by_plan (Do (Open rel kind) rest) at are = absurd are
@@ -93,7 +92,6 @@ write_orderly history b s command items sound columns indexes spelled follows wr
     by_plan (Done told) at are = absurd are
     by_plan (Fails error) at are = absurd are
     by_plan (Absent name) at are = absurd are
-    by_plan NotBuilt at are = absurd are
 
 -- an event keeps order and tables
 pub record KeepsAllBy (history : List Entry) (b : ℕ) (event : Event) : Type 0 where

@@ -11,11 +11,10 @@ use Rattle.base_types.specs.declared.scan.Purpose.TheVariants as scans
 use Rattle.event_kinds.specs.declared.entry.Event.TheVariants as events
 use Rattle.command_answers.specs.declared.error.CommandError.TheVariants as errors
 use Rattle.ddl_effect.specs.declared.told.Told.TheVariants as tells
-use Rattle.ddl_effect.specs.Plans.{Act, Lookup, Open, Search, Read, Lock, Write, Plan, Done, Fails, Absent, NotBuilt, Do}
+use Rattle.ddl_effect.specs.Plans.{Act, Lookup, Open, Search, Read, Lock, Write, Plan, Done, Fails, Absent, Do}
 use Rattle.txn_blocks.specs.Blocks.{refused_by}
 use Rattle.history_model.specs.Drawn.{next_oid}
 use Rattle.lock_modes.specs.Grants.{holds}
-use Rattle.ddl_effect.proofs.HasPlan.{built_alike}
 use Rattle.history_model.specs.Held.{held_of}
 use Rattle.history_model.specs.Lives.{last_event_of}
 use Rattle.history_model.specs.Read.{is_scan_of}
@@ -31,7 +30,7 @@ use Rattle.cacheless.specs.Facts.{Facts, facts_of}
 use Rattle.cacheless.specs.OnCourse.{is_absent, TakesNew, OnItsWay, is_over, Begun, Wrote, Over, NamedFits, WasSought, DoesNoAct, StillHolds, TellsAlone, FollowsPlan}
 use Rattle.cacheless.specs.Owed.{unusable, act_next, is_next_scan}
 use Rattle.cacheless.specs.Plays.{IsLock, IsWrite, IsUnlock, MayPlay}
-use Rattle.cacheless.specs.Session.{Session, none_open, Outcome, Unsettled, Well, Badly, held_before, number_of, outcome_of, is_settled}
+use Rattle.cacheless.specs.Session.{Session, Outcome, Unsettled, Well, Badly, held_before, number_of, outcome_of, is_settled}
 use Rattle.cacheless.specs.Sessions.{refused_with, written, resumed, noted}
 use Rattle.cacheless.specs.Settled.{found_by}
 use Rattle.cacheless.proofs.Plans.ActOrder.{follows_order}
@@ -120,7 +119,6 @@ lock_follows history b s later command rel mode own noted = by_plan s.left refl 
     by_plan (Done told) at asks = absurd asks
     by_plan (Fails error) at asks = absurd asks
     by_plan (Absent name) at asks = absurd asks
-    by_plan NotBuilt at asks = absurd asks
 
 -- a lock that is given back: a lookup has newly taken it, so it is none under which the command goes on
 unlock_follows : (history : List Entry) (b : ℕ) (s later : Session) (command : Command) (rel : Oid) (mode : Mode) → OwnEntry history b s command (events.Unlock rel mode) → IsNoted (record s { taken = None }) later → FollowsPlan (with_own history b s (events.Unlock rel mode)) b later command
@@ -145,7 +143,6 @@ unlock_follows history b s later command rel mode own noted = by_plan s.left ref
     by_plan (Done told) at asks = absurd asks
     by_plan (Fails error) at asks = absurd asks
     by_plan (Absent name) at asks = absurd asks
-    by_plan NotBuilt at asks = absurd asks
 
 -- an entry that shows an error
 error_follows : (seen : List Entry) (b : ℕ) (s later : Session) (command : Command) (error : CommandError) → ((told : Told) → plan_of s.opens command ≡ Done told → DoesNoAct s told) → (s.ended ≡ false → StillHolds s) → ((told : Told) → plan_of s.opens command ≡ Done told → has_written seen b (number_of s) ≡ false) → IsNoted (refused_with error s) later → FollowsPlan seen b later command
@@ -212,8 +209,7 @@ brought_back history b s later command name event own quiet unwritten unread at 
     plan = after.left ∙ was.plan ∙ ap (reached was.gave) same;
     found = after.found ∙ ap (λ l. take (length l - 1) l) was.found ∙ but_last (made_in found_by was.gave (plan_of s.opens command)) None ∙ ap (made_in found_by was.gave) same;
     opened = after.opened ∙ was.opened going ∙ (λ i. held_same s later after.opens after.blocks i ++ made_in opening_by was.gave (same i));
-    runs = was.runs;
-    holds = subst (WayHolds new b was.gave) same (way_stays history e b was.gave (plan_of s.opens command) own.may (λ mine. quiet) (follows_order s.opens command (built_alike s.opens none_open command ∙ was.runs)) (was.holds not_over));
+    holds = subst (WayHolds new b was.gave) same (way_stays history e b was.gave (plan_of s.opens command) own.may (λ mine. quiet) (follows_order s.opens command) (was.holds not_over));
     newly = subst (TakesNew (made_in locks_by was.gave (plan_of later.opens command)) later.left) (sym (after.taken ∙ was.taken)) (takes_none (made_in locks_by was.gave (plan_of later.opens command)) later.left);
     unwritten = ap (λ l. has_written new b (length l + 1)) after.finished ∙ has_written-quiet history e b (number_of s) unwritten ∙ was.unwritten;
   });
@@ -303,7 +299,6 @@ write_follows history b s later command xid items own noted = by_plan s.left ref
     by_plan (Done told) at writes is = absurd writes
     by_plan (Fails error) at writes is = absurd writes
     by_plan (Absent name) at writes is = absurd writes
-    by_plan NotBuilt at writes is = absurd writes
 
 -- a command that is at its end has come out
 pub ends_out : (facts : Facts) (command : Command) (s : Session) (event : Event) → end_left facts command s ≡ Some event → is_settled (outcome_of s.left) ≡ true
@@ -339,7 +334,7 @@ over_follows history b s later command event own out unwritten unread over after
     new = history ++ e ∷ []
 
     over_holds : HoldsOn history e b s later
-    over_holds gave opens c built holds going = absurd (let both : true ≡ false = sym (ap (λ last. is_over last later) (last_event_of-own history e b (eq-eqb b b refl)) ∙ over) ∙ going in cc both)
+    over_holds gave opens c holds going = absurd (let both : true ≡ false = sym (ap (λ last. is_over last later) (last_event_of-own history e b (eq-eqb b b refl)) ∙ over) ∙ going in cc both)
 
 -- whichever entry it is
 pub own_follows : (history : List Entry) (b : ℕ) (s later : Session) (command : Command) (event : Event) → OwnEntry history b s command event → IsNoted (noted event s) later → FollowsPlan (with_own history b s event) b later command

@@ -14,7 +14,7 @@ use Rattle.ddl_effect.specs.Opens.{opens_before}
 use Rattle.history_model.specs.Drawn.{next_oid}
 use Rattle.history_model.specs.Transactions.{Running}
 use Rattle.ddl_effect.specs.Stages.{told_of}
-use Rattle.ddl_effect.specs.Plans.{Plan, told_rests_on, left_rests_on, Done, Fails, Absent, NotBuilt, Do, Write}
+use Rattle.ddl_effect.specs.Plans.{Plan, told_rests_on, left_rests_on, Done, Fails, Absent, Do, Write}
 use Rattle.history_model.specs.Writes.{is_empty, has_written, is_write}
 use Rattle.history_model.proofs.Touched.{entry_of}
 use Rattle.cacheless.specs.Types.{Purpose, Command, OpenRelation, Opening, Told, Entry, Event}
@@ -236,7 +236,6 @@ released history b s command from facts own are later stands = by_outcome (outco
             answer_owed (Done told) at w = nothing.answer told at
             answer_owed (Fails error) at w = absurd (cc w)
             answer_owed (Absent name) at w = absurd (cc w)
-            answer_owed NotBuilt at w = absurd (cc w)
             answer_owed (Do act rest) at w = absurd (cc w)
 
 -- a command that tells of no scan, after its release, makes no other entry than of an accept of messages, or a scan

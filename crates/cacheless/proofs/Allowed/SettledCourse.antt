@@ -5,17 +5,15 @@ use Rattle.std.proofs.lemmas.List.{drop_more, drop_all, length_push}
 use Rattle.std.proofs.lemmas.Option.{slice_get_cases, slice_get_within, get_or_from_slice_get}
 use Rattle.lock_modes.specs.Own.{cleared}
 use Rattle.std.specs.List.{AllByRecursion}
-use Rattle.ddl_effect.specs.Plans.{Act, Plan, Done, Fails, Absent, Do, NotBuilt, is_built}
+use Rattle.ddl_effect.specs.Plans.{Act, Plan, Done, Fails, Absent, Do}
 use Rattle.txn_blocks.specs.Blocks.{Blocks, refused_by}
 use Rattle.ddl_effect.specs.Commands.{plan_of, commands_of}
-use Rattle.ddl_effect.proofs.HasPlan.{built_alike}
 use Rattle.history_model.specs.Writes.{has_written, is_empty}
 use Rattle.cacheless.specs.Types.{Row, Purpose, Scenario, Command, CommandError, OpenRelation, Told, OwnLock, Entry}
 use Rattle.cacheless.specs.Facts.{Facts, facts_of}
-use Rattle.cacheless.specs.OnCourse.{is_absent, Way, Begun, Unbuilt, FollowsPlan, TellsAlone, IsOnCourse, ClearUnlessOwed, EntersCourse, AreOfKinds}
+use Rattle.cacheless.specs.OnCourse.{is_absent, Way, Begun, FollowsPlan, TellsAlone, IsOnCourse, ClearUnlessOwed, EntersCourse, AreOfKinds}
 use Rattle.cacheless.specs.Owed.{Owes, OwesScan, owed_at_start, owed_after, builds_owed, act_owed, scans_owed, owes_build, owes_accept}
 use Rattle.cacheless.specs.Played.{IsPlayed}
-use Rattle.cacheless.specs.Runs.{runs}
 use Rattle.cacheless.specs.Session.{Session, Finished, Outcome, Unsettled, Well, Badly, first_of, none_open, held_in, plan_admitted, at_command, outcome_of, is_settled}
 use Rattle.cacheless.specs.Sessions.{session_of}
 use Rattle.cacheless.specs.Settled.{act_done, done_here, acted_on, acted, is_finished, blocks_after, opens_after, finished_as, next_session, settled}
@@ -78,20 +76,9 @@ acted_follows scenario seen b command s has clear follows kinds = by_test (is_em
     by_test true free = acts_follow scenario seen b command s.left s has refl free clear follows kinds
     by_test false owed = record { follows = follows; finished = refl; locks = refl; ended = refl; clear = clear; kinds = kinds }
 
--- a command that isn't built has no plan
-not_built : (plan : Plan) → is_built plan ≡ false → plan ≡ NotBuilt
-not_built (Done told) is = absurd (cc is)
-not_built (Fails error) is = absurd (cc is)
-not_built (Absent name) is = absurd (cc is)
-not_built (Do act rest) is = absurd (cc is)
-not_built NotBuilt is = refl
-
+-- a command begins by no lookup that has found nothing
 plan_there : (opens : List OpenRelation) (command : Command) → is_absent (plan_of opens command) ≡ false
-plan_there opens command = by_test (is_built (plan_of opens command)) refl
-  where
-    by_test : (t : Bool) → is_built (plan_of opens command) ≡ t → is_absent (plan_of opens command) ≡ false
-    by_test true is = order_there (plan_of opens command) (follows_order opens command is)
-    by_test false is = ap is_absent (not_built (plan_of opens command) is)
+plan_there opens command = order_there (plan_of opens command) (follows_order opens command)
 
 admitted_there : (opens : List OpenRelation) (refusal : Option CommandError) (command : Command) → is_absent (plan_admitted opens refusal command) ≡ false
 admitted_there opens None command = plan_there opens command
@@ -107,7 +94,7 @@ pub begins_plan : (seen : List Entry) (b : ℕ) (blocks : Blocks) (opens : List 
     → FollowsPlan seen b (at_command blocks opens finished locks last (Some command)) command
 begins_plan seen b blocks opens finished locks last command unwritten = record {
   refused = λ error is. ap (λ o. plan_admitted opens o command) is;
-  way = λ none. by_test (ap (λ o. plan_admitted opens o command) none) (runs command) refl;
+  way = λ none. Begun (record { gave = []; plan = ap (λ o. plan_admitted opens o command) none; found = refl; opened = sym (append-nil (held_in blocks.block opens)); holds = record { locked = tt; drawn = tt; still = tt }; newly = takes_none [] (plan_admitted opens (refused_by blocks command) command); unwritten = unwritten });
   named = named_there seen b (plan_admitted opens (refused_by blocks command) command) (admitted_there opens (refused_by blocks command) command);
   sought = λ name is. absurd (let both : true ≡ false = sym (absent_name name (plan_admitted opens (refused_by blocks command) command) is) ∙ admitted_there opens (refused_by blocks command) command in cc both);
   plain = λ told none. record { opened = λ going. refl; left = λ well. admitted_done opens command (refused_by blocks command) told none well };
@@ -115,10 +102,6 @@ begins_plan seen b blocks opens finished locks last command unwritten = record {
   held = λ going. record { more = []; opened = sym (append-nil (held_in blocks.block opens)) };
   unwritten = λ told none. unwritten;
 }
-  where
-    by_test : plan_admitted opens (refused_by blocks command) command ≡ plan_of opens command → (t : Bool) → runs command ≡ t → Way seen b (at_command blocks opens finished locks last (Some command)) command
-    by_test plan true is = Begun (record { gave = []; plan = plan; found = refl; opened = sym (append-nil (held_in blocks.block opens)); runs = is; holds = record { locked = tt; drawn = tt; still = tt }; newly = takes_none [] (plan_admitted opens (refused_by blocks command) command); unwritten = unwritten })
-    by_test plan false is = Unbuilt (record { plan = plan ∙ not_built (plan_of opens command) (built_alike opens none_open command ∙ is) })
 
 pub first_left : (commands : List Command) (n : ℕ) → first_of (drop n commands) ≡ slice_get commands n
 first_left commands n = by_place (slice_get_cases commands n).1

@@ -6,7 +6,6 @@ use Rattle.base_types.specs.declared.scan.Purpose.TheVariants as scans
 use Rattle.event_kinds.specs.declared.entry.Event.TheVariants as events
 use Rattle.ddl_effect.specs.Plans.{Plan, Absent}
 use Rattle.ddl_effect.specs.Commands.{plan_of}
-use Rattle.ddl_effect.proofs.HasPlan.{built_alike}
 use Rattle.history_model.specs.Legal.{FollowsGone}
 use Rattle.history_model.specs.Lives.{last_event_of}
 use Rattle.history_model.specs.Read.{is_scan_of, rows_read}
@@ -16,10 +15,9 @@ use Rattle.history_model.proofs.Locked.{IsQuiet, IsIdle}
 use Rattle.history_model.proofs.Reading.{has_written-more, rows_read-own, rows_read-other}
 use Rattle.cacheless.specs.Types.{Row, Purpose, Command, OpenRelation, Told, Entry, Event}
 use Rattle.cacheless.specs.ActsDone.{locks_by, reached, made_in, opening_by, WayHolds}
-use Rattle.cacheless.specs.OnCourse.{TakesNew, OnItsWay, is_over, Way, Begun, Wrote, Unbuilt, Over, NamedFits, WasSought, DoesNoAct, StillHolds, FollowsPlan}
+use Rattle.cacheless.specs.OnCourse.{TakesNew, OnItsWay, is_over, Way, Begun, Wrote, Over, NamedFits, WasSought, DoesNoAct, StillHolds, FollowsPlan}
 use Rattle.txn_blocks.specs.Blocks.{refused_by}
-use Rattle.cacheless.specs.Session.{Session, none_open, held_in, held_before, number_of, outcome_of, is_settled}
-use Rattle.cacheless.specs.Runs.{runs}
+use Rattle.cacheless.specs.Session.{Session, held_in, held_before, number_of, outcome_of, is_settled}
 use Rattle.cacheless.specs.Settled.{class_oid, found_by}
 use Rattle.cacheless.proofs.Plans.ActOrder.{follows_order}
 pub use Rattle.cacheless.proofs.Plans.StillUnder.{MayCome}
@@ -122,7 +120,6 @@ begun-more history e b s later command writes after way holds newly = record {
   plan = after.left ∙ way.plan ∙ ap (reached way.gave) (plan_same s later command after.opens);
   found = after.found ∙ way.found ∙ ap (made_in found_by way.gave) (plan_same s later command after.opens);
   opened = after.opened ∙ way.opened ∙ (λ i. held_same s later after.opens after.blocks i ++ made_in opening_by way.gave (plan_same s later command after.opens i));
-  runs = way.runs;
   holds = subst (WayHolds (history ++ e ∷ []) b way.gave) (plan_same s later command after.opens) holds;
   newly = subst (λ p. TakesNew (made_in locks_by way.gave (plan_of later.opens command)) p later.taken) (sym after.left) (subst (λ p. TakesNew (made_in locks_by way.gave p) s.left later.taken) (plan_same s later command after.opens) newly);
   unwritten = ap (λ l. has_written (history ++ e ∷ []) b (length l + 1)) after.finished ∙ writes (number_of s) ∙ way.unwritten;
@@ -131,7 +128,7 @@ begun-more history e b s later command writes after way holds newly = record {
 -- after an entry that gives nothing back
 begun_idle : (history : List Entry) (e : Entry) (b : ℕ) (s later : Session) (command : Command) → MayCome history e → IsIdle b history e → LeavesWrites history e b → IsAfter s later → OnItsWay history b s command → OnItsWay (history ++ e ∷ []) b later command
 begun_idle history e b s later command may idle writes after way = begun-more history e b s later command writes (but_taken s later after) way
-    (way_stays history e b way.gave (plan_of s.opens command) may idle (follows_order s.opens command (built_alike s.opens none_open command ∙ way.runs)) way.holds)
+    (way_stays history e b way.gave (plan_of s.opens command) may idle (follows_order s.opens command) way.holds)
     (subst (TakesNew (made_in locks_by way.gave (plan_of s.opens command)) s.left) (sym after.taken) way.newly)
 
 -- how far it is
@@ -146,7 +143,6 @@ way-more history e b s later command may idle writes over after (Wrote w) = Wrot
   plan = after.left ∙ w.plan;
   written = ap (has_written (history ++ e ∷ []) b) (number_same s later after) ∙ writes (number_of s) ∙ w.written;
 })
-way-more history e b s later command may idle writes over after (Unbuilt w) = Unbuilt (record { plan = after.left ∙ w.plan })
 way-more history e b s later command may idle writes over after (Over w) = Over (record { out = ap (λ p. is_settled (outcome_of p)) after.left ∙ w.out; over = over w.over })
 
 -- what the scan of a name gave
@@ -156,16 +152,16 @@ named-more history e b plan names fits = tt
 
 -- what held on the way of a command before its last lookup goes on to hold
 abbrev pub HoldsOn : List Entry → Entry → ℕ → Session → Session → Type 0
-HoldsOn history e b s later = (gave : List (List Row)) (opens : List OpenRelation) (command : Command) → runs command ≡ true → (is_over (last_event_of history b) s ≡ false → WayHolds history b gave (plan_of opens command))
+HoldsOn history e b s later = (gave : List (List Row)) (opens : List OpenRelation) (command : Command) → (is_over (last_event_of history b) s ≡ false → WayHolds history b gave (plan_of opens command))
     → is_over (last_event_of (history ++ e ∷ []) b) later ≡ false → WayHolds (history ++ e ∷ []) b gave (plan_of opens command)
 
 -- so it does after an entry that takes nothing back
 pub idle_holds : (history : List Entry) (e : Entry) (b : ℕ) (s later : Session) → MayCome history e → IsIdle b history e → (is_over (last_event_of history b) s ≡ true → is_over (last_event_of (history ++ e ∷ []) b) later ≡ true) → HoldsOn history e b s later
-idle_holds history e b s later may idle over gave opens command built holds going = by_test (is_over (last_event_of history b) s) refl
+idle_holds history e b s later may idle over gave opens command holds going = by_test (is_over (last_event_of history b) s) refl
   where
     by_test : (t : Bool) → is_over (last_event_of history b) s ≡ t → WayHolds (history ++ e ∷ []) b gave (plan_of opens command)
     by_test true is = absurd (let both : true ≡ false = sym (over is) ∙ going in cc both)
-    by_test false is = way_stays history e b gave (plan_of opens command) may idle (follows_order opens command (built_alike opens none_open command ∙ built)) (holds is)
+    by_test false is = way_stays history e b gave (plan_of opens command) may idle (follows_order opens command) (holds is)
 
 -- a command that failed to find a relation
 pub sought-more : (history : List Entry) (e : Entry) (b : ℕ) (s later : Session) (command : Command) (name : List ℕ) → LeavesWrites history e b → IsAfterEnd s later → HoldsOn history e b s later → WasSought history b s command name → WasSought (history ++ e ∷ []) b later command name
@@ -175,10 +171,9 @@ sought-more history e b s later command name writes after holds was = record {
   rest = was.rest;
   looks = after.sought ∙ was.looks;
   plan = after.sought ∙ was.plan ∙ ap (reached was.gave) same;
-  runs = was.runs;
   found = after.found ∙ was.found ∙ ap (λ p. made_in found_by was.gave p ++ None ∷ []) same;
   opened = λ going. let still = after.opened going in still.1 ∙ was.opened still.0 ∙ (λ i. held_same s later after.opens after.blocks i ++ made_in opening_by was.gave (same i));
-  holds = λ going. subst (WayHolds (history ++ e ∷ []) b was.gave) same (holds was.gave s.opens command was.runs was.holds going);
+  holds = λ going. subst (WayHolds (history ++ e ∷ []) b was.gave) same (holds was.gave s.opens command was.holds going);
   taken = after.taken ∙ was.taken;
   unwritten = ap (λ l. has_written (history ++ e ∷ []) b (length l + 1)) after.finished ∙ writes (number_of s) ∙ was.unwritten;
 }

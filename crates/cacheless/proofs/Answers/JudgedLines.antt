@@ -8,7 +8,7 @@ use Rattle.event_kinds.specs.declared.entry.Event.TheVariants as events
 use Rattle.command_answers.specs.Answers.{answer_text}
 use Rattle.txn_blocks.specs.Blocks.{no_block}
 use Rattle.ddl_effect.specs.Commands.{commands_of}
-use Rattle.ddl_effect.specs.Plans.{Plan, Done, Fails, Absent, NotBuilt, Do}
+use Rattle.ddl_effect.specs.Plans.{Plan, Done, Fails, Absent, Do}
 use Rattle.history_model.proofs.Every.{every-append, every-weaker}
 use Rattle.history_model.proofs.Prefixes.{along-keeps}
 use Rattle.cacheless.specs.Types.{Row, Scenario, Command, Entry, Event}
@@ -62,7 +62,6 @@ acted_on-placed : (n : ℕ) (facts : Facts) (p : Plan) (s : Session) → Placed 
 acted_on-placed n facts (Done told) s placed = placed
 acted_on-placed n facts (Fails error) s placed = placed
 acted_on-placed n facts (Absent name) s placed = placed
-acted_on-placed n facts NotBuilt s placed = placed
 acted_on-placed n facts (Do act rest) s placed =
     by_given (done_here facts s act (Do act rest)) (λ given. acted_on-placed n facts (rest given) (act_done act given (rest given) s) (record { finished = placed.finished; judged = placed.judged; last = placed.last }))
   where

@@ -9,10 +9,8 @@ use Rattle.base_types.specs.declared.row.Row.TheVariants as rows
 use Rattle.base_types.proofs.SameScan.{same_scan-itself}
 use Rattle.ddl_effect.specs.Plans.{Plan, Act, Do, Lookup, Open, Search, Read, Lock, Write}
 use Rattle.ddl_effect.specs.Commands.{plan_of, found}
-use Rattle.ddl_effect.proofs.HasPlan.{built_alike}
-use Rattle.cacheless.specs.Runs.{runs}
 use Rattle.txn_blocks.specs.Blocks.{Blocks, refused_by}
-use Rattle.cacheless.specs.Session.{none_open, outcome_of, is_settled, plan_admitted, plan_first}
+use Rattle.cacheless.specs.Session.{outcome_of, is_settled, plan_admitted, plan_first}
 use Rattle.cacheless.specs.Settled.{opened_by}
 use Rattle.cacheless.proofs.Plans.ActOrder.{follows_order}
 use Rattle.cacheless.proofs.Plans.EffectAlong.{plain_row}
@@ -65,18 +63,18 @@ reads_front front opened (Do act rest) reads = by_act act reads (λ given o has.
     by_act (Write draft) all further = on further (Write draft) all
 reads_front front opened plan reads = tt
 
-reads_plan : (held : List Opening) (opens : List OpenRelation) (command : Command) → runs command ≡ true → ReadsOpened held (plan_of opens command)
-reads_plan held opens command built = subst (λ o. ReadsOpened o (plan_of opens command)) (append-nil held)
-    (reads_front held [] (plan_of opens command) (reads_order (plan_of opens command) (follows_order opens command (built_alike opens none_open command ∙ built))))
+reads_plan : (held : List Opening) (opens : List OpenRelation) (command : Command) → ReadsOpened held (plan_of opens command)
+reads_plan held opens command = subst (λ o. ReadsOpened o (plan_of opens command)) (append-nil held)
+    (reads_front held [] (plan_of opens command) (reads_order (plan_of opens command) (follows_order opens command)))
 
-reads_admitted : (held : List Opening) (opens : List OpenRelation) (refused : Option CommandError) (command : Command) → runs command ≡ true → ReadsOpened held (plan_admitted opens refused command)
-reads_admitted held opens (Some error) command built = tt
-reads_admitted held opens None command built = reads_plan held opens command built
+reads_admitted : (held : List Opening) (opens : List OpenRelation) (refused : Option CommandError) (command : Command) → ReadsOpened held (plan_admitted opens refused command)
+reads_admitted held opens (Some error) command = tt
+reads_admitted held opens None command = reads_plan held opens command
 
 -- so each command does from its beginning, whatever is held before it
-pub reads_first : (held : List Opening) (blocks : Blocks) (opens : List OpenRelation) (o : Option Command) → ((command : Command) → o ≡ Some command → runs command ≡ true) → ReadsOpened held (plan_first blocks opens o)
-reads_first held blocks opens None built = tt
-reads_first held blocks opens (Some command) built = reads_admitted held opens (refused_by blocks command) command (built command refl)
+pub reads_first : (held : List Opening) (blocks : Blocks) (opens : List OpenRelation) (o : Option Command) → ReadsOpened held (plan_first blocks opens o)
+reads_first held blocks opens None = tt
+reads_first held blocks opens (Some command) = reads_admitted held opens (refused_by blocks command) command
 
 -- one act more
 pub reads_after : (opened : List Opening) (act : Act) (rest : List Row → Plan) (given : List Row) (now : List Opening) (plan : Plan) → ReadsOpened opened (Do act rest) → now ≡ opened ++ opened_by act → plan ≡ rest given → ReadsOpened now plan

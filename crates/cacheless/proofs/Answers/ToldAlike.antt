@@ -9,7 +9,7 @@ use Rattle.command_answers.specs.declared.answer.Answer.TheVariants as answers
 use Rattle.lock_modes.specs.Own.{clear_modes}
 use Rattle.txn_blocks.specs.Blocks.{Block}
 use Rattle.ddl_effect.specs.declared.told.Told.TheVariants as tells
-use Rattle.ddl_effect.specs.Plans.{Plan, Done, Fails, Absent, NotBuilt, Do}
+use Rattle.ddl_effect.specs.Plans.{Plan, Done, Fails, Absent, Do}
 use Rattle.history_model.specs.Read.{place_read, rows_read}
 use Rattle.cacheless.specs.Types.{Oid, Kind, Field, Row, Purpose, Command, CommandError, Opening, OwnLock, Told, Scenario, Entry}
 use Rattle.cacheless.specs.Lines.{name_in, answer_judged}
@@ -77,7 +77,6 @@ told_alike rows now places at scenario seen b s command come alike = by_plan s.l
     by_plan (Done t) done = well_alike rows now places at s.locks s.blocks.block s.opened t (stays_open seen b s command t (stays scenario seen b s command come (unrefused t done s.refused refl)) done) (λ tells. alike.opened (ap outcome_of done) (ap (λ p. tells_of_scans (told_of p)) done ∙ tells)) (λ oid is. alike.named oid (done ∙ ap Done is))
     by_plan (Fails error) is = refl
     by_plan (Absent name) is = ap (λ place. answers.Error (absent_error command name place)) (alike.absent name is)
-    by_plan NotBuilt is = refl
     by_plan (Do act rest) is = refl
 
 -- and what it has to answer is what is told by all rows and places that are those of its backend's last scans

@@ -6,11 +6,10 @@ use Rattle.command_answers.specs.declared.answer.Answer.TheVariants as answers
 use Rattle.base_types.specs.declared.scan.Purpose.TheVariants as scans
 use Rattle.txn_blocks.specs.Blocks.{refused_by}
 use Rattle.ddl_effect.specs.Commands.{plan_of}
-use Rattle.ddl_effect.proofs.HasPlan.{built_alike}
 use Rattle.ddl_effect.specs.Effects.{effect_at}
 use Rattle.ddl_effect.specs.Stages.{told_of}
 use Rattle.ddl_effect.specs.declared.told.Told.TheVariants as tells
-use Rattle.ddl_effect.specs.Plans.{Plan, Done, Fails, Absent, NotBuilt, Do}
+use Rattle.ddl_effect.specs.Plans.{Plan, Done, Fails, Absent, Do}
 use Rattle.history_model.specs.Lives.{last_event_of}
 use Rattle.history_model.specs.Read.{place_read, rows_read, is_usable}
 use Rattle.history_model.specs.Versions.{answer_of}
@@ -20,11 +19,11 @@ use Rattle.cacheless.specs.Types.{Oid, Command, CommandError, Answer, Told, Open
 use Rattle.cacheless.specs.ActsDone.{made_in}
 use Rattle.cacheless.specs.Facts.{facts_of}
 use Rattle.cacheless.specs.Lines.{name_in, answer_well, answer_by, effect_judged, answer_judged, line_of}
-use Rattle.cacheless.specs.OnCourse.{OnItsWay, HasWritten, is_over, Way, Begun, Wrote, Unbuilt, Over, FollowsPlan, TellsAlone, TellsStill, AreOfKinds}
+use Rattle.cacheless.specs.OnCourse.{OnItsWay, HasWritten, is_over, Way, Begun, Wrote, Over, FollowsPlan, TellsAlone, TellsStill, AreOfKinds}
 use Rattle.cacheless.proofs.Allowed.KindsHeld.{IsKind}
 use Rattle.cacheless.specs.Owed.{builds_owed, owed_of}
 use Rattle.cacheless.proofs.Allowed.Releases.{OwesNoScan, owes_no_scan}
-use Rattle.cacheless.specs.Session.{Session, none_open, held_before, number_of, outcome_of, is_settled, Well, Badly}
+use Rattle.cacheless.specs.Session.{Session, held_before, number_of, outcome_of, is_settled, Well, Badly}
 use Rattle.cacheless.specs.Settled.{found_by, finished_as}
 use Rattle.cacheless.specs.Told.{tells_of_scans, told_well, told_left, told_read}
 use Rattle.cacheless.proofs.Plans.ActOrder.{follows_order, goes_by_relation}
@@ -57,7 +56,6 @@ stays scenario seen b s command come none = by_side come.stands
     by_way : is_over (last_event_of seen b) s ≡ false → Way seen b s command → Stays seen b s command
     by_way stands (Begun way) = Unwritten way (come.follows.admitted none)
     by_way stands (Wrote w) = Written w
-    by_way stands (Unbuilt w) = absurd (let both : true ≡ false = sym come.out ∙ ap (λ p. is_settled (outcome_of p)) w.plan in cc both)
     by_way stands (Over w) = absurd (let both : true ≡ false = sym w.over ∙ stands in cc both)
 
     by_side : TellsStill seen b s command → Stays seen b s command
@@ -73,7 +71,7 @@ alone_open opened told alone = absurd (cc alone)
 -- what is told of a command that came out well, once it is on its way
 tells_open : (seen : List Entry) (b : ℕ) (s : Session) (command : Command) (told : Told) → OnItsWay seen b s command → refused_by s.blocks command ≡ None → s.left ≡ Done told → TellsOpen s.opened told
 tells_open seen b s command told way admitted done = subst (λ l. TellsOpen l told) (sym way.opened)
-    (ends_told (held_before s) way.gave (plan_of s.opens command) told (follows_order s.opens command (built_alike s.opens none_open command ∙ way.runs)) (tells_held s.blocks s.opens command admitted) (sym way.plan ∙ done))
+    (ends_told (held_before s) way.gave (plan_of s.opens command) told (follows_order s.opens command) (tells_held s.blocks s.opens command admitted) (sym way.plan ∙ done))
 
 -- of a relation only what is open is told, and a field only where the relation has it
 pub stays_open : (seen : List Entry) (b : ℕ) (s : Session) (command : Command) (told : Told) → Stays seen b s command → s.left ≡ Done told → TellsOpen s.opened told
@@ -104,7 +102,6 @@ left_told : (scenario : Scenario) (seen : List Entry) (b : ℕ) (s : Session) (c
 left_told scenario seen b s command (Done told) out well = well told refl
 left_told scenario seen b s command (Fails error) out well = refl
 left_told scenario seen b s command (Absent name) out well = refl
-left_told scenario seen b s command NotBuilt out well = absurd (cc)
 left_told scenario seen b s command (Do act rest) out well = absurd (cc)
 
 -- what a command answers that no error of an entry has ended
@@ -126,7 +123,7 @@ stays_told scenario seen b s command come (Unwritten way admitted) =
     ap (λ t. answer_by scenario seen b (finished_as s) command (effect_judged seen b (finished_as s) t command)) way.unwritten
     ∙ ap (answer_by scenario seen b (finished_as s) command) (
     ap (λ l. effect_at (answer_of seen b) l (plan_of s.opens command)) (way.found ∙ sym (append-nil (made_in found_by way.gave (plan_of s.opens command))))
-    ∙ effect_along (answer_of seen b) (plan_of s.opens command) way.gave [] (goes_by_relation s.opens command (built_alike s.opens none_open command ∙ way.runs)) way.holds.still
+    ∙ effect_along (answer_of seen b) (plan_of s.opens command) way.gave [] (goes_by_relation s.opens command) way.holds.still
     ∙ ap (effect_at (answer_of seen b) []) (sym way.plan)
     )
     ∙ left_told scenario seen b s command s.left come.out (λ told done. well_told scenario seen b s command told come done (tells_open seen b s command told way admitted done))

@@ -6,7 +6,7 @@ use Rattle.lock_modes.specs.Rooms.{Roomy}
 use Rattle.local_caches.specs.Caches.{kept_of}
 use Rattle.local_caches.specs.Kept.{Read}
 use Rattle.local_caches.specs.declared.local_caches.LocalCaches.{LocalCaches}
-use Rattle.ddl_effect.specs.Plans.{Plan, Done, Fails, Absent, Do, NotBuilt}
+use Rattle.ddl_effect.specs.Plans.{Plan, Done, Fails, Absent, Do}
 use Rattle.ddl_effect.specs.Stages.{plan_at, plan_again, altered, altering_at, altering_again}
 use Rattle.ddl_effect.specs.declared.altering.Altering.{Altering}
 use Rattle.ddl_effect.specs.declared.altering.Altering.TheVariants as alters
@@ -84,14 +84,12 @@ resumed_is (Absent name) s = refl
 resumed_is (Done told) s = refl
 resumed_is (Fails error) s = refl
 resumed_is (Do act rest) s = refl
-resumed_is NotBuilt s = refl
 
 left_is : (was : Progress) (rest : Rest) → (is_absent (plan_at was.opens was.exec) ≡ true → rest.sought ≡ plan_again was.opens was.exec) → (p : Plan) → plan_at was.opens was.exec ≡ p → left_again p (session_at was rest) ≡ plan_again was.opens was.exec
 left_is was rest sought (Absent name) at = sought (ap is_absent at)
 left_is was rest sought (Done told) at = sym (again_same was.opens was.exec (ap is_absent at))
 left_is was rest sought (Fails error) at = sym (again_same was.opens was.exec (ap is_absent at))
 left_is was rest sought (Do act plan) at = sym (again_same was.opens was.exec (ap is_absent at))
-left_is was rest sought NotBuilt at = sym (again_same was.opens was.exec (ap is_absent at))
 
 -- the session once a search is made anew
 pub resumed_same : (was : Progress) (exec : Exec) (rest : Rest) → (is_absent (plan_at was.opens was.exec) ≡ true → rest.sought ≡ plan_again was.opens was.exec) → plan_at was.opens exec ≡ plan_again was.opens was.exec

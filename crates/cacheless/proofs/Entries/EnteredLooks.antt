@@ -8,7 +8,7 @@ use Rattle.lock_modes.specs.Rooms.{Roomy}
 use Rattle.txn_blocks.specs.Blocks.{Blocks, no_block, refused_by}
 use Rattle.ddl_effect.specs.Commands.{plan_of}
 use Rattle.ddl_effect.specs.declared.told.Told.TheVariants as tells
-use Rattle.ddl_effect.specs.Plans.{Plan, Done, Fails, Absent, Do, NotBuilt, is_built}
+use Rattle.ddl_effect.specs.Plans.{Plan, Done, Fails, Absent, Do}
 use Rattle.ddl_effect.specs.Stages.{plan_at}
 use Rattle.history_model.specs.Transactions.{begun}
 use Rattle.cacheless.specs.Types.{Command, CommandError, Scenario, Entry, OpenRelation, OwnLock}
@@ -23,7 +23,7 @@ use Rattle.txn_blocks.specs.Transactions.{begun_own}
 use Rattle.cacheless.specs.State.{owed_at, is_quiet, due_looked, is_absent, is_in_accept, locks_accepted, IsNew, Rest, tally_at, session_at}
 use Rattle.cacheless.specs.Holds.{FactsFit, CountsFit, Holds, Rests, HasNotStarted, entry_of, HasEntered, HasStarted}
 use Rattle.cacheless.proofs.Plans.ActOrder.{follows_order}
-use Rattle.cacheless.proofs.Plans.UnderLocks.{FollowsOrder}
+use Rattle.cacheless.proofs.Plans.UnderLocks.{order_there}
 use Rattle.cacheless.proofs.Reading.{facts_of-own, session_of-own}
 use Rattle.cacheless.proofs.Tests.{not_both}
 use Rattle.cacheless.proofs.Resting.{first_left}
@@ -80,19 +80,12 @@ stop_holds scenario old was locks rests items = own_entered scenario old was (st
 }) items
 
 -- a command begins by no lookup that has found nothing
-there : (p : Plan) → (is_built p ≡ true → FollowsOrder p) → is_absent p ≡ false
-there (Absent name) follows = absurd (follows refl)
-there (Done told) follows = refl
-there (Fails error) follows = refl
-there (Do act rest) follows = refl
-there NotBuilt follows = refl
-
 pub not_absent : (blocks : Blocks) (opens : List OpenRelation) (o : Option Command) → is_absent (plan_first blocks opens o) ≡ false
 not_absent blocks opens None = refl
 not_absent blocks opens (Some command) = by_blocks (refused_by blocks command)
   where
     by_blocks : (error : Option CommandError) → is_absent (plan_admitted opens error command) ≡ false
-    by_blocks None = there (plan_of opens command) (follows_order opens command)
+    by_blocks None = order_there (plan_of opens command) (follows_order opens command)
     by_blocks (Some error) = refl
 
 -- the state after the start

@@ -13,7 +13,7 @@ use Rattle.command_lists.proofs.Writes.{with-changes}
 use Rattle.local_caches.specs.Caches.{kept_of}
 use Rattle.local_caches.specs.declared.local_caches.LocalCaches.{LocalCaches}
 use Rattle.ddl_effect.specs.declared.told.Told.TheVariants as tells
-use Rattle.ddl_effect.specs.Plans.{Plan, Done, Fails, Absent, Do, NotBuilt, Lookup, Open, Search, Read, Lock, Write, after_act}
+use Rattle.ddl_effect.specs.Plans.{Plan, Done, Fails, Absent, Do, Lookup, Open, Search, Read, Lock, Write, after_act}
 use Rattle.ddl_effect.specs.Stages.{plan_at, altered, altering_at, want_of}
 use Rattle.cacheless.proofs.ReadsBuilds.{opened_begins, begins_unwritten}
 use Rattle.ddl_effect.specs.declared.altering.Altering.{Altering}
@@ -96,7 +96,6 @@ written_is (Do (Lock rel mode) rest) s is = absurd (cc)
 written_is (Done told) s is = absurd (cc)
 written_is (Fails error) s is = absurd (cc)
 written_is (Absent name) s is = absurd (cc)
-written_is NotBuilt s is = absurd (cc)
 
 -- the state after a write
 abbrev pub wrote : Progress → Xid → LocalCaches → Held → Exec → Roomy OwnLock → Progress

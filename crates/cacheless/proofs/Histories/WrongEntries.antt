@@ -362,9 +362,9 @@ earlier_lock_unlocked h = search arith
 pub unlocked_after_write : MayFollow (weakly_locked ++ entry 2 2 (Write (xid 2) (column_put (codes "a") (pos 100))) ∷ []) (entry 2 2 (Unlock (oid 16384) ShareUpdateExclusive)) → ⊥
 unlocked_after_write h = search arith
 
--- a refusal of memory isn't built
-pub fail_not_built : MayFollow show.locked (entry 1 2 Fail) → ⊥
-fail_not_built h = search arith
+-- no entry is a refusal of memory
+pub memory_refused : MayFollow show.locked (entry 1 2 Fail) → ⊥
+memory_refused h = search arith
 
 -- a command's number that falls
 pub number_falls : MayFollow creators.first_written (entry 1 1 (Look false)) → ⊥

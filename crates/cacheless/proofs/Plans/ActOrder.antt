@@ -14,7 +14,7 @@ use Rattle.base_types.specs.declared.row.Row.TheVariants as rows
 use Rattle.base_types.specs.declared.scan.Purpose.TheVariants as scans
 use Rattle.command_answers.specs.declared.error.CommandError.TheVariants as errors
 use Rattle.ddl_effect.specs.declared.told.Told.TheVariants as tells
-use Rattle.ddl_effect.specs.Plans.{Plan, Done, is_built}
+use Rattle.ddl_effect.specs.Plans.{Plan, Done}
 use Rattle.ddl_effect.specs.Commands.{plan_of, if_passes, if_no_column, first_twice, writing, opening, showing, showing_field, told_fields, keeping, peeking, closing, is_table, locking, new_table, drop_table, renaming_table, rename_table, with_column, changing, reading, adding, add_column, drop_column, with_name, renaming, rename_column, targeting, set_statistics, filling, set_fillfactor, set_default, add_check, add_foreign, validate_constraint, drop_constraint, set_trigger, create_trigger, create_index, drop_index, live_column, searching, telling_columns, listing_columns, telling_column, finding_column}
 use Rattle.ddl_effect.specs.Opens.{latest_open}
 use Rattle.history_model.proofs.FixedRows.{fixed}
@@ -139,41 +139,41 @@ order_closing name None = tt
 order_closing name (Some o) = tt
 
 -- the plan of each command that has one is such: a line a command
-pub follows_order : (opens : List OpenRelation) (command : Command) → is_built (plan_of opens command) ≡ true → FollowsOrder (plan_of opens command)
-follows_order opens commands.Begin built = tt
-follows_order opens commands.Commit built = tt
-follows_order opens commands.Rollback built = tt
-follows_order opens (commands.Savepoint name) built = tt
-follows_order opens (commands.Release name) built = tt
-follows_order opens (commands.RollbackTo name) built = tt
-follows_order opens (commands.Show name None) built = f_looking at_first name AccessShare (showing None) showing_follows
-follows_order opens (commands.Show name (Some field)) built = f_looking at_first name AccessShare (showing_field name field) (field_follows name field)
-follows_order opens (commands.Columns name) built = f_looking at_first name AccessShare (listing_columns name) (listing_follows name)
-follows_order opens (commands.Column name column) built = f_looking at_first name AccessShare (finding_column name column) (finding_follows name column)
-follows_order opens (commands.Regclass oid) built = (inl (λ given. refl), λ given. tt, refl)
-follows_order opens (commands.LockTable name mode) built = f_looking at_first name mode (locking name) (λ rel kind. f_passes (on_found rel kind mode) (is_table kind) (errors.NotTable name) (Done tells.Ok) tt)
-follows_order opens (commands.CreateTable name columns) built = order_creating (nat_le (length columns) MOST_COLUMNS) (first_twice [] (map (λ (c : NewColumn). c.name) columns)) (new_table name columns)
-follows_order opens (commands.DropTable name) built = f_altering opens name AccessExclusive (drop_table opens name) (drop_table_follows opens name)
-follows_order opens (commands.RenameTable name to) built = f_altering opens name AccessExclusive (rename_table to) (rename_table_follows to)
-follows_order opens (commands.AddColumn name column col_type) built = f_altering opens name AccessExclusive (add_column column col_type) (add_column_follows column col_type)
-follows_order opens (commands.DropColumn name column) built = f_altering opens name AccessExclusive (drop_column column) (drop_column_follows column)
-follows_order opens (commands.RenameColumn name column to) built = f_altering opens name AccessExclusive (rename_column column to) (rename_column_follows column to)
-follows_order opens (commands.SetStatistics name column stat) built = f_altering opens name ShareUpdateExclusive (set_statistics column stat) (set_statistics_follows column stat)
-follows_order opens (commands.SetFillfactor name fill) built = f_altering opens name ShareUpdateExclusive (set_fillfactor fill) (set_fillfactor_follows fill)
-follows_order opens (commands.OpenRel name) built = f_looking at_first name AccessShare keeping (λ rel kind. f_opening (on_found rel kind AccessShare) rel kind (Done tells.Ok) (inl refl) tt)
-follows_order opens (commands.Peek name field) built = order_peeking name field (latest_open name opens)
-follows_order opens (commands.CloseRel name) built = order_closing name (latest_open name opens)
-follows_order opens (commands.SetDefault name column word) built = f_altering opens name AccessExclusive (set_default column word) (set_default_follows column word)
-follows_order opens (commands.AddCheck name constraint text valid) built = f_altering opens name AccessExclusive (add_check constraint text valid) (add_check_follows constraint text valid)
-follows_order opens (commands.AddForeign name constraint column refers ref_column valid) built = f_altering opens name ShareRowExclusive (add_foreign (record { constraint = constraint; column = column; refers = refers; ref_column = ref_column; valid = valid })) (add_foreign_follows (record { constraint = constraint; column = column; refers = refers; ref_column = ref_column; valid = valid }))
-follows_order opens (commands.ValidateConstraint name constraint) built = f_altering opens name ShareUpdateExclusive (validate_constraint constraint) (validate_follows constraint)
-follows_order opens (commands.DropConstraint name constraint) built = f_altering opens name AccessExclusive (drop_constraint opens constraint) (drop_constraint_follows opens constraint)
-follows_order opens (commands.SetTrigger name trigger on) built = f_altering opens name ShareRowExclusive (set_trigger trigger on) (set_trigger_follows trigger on)
-follows_order opens (commands.CreateTrigger name trigger) built = f_altering opens name ShareRowExclusive (create_trigger trigger) (create_trigger_follows trigger)
-follows_order opens (commands.CreateIndex name table columns) built = f_altering opens table Share (create_index name columns) (create_index_follows name columns)
-follows_order opens (commands.DropIndex name) built = f_altering_index opens name AccessExclusive (drop_index opens) (drop_index_follows opens)
-follows_order opens (commands.RenameIndex name to) built = f_altering_index opens name ShareUpdateExclusive (rename_table to) (rename_index_follows to)
+pub follows_order : (opens : List OpenRelation) (command : Command) → FollowsOrder (plan_of opens command)
+follows_order opens commands.Begin = tt
+follows_order opens commands.Commit = tt
+follows_order opens commands.Rollback = tt
+follows_order opens (commands.Savepoint name) = tt
+follows_order opens (commands.Release name) = tt
+follows_order opens (commands.RollbackTo name) = tt
+follows_order opens (commands.Show name None) = f_looking at_first name AccessShare (showing None) showing_follows
+follows_order opens (commands.Show name (Some field)) = f_looking at_first name AccessShare (showing_field name field) (field_follows name field)
+follows_order opens (commands.Columns name) = f_looking at_first name AccessShare (listing_columns name) (listing_follows name)
+follows_order opens (commands.Column name column) = f_looking at_first name AccessShare (finding_column name column) (finding_follows name column)
+follows_order opens (commands.Regclass oid) = (inl (λ given. refl), λ given. tt, refl)
+follows_order opens (commands.LockTable name mode) = f_looking at_first name mode (locking name) (λ rel kind. f_passes (on_found rel kind mode) (is_table kind) (errors.NotTable name) (Done tells.Ok) tt)
+follows_order opens (commands.CreateTable name columns) = order_creating (nat_le (length columns) MOST_COLUMNS) (first_twice [] (map (λ (c : NewColumn). c.name) columns)) (new_table name columns)
+follows_order opens (commands.DropTable name) = f_altering opens name AccessExclusive (drop_table opens name) (drop_table_follows opens name)
+follows_order opens (commands.RenameTable name to) = f_altering opens name AccessExclusive (rename_table to) (rename_table_follows to)
+follows_order opens (commands.AddColumn name column col_type) = f_altering opens name AccessExclusive (add_column column col_type) (add_column_follows column col_type)
+follows_order opens (commands.DropColumn name column) = f_altering opens name AccessExclusive (drop_column column) (drop_column_follows column)
+follows_order opens (commands.RenameColumn name column to) = f_altering opens name AccessExclusive (rename_column column to) (rename_column_follows column to)
+follows_order opens (commands.SetStatistics name column stat) = f_altering opens name ShareUpdateExclusive (set_statistics column stat) (set_statistics_follows column stat)
+follows_order opens (commands.SetFillfactor name fill) = f_altering opens name ShareUpdateExclusive (set_fillfactor fill) (set_fillfactor_follows fill)
+follows_order opens (commands.OpenRel name) = f_looking at_first name AccessShare keeping (λ rel kind. f_opening (on_found rel kind AccessShare) rel kind (Done tells.Ok) (inl refl) tt)
+follows_order opens (commands.Peek name field) = order_peeking name field (latest_open name opens)
+follows_order opens (commands.CloseRel name) = order_closing name (latest_open name opens)
+follows_order opens (commands.SetDefault name column word) = f_altering opens name AccessExclusive (set_default column word) (set_default_follows column word)
+follows_order opens (commands.AddCheck name constraint text valid) = f_altering opens name AccessExclusive (add_check constraint text valid) (add_check_follows constraint text valid)
+follows_order opens (commands.AddForeign name constraint column refers ref_column valid) = f_altering opens name ShareRowExclusive (add_foreign (record { constraint = constraint; column = column; refers = refers; ref_column = ref_column; valid = valid })) (add_foreign_follows (record { constraint = constraint; column = column; refers = refers; ref_column = ref_column; valid = valid }))
+follows_order opens (commands.ValidateConstraint name constraint) = f_altering opens name ShareUpdateExclusive (validate_constraint constraint) (validate_follows constraint)
+follows_order opens (commands.DropConstraint name constraint) = f_altering opens name AccessExclusive (drop_constraint opens constraint) (drop_constraint_follows opens constraint)
+follows_order opens (commands.SetTrigger name trigger on) = f_altering opens name ShareRowExclusive (set_trigger trigger on) (set_trigger_follows trigger on)
+follows_order opens (commands.CreateTrigger name trigger) = f_altering opens name ShareRowExclusive (create_trigger trigger) (create_trigger_follows trigger)
+follows_order opens (commands.CreateIndex name table columns) = f_altering opens table Share (create_index name columns) (create_index_follows name columns)
+follows_order opens (commands.DropIndex name) = f_altering_index opens name AccessExclusive (drop_index opens) (drop_index_follows opens)
+follows_order opens (commands.RenameIndex name to) = f_altering_index opens name ShareUpdateExclusive (rename_table to) (rename_index_follows to)
 
 -- so it goes on by relations alone
-pub goes_by_relation : (opens : List OpenRelation) (command : Command) → is_built (plan_of opens command) ≡ true → GoesByRelation (plan_of opens command)
-goes_by_relation opens command built = goes_order (plan_of opens command) (follows_order opens command built)
+pub goes_by_relation : (opens : List OpenRelation) (command : Command) → GoesByRelation (plan_of opens command)
+goes_by_relation opens command = goes_order (plan_of opens command) (follows_order opens command)

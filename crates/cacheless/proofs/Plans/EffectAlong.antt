@@ -2,7 +2,7 @@
 use Rattle.std.proofs.Common.{◌≡◌, ◌∙◌, ℕ, Option, None, List, [], ◌∷◌, ◌++◌, refl, sym, ap}
 use Rattle.std.specs.Prelude.{⊤}
 use Rattle.base_types.specs.declared.row.Row.TheVariants as rows
-use Rattle.ddl_effect.specs.Plans.{Plan, Done, Fails, Absent, NotBuilt, Do, Lookup, Open, Search, Read, Lock, Write}
+use Rattle.ddl_effect.specs.Plans.{Plan, Done, Fails, Absent, Do, Lookup, Open, Search, Read, Lock, Write}
 use Rattle.ddl_effect.specs.Commands.{found}
 use Rattle.ddl_effect.specs.Effects.{effect_at, row_found}
 use Rattle.cacheless.specs.Types.{Oid, Mode, Kind, Row, Purpose}
@@ -27,7 +27,6 @@ pub goes_after : (given : List Row) (plan : Plan) → GoesByRelation plan → Go
 goes_after given (Done told) goes = tt
 goes_after given (Fails error) goes = tt
 goes_after given (Absent name) goes = tt
-goes_after given NotBuilt goes = tt
 goes_after given (Do (Lookup name mode) rest) goes = goes.1 given
 goes_after given (Do (Open rel kind) rest) goes = goes.1 given
 goes_after given (Do (Search scan) rest) goes = goes given
@@ -59,7 +58,6 @@ effect_along now plan (given ∷ gave) later goes still = by_plan plan goes stil
     by_plan (Done told) by is same = same
     by_plan (Fails error) by is same = same
     by_plan (Absent name) by is same = same
-    by_plan NotBuilt by is same = same
     by_plan (Do (Lookup name mode) rest) by is same = ap (effect_at now (made_in found_by gave (rest given) ++ later)) (row_still now name mode rest given by.0 is) ∙ same
     by_plan (Do (Open rel kind) rest) by is same = ap (effect_at now (made_in found_by gave (rest given) ++ later)) (sym (by.0 given)) ∙ same
     by_plan (Do (Search scan) rest) by is same = ap (effect_at now (made_in found_by gave (rest given) ++ later)) (sym is) ∙ same

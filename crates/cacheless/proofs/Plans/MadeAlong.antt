@@ -2,7 +2,7 @@
 use Rattle.std.proofs.Common.{◌≡◌, ◌∙◌, ℕ, Option, List, [], ◌∷◌, ◌++◌, refl, sym, ap, append_assoc, append-nil}
 use Rattle.base_types.specs.declared.row.Row.TheVariants as rows
 use Rattle.base_types.specs.declared.scan.Purpose.TheVariants as scans
-use Rattle.ddl_effect.specs.Plans.{Act, Plan, Done, Fails, Absent, NotBuilt, Do, Lookup, Open, Search, Read, Lock, Write}
+use Rattle.ddl_effect.specs.Plans.{Act, Plan, Done, Fails, Absent, Do, Lookup, Open, Search, Read, Lock, Write}
 use Rattle.ddl_effect.specs.Effects.{row_found}
 use Rattle.cacheless.specs.Types.{Oid, Mode, Kind, Row, Purpose, Draft, Opening}
 use Rattle.cacheless.specs.ActsDone.{LockOn, locks_by, opening_by, relation_by, after_given, reached, made_first, made_in, IsStill, IsFirstStill, AreStill}
@@ -14,7 +14,6 @@ abbrev pub made_at : {X : Type 0} → (Act → List Row → List X) → (Purpose
 made_at makes now found (Done told) = []
 made_at makes now found (Fails error) = []
 made_at makes now found (Absent name) = []
-made_at makes now found NotBuilt = []
 made_at makes now found (Do (Write draft) rest) = []
 made_at makes now [] (Do (Lookup name mode) rest) = makes (Lookup name mode) (now (scans.RelName name)) ++ made_at makes now [] (rest (now (scans.RelName name)))
 made_at makes now (rel ∷ found) (Do (Lookup name mode) rest) = makes (Lookup name mode) (row_found now rel) ++ made_at makes now found (rest (row_found now rel))
@@ -85,7 +84,6 @@ made_along makes of now plan (given ∷ gave) later goes still = by_plan plan go
     by_plan (Done told) by is same = same
     by_plan (Fails error) by is same = same
     by_plan (Absent name) by is same = same
-    by_plan NotBuilt by is same = same
     by_plan (Do (Lookup name mode) rest) by is same =
         ap (λ p. makes (Lookup name mode) (row_found now (class_oid given)) ++ made_at makes now (made_in found_by gave (rest given) ++ later) p) (row_still now name mode rest given by.0 is)
         ∙ both (makes (Lookup name mode) given) (makes (Lookup name mode) (row_found now (class_oid given))) (rest given) (class_still makes of now name mode rest given is) same

@@ -5,9 +5,8 @@ use Rattle.base_types.specs.declared.row.Row.TheVariants as rows
 use Rattle.base_types.specs.declared.scan.Purpose.TheVariants as scans
 use Rattle.lock_modes.specs.Own.{has_lock, cleared}
 use Rattle.ddl_effect.specs.declared.told.Told.TheVariants as tells
-use Rattle.ddl_effect.specs.Plans.{Act, Lookup, Open, Search, Read, Lock, Write, Plan, Done, Fails, Absent, NotBuilt, Do}
+use Rattle.ddl_effect.specs.Plans.{Act, Lookup, Open, Search, Read, Lock, Write, Plan, Done, Fails, Absent, Do}
 use Rattle.ddl_effect.specs.Commands.{plan_of}
-use Rattle.ddl_effect.proofs.HasPlan.{built_alike}
 use Rattle.history_model.specs.Read.{rows_read, is_usable}
 use Rattle.history_model.specs.Versions.{answer_of}
 use Rattle.history_model.specs.Writes.{is_empty}
@@ -15,10 +14,10 @@ use Rattle.history_model.proofs.Every.{every-append}
 use Rattle.cacheless.specs.Types.{Mode, Row, Purpose, Opening, Scenario, Command, CommandError, OwnLock, Entry}
 use Rattle.cacheless.specs.ActsDone.{LockOn, locks_by, named_by, IsDrawn, IsHeldOn, after_given, reached, made_in, made_first, opening_by, IsFirstStill}
 use Rattle.cacheless.specs.Facts.{Facts, facts_of}
-use Rattle.cacheless.specs.OnCourse.{is_absent, TakesNew, OnItsWay, Way, Begun, Wrote, Unbuilt, Over, GaveNow, NamedFits, WasSought, FollowsPlan}
+use Rattle.cacheless.specs.OnCourse.{is_absent, TakesNew, OnItsWay, Way, Begun, Wrote, Over, GaveNow, NamedFits, WasSought, FollowsPlan}
 use Rattle.cacheless.specs.Owed.{builds_owed, act_owed}
 use Rattle.cacheless.specs.Played.{IsPlayed}
-use Rattle.cacheless.specs.Session.{Session, none_open, held_before, outcome_of, is_settled}
+use Rattle.cacheless.specs.Session.{Session, held_before, outcome_of, is_settled}
 use Rattle.cacheless.specs.Sessions.{session_of}
 use Rattle.cacheless.specs.Settled.{class_oid, if_locked, has_taken_no_other, has_accepted, looked_up, gives, opened_by, found_by, act_done, done_here}
 use Rattle.cacheless.proofs.FoundKept.{lookup_ends}
@@ -56,12 +55,11 @@ on_its_way seen b s command act rest follows at = by_way (follows.way (unrefused
     by_way : Way seen b s command → OnItsWay seen b s command
     by_way (Begun way) = way
     by_way (Wrote w) = absurd (let both : Do act rest ≡ Done tells.Ok = sym at ∙ w.plan in cc both)
-    by_way (Unbuilt w) = absurd (let both : Do act rest ≡ NotBuilt = sym at ∙ w.plan in cc both)
     by_way (Over w) = absurd (let both : false ≡ true = ap (λ p. is_settled (outcome_of p)) (sym at) ∙ w.out in cc both)
 
 -- the order of its acts, and how far it has come in it
 pub its_order : (seen : List Entry) (b : ℕ) (s : Session) (command : Command) → OnItsWay seen b s command → FollowsOrder (plan_of s.opens command)
-its_order seen b s command way = follows_order s.opens command (built_alike s.opens none_open command ∙ way.runs)
+its_order seen b s command way = follows_order s.opens command
 
 pub its_place : (seen : List Entry) (b : ℕ) (s : Session) (command : Command) (act : Act) (rest : List Row → Plan) (way : OnItsWay seen b s command) → s.left ≡ Do act rest
     → Follows (footing_after way.gave (plan_of s.opens command) at_first) (Do act rest)
@@ -162,7 +160,6 @@ takes_none locked (Do (Write draft) rest) = tt
 takes_none locked (Done told) = tt
 takes_none locked (Fails error) = tt
 takes_none locked (Absent name) = tt
-takes_none locked NotBuilt = tt
 
 -- one more act on the way of a command
 pub way-act : (seen : List Entry) (b : ℕ) (s : Session) (command : Command) (act : Act) (rest : List Row → Plan) (given : List Row) → s.left ≡ Do act rest → after_given given (Do act rest) ≡ rest given → GaveNow seen b act rest given
@@ -172,7 +169,6 @@ way-act seen b s command act rest given at passes now way = record {
   plan = sym passes ∙ ap (after_given given) (sym at ∙ way.plan) ∙ sym (reached-push way.gave given (plan_of s.opens command));
   found = ap (λ l. l ++ found_by act given) way.found ∙ sym (made found_by);
   opened = ap (λ l. l ++ opened_by act) way.opened ∙ append_assoc (held_before s) (made_in opening_by way.gave (plan_of s.opens command)) (opened_by act) ∙ ap (λ l. held_before s ++ l) (sym (made opening_by));
-  runs = way.runs;
   holds = record {
     locked = subst (AllByRecursion (IsHeldOn seen b)) (sym (made locks_by)) (every-append (IsHeldOn seen b) (made_in locks_by way.gave (plan_of s.opens command)) (locks_by act given) way.holds.locked now.locked);
     drawn = subst (AllByRecursion (IsDrawn seen)) (sym (made named_by)) (every-append (IsDrawn seen) (made_in named_by way.gave (plan_of s.opens command)) (named_by act given) way.holds.drawn now.drawn);
@@ -256,7 +252,6 @@ act_follows scenario seen b s command act rest given holds at done follows = rec
       rest = rest;
       looks = at ∙ (λ i. Do (fails.lookup i) rest) ∙ ap (λ n. Do (Lookup n fails.mode) rest) same;
       plan = way.plan;
-      runs = way.runs;
       found = (λ i. way.found i ++ fails.lost i ∷ []);
       opened = λ going. append-nil s.opened ∙ way.opened;
       holds = λ going. way.holds;

@@ -7,7 +7,7 @@ use Rattle.base_types.specs.declared.scan.Purpose.TheVariants as scans
 use Rattle.event_kinds.specs.declared.entry.Event.TheVariants as events
 use Rattle.lock_modes.specs.declared.grant.Grant.{Grant}
 use Rattle.lock_modes.specs.Grants.{is_lock, holds}
-use Rattle.ddl_effect.specs.Plans.{Act, Plan, Done, Fails, Absent, NotBuilt, Do, Lookup, Open, Search, Read, Lock, Write}
+use Rattle.ddl_effect.specs.Plans.{Act, Plan, Done, Fails, Absent, Do, Lookup, Open, Search, Read, Lock, Write}
 use Rattle.ddl_effect.specs.Commands.{found}
 use Rattle.history_model.specs.Covered.{counted_for}
 use Rattle.history_model.specs.Held.{held_of}
@@ -107,7 +107,6 @@ still_over later [] plan over = tt
 still_over later (given ∷ gave) (Done told) over = (tt, still_over later gave (Done told) refl)
 still_over later (given ∷ gave) (Fails error) over = (tt, still_over later gave (Fails error) refl)
 still_over later (given ∷ gave) (Absent name) over = (tt, still_over later gave (Absent name) refl)
-still_over later (given ∷ gave) NotBuilt over = (tt, still_over later gave NotBuilt refl)
 still_over later (given ∷ gave) (Do act rest) over = absurd (cc over)
 
 -- what a command's acts gave is so still later, where what each of its locks keeps stays

@@ -9,7 +9,7 @@ use Rattle.base_types.specs.declared.mode.Mode.TheVariants.{ShareUpdateExclusive
 use Rattle.base_types.specs.declared.row.Row.TheVariants as rows
 use Rattle.base_types.specs.declared.scan.Purpose.TheVariants as scans
 use Rattle.ddl_effect.specs.declared.told.Told.TheVariants as tells
-use Rattle.ddl_effect.specs.Plans.{Act, Plan, Done, Fails, Absent, NotBuilt, Do, Lookup, Open, Search, Read, Lock, Write}
+use Rattle.ddl_effect.specs.Plans.{Act, Plan, Done, Fails, Absent, Do, Lookup, Open, Search, Read, Lock, Write}
 use Rattle.ddl_effect.specs.Commands.{found}
 use Rattle.history_model.specs.Covered.{counted_for}
 use Rattle.history_model.specs.Writes.{relations_of}
@@ -134,7 +134,6 @@ pub unfound : (on : Footing) (plan : Plan) → Follows on plan → FollowsUnfoun
 unfound on (Absent name) follows = tt
 unfound on (Done told) follows = follows
 unfound on (Fails error) follows = follows
-unfound on NotBuilt follows = follows
 unfound on (Do act rest) follows = follows
 
 -- what an act adds
@@ -150,7 +149,6 @@ pub follows_after : (on : Footing) (given : List Row) (plan : Plan) → FollowsU
 follows_after on given (Done told) follows = subst (λ f. FollowsUnfound f (Done told)) (sym (footing_none on)) follows
 follows_after on given (Fails error) follows = tt
 follows_after on given (Absent name) follows = tt
-follows_after on given NotBuilt follows = absurd follows
 follows_after on given (Do (Lookup name mode) rest) follows = by_rows given (follows.0 given)
   where
     by_rows : (l : List Row) → rest l ≡ found name (λ rel kind. rest (plain_row rel kind)) l → FollowsUnfound (footing_with on (relation_by (Lookup name mode) l) (locks_by (Lookup name mode) l) [] []) (rest l)
@@ -185,7 +183,6 @@ begins_unfound (Do act rest) begins follows = follows
 begins_unfound (Done told) begins follows = absurd (cc begins)
 begins_unfound (Fails error) begins follows = absurd (cc begins)
 begins_unfound (Absent name) begins follows = absurd (cc begins)
-begins_unfound NotBuilt begins follows = absurd (cc begins)
 
 -- so where an act is next, after acts that gave these rows
 pub follows_at : (gave : List (List Row)) (plan : Plan) (act : Act) (rest : List Row → Plan) → FollowsOrder plan → reached gave plan ≡ Do act rest → Follows (footing_after gave plan at_first) (Do act rest)
@@ -200,14 +197,12 @@ pub follows_there : (on : Footing) (plan : Plan) → Follows on plan → is_abse
 follows_there on (Absent name) follows = absurd follows
 follows_there on (Done told) follows = refl
 follows_there on (Fails error) follows = refl
-follows_there on NotBuilt follows = absurd follows
 follows_there on (Do act rest) follows = refl
 
 pub order_there : (plan : Plan) → FollowsOrder plan → is_absent plan ≡ false
 order_there (Done told) follows = refl
 order_there (Absent name) follows = absurd follows
 order_there (Fails error) follows = refl
-order_there NotBuilt follows = absurd follows
 order_there (Do act rest) follows = refl
 
 -- it goes on by relations alone
@@ -215,7 +210,6 @@ goes_unfound : (on : Footing) (plan : Plan) → FollowsUnfound on plan → GoesB
 goes_unfound on (Done told) follows = tt
 goes_unfound on (Fails error) follows = tt
 goes_unfound on (Absent name) follows = tt
-goes_unfound on NotBuilt follows = tt
 goes_unfound on (Do (Lookup name mode) rest) follows = (follows.0, λ given. by_rows given (follows.0 given) (λ rel kind. goes_unfound (with_found rel kind mode on) (rest (plain_row rel kind)) (unfound (with_found rel kind mode on) (rest (plain_row rel kind)) (follows.1 rel kind))))
   where
     by_rows : (l : List Row) → rest l ≡ found name (λ rel kind. rest (plain_row rel kind)) l → ((rel : Oid) (kind : Kind) → GoesByRelation (rest (plain_row rel kind))) → GoesByRelation (rest l)
@@ -232,5 +226,4 @@ pub goes_order : (plan : Plan) → FollowsOrder plan → GoesByRelation plan
 goes_order (Done told) follows = tt
 goes_order (Fails error) follows = tt
 goes_order (Absent name) follows = absurd follows
-goes_order NotBuilt follows = absurd follows
 goes_order (Do act rest) follows = goes_unfound at_first (Do act rest) follows

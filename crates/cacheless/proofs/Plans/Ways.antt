@@ -1,7 +1,7 @@
 -- The way of a plan: one more act, a plan without an act, and a write, which is not passed.
 use Rattle.std.proofs.Common.{◌≡◌, ◌∙◌, Bool, true, false, List, [], ◌∷◌, ◌++◌, refl, sym, ap, subst, append_assoc, append-nil}
 use Rattle.std.specs.Prelude.{⊤}
-use Rattle.ddl_effect.specs.Plans.{Act, Plan, Done, Fails, Absent, NotBuilt, Do, Lookup, Open, Search, Read, Lock, Write}
+use Rattle.ddl_effect.specs.Plans.{Act, Plan, Done, Fails, Absent, Do, Lookup, Open, Search, Read, Lock, Write}
 use Rattle.cacheless.specs.Types.{Row, Draft}
 use Rattle.cacheless.specs.ActsDone.{opening_by, after_given, reached, made_first, made_in}
 
@@ -62,7 +62,6 @@ never_reaches (given ∷ gave) plan draft rest never is = never_reaches gave (af
     by_plan (Done told) none = tt
     by_plan (Fails error) none = tt
     by_plan (Absent name) none = tt
-    by_plan NotBuilt none = tt
     by_plan (Do (Lookup name mode) more) none = none given
     by_plan (Do (Open rel kind) more) none = none given
     by_plan (Do (Search scan) more) none = none given
@@ -83,7 +82,6 @@ none_opened [] plan never = refl
 none_opened (given ∷ gave) (Done told) never = none_opened gave (Done told) tt
 none_opened (given ∷ gave) (Fails error) never = none_opened gave (Fails error) tt
 none_opened (given ∷ gave) (Absent name) never = none_opened gave (Absent name) tt
-none_opened (given ∷ gave) NotBuilt never = none_opened gave NotBuilt tt
 none_opened (given ∷ gave) (Do (Lookup name mode) rest) never = none_opened gave (rest given) (never given)
 none_opened (given ∷ gave) (Do (Open rel kind) rest) never = absurd never
 none_opened (given ∷ gave) (Do (Search scan) rest) never = none_opened gave (rest given) (never given)

@@ -12,7 +12,7 @@ use Rattle.base_types.specs.declared.row.Row.TheVariants as rows
 use Rattle.base_types.specs.declared.scan.Purpose.TheVariants as scans
 use Rattle.command_answers.specs.declared.error.CommandError.TheVariants as errors
 use Rattle.ddl_effect.specs.declared.told.Told.TheVariants as tells
-use Rattle.ddl_effect.specs.Plans.{Plan, Done, Fails, Absent, NotBuilt, Do, Lookup, Open, Search, Read, Lock, Write}
+use Rattle.ddl_effect.specs.Plans.{Plan, Done, Fails, Absent, Do, Lookup, Open, Search, Read, Lock, Write}
 use Rattle.ddl_effect.specs.Effects.{Writes, effect_at, row_found}
 use Rattle.ddl_effect.specs.Opens.{latest_open}
 use Rattle.ddl_effect.specs.Parts.{if_passes, looking_up, searching, writing, is_table}
@@ -23,15 +23,12 @@ use Rattle.ddl_effect.specs.Indexes.{create_index, drop_index}
 use Rattle.ddl_effect.specs.Tables.{first_twice, if_no_column, new_table, drop_table, rename_table, set_fillfactor}
 use Rattle.ddl_effect.specs.Reads.{told_fields, showing, showing_field, keeping, peeking, closing, locking, telling_columns, listing_columns, telling_column, finding_column, regclass_of}
 use Rattle.ddl_effect.specs.Commands.{plan_of}
-use Rattle.ddl_effect.proofs.HasPlan.{built_alike}
 use Rattle.history_model.specs.Drawn.{next_oid}
 use Rattle.history_model.specs.Orderly.{IsSound}
 use Rattle.history_model.specs.Prefixes.{EachEntry}
 use Rattle.history_model.specs.Versions.{answer_of}
 use Rattle.cacheless.specs.ActsDone.{reached, made_in, opening_by, locks_by, IsHeldOn, WayHolds}
 use Rattle.cacheless.specs.Facts.{Facts}
-use Rattle.cacheless.specs.Runs.{runs}
-use Rattle.cacheless.specs.Session.{none_open}
 use Rattle.cacheless.specs.Settled.{found_by}
 use Rattle.cacheless.specs.TableWrites.{WritesColumns, WritesIndexes}
 use Rattle.cacheless.specs.Types.{Oid, Mode, Kind, Field, Row, Purpose, Command, CommandError, OpenRelation, Draft, Entry}
@@ -53,7 +50,6 @@ never_comes : (now : Purpose → List Row) (found : List (Option Oid)) (plan : P
 never_comes now found (Done told) draft never is = cc is
 never_comes now found (Fails error) draft never is = cc is
 never_comes now found (Absent name) draft never is = cc is
-never_comes now found NotBuilt draft never is = cc is
 never_comes now found (Do (Write other) rest) draft never is = absurd never
 never_comes now [] (Do (Lookup name mode) rest) draft never is = never_comes now [] (rest (now (scans.RelName name))) draft (never (now (scans.RelName name))) is
 never_comes now (rel ∷ found) (Do (Lookup name mode) rest) draft never is = never_comes now found (rest (row_found now rel)) draft (never (row_found now rel)) is
@@ -159,9 +155,9 @@ fits_at history b c facts opens command found draft sound columns indexes spelle
 
 -- what a command is about to write, by its way
 pub write_fits : (history : List Entry) (b c : ℕ) (facts : Facts) (opens : List OpenRelation) (command : Command) (gave : List (List Row)) (draft : Draft) (rest : List Row → Plan) → IsSound history → EachEntry WritesColumns history → EachEntry WritesIndexes history
-    → IsCommand command → runs command ≡ true → WayHolds history b gave (plan_of opens command)
+    → IsCommand command → WayHolds history b gave (plan_of opens command)
     → reached gave (plan_of opens command) ≡ Do (Write draft) rest → WriteFits history b c facts (made_in opening_by gave (plan_of opens command)) draft
-write_fits history b c facts opens command gave draft rest sound columns indexes spelled built way on =
+write_fits history b c facts opens command gave draft rest sound columns indexes spelled way on =
     subst (λ opened. WriteFits history b c facts opened draft) (made_before opening_by opens_of_relations now plan gave draft rest goes way.still on)
     (fits_at history b c facts opens command (made_in found_by gave plan) draft sound columns indexes spelled
     (ap (λ l. effect_at now l plan) (sym (append-nil (made_in found_by gave plan))) ∙ effect_along now plan gave [] goes way.still ∙ ap (effect_at now []) on)
@@ -174,4 +170,4 @@ write_fits history b c facts opens command gave draft rest sound columns indexes
     now = answer_of history b
 
     goes : GoesByRelation plan
-    goes = goes_by_relation opens command (built_alike opens none_open command ∙ built)
+    goes = goes_by_relation opens command

@@ -3,7 +3,7 @@ use Rattle.std.proofs.Common.{◌≡◌, ◌<◌, ◌∙◌, ℕ, Option, Some, 
 use Rattle.base_types.specs.Commands.{IsCommand}
 use Rattle.event_kinds.specs.Entries.{HasChange}
 use Rattle.event_kinds.specs.declared.entry.Event.TheVariants as events
-use Rattle.ddl_effect.specs.Plans.{Lookup, Open, Search, Read, Lock, Write, Plan, Done, Fails, Absent, NotBuilt, Do}
+use Rattle.ddl_effect.specs.Plans.{Lookup, Open, Search, Read, Lock, Write, Plan, Done, Fails, Absent, Do}
 use Rattle.ddl_effect.specs.Commands.{commands_of}
 use Rattle.history_model.specs.Drawn.{next_oid}
 use Rattle.history_model.specs.Legal.{MayFollow, IsLegal}
@@ -31,7 +31,7 @@ write_some history b s command items sound columns indexes spelled follows write
     by_plan : (p : Plan) → s.left ≡ p → IsWrite (next_oid history) p items → 0 < length items
     by_plan (Do (Write draft) rest) at are =
         let way = on_its_way history b s command (Write draft) rest follows at in
-        subst (λ l. 0 < length l) (sym are) (write_fits history b (number_of s) (facts_of history b) s.opens command way.gave draft rest sound columns indexes spelled way.runs way.holds (sym way.plan ∙ at)).some
+        subst (λ l. 0 < length l) (sym are) (write_fits history b (number_of s) (facts_of history b) s.opens command way.gave draft rest sound columns indexes spelled way.holds (sym way.plan ∙ at)).some
     by_plan (Do (Lookup name mode) rest) at are = absurd are
     by_plan (Do (Open rel kind) rest) at are = absurd are
     by_plan (Do (Search scan) rest) at are = absurd are
@@ -40,7 +40,6 @@ write_some history b s command items sound columns indexes spelled follows write
     by_plan (Done told) at are = absurd are
     by_plan (Fails error) at are = absurd are
     by_plan (Absent name) at are = absurd are
-    by_plan NotBuilt at are = absurd are
 
 start_some : (event : Event) → IsStart event → HasChange event
 start_some events.Start start = tt

@@ -1,7 +1,6 @@
-use Rattle.std.proofs.Common.{map, subst}
+use Rattle.std.proofs.Common.{map}
 use Rattle.std.specs.String.{string_bytes}
 use Rattle.edge_io.specs.Taken.{Grows, GrowsByFront}
-use Rattle.catsync_top.specs.Top.{IsUnbuilt}
 use Rattle.catsync_top.proofs.Made.{same_script}
 use Rattle.catsync_top.proofs.Numbers.{one_number}
 use Rattle.catsync_top.proofs.top.catsync.Goals as goal
@@ -13,7 +12,3 @@ returns-in-Some-clause-made g c =
 pub returns-in-Some-clause-made_front : goal.returns-in-Some-clause-made_front
 returns-in-Some-clause-made_front g c =
     λ number ask failed. same_script c.in-Some.number number _ _ GrowsByFront (one_number (map string_bytes c.args.arguments.now) c.in-Some.number number c.in-Some.ensures ask) (c.write_made.ensures.write_front failed)
-
-pub returns-in-Some-clause-unbuilt : goal.returns-in-Some-clause-unbuilt
-returns-in-Some-clause-unbuilt g c =
-    λ number ask unbuilt. subst IsUnbuilt (one_number (map string_bytes c.args.arguments.now) c.in-Some.number number c.in-Some.ensures ask) (c.write_made.ensures.not_yet unbuilt)

@@ -2,16 +2,8 @@ use Rattle.std.proofs.Common.{◌≡◌, ◌<◌, ◌+◌, List, get_or, refl, s
 use Rattle.base_types.specs.declared.command.Command.{Command}
 use Rattle.ddl_effect.specs.Commands.{commands_of}
 use Rattle.by_backend.proofs.LeftLists.{left_next, left_fewer}
-use Rattle.by_backend.proofs.OwnParts.{built_copies}
 use Rattle.history_lines.proofs.NewSessions.{Begins, begins_more, follows_none}
 use Rattle.history_lines.proofs.answering.new_sessions.Goals as goal
-
-pub new-requires-in-loop-number : goal.new-requires-in-loop-number
-new-requires-in-loop-number c =
-    let within : c.loop-number.number < c.args.script.now.backends = omega (arith, c.loop-number-test.true, c.backends-number-end.ensures.value) in
-    let read : c.replace-commands.result ≡ get_or c.loop-number.lists.items c.loop-number.number c.replace-commands.result =
-    subst (λ (x : List Command). x ≡ get_or c.loop-number.lists.items c.loop-number.number x) (sym {A = List Command} c.replace-commands.ensures.value) c.index_mut.ensures.value in
-    built_copies c.args.script.now (c.loop-number.number + 1) c.replace-commands.result c.requires (left_next c.args.script.now c.loop-number.number c.loop-number.lists.items c.replace-commands.result c.loop-number.invariant.left within read)
 
 pub loop-number-preserved : goal.loop-number-preserved
 loop-number-preserved c =
