@@ -1,4 +1,4 @@
-use Rattle.std.proofs.Common.{refl}
+use Rattle.std.proofs.Common.{true, refl}
 use Rattle.history_lines.proofs.Taken.{started}
 use Rattle.history_lines.proofs.session.Session.start.Goals as goal
 
