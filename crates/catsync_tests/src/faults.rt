@@ -2,7 +2,7 @@ use crate::ends::{Calls, STEADY, source_of};
 use crate::scripts::COMMANDS;
 use base_types::NoMemory;
 use edge_io::read_all;
-use fault_hints::{KeptSource, hint, unbuilt_command};
+use fault_hints::{KeptSource, hint};
 use script_text::ScriptCause;
 use std::alloc::Global;
 use std::test::Fail;
@@ -72,28 +72,6 @@ fn has_no_hint(alloc: Global, command: &str) -> Result<bool, NoMemory> {
 fn commands_of_each_form_have_no_hint(rt: HostRuntime) -> Result<(), Fail> {
     for &(command, _) in COMMANDS {
         assert!(rt; has_no_hint(rt.alloc(), command)?, "{command}");
-    }
-    Ok(())
-}
-
-// Scripts, and their first command that isn't built yet.
-const UNBUILT: &[(&[u8], &str)] = &[
-    (
-        b"ring 64\nbackends 2\n1: begin\n\n2: Drop Index i ;\n1: savepoint s\nsteps 1\nend\n",
-        "line 5: \"Drop Index i ;\"",
-    ),
-    (b"backends 1\n1: begin\nend\n", ""),
-    (b"backends 1\n1: drop tabel t\nend\n", ""),
-];
-
-fn is_unbuilt(alloc: Global, script: &[u8], text: &str) -> Result<bool, NoMemory> {
-    Ok(is_said(unbuilt_command(alloc, script)?, text))
-}
-
-#[test]
-fn the_first_command_that_is_not_built_is_named(rt: HostRuntime) -> Result<(), Fail> {
-    for &(script, text) in UNBUILT {
-        assert!(rt; is_unbuilt(rt.alloc(), script, text)?, "{text}");
     }
     Ok(())
 }

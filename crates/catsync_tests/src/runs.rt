@@ -123,8 +123,6 @@ const REFUSED: &[(&[&str], &[u8], u8, &str)] = &[
     (&["make", "1001"], ABSENT, 1, "usage"),
     (&["make", "4294967303"], ABSENT, 1, "usage"),
     (&["make", "7", "7"], ABSENT, 1, "usage"),
-    (&["make", "7"], b"", 9, "the script holds"),
-    (&["make", "1000"], b"", 9, "the script holds"),
     (&["check"], ABSENT, 1, "usage"),
     (&["check", "run"], ABSENT, 1, "usage"),
     (&["check", "walk", "walk"], ABSENT, 1, "usage"),
@@ -143,24 +141,6 @@ const REFUSED: &[(&[&str], &[u8], u8, &str)] = &[
         b"-- none\nbackends 1\n\n1: show 1t\nend\n",
         2,
         "line 4: BadCommand",
-    ),
-    (
-        &["walk"],
-        b"backends 1\n1: begin\n1: drop index i\nend\n",
-        9,
-        "the script holds",
-    ),
-    (
-        &["walk"],
-        b"backends 1\n1: create trigger g on t\nend\n",
-        9,
-        "the script holds",
-    ),
-    (
-        &["walk"],
-        b"backends 1\n1: alter table t validate constraint k\nend\n",
-        9,
-        "the script holds",
     ),
 ];
 
