@@ -241,7 +241,7 @@ fn outputs_that_are_cut_off_differ(rt: HostRuntime) -> Result<(), Fail> {
 const UNCHECKED: &[(&str, u8)] = &[
     ("", 2),
     ("backends 1\n1: show t\n", 2),
-    ("backends 1\n1: drop index i\nend\nend\n", 9),
+    ("backends 1\n1: drop index i\nend\nend\n", 7),
     ("backends 1\nend\n", 7),
     ("backends 1\nend\nh 1 0 start\nh 1 1 stop\nend\n", 0),
     (
