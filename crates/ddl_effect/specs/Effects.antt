@@ -3,7 +3,6 @@ use Rattle.std.specs.Prelude.{◌≡◌, ⊤, ℕ, Option, Some, None, Result, O
 use Rattle.base_types.specs.declared.scan.Purpose.TheVariants as scans
 use Rattle.ddl_effect.specs.declared.want.Want.TheVariants as wants
 use Rattle.ddl_effect.specs.declared.facts.EffectRefusal.TheVariants as refusals
-use Rattle.ddl_effect.specs.declared.told.Told.TheVariants as tells
 use Rattle.ddl_effect.specs.Types.{Oid, Row, Purpose, Draft, Told, CommandError, EffectRefusal, Want}
 use Rattle.ddl_effect.specs.Plans.{Act, Lookup, Search, Read, Write, Plan, Done, Fails, Absent, Do}
 
