@@ -93,9 +93,7 @@ impl Backend {
     fn accepts_again(&self) -> bool
         ensures { result ≡ accepts_once_more self.now }
     {
-        self.says_absent()
-            && matches!(self.progress.due, Due::Quiet)
-            && (!self.looked || self.told)
+        self.says_absent() && matches!(self.progress.due, Due::Quiet) && (!self.looked || self.told)
     }
 
     // In a command that hasn't failed: first the rebuild on top.

@@ -216,7 +216,7 @@ further_lock s command still chosen free whole rel mode want = record {
     none_taken : (o : Option Oid) → s.progress.taken ≡ o → is_none o ≡ true
     none_taken None took = refl
     none_taken (Some taken) took = absurd (not_at_rest s.progress command (Lock rel mode) still free act owes
-      (λ i. is_some (if_locked (any-weaker (λ lock. is_own rel mode lock && (lock.command == s.progress.finished + 1)) (is_own rel mode) (λ lock is. (and_parts (is_own rel mode lock) _ is).0) s.progress.locks.items (had taken took) i) [])))
+        (λ i. is_some (if_locked (any-weaker (λ lock. is_own rel mode lock && (lock.command == s.progress.finished + 1)) (is_own rel mode) (λ lock is. (and_parts (is_own rel mode lock) _ is).0) s.progress.locks.items (had taken took) i) [])))
 
 -- what comes next of a lookup whose scan serves
 module _ (s : Backend) (command : Command) (still : IsAtRest s.progress) (chosen : IsChoiceSound s) (free : IsFree s.progress command) (name : List ℕ) (mode : Mode) (want : want_of (plan_at s.progress.opens s.progress.exec) ≡ wants.Lookup name mode) (owes : owes_nothing command s.progress ≡ true) where
