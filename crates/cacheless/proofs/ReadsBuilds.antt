@@ -1,5 +1,5 @@
 -- What each stage of a command keeps to.
-use Rattle.std.proofs.Common.{◌≡◌, ◌∙◌, ◌&&◌, Bool, true, false, not, nat_le, int_lt, negsuc, pos, List, refl, sym, ap}
+use Rattle.std.proofs.Common.{◌≡◌, ◌&&◌, Bool, true, false, not, nat_le, int_lt, negsuc, pos, List, refl}
 use Rattle.std.specs.Prelude.{⊤}
 use Rattle.base_types.specs.Scans.{is_build_scan}
 use Rattle.base_types.specs.declared.scan.Purpose.TheVariants as scans

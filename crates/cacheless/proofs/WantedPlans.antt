@@ -7,12 +7,12 @@ use Rattle.base_types.specs.Modes.{same_mode}
 use Rattle.base_types.specs.declared.scan.Purpose.TheVariants as scans
 use Rattle.ddl_effect.specs.declared.want.Want.{Want}
 use Rattle.ddl_effect.specs.declared.want.Want.TheVariants as wants
-use Rattle.ddl_effect.specs.Plans.{Plan, Done, Fails, Absent, Do, Lookup, Open, Search, Read, Lock, Write, left_rests_on, told_rests_on}
+use Rattle.ddl_effect.specs.Plans.{Plan, Done, Fails, Absent, Do, Lookup, Open, Search, Read, Lock, left_rests_on, told_rests_on}
 use Rattle.ddl_effect.specs.Stages.{want_of}
 use Rattle.txn_blocks.specs.Blocks.{Blocks, Level, blocks_badly}
 use Rattle.ddl_effect.proofs.Driven.{fails_is, absent_is}
 use Rattle.cacheless.specs.Types.{Oid, Mode, Kind, Row, Purpose, Command, CommandError, OpenRelation, Opening}
-use Rattle.cacheless.specs.Session.{Well, Badly, Unsettled, outcome_of}
+use Rattle.cacheless.specs.Session.{Badly, Unsettled, outcome_of}
 use Rattle.cacheless.specs.Settled.{opens_badly, opens_passed}
 use Rattle.cacheless.specs.State.{kept_at, is_kept, row_sought, row_next, blocks_passed}
 use Rattle.cacheless.specs.May.{is_missing, is_first_missing, is_next_of_act, lacks_to_build, is_lock_at, is_unlock_at, names_relation}

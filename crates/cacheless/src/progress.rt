@@ -1,4 +1,4 @@
-ghost use Rattle.std.specs.Prelude.{◌≡◌, ◌≤◌, [], true, All, IfOk, length};
+ghost use Rattle.std.specs.Prelude.{◌≡◌, ◌≤◌, [], IfOk, length};
 ghost use Rattle.base_types.specs.Scenario.{Scenario, IsBackend};
 ghost use Rattle.ddl_effect.specs.Commands.{commands_of};
 ghost use Rattle.cacheless.specs.State.{IsNew};

@@ -1,6 +1,6 @@
 // What a backend does without an entry.
 
-ghost use Rattle.std.specs.Prelude.{◌≡◌, ◌≤◌, ◌<◌, ◌&&◌, List, [], None, true, All, OnOk, OnErr, IfOk, is_none, is_some, slice_get, length};
+ghost use Rattle.std.specs.Prelude.{◌≡◌, ◌≤◌, ◌<◌, ◌&&◌, List, [], None, true, OnOk, OnErr, IfOk, is_none, is_some, length};
 ghost use Rattle.ddl_effect.specs.Stages.{plan_at, told_of, want_of};
 ghost use Rattle.cacheless.specs.Told.{tells_of_scans as rests_on_scans};
 ghost use Rattle.cacheless.specs.State.{blocks_passed, rows_kept as kept_rows};
@@ -31,7 +31,7 @@ pub enum Silent {
 impl Progress {
     ghost use Rattle.base_types.specs.Scenario.{Scenario};
     ghost use Rattle.event_kinds.specs.declared.entry.Entry.{Entry};
-    ghost use Rattle.cacheless.specs.State.{kept_at, is_out as has_come_out, row_sought as sought_row, row_next as next_row, end_at};
+    ghost use Rattle.cacheless.specs.State.{kept_at, is_out as has_come_out, row_sought as sought_row, row_next as next_row};
     ghost use Rattle.cacheless.specs.Settled.{has_taken_no_other as no_other};
     ghost use Rattle.cacheless.specs.Silently.{opened_for, has_accepted_at, looks_up_at, gives_next, acts_on, is_to_answer, is_to_answer_at, is_finished_at, Acts, Answers, Finishes, IsSilentOf, HasAnswered, IsLineOf, left_of};
     ghost use Rattle.cacheless.specs.Holds.{Holds, Rests, HasActed, HasPassed};

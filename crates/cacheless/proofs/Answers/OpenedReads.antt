@@ -1,12 +1,11 @@
 -- What a command reads is of a descriptor that it has opened before.
-use Rattle.std.proofs.Common.{◌≡◌, ◌-◌, ◌∙◌, ℕ, true, false, ◌||◌, Option, Some, None, List, [], ◌∷◌, ◌++◌, refl, sym, ap, subst, Contains}
+use Rattle.std.proofs.Common.{◌≡◌, ◌∙◌, true, ◌||◌, Option, Some, None, List, [], ◌∷◌, ◌++◌, sym, ap, subst}
 use Rattle.std.proofs.lemmas.List.{append-nil, append_assoc}
 use Rattle.std.specs.List.{list_any}
 use Rattle.std.proofs.Math.Bool.{or-true}
-use Rattle.std.proofs.lemmas.List.Folds.{list_any_at, list_any-append}
+use Rattle.std.proofs.lemmas.List.Folds.{list_any-append}
 use Rattle.base_types.specs.Scans.{same_scan, build_scans}
 use Rattle.base_types.specs.declared.row.Row.TheVariants as rows
-use Rattle.base_types.proofs.SameScan.{same_scan-itself}
 use Rattle.ddl_effect.specs.Plans.{Plan, Act, Do, Lookup, Open, Search, Read, Lock, Write}
 use Rattle.ddl_effect.specs.Commands.{plan_of, found}
 use Rattle.txn_blocks.specs.Blocks.{Blocks, refused_by}
@@ -15,7 +14,7 @@ use Rattle.cacheless.specs.Settled.{opened_by}
 use Rattle.cacheless.proofs.Plans.ActOrder.{follows_order}
 use Rattle.cacheless.proofs.Plans.EffectAlong.{plain_row}
 use Rattle.cacheless.proofs.Plans.UnderLocks.{Footing, at_first, with_lock, with_found, with_open, with_rows, FollowsUnfound, FollowsOrder, unfound}
-use Rattle.cacheless.specs.Types.{Oid, Mode, Kind, Row, Purpose, Command, CommandError, OpenRelation, Opening}
+use Rattle.cacheless.specs.Types.{Oid, Kind, Row, Command, CommandError, OpenRelation, Opening}
 use Rattle.cacheless.specs.OpenedReads.{is_of_opened, ReadsOpened}
 
 -- a plan that has come out reads nothing

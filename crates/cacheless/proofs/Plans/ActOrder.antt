@@ -1,5 +1,5 @@
 -- The plan of each command is one under locks.
-use Rattle.std.proofs.Common.{◌≡◌, ◌∙◌, ◌+◌, ◌<◌, ℕ, ℤ, Bool, true, false, Option, Some, None, List, [], ◌∷◌, ◌&&◌, inl, inr, Contains, refl, sym, ap, subst, map, length, nat_le, nat_lt, not, int_lt, negsuc, pos, arith}
+use Rattle.std.proofs.Common.{◌≡◌, ◌∙◌, ◌+◌, ℕ, ℤ, Bool, true, false, Option, Some, None, List, [], ◌∷◌, ◌&&◌, inl, inr, Contains, refl, sym, ap, map, length, nat_le, nat_lt, not, int_lt, negsuc, pos, arith}
 use Rattle.std.specs.List.{filter_map, cons_option}
 use Rattle.base_types.specs.Fields.{has_field}
 use Rattle.base_types.specs.declared.change.Change.{Change}
@@ -14,11 +14,11 @@ use Rattle.base_types.specs.declared.row.Row.TheVariants as rows
 use Rattle.base_types.specs.declared.scan.Purpose.TheVariants as scans
 use Rattle.command_answers.specs.declared.error.CommandError.TheVariants as errors
 use Rattle.ddl_effect.specs.declared.told.Told.TheVariants as tells
-use Rattle.ddl_effect.specs.Plans.{Plan, Done}
-use Rattle.ddl_effect.specs.Commands.{plan_of, if_passes, if_no_column, first_twice, writing, opening, showing, showing_field, told_fields, keeping, peeking, closing, is_table, locking, new_table, drop_table, renaming_table, rename_table, with_column, changing, reading, adding, add_column, drop_column, with_name, renaming, rename_column, targeting, set_statistics, filling, set_fillfactor, set_default, add_check, add_foreign, validate_constraint, drop_constraint, set_trigger, create_trigger, create_index, drop_index, live_column, searching, telling_columns, listing_columns, telling_column, finding_column}
+use Rattle.ddl_effect.specs.Plans.{Done}
+use Rattle.ddl_effect.specs.Commands.{plan_of, if_passes, if_no_column, first_twice, writing, showing, showing_field, told_fields, keeping, peeking, closing, is_table, locking, new_table, drop_table, renaming_table, rename_table, with_column, changing, reading, adding, add_column, drop_column, with_name, renaming, rename_column, targeting, set_statistics, filling, set_fillfactor, set_default, add_check, add_foreign, validate_constraint, drop_constraint, set_trigger, create_trigger, create_index, drop_index, live_column, listing_columns, telling_column, finding_column}
 use Rattle.ddl_effect.specs.Opens.{latest_open}
 use Rattle.history_model.proofs.FixedRows.{fixed}
-use Rattle.cacheless.specs.Types.{Oid, Mode, AccessExclusive, Kind, Field, Row, Command, OpenRelation, Draft, Opening}
+use Rattle.cacheless.specs.Types.{Oid, AccessExclusive, Kind, Field, Row, Command, OpenRelation, Draft, Opening}
 use Rattle.cacheless.proofs.Plans.EffectAlong.{GoesByRelation}
 use Rattle.cacheless.proofs.Plans.Formers.{on_found, on_opened, of_one, f_passes, f_looking, f_opening, f_writing, f_column, f_no_column, f_reading, f_altering}
 use Rattle.cacheless.proofs.Plans.FurtherOrder.{drop_table_follows, drop_column_follows, set_default_follows, add_check_follows, add_foreign_follows, validate_follows, drop_constraint_follows, set_trigger_follows, create_trigger_follows, create_index_follows, drop_index_follows, rename_index_follows, f_altering_index}

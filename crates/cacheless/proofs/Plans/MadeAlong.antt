@@ -5,7 +5,7 @@ use Rattle.base_types.specs.declared.scan.Purpose.TheVariants as scans
 use Rattle.ddl_effect.specs.Plans.{Act, Plan, Done, Fails, Absent, Do, Lookup, Open, Search, Read, Lock, Write}
 use Rattle.ddl_effect.specs.Effects.{row_found}
 use Rattle.cacheless.specs.Types.{Oid, Mode, Kind, Row, Purpose, Draft, Opening}
-use Rattle.cacheless.specs.ActsDone.{LockOn, locks_by, opening_by, relation_by, after_given, reached, made_first, made_in, IsStill, IsFirstStill, AreStill}
+use Rattle.cacheless.specs.ActsDone.{LockOn, locks_by, opening_by, after_given, reached, made_first, made_in, IsStill, IsFirstStill, AreStill}
 use Rattle.cacheless.specs.Settled.{class_oid, found_by}
 use Rattle.cacheless.proofs.Plans.EffectAlong.{GoesByRelation, goes_after, row_still, plain_row}
 

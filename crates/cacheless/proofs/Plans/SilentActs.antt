@@ -1,5 +1,5 @@
 -- An act whose rows are at hand keeps a command on its way.
-use Rattle.std.proofs.Common.{◌≡◌, ◌⊎◌, ◌∙◌, inl, inr, ℕ, Bool, true, false, not, Option, Some, None, List, [], ◌∷◌, ◌++◌, ◌&&◌, cond, refl, sym, ap, subst, map, append_assoc, append-nil, length}
+use Rattle.std.proofs.Common.{◌≡◌, ◌∙◌, ℕ, Bool, true, false, not, Option, Some, None, List, [], ◌∷◌, ◌++◌, ◌&&◌, cond, refl, sym, ap, subst, map, append_assoc, append-nil}
 use Rattle.std.specs.List.{AllByRecursion}
 use Rattle.base_types.specs.declared.row.Row.TheVariants as rows
 use Rattle.base_types.specs.declared.scan.Purpose.TheVariants as scans
@@ -11,8 +11,8 @@ use Rattle.history_model.specs.Read.{rows_read, is_usable}
 use Rattle.history_model.specs.Versions.{answer_of}
 use Rattle.history_model.specs.Writes.{is_empty}
 use Rattle.history_model.proofs.Every.{every-append}
-use Rattle.cacheless.specs.Types.{Mode, Row, Purpose, Opening, Scenario, Command, CommandError, OwnLock, Entry}
-use Rattle.cacheless.specs.ActsDone.{LockOn, locks_by, named_by, IsDrawn, IsHeldOn, after_given, reached, made_in, made_first, opening_by, IsFirstStill}
+use Rattle.cacheless.specs.Types.{Mode, Row, Purpose, Scenario, Command, CommandError, OwnLock, Entry}
+use Rattle.cacheless.specs.ActsDone.{LockOn, locks_by, named_by, IsDrawn, IsHeldOn, after_given, made_in, made_first, opening_by, IsFirstStill}
 use Rattle.cacheless.specs.Facts.{Facts, facts_of}
 use Rattle.cacheless.specs.OnCourse.{is_absent, TakesNew, OnItsWay, Way, Begun, Wrote, Over, GaveNow, NamedFits, WasSought, FollowsPlan}
 use Rattle.cacheless.specs.Owed.{builds_owed, act_owed}
@@ -187,15 +187,15 @@ named_there seen b (Absent name) there = absurd (cc there)
 named_there seen b plan there = tt
 
 -- what is left of a plan after an act: where it failed to find a relation, the act was a lookup, and gave none
-record FailsToFind (seen : List Entry) (b : ℕ) (act : Act) (rest : List Row → Plan) (given : List Row) : Type 0 where
-  name : List ℕ
-  mode : Mode
-  lookup : act ≡ Lookup name mode
-  is : rest given ≡ Absent name
-  none : class_oid (rows_read seen b (scans.RelName name)) ≡ None
-  lost : class_oid given ≡ None
+pub record FailsToFind (seen : List Entry) (b : ℕ) (act : Act) (rest : List Row → Plan) (given : List Row) : Type 0 where
+  pub name : List ℕ
+  pub mode : Mode
+  pub lookup : act ≡ Lookup name mode
+  pub is : rest given ≡ Absent name
+  pub none : class_oid (rows_read seen b (scans.RelName name)) ≡ None
+  pub lost : class_oid given ≡ None
 
-there_or_fails : (seen : List Entry) (b : ℕ) (s : Session) (command : Command) (act : Act) (rest : List Row → Plan) (given : List Row) → (way : OnItsWay seen b s command) → s.left ≡ Do act rest → IsDoneHere (facts_of seen b) s act rest given → is_absent (rest given) ≡ true
+pub there_or_fails : (seen : List Entry) (b : ℕ) (s : Session) (command : Command) (act : Act) (rest : List Row → Plan) (given : List Row) → (way : OnItsWay seen b s command) → s.left ≡ Do act rest → IsDoneHere (facts_of seen b) s act rest given → is_absent (rest given) ≡ true
     → FailsToFind seen b act rest given
 there_or_fails seen b s command (Lookup name mode) rest given way at done absent = record {
   name = name;

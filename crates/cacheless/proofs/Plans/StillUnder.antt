@@ -1,5 +1,5 @@
 -- What acts gave is so still after one more entry: what is read under a lock that keeps it stays, and so do the locks, unless the entry gives one of them back.
-use Rattle.std.proofs.Common.{◌≡◌, ◌∙◌, ◌⊎◌, inl, inr, ◌==◌, ℕ, Bool, true, false, not, Some, List, [], ◌∷◌, ◌++◌, refl, sym, ap, subst, map, arith}
+use Rattle.std.proofs.Common.{◌≡◌, ◌∙◌, inl, inr, ◌==◌, ℕ, Bool, true, false, not, Some, List, [], ◌∷◌, ◌++◌, refl, sym, ap, subst, map, arith}
 use Rattle.std.specs.List.{AllByRecursion}
 use Rattle.std.proofs.Math.Bool.{or-false}
 use Rattle.base_types.specs.declared.row.Row.TheVariants as rows
@@ -7,21 +7,19 @@ use Rattle.base_types.specs.declared.scan.Purpose.TheVariants as scans
 use Rattle.event_kinds.specs.declared.entry.Event.TheVariants as events
 use Rattle.lock_modes.specs.declared.grant.Grant.{Grant}
 use Rattle.lock_modes.specs.Grants.{is_lock, holds}
-use Rattle.ddl_effect.specs.Plans.{Act, Plan, Done, Fails, Absent, Do, Lookup, Open, Search, Read, Lock, Write}
-use Rattle.ddl_effect.specs.Commands.{found}
+use Rattle.ddl_effect.specs.Plans.{Plan, Done, Fails, Absent, Do, Lookup, Open, Search, Read, Lock, Write}
 use Rattle.history_model.specs.Covered.{counted_for}
 use Rattle.history_model.specs.Held.{held_of}
 use Rattle.history_model.specs.Orderly.{MayComeNext, IsSound}
 use Rattle.history_model.specs.Prefixes.{EachEntry}
 use Rattle.history_model.specs.Versions.{answer_of}
 use Rattle.history_model.proofs.Answers.{other_answers}
-use Rattle.history_model.proofs.ColumnsKept.{IsOfColumns}
 use Rattle.history_model.proofs.Asking.{oid_eq}
 use Rattle.history_model.proofs.EnoughModes.{mode_is}
 use Rattle.history_model.proofs.Every.{every-weaker, every-append, every-both, any-filter, from_some}
 use Rattle.history_model.proofs.FixedRows.{fixed}
 use Rattle.history_model.proofs.Granted.{lock_parts}
-use Rattle.history_model.proofs.HeldRows.{relation_kept, changed_under, unheld_visible}
+use Rattle.history_model.proofs.HeldRows.{changed_under, unheld_visible}
 use Rattle.history_model.proofs.Locked.{held_bars_all, held_bars_exclusive, none_held, IsNoChange, IsIdle, quiet_keeps, unchanged_answers, grant_kept, seen_firm, firm_seen, firm_stays, found_first}
 use Rattle.history_model.proofs.Observed.{LeavesRead}
 use Rattle.history_model.proofs.Ordered.{locks_exclude}
@@ -31,7 +29,7 @@ use Rattle.history_model.proofs.Reading.{held_of-more as held-more}
 use Rattle.history_model.proofs.Touched.{entry_of}
 use Rattle.history_model.proofs.WeakChanges.{column_apart, fixed_visible, counted_leaves}
 use Rattle.cacheless.specs.Types.{Oid, Mode, AccessExclusive, Kind, Row, Purpose, Entry, Event}
-use Rattle.cacheless.specs.ActsDone.{LockOn, locks_by, after_given, reached, made_first, made_in, BeginWith, IsStill, IsFirstStill, AreStill, named_by, IsDrawn, IsHeldOn, WayHolds, IsOtherLock}
+use Rattle.cacheless.specs.ActsDone.{LockOn, locks_by, after_given, reached, made_first, made_in, BeginWith, IsFirstStill, AreStill, named_by, IsDrawn, IsHeldOn, WayHolds, IsOtherLock}
 use Rattle.cacheless.specs.TableWrites.{WritesColumns}
 use Rattle.cacheless.proofs.ColumnAnswers.{columns_stay}
 use Rattle.cacheless.proofs.Plans.UnderLocks.{relation_read, modes_read, KeepsRows, KeepsColumns, GoesUnder, Footing, at_first, adds_first, FollowsUnfound, FollowsOrder, begins_unfound, follows_after}

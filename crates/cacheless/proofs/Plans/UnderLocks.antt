@@ -1,5 +1,5 @@
 -- Plans under locks: what a command reads it reads of relations that it has locked, in modes that keep what it goes by, or it goes on whatever it reads; what it reads of descriptors it has opened, and what it tells of relations too.
-use Rattle.std.proofs.Common.{◌≡◌, ◌∙◌, ◌⊎◌, inl, inr, ℕ, Bool, true, false, Option, Some, None, List, [], ◌∷◌, ◌++◌, Contains, refl, sym, ap, subst, map, append_assoc, append-nil}
+use Rattle.std.proofs.Common.{◌≡◌, ◌⊎◌, ℕ, Bool, true, false, Option, Some, None, List, [], ◌∷◌, ◌++◌, Contains, refl, sym, subst, map, append_assoc, append-nil}
 use Rattle.std.specs.Prelude.{⊤}
 use Rattle.std.specs.List.{AllByRecursion, list_all, flat_map}
 use Rattle.base_types.specs.Fields.{has_field}
@@ -16,7 +16,7 @@ use Rattle.history_model.specs.Writes.{relations_of}
 use Rattle.history_model.proofs.ColumnsKept.{IsOfColumns}
 use Rattle.history_model.proofs.Every.{SomeOf}
 use Rattle.history_model.proofs.FixedRows.{fixed}
-use Rattle.history_model.proofs.HeldRows.{relation_kept, modes_of}
+use Rattle.history_model.proofs.HeldRows.{modes_of}
 use Rattle.cacheless.specs.Types.{Oid, Mode, AccessExclusive, Kind, Row, Purpose, Opening, Told}
 use Rattle.cacheless.specs.ActsDone.{LockOn, locks_by, opening_by, relation_by, named_by, after_given, reached, made_first, made_in}
 use Rattle.cacheless.specs.OnCourse.{is_absent}
