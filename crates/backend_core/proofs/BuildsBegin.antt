@@ -34,7 +34,7 @@ use Rattle.cacheless.proofs.Allowed.NextOnCourse.{entered_noted}
 use Rattle.cacheless.proofs.Plans.ActOrder.{follows_order}
 use Rattle.cacheless.proofs.Plans.EffectAlong.{plain_row}
 use Rattle.cacheless.proofs.Plans.UnderLocks.{Footing, at_first, with_lock, with_found, with_open, with_rows, FollowsUnfound, FollowsOrder, unfound}
-use Rattle.backend_core.specs.Types.{Oid, Kind, Mode, Row, Purpose, Command, CommandError, Message, Opening, Scenario, Entry, Event}
+use Rattle.backend_core.specs.Types.{Oid, Kind, Row, Purpose, Command, CommandError, Message, Opening, Scenario, Entry, Event}
 use Rattle.backend_core.proofs.Stacking.Lacking.{each_of}
 
 -- the scan of the row of the relation that a scan names

@@ -3,7 +3,7 @@ use Rattle.std.proofs.Common.{◌≡◌, ℕ, Bool, true, false, not, ◌&&◌, 
 use Rattle.base_types.specs.declared.scan.Purpose.TheVariants as scans
 use Rattle.ddl_effect.specs.declared.want.Want.{Want}
 use Rattle.ddl_effect.specs.declared.want.Want.TheVariants as wants
-use Rattle.ddl_effect.specs.Plans.{Plan, Done, Fails, Absent, Do, Lookup, Open, Search, Read, Lock, Write}
+use Rattle.ddl_effect.specs.Plans.{Plan, Absent, Do, Lookup, Open}
 use Rattle.ddl_effect.specs.Stages.{want_of}
 use Rattle.cacheless.specs.State.{is_absent, kept_at, is_kept, row_sought}
 use Rattle.backend_core.specs.Types.{Oid, Mode, Kind, Progress}

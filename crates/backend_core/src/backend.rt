@@ -34,7 +34,7 @@ impl Drop for Backend {
 }
 
 impl Backend {
-    ghost use Rattle.std.specs.Prelude.{◌≡◌, ◌≢◌, ◌≤◌, ◌<◌, true, false, length, All, OnOk, OnErr, IfOk};
+    ghost use Rattle.std.specs.Prelude.{◌≡◌, ◌<◌, false, OnOk, OnErr, IfOk};
     ghost use Rattle.backend_core.specs.Words.{has_left};
     ghost use Rattle.history_model.specs.Legal.{IsLegal};
     ghost use Rattle.cacheless.specs.Plays.{Plays};

@@ -6,7 +6,7 @@ ghost use Rattle.ddl_effect.specs.Stages.{plan_at, want_of};
 ghost use Rattle.cacheless.specs.OpenedReads.{ReadsOpened};
 ghost use Rattle.cacheless.specs.Silently.{IsAtRest};
 ghost use Rattle.cacheless.specs.State.{owed_at, is_out, row_sought};
-ghost use Rattle.cacheless.specs.May.{has_failed, lacks_opened, lacks_any, owes_nothing};
+ghost use Rattle.cacheless.specs.May.{has_failed, lacks_opened, owes_nothing};
 ghost use Rattle.backend_core.specs.Frames.{top};
 ghost use Rattle.backend_core.specs.Words.{relation_named, accepts_again as accepts_once_more};
 ghost use Rattle.backend_core.specs.Steps.{IsNextOf, IsChoiceSound, IsFree, IsWhole, WaitsForNone, IsScanNext, ComesOfBack, ComesOfCommit};

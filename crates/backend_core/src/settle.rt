@@ -1,7 +1,7 @@
 // What a backend does without an entry: acts whose rows are there, the answers of its commands, and the
 // passing from one to the next.
 
-ghost use Rattle.std.specs.Prelude.{◌≡◌, ◌≤◌, ◌<◌, ◌&&◌, List, true, All, OnOk, length};
+ghost use Rattle.std.specs.Prelude.{◌≡◌, ◌≤◌, ◌<◌, ◌&&◌, List, OnOk, length};
 ghost use Rattle.base_types.specs.Scenario.{Scenario};
 ghost use Rattle.event_kinds.specs.declared.entry.Entry.{Entry};
 ghost use Rattle.cacheless.specs.Silently.{Acts, Answers, Finishes, left_of};

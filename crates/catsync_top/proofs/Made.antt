@@ -1,5 +1,5 @@
 -- What the making of a script wrote, made of what its steps ensure; and how it may end.
-use Rattle.std.proofs.Common.{◌≡◌, ◌∙◌, ℕ, Option, List, codes, refl, sym, ap, subst}
+use Rattle.std.proofs.Common.{◌≡◌, ◌∙◌, ℕ, Option, List, refl, ap, subst}
 use Rattle.event_kinds.specs.Texts.{text_of}
 use Rattle.event_kinds.specs.declared.entry.Entry.{Entry}
 use Rattle.event_kinds.specs.declared.entry.Line.{Line}

@@ -1,5 +1,5 @@
 -- The sessions before the first entry.
-use Rattle.std.proofs.Common.{◌≡◌, ◌≤◌, ◌<◌, ◌+◌, ◌∙◌, ℕ, false, Some, None, List, [], ◌∷◌, ◌++◌, refl, sym, ap, subst, length, slice_get, arith, ◌⊎◌, inl, inr}
+use Rattle.std.proofs.Common.{◌≡◌, ◌≤◌, ◌<◌, ◌+◌, ◌∙◌, ℕ, false, Some, None, List, [], ◌∷◌, ◌++◌, refl, ap, subst, length, slice_get, arith, ◌⊎◌, inl, inr}
 use Rattle.std.proofs.lemmas.List.{length_push}
 use Rattle.base_types.specs.Scenario.{IsBackend, IsScript}
 use Rattle.ddl_effect.specs.Commands.{commands_of}

@@ -1,5 +1,5 @@
 -- What the script allows next, when that can be taken, and the lines of all sessions.
-use Rattle.std.specs.Prelude.{◌≡◌, ◌-◌, ℕ, true, Some, List, length, slice_get}
+use Rattle.std.specs.Prelude.{◌≡◌, ◌-◌, true, Some, List, length, slice_get}
 use Rattle.std.specs.List.{flat_map}
 use Rattle.base_types.specs.Scenario.{IsBackend}
 use Rattle.history_model.specs.Lapped.{FetchesFrom}

@@ -1,6 +1,6 @@
 // How a session takes an entry of its backend.
 
-ghost use Rattle.std.specs.Prelude.{◌≡◌, ◌+◌, ◌++◌, ◌∷◌, [], true, All, OnOk, length};
+ghost use Rattle.std.specs.Prelude.{◌≡◌, ◌+◌, ◌++◌, ◌∷◌, [], true, OnOk, length};
 ghost use Rattle.event_kinds.specs.declared.entry.Entry.{Entry};
 ghost use Rattle.history_model.specs.Legal.{IsLegal, MayFollow};
 ghost use Rattle.history_ledger.specs.Reads.{Reads};

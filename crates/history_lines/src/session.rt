@@ -1,4 +1,4 @@
-ghost use Rattle.std.specs.Prelude.{◌≡◌, ◌≤◌, true, [], length, All, IfOk};
+ghost use Rattle.std.specs.Prelude.{◌≡◌, ◌≤◌, true, [], length, IfOk};
 ghost use Rattle.base_types.specs.Scenario.{Scenario, IsBackend};
 ghost use Rattle.ddl_effect.specs.Commands.{commands_of};
 ghost use Rattle.cacheless.specs.May.{HasRoom};
