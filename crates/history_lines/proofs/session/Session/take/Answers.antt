@@ -2,8 +2,8 @@ use Rattle.std.proofs.Common.{refl, sym}
 use Rattle.history_lines.proofs.Taken.{no_start, no_stop, other_comes, stop_comes, takes_start, takes_own, takes_stop}
 use Rattle.history_lines.proofs.session.Session.take.Goals as goal
 
-pub stop-requires-clause-going : goal.stop-requires-clause-going
-stop-requires-clause-going c = stop_comes c.args.ledger.now.next_oid c.args.self.now c.args.e.now.command c.args.e.now.event c.in-Stop.is c.requires.comes
+pub stop-requires : goal.stop-requires
+stop-requires c = record { going = stop_comes c.args.ledger.now.next_oid c.args.self.now c.args.e.now.command c.args.e.now.event c.in-Stop.is c.requires.comes }
 
 pub go_on-requires-clause-going : goal.go_on-requires-clause-going
 go_on-requires-clause-going c = (other_comes c.args.ledger.now.next_oid c.args.self.now c.args.e.now.command c.args.e.now.event (no_start c.args.e.now.event c.in_default.not-Start) c.requires.comes).started
