@@ -12,3 +12,7 @@ pub mod Entries
 pub mod NewFacts
 pub mod BuildsBegin
 mod Wanted
+pub mod ByWord
+pub mod Apart
+pub mod HeldLooks
+pub mod Cutting

@@ -11,6 +11,7 @@ use Rattle.backend_core.specs.Types.{Entry, Life, Backend}
 use Rattle.backend_core.specs.declared.life.Life.TheVariants as lives
 use Rattle.backend_core.specs.Agrees.{command_at, AwaitsEntry, HasNotJoined, HasLeft, Stands}
 use Rattle.backend_core.specs.Fits.{Fits}
+use Rattle.backend_core.proofs.Cutting.Before.{before-other}
 use Rattle.backend_core.proofs.Own.{waiting, session_waits, no_entry}
 
 -- a backend that waits for its next entry still waits for it
@@ -27,6 +28,7 @@ awaits-other scenario seen e s other waits = record {
   lines = still.lines_are;
   tells = still.tells;
   answered = still.answered;
+  before = before-other seen e s.progress waits.rests.holds.rest other waits.before;
 }
   where
     still : SessionAwaits scenario (seen ++ e ∷ []) s.progress s.lines

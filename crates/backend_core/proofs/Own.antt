@@ -1,10 +1,11 @@
 -- A backend's own entry, whichever it is.
-use Rattle.std.proofs.Common.{◌≡◌, ◌≢◌, ◌≤◌, ◌+◌, ◌∙◌, ℕ, true, false, Some, List, refl, sym, ap, subst, length, slice_get, All, arith}
+use Rattle.std.proofs.Common.{◌≡◌, ◌≢◌, ◌≤◌, ◌+◌, ◌∙◌, ℕ, true, false, Some, List, refl, sym, ap, subst, length, slice_get, arith}
 use Rattle.std.proofs.lemmas.Bool.{eq-eqb}
 use Rattle.event_kinds.specs.declared.entry.Event.TheVariants as events
 use Rattle.ddl_effect.specs.Commands.{commands_of}
 use Rattle.history_model.specs.Drawn.{next_oid}
 use Rattle.history_model.specs.Lapped.{FetchesFrom}
+use Rattle.history_model.specs.Legal.{MayFollow}
 use Rattle.history_model.specs.Lives.{Alive, life_by, life_of}
 use Rattle.history_model.proofs.Reading.{life_of-own}
 use Rattle.history_model.proofs.Sound.{sound_is_legal}
@@ -28,6 +29,7 @@ use Rattle.backend_core.specs.Types.{Command, Scenario, Entry, Event, Backend}
 use Rattle.backend_core.specs.Agrees.{IsPlayed, command_at, Keeps, AgreesNow, AwaitsEntry, HasNotJoined}
 use Rattle.backend_core.specs.Fits.{Fits, is_lost}
 use Rattle.backend_core.specs.Steps.{MakesEntry, Enters}
+use Rattle.backend_core.proofs.Cutting.Before.{before_own}
 use Rattle.backend_core.proofs.Fitting.Over.{IsWellOnceOver, well_unlost, well_going}
 
 -- the session of a backend that waits
@@ -102,38 +104,40 @@ appended_makes scenario old new had has e next suits appends = record {
   others = appends.others;
 }
 
--- one of a backend that waits
-pub own_makes : (scenario : Scenario) (old new : List Entry) (had has : ℕ → ℕ) (was : Backend) (event : Event) (waits : AwaitsEntry scenario old was) → IsPlayed scenario old → AllOnCourse scenario old → OwnEntry scenario old was event waits
-    → Appends old new had has (entry_of was.progress.id (was.progress.finished + 1) event) → MakesEntry scenario old new had has was.progress.id
-own_makes scenario old new had has was event waits played courses own appends = appended_makes scenario old new had has e next (record {
+-- one that the script allows next, of a backend that waits
+pub next_makes : (scenario : Scenario) (old new : List Entry) (had has : ℕ → ℕ) (was : Backend) (event : Event) → IsPlayed scenario old → AllOnCourse scenario old → IsNext scenario old (entry_of was.progress.id (was.progress.finished + 1) event) → LooksTruly old was.progress.id event
+    → FetchesFrom scenario.size old was.progress.id event → Appends old new had has (entry_of was.progress.id (was.progress.finished + 1) event) → MakesEntry scenario old new had has was.progress.id
+next_makes scenario old new had has was event played courses next truly queue appends = appended_makes scenario old new had has e next (record {
   needed = plays_needed scenario old e next;
-  truly = own.truly;
+  truly = truly;
   columns = keeps.columns;
   indexes = keeps.indexes;
   names = keeps.names;
-  queue = own.queue;
+  queue = queue;
 }) appends
   where
     e : Entry
     e = entry_of was.progress.id (was.progress.finished + 1) event
 
-    next : IsNext scenario old e
-    next = own_next scenario old was.progress event was.lines (session_waits waits) own.plays
-
     keeps : KeepsAllBy old was.progress.id event
     keeps = next_keeps scenario old e played courses next
 
--- a backend's own entry
-pub own_enters : (scenario : Scenario) (old new : List Entry) (had has : ℕ → ℕ) (was now : Backend) (event : Event) (waits : AwaitsEntry scenario old was) → IsPlayed scenario old → AllOnCourse scenario old → OwnEntry scenario old was event waits
-    → (goes : HasEntered scenario old was.progress event waits.rests now.progress) → KeepsScans old was.progress event now.progress
+-- what may come next in the session of a backend that waits, the script allows
+pub plays_next : (scenario : Scenario) (seen : List Entry) (s : Backend) (event : Event) (waits : AwaitsEntry scenario seen s) → MayPlayIn (next_oid seen) (facts_of seen s.progress.id) (command_at s) (waiting waits) event → IsNext scenario seen (entry_of s.progress.id (s.progress.finished + 1) event)
+plays_next scenario seen s event waits plays = own_next scenario seen s.progress event s.lines (session_waits waits) plays
+
+-- such an entry is one of a backend that waits
+pub own_makes : (scenario : Scenario) (old new : List Entry) (had has : ℕ → ℕ) (was : Backend) (event : Event) (waits : AwaitsEntry scenario old was) → IsPlayed scenario old → AllOnCourse scenario old → OwnEntry scenario old was event waits
+    → Appends old new had has (entry_of was.progress.id (was.progress.finished + 1) event) → MakesEntry scenario old new had has was.progress.id
+own_makes scenario old new had has was event waits played courses own appends = next_makes scenario old new had has was event played courses (plays_next scenario old was event waits own.plays) own.truly own.queue appends
+
+-- after its own entry a backend agrees
+pub own_agrees : (scenario : Scenario) (old : List Entry) (was now : Backend) (event : Event) (waits : AwaitsEntry scenario old was) → IsPlayed scenario old → AllOnCourse scenario old → MayPlayIn (next_oid old) (facts_of old was.progress.id) (command_at was) (waiting waits) event
+    → MayFollow old (entry_of was.progress.id (was.progress.finished + 1) event) → (goes : HasEntered scenario old was.progress event waits.rests now.progress) → KeepsScans old was.progress event now.progress
     → Fits (facts_of (with_own old was.progress event) now.progress.id) (command_at now) (session_at now.progress goes.holds.rest) now.looked now.frames now.told
     → now.life ≡ was.life → life_by (was.progress.finished + 1) event ≡ Alive (was.progress.finished + 1) → now.lines ≡ was.lines → event ≢ events.Stop → now.progress.answer ≡ answer_after event was.progress.answer
-    → Appends old new had has (entry_of was.progress.id (was.progress.finished + 1) event) → Enters scenario old new had has was now
-own_enters scenario old new had has was now event waits played courses own goes kept fits life lives lines stays answer appends = record {
-  makes = own_makes scenario old new had has was event waits played courses own appends;
-  id = goes.moves.id;
-  agrees = subst (λ h. AgreesNow scenario h now) (sym appends.entries) (record { keeps = keeps; holds = goes.holds; fits = fits; tells = told.0; lines = lines ∙ told.1 });
-}
+    → AgreesNow scenario (with_own old was.progress event) now
+own_agrees scenario old was now event waits played courses plays follows goes kept fits life lives lines stays answer = record { keeps = keeps; holds = goes.holds; fits = fits; tells = told.0; lines = lines ∙ told.1; before = before_own scenario old was.progress now.progress event waits.rests waits.before plays goes }
   where
     b : ℕ
     b = was.progress.id
@@ -146,8 +150,20 @@ own_enters scenario old new had has was now event waits played courses own goes 
         alive = ap (life_of (with_own old was.progress event)) goes.moves.id ∙ life_of-own old (entry_of b (was.progress.finished + 1) event) b (eq-eqb b b refl) ∙ lives;
         most = omega (arith, goes.moves.finished);
       };
-      places = own_places scenario old was.progress now.progress event was.lines (session_waits waits) courses appends.comes.follows own.plays (record { goes = goes; kept = kept; answer = answer });
+      places = own_places scenario old was.progress now.progress event was.lines (session_waits waits) courses follows plays (record { goes = goes; kept = kept; answer = answer });
     }
 
     told : TellsNow scenario (with_own old was.progress event) now.progress goes.holds × AreLines scenario (with_own old was.progress event) now.progress (session_at now.progress goes.holds.rest) was.lines
-    told = own_tells scenario old was.progress now.progress event was.lines (session_waits waits) played.spelled (sound_is_legal old played.sound) played.plays appends.comes.follows own.plays stays goes answer
+    told = own_tells scenario old was.progress now.progress event was.lines (session_waits waits) played.spelled (sound_is_legal old played.sound) played.plays follows plays stays goes answer
+
+-- a backend's own entry
+pub own_enters : (scenario : Scenario) (old new : List Entry) (had has : ℕ → ℕ) (was now : Backend) (event : Event) (waits : AwaitsEntry scenario old was) → IsPlayed scenario old → AllOnCourse scenario old → OwnEntry scenario old was event waits
+    → (goes : HasEntered scenario old was.progress event waits.rests now.progress) → KeepsScans old was.progress event now.progress
+    → Fits (facts_of (with_own old was.progress event) now.progress.id) (command_at now) (session_at now.progress goes.holds.rest) now.looked now.frames now.told
+    → now.life ≡ was.life → life_by (was.progress.finished + 1) event ≡ Alive (was.progress.finished + 1) → now.lines ≡ was.lines → event ≢ events.Stop → now.progress.answer ≡ answer_after event was.progress.answer
+    → Appends old new had has (entry_of was.progress.id (was.progress.finished + 1) event) → Enters scenario old new had has was now
+own_enters scenario old new had has was now event waits played courses own goes kept fits life lives lines stays answer appends = record {
+  makes = own_makes scenario old new had has was event waits played courses own appends;
+  id = goes.moves.id;
+  agrees = subst (λ h. AgreesNow scenario h now) (sym appends.entries) (own_agrees scenario old was now event waits played courses own.plays appends.comes.follows goes kept fits life lives lines stays answer);
+}

@@ -1,24 +1,31 @@
 -- What a backend does without an entry.
-use Rattle.std.proofs.Common.{◌≡◌, ◌+◌, ◌∙◌, ◌&&◌, Bool, true, false, Option, Some, None, Result, Ok, Err, OnOk, List, [], ◌∷◌, ◌++◌, refl, sym, ap, subst, length, slice_get, ℕ, arith, ◌⊎◌, inl, inr}
+use Rattle.std.proofs.Common.{◌≡◌, ◌+◌, ◌∙◌, ◌&&◌, ◌||◌, is_none, Bool, true, false, Option, Some, None, Result, Ok, Err, OnOk, List, [], ◌∷◌, ◌++◌, refl, sym, ap, subst, length, slice_get, ℕ, arith, ◌⊎◌, inl, inr}
 use Rattle.std.proofs.lemmas.Bool.{both_ways, and_parts}
 use Rattle.ddl_effect.specs.Commands.{commands_of}
 use Rattle.history_model.specs.Lives.{life_of}
-use Rattle.cacheless.specs.Facts.{facts_of}
+use Rattle.cacheless.specs.Facts.{Facts, facts_of}
 use Rattle.cacheless.specs.Holds.{Holds, HasActed, HasPassed}
-use Rattle.cacheless.specs.OnCourse.{EntersCourse, TellsAlone}
+use Rattle.cacheless.specs.OnCourse.{EntersCourse, TellsAlone, FollowsPlan}
 use Rattle.cacheless.specs.Answering.{IsToldText}
-use Rattle.cacheless.specs.Session.{Session, outcome_of, is_settled}
+use Rattle.cacheless.specs.Session.{Session, at_command, outcome_of, is_settled}
 use Rattle.cacheless.specs.Silently.{is_to_answer, IsSettled, Answers, HasAnswered, IsLineOf}
 use Rattle.cacheless.specs.State.{kept_at, session_at, is_absent}
 use Rattle.cacheless.proofs.Answers.Telling.{told_asked, act_places, act_tells, act_lines, with_answer, answer_holds, answer_tells, answer_places, pass_places, pass_tells, pass_lines}
-use Rattle.backend_core.specs.Types.{Command, Scenario, Entry, Line, Progress, Backend, Frame}
+use Rattle.backend_core.specs.Types.{Row, Command, Scenario, Entry, Line, Progress, Backend, Frame}
 use Rattle.backend_core.specs.Agrees.{command_at, AgreesNow, GoesOn, AwaitsEntry}
-use Rattle.backend_core.specs.Fits.{Fits}
+use Rattle.backend_core.specs.Halts.{AwaitsCommand, begins_at}
+use Rattle.backend_core.proofs.Cutting.Before.{before_act, before_pass, ends_pass}
 use Rattle.backend_core.proofs.Fitting.FitsOn.{fits_act, fits_pass, fits_quieter}
-use Rattle.ddl_effect.specs.Plans.{Do, Lookup}
+use Rattle.backend_core.proofs.Fitting.Sought.{no_class, unfound_facts, unfound_held}
+use Rattle.backend_core.specs.Fits.{Fits, finds_no_name}
+use Rattle.backend_core.specs.Words.{relation_named, is_unfound, finds_none}
+use Rattle.base_types.specs.declared.row.Row.TheVariants as rows
+use Rattle.base_types.specs.declared.scan.Purpose.TheVariants as scans
+use Rattle.ddl_effect.specs.Plans.{Act, Plan, Do, Lookup}
+use Rattle.ddl_effect.specs.Stages.{plan_at}
 use Rattle.cacheless.specs.Types.{Mode}
-use Rattle.cacheless.specs.Settled.{act_done, class_oid, is_finished}
-use Rattle.cacheless.proofs.Plans.SilentActs.{is_done_here, lookup_says}
+use Rattle.cacheless.specs.Settled.{act_done, class_oid, is_finished, next_session, if_locked, has_accepted, looked_up}
+use Rattle.cacheless.proofs.Plans.SilentActs.{IsDoneHere, is_done_here, lookup_says, gives_class, kept_already, there_or_fails, on_its_way}
 
 -- a command whose next act is done without an entry hasn't made its release
 acts_going : (scenario : Scenario) (seen : List Entry) (b : ℕ) (s : Session) (command : Command) → EntersCourse scenario seen b s → slice_get (commands_of scenario b) (length s.finished) ≡ Some command → is_settled (outcome_of s.left) ≡ false → s.ended ≡ false
@@ -47,6 +54,7 @@ act_agrees scenario seen was p keeps told quiet now acted kept same = record {
       (fits_quieter (facts_of seen was.progress.id) (command_at was) (act_done acted.act acted.given (acted.further acted.given) s) was.looked was.frames was.told keeps told quiet (fits_act (facts_of seen was.progress.id) (command_at was) s was.looked was.frames was.told acted.command acted.act acted.further acted.given acted.at acted.left going (is_done_here (facts_of seen was.progress.id) s acted.act acted.further acted.given acted.gives) says now.fits))));
   tells = act_tells scenario seen was.progress p now.holds now.tells acted same;
   lines = act_lines scenario seen was.progress p now.holds acted was.lines now.lines;
+  before = before_act scenario seen was.progress p now.holds acted now.before;
 }
   where
     s : Session
@@ -69,6 +77,70 @@ pub act_goes : (was : Backend) (p : Progress) (keeps told : Bool) → told ≡ w
     → (scenario : Scenario) (seen : List Entry) → AgreesNow scenario seen was → GoesOn scenario seen was (record was { progress = p; told = told })
 act_goes was p keeps told quiet acted kept same scenario seen now = record { agrees = act_agrees scenario seen was p keeps told quiet now (acted scenario seen now.holds) kept same; id = (acted scenario seen now.holds).moves.id }
 
+-- a lookup that came to its end without a relation took no lock
+accepted : (facts : Facts) (s : Session) (read given : List Row) → if_locked (has_accepted facts s) read ≡ Some given → is_none s.taken ≡ true
+accepted facts s read given gave = by_test (has_accepted facts s) refl gave
+  where
+    by_test : (t : Bool) → has_accepted facts s ≡ t → if_locked t read ≡ Some given → is_none s.taken ≡ true
+    by_test true has is = (and_parts (is_none s.taken) _ (and_parts (is_none s.taken && _) _ has).0).0
+    by_test false has is = absurd (cc is)
+
+took_none : (facts : Facts) (s : Session) (mode : Mode) (read given : List Row) → class_oid read ≡ None → looked_up facts s mode read ≡ Some given → is_none s.taken ≡ true
+took_none facts s mode [] given none gave = accepted facts s [] given gave
+took_none facts s mode (rows.Class rel own kind fill ∷ more) given none gave = absurd (cc none)
+took_none facts s mode (row ∷ more) given none gave = accepted facts s (row ∷ []) given gave
+
+no_relation : (given : List Row) → class_oid given ≡ None → is_none (relation_named (slice_get given 0)) ≡ true
+no_relation [] none = refl
+no_relation (rows.Class rel own kind fill ∷ more) none = absurd (cc none)
+no_relation (row ∷ more) none = refl
+
+-- so it has found none
+misses : (facts : Facts) (s : Session) (name : List ℕ) (mode : Mode) (rest : List Row → Plan) (given : List Row) → IsDoneHere facts s (Lookup name mode) rest given → class_oid (facts.rows (scans.RelName name)) ≡ None → finds_no_name facts s.taken (Do (Lookup name mode) rest) ≡ true
+misses facts s name mode rest given done none = λ i. took_none facts s mode (facts.rows (scans.RelName name)) given none done.gave i && kept_already (facts.usable (scans.RelName name)) (scans.RelName name) done.owed i && no_relation (facts.rows (scans.RelName name)) none i
+
+-- and one that has found none comes to where the command says so
+loses : (facts : Facts) (s : Session) (act : Act) (rest : List Row → Plan) (given : List Row) → IsDoneHere facts s act rest given → ((name : List ℕ) (mode : Mode) → act ≡ Lookup name mode → class_oid given ≡ None → is_absent (rest given) ≡ true) → finds_no_name facts s.taken (Do act rest) ≡ true → is_absent (rest given) ≡ true
+loses facts s (Lookup name mode) rest given done says is =
+    says name mode refl (sym (gives_class facts s mode (facts.rows (scans.RelName name)) given done.gave) ∙ no_class (facts.rows (scans.RelName name)) (and_parts (is_none s.taken && facts.usable (scans.RelName name)) _ is).1)
+loses facts s act rest given done says is = absurd (cc is)
+
+both_same : (s t : Bool) → (s ≡ true → t ≡ true) → (t ≡ true → s ≡ true) → s ≡ t
+both_same true true there back = refl
+both_same true false there back = sym (there refl)
+both_same false true there back = back refl
+both_same false false there back = refl
+
+-- after an act the command says that a relation is absent where it was that of a lookup which had found none, and after no other
+pub act_finds : (scenario : Scenario) (seen : List Entry) (was : Backend) (p : Progress) → (now : AgreesNow scenario seen was) → HasActed scenario seen was.progress now.holds p → finds_none was.progress ≡ is_absent (plan_at p.opens p.exec)
+act_finds scenario seen was p now acted = both_same (finds_none was.progress) (is_absent (acted.further acted.given)) found missed ∙ ap (λ (x : Session). is_absent x.left) (sym acted.session)
+  where
+    facts : Facts
+    facts = facts_of seen was.progress.id
+
+    s : Session
+    s = session_at was.progress now.holds.rest
+
+    follows : FollowsPlan seen was.progress.id s acted.command
+    follows = now.tells.course.follows acted.command (ap (slice_get (commands_of scenario was.progress.id)) now.holds.count ∙ ap (λ l. slice_get l was.progress.finished) (sym now.holds.commands) ∙ acted.at)
+
+    done : IsDoneHere facts s acted.act acted.further acted.given
+    done = is_done_here facts s acted.act acted.further acted.given acted.gives
+
+    of_act : finds_none was.progress ≡ is_unfound was.progress (Do acted.act acted.further)
+    of_act = ap (λ p. is_absent p || is_unfound was.progress p) acted.left
+
+    says : (name : List ℕ) (mode : Mode) → acted.act ≡ Lookup name mode → class_oid acted.given ≡ None → is_absent (acted.further acted.given) ≡ true
+    says name mode is none = lookup_says seen was.progress.id s acted.command name mode acted.further acted.given follows (acted.left ∙ ap (λ a. Do a acted.further) is) none
+
+    found : finds_none was.progress ≡ true → is_absent (acted.further acted.given) ≡ true
+    found is = loses facts s acted.act acted.further acted.given done says (unfound_facts facts was.progress (Do acted.act acted.further) now.holds.facts (sym of_act ∙ is))
+
+    missed : is_absent (acted.further acted.given) ≡ true → finds_none was.progress ≡ true
+    missed absent = let fails = there_or_fails seen was.progress.id s acted.command acted.act acted.further acted.given (on_its_way seen was.progress.id s acted.command acted.act acted.further follows acted.left) acted.left done absent in
+        of_act ∙ unfound_held facts was.progress (Do acted.act acted.further) now.holds.facts (ap (λ a. finds_no_name facts s.taken (Do a acted.further)) fails.lookup
+        ∙ misses facts s fails.name fails.mode acted.further acted.given (subst (λ a. IsDoneHere facts s a acted.further acted.given) fails.lookup done) fails.none)
+
 -- it works out what its command answers
 answer_agrees : (scenario : Scenario) (seen : List Entry) (s : Backend) (command : Command) (text : List ℕ) → AgreesNow scenario seen s → command_at s ≡ Some command → is_to_answer command s.progress ≡ true → s.progress.answer ≡ None → IsToldText command s.progress text
     → AgreesNow scenario seen (record s { progress = with_answer s.progress text })
@@ -79,6 +151,7 @@ answer_agrees scenario seen s command text now at asked none told = record {
   fits = now.fits;
   tells = answer_tells scenario seen s.progress command text now.holds now.tells now.keeps.places at asked none told;
   lines = now.lines;
+  before = now.before;
 }
 
 pub answer_goes : {E : Type 0} (was : Backend) (p : Progress) (result : Result (Unit {0}) E) → Answers was.progress → OnOk result (HasAnswered was.progress p) → OnOk result ((scenario : Scenario) (seen : List Entry) → AgreesNow scenario seen was → GoesOn scenario seen was (record was { progress = p }))
@@ -101,6 +174,7 @@ pass_agrees scenario seen was p lines line now passed kept none says pushed = re
       (fits_pass (facts_of seen was.progress.id) (command_at was) (session_at was.progress now.holds.rest) was.looked was.frames was.told passed.command next passed.at passed.over now.fits)));
   tells = pass_tells scenario seen was.progress p now.holds now.tells passed none;
   lines = pushed ∙ pass_lines scenario seen was.progress p now.holds now.tells passed was.lines line says now.lines;
+  before = before_pass scenario seen was.progress p now.holds passed now.before;
 }
   where
     next : Option Command
@@ -114,6 +188,36 @@ pub pass_goes : (was : Backend) (p : Progress) (frames : List Frame) (lines : Li
 pass_goes was p frames lines line passes kept none bare says pushed scenario seen now = subst (λ l. GoesOn scenario seen was (record was { progress = p; lines = lines; looked = false; frames = l; told = false })) (sym bare)
     (record { agrees = pass_agrees scenario seen was p lines line now (passes scenario seen now.holds) kept none says pushed; id = (passes scenario seen now.holds).id })
 
+-- then it is at the beginning of a command
+pass_awaits : (scenario : Scenario) (seen : List Entry) (was : Backend) (p : Progress) (lines : List Line) (line : Line) (now : AgreesNow scenario seen was) → HasPassed scenario seen was.progress now.holds p → kept_at p ≡ kept_at was.progress → p.answer ≡ None
+    → IsLineOf was.progress line → lines ≡ was.lines ++ line ∷ [] → AwaitsCommand scenario seen (record was { progress = p; lines = lines; looked = false; frames = []; told = false })
+unfolding pass_agrees
+pass_awaits scenario seen was p lines line now passed kept none says pushed = record {
+  agrees = pass_agrees scenario seen was p lines line now passed kept none says pushed;
+  begins = passed.session ∙ at_next next ∙ ap (begins_at p passed.holds.rest) (sym next_command);
+  ends = λ part number is. ends_pass scenario seen was.progress p now.holds passed now.before part number is;
+  fits = subst (λ f. Fits f None (begins_at p passed.holds.rest None) false [] false) (sym (ap (facts_of seen) passed.id))
+      (subst (λ x. Fits (facts_of seen was.progress.id) None x false [] false) (at_next None)
+      (fits_pass (facts_of seen was.progress.id) (command_at was) (session_at was.progress now.holds.rest) was.looked was.frames was.told passed.command None passed.at passed.over now.fits));
+  last = now.keeps.life.last;
+  alive = ap (life_of seen) passed.id ∙ now.keeps.life.alive;
+  before = omega (arith, now.keeps.life.most, passed.finished);
+}
+  where
+    next : Option Command
+    next = slice_get was.progress.commands (was.progress.finished + 1)
+
+    next_command : slice_get p.commands p.finished ≡ next
+    next_command = ap (λ l. slice_get l p.finished) passed.commands ∙ ap (slice_get was.progress.commands) passed.finished
+
+    at_next : (o : Option Command) → next_session passed.command o (session_at was.progress now.holds.rest) ≡ begins_at p passed.holds.rest o
+    at_next o = ap (λ s. at_command s.blocks s.opens s.finished s.locks s.last o) (sym passed.session)
+
+pub pass_comes : (was : Backend) (p : Progress) (frames : List Frame) (lines : List Line) (line : Line) → ((scenario : Scenario) (seen : List Entry) (held : Holds scenario seen was.progress) → HasPassed scenario seen was.progress held p) → kept_at p ≡ kept_at was.progress → p.answer ≡ None → frames ≡ [] → IsLineOf was.progress line → lines ≡ was.lines ++ line ∷ []
+    → (scenario : Scenario) (seen : List Entry) → AgreesNow scenario seen was → AwaitsCommand scenario seen (record was { progress = p; lines = lines; looked = false; frames = frames; told = false })
+pass_comes was p frames lines line passes kept none bare says pushed scenario seen now = subst (λ l. AwaitsCommand scenario seen (record was { progress = p; lines = lines; looked = false; frames = l; told = false })) (sym bare)
+    (pass_awaits scenario seen was p lines line now (passes scenario seen now.holds) kept none says pushed)
+
 -- where nothing is left to be done without an entry it waits for one
 pub rest_awaits : (scenario : Scenario) (seen : List Entry) (s : Backend) → AgreesNow scenario seen s → IsSettled s.progress → AwaitsEntry scenario seen s
 rest_awaits scenario seen s now settled = record {
@@ -123,4 +227,5 @@ rest_awaits scenario seen s now settled = record {
   tells = now.tells.tells;
   lines = now.lines;
   answered = settled.answered;
+  before = now.before;
 }

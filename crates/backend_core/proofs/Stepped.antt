@@ -1,13 +1,16 @@
 -- A step: an entry, and then what needs none.
-use Rattle.std.proofs.Common.{◌≡◌, ◌∙◌, ℕ, false, List, [], Result, Ok, Err, OnOk, OnErr, sym, subst, ap}
-use Rattle.backend_core.specs.Types.{Scenario, Entry, Backend}
+use Rattle.std.proofs.Common.{◌≡◌, ◌∙◌, ◌&&◌, ℕ, false, List, [], Result, Ok, Err, OnOk, refl, sym, ap, subst}
+use Rattle.std.proofs.lemmas.Bool.{both_ways}
+use Rattle.backend_core.specs.Types.{Scenario, Entry, Life, Backend}
 use Rattle.backend_core.specs.declared.life.Life.TheVariants as lives
 use Rattle.history_model.specs.Legal.{IsLegal}
 use Rattle.cacheless.specs.Plays.{Plays}
 use Rattle.cacheless.proofs.Allowed.AllowedHistories.{plays_on_course}
 use Rattle.backend_core.specs.Agrees.{AreSpelled, IsPlayed, AwaitsEntry, HasNotJoined, HasLeft, Stands, IsReady}
-use Rattle.backend_core.specs.Noted.{Noted, noted_of, nothing_noted, Settles, Stays, Acts, Passes, NotesStep, NotesAtStep}
-use Rattle.backend_core.specs.Steps.{MakesEntry, Enters, Steps, IsRefused, After}
+use Rattle.backend_core.specs.Looks.{SettlesWherever}
+use Rattle.backend_core.specs.Noted.{Noted, noted_of, nothing_noted, Settles, Stays, Acts, Passes, NotesEntry, NotesStep, NotesAtEntry, NotesAtStep}
+use Rattle.backend_core.specs.Steps.{MakesEntry, Enters, Steps, MakesNext, Remains, Left}
+use Rattle.backend_core.specs.Words.{has_left, finds_none}
 use Rattle.backend_core.proofs.Coherent.{stands_coherent}
 use Rattle.backend_core.proofs.Played.{IsPlayed-more}
 
@@ -36,16 +39,10 @@ stepped scenario old new had has was now done played enters waits same = record 
   coherent = stands_coherent scenario new done (makes_played scenario old new had has was.progress.id played enters.makes).sound (awaits_stands scenario new done waits);
 }
 
--- the same of a call that may have been refused memory, over a segment whose script is the same
-pub stepped_on : {E : Type 0} (scenario later : Scenario) (old new : List Entry) (had has : ℕ → ℕ) (was now done : Backend) (result : Result (Unit {0}) E) → later ≡ scenario → IsPlayed scenario old → Enters scenario old new had has was now → OnOk result (AwaitsEntry later new done) → OnOk result (done.progress.id ≡ now.progress.id)
-    → OnOk result (Steps scenario old new had has was done)
-stepped_on scenario later old new had has was now done (Ok x) same played enters waits id = stepped scenario old new had has was now done played enters (subst (λ k. AwaitsEntry k new done) same waits) id
-stepped_on scenario later old new had has was now done (Err e) same played enters waits id = tt
-
--- after the entry it was refused memory
-pub refused_after : {E : Type 0} (scenario : Scenario) (old new : List Entry) (had has : ℕ → ℕ) (was now : Backend) (result : Result (Unit {0}) E) → Enters scenario old new had has was now → OnErr result (IsRefused scenario old new had has was.progress.id)
-refused_after scenario old new had has was now (Ok x) enters = tt
-refused_after scenario old new had has was now (Err e) enters = After enters.makes
+-- the same of a call that may have been refused memory
+pub settled_steps : {E : Type 0} (scenario : Scenario) (old new : List Entry) (had has : ℕ → ℕ) (was now done : Backend) (result : Result (Unit {0}) E) → IsPlayed scenario old → Enters scenario old new had has was now → OnOk result (SettlesWherever now done) → OnOk result (Steps scenario old new had has was done)
+settled_steps scenario old new had has was now done (Ok x) played enters settles = let settled = settles scenario new enters.agrees in stepped scenario old new had has was now done played enters settled.waits settled.id
+settled_steps scenario old new had has was now done (Err e) played enters settles = tt
 
 -- a backend that stands and hasn't joined has nothing noted
 not_joined : (scenario : Scenario) (seen : List Entry) (s : Backend) → Stands scenario seen s → s.life ≡ lives.Unstarted → HasNotJoined scenario seen s
@@ -56,15 +53,32 @@ new_noted s looked frames told = λ i. record { looked = looked i; frames = fram
 
 -- where nothing is noted nothing is after it goes on
 settles_nothing : (was now : Backend) → noted_of was ≡ nothing_noted → Settles was now → noted_of now ≡ nothing_noted
-settles_nothing was now none (Stays at same) = same ∙ none
-settles_nothing was now none (Acts at same) = same ∙ ap (λ (x : Noted). record x { told = false }) none
+settles_nothing was now none (Stays still same) = same ∙ none
+settles_nothing was now none (Acts does same) = same ∙ ap (λ (x : Noted). record x { told = x.told && finds_none was.progress }) none
 settles_nothing was now none (Passes less nothing) = nothing
 
 -- what is noted once it has joined, and once a backend that had joined has made its entry
-pub joined_notes : {E : Type 0} (scenario : Scenario) (seen old new : List Entry) (was entered now : Backend) (result : Result (Unit {0}) E) → Stands scenario seen was → was.life ≡ lives.Unstarted → noted_of entered ≡ noted_of was → OnOk result (Settles entered now) → OnOk result (NotesAtStep old new was now)
-joined_notes scenario seen old new was entered now (Ok x) stands life same settles = let fresh = (not_joined scenario seen was stands life).new in subst (λ l. elim l as (λ y. Type 0) [ lives.Unstarted ↦ noted_of now ≡ nothing_noted | other ↦ NotesStep old new was now ]) (sym life) (settles_nothing entered now (same ∙ new_noted was fresh.looked fresh.frames fresh.told) settles)
-joined_notes scenario seen old new was entered now (Err e) stands life same settles = tt
+pub joined_notes : (scenario : Scenario) (seen old new : List Entry) (was now : Backend) → Stands scenario seen was → was.life ≡ lives.Unstarted → noted_of now ≡ noted_of was → NotesAtEntry old new was now
+joined_notes scenario seen old new was now stands life same = let fresh = (not_joined scenario seen was stands life).new in subst (λ l. elim l as (λ y. Type 0) [ lives.Unstarted ↦ noted_of now ≡ nothing_noted | other ↦ NotesEntry old new was now ]) (sym life) (same ∙ new_noted was fresh.looked fresh.frames fresh.told)
 
-pub entered_notes : {E : Type 0} (old new : List Entry) (was now : Backend) (result : Result (Unit {0}) E) → was.life ≡ lives.Alive → OnOk result (NotesStep old new was now) → OnOk result (NotesAtStep old new was now)
-entered_notes old new was now (Ok x) life notes = subst (λ l. elim l as (λ y. Type 0) [ lives.Unstarted ↦ noted_of now ≡ nothing_noted | other ↦ NotesStep old new was now ]) (sym life) notes
+pub entered_notes : {E : Type 0} (old new : List Entry) (was now : Backend) (result : Result (Unit {0}) E) → was.life ≡ lives.Alive → OnOk result (NotesEntry old new was now) → OnOk result (NotesAtEntry old new was now)
+entered_notes old new was now (Ok x) life notes = subst (λ l. elim l as (λ y. Type 0) [ lives.Unstarted ↦ noted_of now ≡ nothing_noted | other ↦ NotesEntry old new was now ]) (sym life) notes
 entered_notes old new was now (Err e) life notes = tt
+
+-- and once it has gone on
+pub notes_on : (old new : List Entry) (was entered now : Backend) → NotesAtEntry old new was entered → Settles entered now → NotesAtStep old new was now
+notes_on old new was entered now notes settles = by_life was.life notes
+  where
+    by_life : (l : Life) → elim l as (λ y. Type 0) [ lives.Unstarted ↦ noted_of entered ≡ nothing_noted | other ↦ NotesEntry old new was entered ] → elim l as (λ y. Type 0) [ lives.Unstarted ↦ noted_of now ≡ nothing_noted | other ↦ NotesStep old new was now ]
+    by_life lives.Unstarted none = settles_nothing entered now none settles
+    by_life lives.Alive made = record { entered = entered; made = made; settled = settles }
+    by_life lives.Stopped made = record { entered = entered; made = made; settled = settles }
+
+-- where it has left it doesn't go on
+pub notes_left : (old new : List Entry) (was now : Backend) → NotesAtEntry old new was now → NotesAtStep old new was now
+notes_left old new was now notes = notes_on old new was now now notes (Stays refl refl)
+
+-- a backend that has made its next entry and hasn't left agrees after it
+pub remains : (scenario : Scenario) (old new : List Entry) (had has : ℕ → ℕ) (was now : Backend) → MakesNext scenario old new had has was now → has_left now.life ≡ false → Enters scenario old new had has was now
+remains scenario old new had has was now (Remains enters) stays = enters
+remains scenario old new had has was now (Left gone steps) stays = absurd (both_ways _ stays (ap has_left gone))

@@ -1,9 +1,9 @@
 -- What is asked of a plan by what it wants next.
-use Rattle.std.proofs.Common.{◌≡◌, ℕ, Bool, true, false, not, ◌&&◌, Option, Some, None, List, refl, is_none}
+use Rattle.std.proofs.Common.{◌≡◌, ℕ, Bool, true, false, ◌&&◌, Option, Some, None, List, refl, is_none}
 use Rattle.base_types.specs.declared.scan.Purpose.TheVariants as scans
 use Rattle.ddl_effect.specs.declared.want.Want.{Want}
 use Rattle.ddl_effect.specs.declared.want.Want.TheVariants as wants
-use Rattle.ddl_effect.specs.Plans.{Plan, Absent, Do, Lookup, Open}
+use Rattle.ddl_effect.specs.Plans.{Plan, Do, Lookup, Open}
 use Rattle.ddl_effect.specs.Stages.{want_of}
 use Rattle.cacheless.specs.State.{is_absent, kept_at, is_kept, row_sought}
 use Rattle.backend_core.specs.Types.{Oid, Mode, Kind, Progress}

@@ -15,6 +15,7 @@ use Rattle.cacheless.specs.State as progress
 use Rattle.cacheless.specs.Telling.{Tells, AreLines, TellsNow}
 use Rattle.backend_core.specs.Types.{Command, Scenario, Entry, Backend}
 use Rattle.backend_core.specs.declared.life.Life.TheVariants as lives
+use Rattle.backend_core.specs.Cuts.{HoldsBefore}
 use Rattle.backend_core.specs.Fits.{Fits}
 
 -- the running command, if there is one
@@ -40,6 +41,7 @@ pub record AgreesNow (scenario : Scenario) (seen : List Entry) (s : Backend) : T
   pub fits : Fits (facts_of seen s.progress.id) (command_at s) (session_at s.progress holds.rest) s.looked s.frames s.told
   pub tells : TellsNow scenario seen s.progress holds
   pub lines : AreLines scenario seen s.progress (session_at s.progress holds.rest) s.lines
+  pub before : HoldsBefore seen s.progress holds.rest
 
 -- it has gone on without an entry
 pub record GoesOn (scenario : Scenario) (seen : List Entry) (was now : Backend) : Type 0 where
@@ -54,6 +56,7 @@ pub record AwaitsEntry (scenario : Scenario) (seen : List Entry) (s : Backend) :
   pub tells : Tells scenario seen s.progress (session_at s.progress rests.holds.rest)
   pub lines : AreLines scenario seen s.progress (session_at s.progress rests.holds.rest) s.lines
   pub answered : is_to_answer_at s.progress ≡ true → is_some s.progress.answer ≡ true
+  pub before : HoldsBefore seen s.progress rests.holds.rest
 
 -- a backend that may make an entry: it waits for one, and every backend is on its course in what was played
 pub record IsReady (scenario : Scenario) (seen : List Entry) (s : Backend) : Type 0 where

@@ -2,8 +2,12 @@ pub mod Types
 pub mod Frames
 pub mod Words
 pub mod Fits
+pub mod Cuts
 pub mod Agrees
 pub mod Fields
 pub mod Coherent
 pub mod Steps
 pub mod Noted
+pub mod Looks
+pub mod Apart
+pub mod Halts

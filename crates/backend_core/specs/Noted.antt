@@ -4,10 +4,11 @@ use Rattle.event_kinds.specs.declared.entry.Event.TheVariants as events
 use Rattle.history_model.specs.Log.{fetched_by}
 use Rattle.seg_calls.specs.Calls.{entry_of, messages_in}
 use Rattle.ddl_effect.specs.Opens.{opens_before}
+use Rattle.ddl_effect.specs.Stages.{plan_at, acts_left}
 use Rattle.cacheless.specs.May.{has_failed}
 use Rattle.cacheless.specs.Session.{opening_of, held_in}
-use Rattle.cacheless.specs.State.{kept_at, kept_spared, is_kept}
-use Rattle.backend_core.specs.Types.{Message, Entry, Event, Frame, Next, Backend}
+use Rattle.cacheless.specs.State.{kept_at, kept_spared, is_kept, is_absent}
+use Rattle.backend_core.specs.Types.{Message, Entry, Event, Frame, Next, Progress, Backend}
 use Rattle.backend_core.specs.declared.life.Life.TheVariants as lives
 use Rattle.backend_core.specs.declared.next.Next.TheVariants as nexts
 use Rattle.backend_core.specs.Frames.{unless, with_rest, frames_after}
@@ -71,20 +72,34 @@ pub record IsNoted (old new : List Entry) (was : Backend) (next : Next) (now : B
   pub number : now.progress.finished ≡ was.progress.finished
   pub noted : noted_of now ≡ noted_by old was next event
 
--- going on without an entry changes nothing of it, but that acts may have come to where no lookup runs, since whose beginning messages would come, and where a command is passed: then nothing is noted
+-- acts are done: fewer are left, and none comes after that of a lookup which has found no relation
+pub record DoesActs (was now : Progress) : Type 0 where
+  pub number : now.finished ≡ was.finished
+  pub fewer : acts_left now.exec < acts_left was.exec
+  pub lost : finds_none was ≡ true → is_absent (plan_at now.opens now.exec) ≡ true
+
+-- going on without an entry: where no act is done nothing of it changes; that messages came counts still after the act of a lookup which has found no relation, and after any other no lookup runs, since whose beginning they would come; and where a command is passed nothing is noted
 pub data Settles (was now : Backend) : Type 0 where
-  Stays : now.progress.finished ≡ was.progress.finished → noted_of now ≡ noted_of was → Settles was now
-  Acts : now.progress.finished ≡ was.progress.finished → noted_of now ≡ record (noted_of was) { told = false } → Settles was now
+  Stays : now.progress ≡ record was.progress { answer = now.progress.answer } → noted_of now ≡ noted_of was → Settles was now
+  Acts : DoesActs was.progress now.progress → noted_of now ≡ record (noted_of was) { told = was.told && finds_none was.progress } → Settles was now
   Passes : was.progress.finished < now.progress.finished → noted_of now ≡ nothing_noted → Settles was now
 
--- a step notes what its entry makes of it, and then goes on
-pub record NotesStep (old new : List Entry) (was now : Backend) : Type 0 where
+-- an entry notes what it makes of it, whichever comes next
+pub record NotesEntry (old new : List Entry) (was now : Backend) : Type 0 where
   pub next : Next
   pub chosen : IsNextOf was next
+  pub noted : IsNoted old new was next now
+
+-- a step makes its entry, and then goes on
+pub record NotesStep (old new : List Entry) (was now : Backend) : Type 0 where
   pub entered : Backend
-  pub noted : IsNoted old new was next entered
+  pub made : NotesEntry old new was entered
   pub settled : Settles entered now
 
--- what a step leaves noted: of a backend that hadn't joined nothing, of any other what its entry makes of it
+-- what an entry leaves noted: of a backend that hadn't joined nothing, of any other what its entry makes of it
+abbrev pub NotesAtEntry : List Entry → List Entry → Backend → Backend → Type 0
+NotesAtEntry old new was now = elim was.life [ lives.Unstarted ↦ noted_of now ≡ nothing_noted | life ↦ NotesEntry old new was now ]
+
+-- the same of a step
 abbrev pub NotesAtStep : List Entry → List Entry → Backend → Backend → Type 0
 NotesAtStep old new was now = elim was.life [ lives.Unstarted ↦ noted_of now ≡ nothing_noted | life ↦ NotesStep old new was now ]

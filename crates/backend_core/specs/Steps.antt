@@ -12,6 +12,7 @@ use Rattle.cacheless.specs.Silently.{has_accepted_at}
 use Rattle.cacheless.specs.State.{owed_at, is_quiet, is_absent, is_kept, kept_at, owed_first, unsent_at, is_out, end_at, end_of_running}
 use Rattle.cacheless.specs.Ends.{TakesBack}
 use Rattle.backend_core.specs.Types.{Oid, Mode, Purpose, Command, Scenario, Entry, Event, Next, Frame, Progress, Backend}
+use Rattle.backend_core.specs.declared.life.Life.TheVariants as lives
 use Rattle.backend_core.specs.declared.next.Next.TheVariants as nexts
 use Rattle.backend_core.specs.Agrees.{AgreesNow, Stands}
 use Rattle.backend_core.specs.Coherent.{IsCoherent}
@@ -46,6 +47,11 @@ pub record Enters (scenario : Scenario) (old new : List Entry) (had has : ℕ �
   pub makes : MakesEntry scenario old new had has was.progress.id
   pub id : now.progress.id ≡ was.progress.id
   pub agrees : AgreesNow scenario new now
+
+-- its next entry, after which the backend agrees, before it goes on without entries, or has left
+pub data MakesNext (scenario : Scenario) (old new : List Entry) (had has : ℕ → ℕ) (was now : Backend) : Type 0 where
+  Remains : Enters scenario old new had has was now → MakesNext scenario old new had has was now
+  Left : now.life ≡ lives.Stopped → Steps scenario old new had has was now → MakesNext scenario old new had has was now
 
 -- in a command whose transaction's first look is made, where the last entry asks for nothing
 pub record IsFree (s : Progress) (command : Command) : Type 0 where

@@ -87,14 +87,11 @@ impl Backend {
         ensures noted { OnOk result (NotesAtStep (L.history seg.old) (L.history seg.new) self.old self.new) }
         ensures refused { OnErr result (IsRefused (L.script seg.old) (L.history seg.old) (L.history seg.new) (L.promised seg.old) (L.promised seg.new) self.old.progress.id) }
     {
-        match self.life {
-            Life::Unstarted => {
-                self.join(seg);
-                self.settle(alloc, seg)
-            }
-            Life::Alive => self.go_on(alloc, seg),
-            Life::Stopped => unreachable!(),
+        self.enter_in_turn(alloc, seg)?;
+        if self.is_stopped() {
+            return Ok(());
         }
+        self.settle(alloc)
     }
 
     /// The answer lines of its finished commands, in order.

@@ -8,6 +8,7 @@ use std::alloc::Global;
 impl Backend {
     ghost use Rattle.std.specs.Prelude.{◌≡◌, ◌<◌, OnOk, OnErr};
     ghost use Rattle.backend_core.specs.Agrees.{IsReady};
+    ghost use Rattle.backend_core.specs.declared.life.Life.TheVariants as lives;
     ghost use Rattle.backend_core.specs.declared.next.Next.TheVariants as nexts;
     ghost use Rattle.backend_core.specs.Steps.{IsNextOf, Steps, Enters, IsRefused};
     ghost use Rattle.backend_core.specs.Noted.{IsNoted};
@@ -88,6 +89,7 @@ impl Backend {
         ensures script { L.script seg.new ≡ L.script seg.old }
         ensures steps { Steps (L.script seg.old) (L.history seg.old) (L.history seg.new) (L.promised seg.old) (L.promised seg.new) self.old self.new }
         ensures noted { IsNoted (L.history seg.old) (L.history seg.new) self.old (nexts.Leave) self.new }
+        ensures left { self.new.life ≡ lives.Stopped }
     {
         seg.stop(self.progress.id, self.progress.finished + 1);
         self.progress.enter_stop();

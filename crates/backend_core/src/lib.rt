@@ -44,6 +44,10 @@
 //! }
 //! ```
 //!
+//! Where backends share their segment by turns, a backend looks between two of its own by its word alone, and
+//! hands these looks over in its next turn (`src/turns.rt`, `specs/Apart.antt`). Nothing calls that yet: it
+//! waits for threads.
+//!
 //! Different from the server: a request for a lock never waits, and scans are kept one by one, not a
 //! descriptor as a whole.
 #![tactic(auto)]
@@ -57,16 +61,22 @@ mod frames;
 mod join;
 mod life;
 mod locks;
+mod look_for;
 mod looks;
 mod next;
 mod rebuilds;
 mod scans;
 mod settle;
 mod steps;
+mod turns;
+mod want;
 mod writes;
 
 pub use backend::Backend;
 pub(crate) use frame::Frame;
 pub(crate) use frames::Frames;
 pub use life::Life;
+pub use look_for::LookFor;
 pub(crate) use next::Next;
+pub use turns::HeldLook;
+pub use want::Want;

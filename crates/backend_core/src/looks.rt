@@ -14,8 +14,8 @@ ghost use Rattle.ddl_effect.specs.Stages.{plan_at};
 ghost use Rattle.cacheless.specs.State.{is_absent};
 ghost use Rattle.backend_core.specs.Words.{finds_none as has_found_none, is_unfound, relation_to_open, has_begun, marks_build, told_after, looked_after, has_error, frames_given, frames_reset_of, frames_looked};
 
-use crate::Backend;
 use crate::choice::relation_of;
+use crate::{Backend, LookFor};
 use arrayvec::ArrayVec;
 use base_types::{Fetched, NoMemory, Oid, Purpose};
 use ddl_effect::Want;
@@ -32,34 +32,45 @@ impl Backend {
     ghost use Rattle.backend_core.specs.declared.next.Next.TheVariants as nexts;
     ghost use Rattle.backend_core.specs.Steps.{Enters, IsRefused, IsNextOf};
     ghost use Rattle.backend_core.specs.Noted.{IsNoted};
+    ghost use Rattle.backend_core.specs.Looks.{next_of_look, LooksWherever, NotesLook};
 
-    // The look that is owed: at its transaction's start, or in an acceptance of messages.
-    pub(crate) fn look<L: Seg>(&mut self, seg: &mut L)
+    // A look, made in the segment's history.
+    pub(crate) fn look<L: Seg>(&mut self, seg: &mut L, look: LookFor)
         requires ready { IsReady (L.script seg.old) (L.history seg.old) self.old }
         requires place { 0 < L.promised seg.old self.old.progress.id }
-        requires next { IsNextOf self.old (nexts.Look) }
+        requires next { IsNextOf self.old (next_of_look look) }
         ensures script { L.script seg.new ≡ L.script seg.old }
         ensures enters { Enters (L.script seg.old) (L.history seg.old) (L.history seg.new) (L.promised seg.old) (L.promised seg.new) self.old self.new }
-        ensures noted { IsNoted (L.history seg.old) (L.history seg.new) self.old (nexts.Look) self.new }
+        ensures noted { IsNoted (L.history seg.old) (L.history seg.new) self.old (next_of_look look) self.new }
     {
         let some_wait = seg.waits(self.progress.id);
         seg.looked(self.progress.id, self.progress.finished + 1, some_wait);
-        self.progress.enter_look(some_wait);
+        self.take_look(look, some_wait);
     }
 
-    // The look before a scan, of the rebuild on top or of the next act.
-    pub(crate) fn look_before_scan<L: Seg>(&mut self, seg: &mut L, rebuilds: bool)
-        requires ready { IsReady (L.script seg.old) (L.history seg.old) self.old }
-        requires place { 0 < L.promised seg.old self.old.progress.id }
-        requires next { IsNextOf self.old (nexts.LookBeforeScan rebuilds) }
-        ensures script { L.script seg.new ≡ L.script seg.old }
-        ensures enters { Enters (L.script seg.old) (L.history seg.old) (L.history seg.new) (L.promised seg.old) (L.promised seg.new) self.old self.new }
-        ensures noted { IsNoted (L.history seg.old) (L.history seg.new) self.old (nexts.LookBeforeScan rebuilds) self.new }
+    // What a look makes of it, in whichever history it is made. The look of a lookup that found no relation
+    // comes before it says so (`RangeVarGetRelidExtended` in `src/backend/catalog/namespace.c`, which accepts
+    // messages, and begins again where some came since it began); where it looked already, the lookup begins
+    // again.
+    pub(crate) fn take_look(&mut self, look: LookFor, some_wait: bool)
+        requires few { self.old.progress.finished ≤ 20000 }
+        requires room { HasRoom self.old.progress }
+        requires next { IsNextOf self.old (next_of_look look) }
+        ensures looks { LooksWherever self.old some_wait self.new }
+        ensures noted { NotesLook self.old look some_wait self.new }
+        ensures same { self.new.progress.commands ≡ self.old.progress.commands }
     {
-        let some_wait = seg.waits(self.progress.id);
-        seg.looked(self.progress.id, self.progress.finished + 1, some_wait);
         self.progress.enter_look(some_wait);
-        self.note_look(rebuilds);
+        match look {
+            LookFor::Accept => {}
+            LookFor::Scan { rebuilds } => {
+                self.note_look(rebuilds);
+            }
+            LookFor::Absent => {
+                self.told = still_looked(self.told, self.looked);
+                self.looked = true;
+            }
+        }
     }
 
     // It is made for the rebuild on top, or for the next act.
@@ -71,24 +82,6 @@ impl Backend {
         } else {
             self.looked = true;
         }
-    }
-
-    // The look of a lookup that found no relation, before it says so (`RangeVarGetRelidExtended` in
-    // `src/backend/catalog/namespace.c`, which accepts messages, and begins again where some came since
-    // it began). Where it looked already, the lookup begins again.
-    pub(crate) fn look_before_absent<L: Seg>(&mut self, seg: &mut L)
-        requires ready { IsReady (L.script seg.old) (L.history seg.old) self.old }
-        requires place { 0 < L.promised seg.old self.old.progress.id }
-        requires next { IsNextOf self.old (nexts.LookBeforeAbsent) }
-        ensures script { L.script seg.new ≡ L.script seg.old }
-        ensures enters { Enters (L.script seg.old) (L.history seg.old) (L.history seg.new) (L.promised seg.old) (L.promised seg.new) self.old self.new }
-        ensures noted { IsNoted (L.history seg.old) (L.history seg.new) self.old (nexts.LookBeforeAbsent) self.new }
-    {
-        let some_wait = seg.waits(self.progress.id);
-        seg.looked(self.progress.id, self.progress.finished + 1, some_wait);
-        self.progress.enter_look(some_wait);
-        self.told = still_looked(self.told, self.looked);
-        self.looked = true;
     }
 
     // The fetch of messages that wait. What they cover isn't relied on any more, and after a reset

@@ -1,7 +1,7 @@
 // What a backend does without an entry: acts whose rows are there, the answers of its commands, and the
 // passing from one to the next.
 
-ghost use Rattle.std.specs.Prelude.{◌≡◌, ◌≤◌, ◌<◌, ◌&&◌, List, OnOk, length};
+ghost use Rattle.std.specs.Prelude.{◌≡◌, ◌≤◌, ◌<◌, ◌+◌, ◌&&◌, List, true, OnOk, IfOk, length};
 ghost use Rattle.base_types.specs.Scenario.{Scenario};
 ghost use Rattle.event_kinds.specs.declared.entry.Entry.{Entry};
 ghost use Rattle.cacheless.specs.Silently.{Acts, Answers, Finishes, left_of};
@@ -11,27 +11,42 @@ ghost use Rattle.ddl_effect.specs.Stages.{plan_at};
 use crate::Backend;
 use base_types::NoMemory;
 use cacheless::Silent;
-use ddl_effect::Want;
-use seg_calls::Seg;
 use std::alloc::Global;
 
 impl Backend {
-    ghost use Rattle.backend_core.specs.Agrees.{AgreesNow, GoesOn, AwaitsEntry};
+    ghost use Rattle.backend_core.specs.Agrees.{AgreesNow, GoesOn};
+    ghost use Rattle.backend_core.specs.Halts.{AwaitsCommand};
+    ghost use Rattle.backend_core.specs.Looks.{SettlesWherever, GoesWherever};
     ghost use Rattle.backend_core.specs.Noted.{Settles};
 
-    // Goes on as far as it can without an entry. The segment isn't used: the contract names it.
-    pub(crate) fn settle<L: Seg>(&mut self, alloc: Global, seg: &L) -> Result<(), NoMemory>
-        requires agrees { AgreesNow (L.script seg.now) (L.history seg.now) self.old }
-        ensures waits { OnOk result (AwaitsEntry (L.script seg.now) (L.history seg.now) self.new) }
-        ensures same { OnOk result (self.new.progress.id ≡ self.old.progress.id) }
-        ensures noted { OnOk result (Settles self.old self.new) }
+    // Goes on as far as it can without an entry, in whichever history it agrees.
+    pub(crate) fn settle(&mut self, alloc: Global) -> Result<(), NoMemory>
+        requires few { length self.old.progress.commands ≤ 20000 }
+        ensures { OnOk result (SettlesWherever self.old self.new) }
+    {
+        'settling: loop {
+            if !self.settle_command(alloc)? {
+                return Ok(());
+            }
+        }
+    }
+
+    // The same up to the end of its command: whether it has come to the next one.
+    pub(crate) fn settle_command(&mut self, alloc: Global) -> Result<bool, NoMemory>
+        requires few { length self.old.progress.commands ≤ 20000 }
+        ensures goes { IfOk result (λ over. GoesWherever over self.old self.new) }
+        ensures less { IfOk result (λ over. over ≡ true → left_of self.new.progress < left_of self.old.progress) }
+        ensures same { OnOk result (self.new.progress.commands ≡ self.old.progress.commands) }
     {
         'settling: loop {
             match self.progress.silent() {
                 Silent::Act => self.act(alloc)?,
                 Silent::Answer => self.answer(alloc)?,
-                Silent::Finish => self.pass(alloc)?,
-                Silent::Rest => return Ok(()),
+                Silent::Finish => {
+                    self.pass(alloc)?;
+                    return Ok(true);
+                }
+                Silent::Rest => return Ok(false),
             }
         }
     }
@@ -43,6 +58,8 @@ impl Backend {
         ensures keeps { OnOk result ((scenario : Scenario) (seen : List Entry) → AgreesNow scenario seen self.old → GoesOn scenario seen self.old self.new) }
         ensures less { OnOk result (left_of self.new.progress < left_of self.old.progress) }
         ensures noted { OnOk result ((scenario : Scenario) (seen : List Entry) → AgreesNow scenario seen self.old → Settles self.old self.new) }
+        ensures number { OnOk result ((scenario : Scenario) (seen : List Entry) → AgreesNow scenario seen self.old → self.new.progress.finished ≡ self.old.progress.finished) }
+        ensures same { OnOk result (self.new.progress.commands ≡ self.old.progress.commands) }
     {
         self.progress.act(alloc)?;
         self.told = self.is_told_still();
@@ -62,6 +79,8 @@ impl Backend {
         ensures keeps { OnOk result ((scenario : Scenario) (seen : List Entry) → AgreesNow scenario seen self.old → GoesOn scenario seen self.old self.new) }
         ensures less { OnOk result (left_of self.new.progress < left_of self.old.progress) }
         ensures noted { OnOk result ((scenario : Scenario) (seen : List Entry) → AgreesNow scenario seen self.old → Settles self.old self.new) }
+        ensures number { OnOk result (self.new.progress.finished ≡ self.old.progress.finished) }
+        ensures same { OnOk result (self.new.progress.commands ≡ self.old.progress.commands) }
     {
         self.progress.answer(alloc)
     }
@@ -71,8 +90,11 @@ impl Backend {
         requires few { length self.old.progress.commands ≤ 20000 }
         requires finishes { Finishes self.old.progress }
         ensures keeps { OnOk result ((scenario : Scenario) (seen : List Entry) → AgreesNow scenario seen self.old → GoesOn scenario seen self.old self.new) }
+        ensures command { OnOk result ((scenario : Scenario) (seen : List Entry) → AgreesNow scenario seen self.old → AwaitsCommand scenario seen self.new) }
         ensures less { OnOk result (left_of self.new.progress < left_of self.old.progress) }
         ensures noted { OnOk result ((scenario : Scenario) (seen : List Entry) → AgreesNow scenario seen self.old → Settles self.old self.new) }
+        ensures number { OnOk result ((scenario : Scenario) (seen : List Entry) → AgreesNow scenario seen self.old → self.new.progress.finished ≡ self.old.progress.finished + 1) }
+        ensures same { OnOk result (self.new.progress.commands ≡ self.old.progress.commands) }
     {
         let line = self.progress.finish(alloc)?;
         self.lines.push(line)?;

@@ -1,6 +1,6 @@
-// The step of a backend: one entry, and then what needs none.
+// The entry that a backend makes next.
 
-use crate::{Backend, Next};
+use crate::{Backend, LookFor, Next};
 use base_types::NoMemory;
 use seg_calls::Seg;
 use std::alloc::Global;
@@ -9,16 +9,16 @@ impl Backend {
     ghost use Rattle.std.specs.Prelude.{◌≡◌, ◌≢◌, ◌<◌, OnOk, OnErr};
     ghost use Rattle.backend_core.specs.Agrees.{IsReady};
     ghost use Rattle.backend_core.specs.declared.next.Next.TheVariants as nexts;
-    ghost use Rattle.backend_core.specs.Steps.{Enters, Steps, IsRefused, IsNextOf};
-    ghost use Rattle.backend_core.specs.Noted.{IsNoted, NotesStep};
+    ghost use Rattle.backend_core.specs.Steps.{Enters, MakesNext, IsRefused, IsNextOf};
+    ghost use Rattle.backend_core.specs.Noted.{IsNoted, NotesEntry};
 
-    // Its step, where it has joined and hasn't left.
-    pub(crate) fn go_on<L: Seg>(&mut self, alloc: Global, seg: &mut L) -> Result<(), NoMemory>
+    // Makes its next entry, where it has joined and hasn't left.
+    pub(crate) fn enter_next<L: Seg>(&mut self, alloc: Global, seg: &mut L) -> Result<(), NoMemory>
         requires ready { IsReady (L.script seg.old) (L.history seg.old) self.old }
         requires place { 0 < L.promised seg.old self.old.progress.id }
         ensures script { L.script seg.new ≡ L.script seg.old }
-        ensures steps { OnOk result (Steps (L.script seg.old) (L.history seg.old) (L.history seg.new) (L.promised seg.old) (L.promised seg.new) self.old self.new) }
-        ensures noted { OnOk result (NotesStep (L.history seg.old) (L.history seg.new) self.old self.new) }
+        ensures makes { OnOk result (MakesNext (L.script seg.old) (L.history seg.old) (L.history seg.new) (L.promised seg.old) (L.promised seg.new) self.old self.new) }
+        ensures noted { OnOk result (NotesEntry (L.history seg.old) (L.history seg.new) self.old self.new) }
         ensures refused { OnErr result (IsRefused (L.script seg.old) (L.history seg.old) (L.history seg.new) (L.promised seg.old) (L.promised seg.new) self.old.progress.id) }
     {
         let next = self.next();
@@ -26,8 +26,7 @@ impl Backend {
             self.leave(seg);
             return Ok(());
         }
-        self.enter(alloc, seg, &next)?;
-        self.settle(alloc, seg)
+        self.enter(alloc, seg, &next)
     }
 
     // Makes its next entry, if that isn't its last one.
@@ -42,9 +41,14 @@ impl Backend {
         ensures refused { OnErr result (IsRefused (L.script seg.old) (L.history seg.old) (L.history seg.new) (L.promised seg.old) (L.promised seg.new) self.old.progress.id) }
     {
         match next {
-            Next::Look => self.look(seg),
-            Next::LookBeforeScan { rebuilds } => self.look_before_scan(seg, *rebuilds),
-            Next::LookBeforeAbsent => self.look_before_absent(seg),
+            Next::Look => self.look(seg, LookFor::Accept),
+            Next::LookBeforeScan { rebuilds } => self.look(
+                seg,
+                LookFor::Scan {
+                    rebuilds: *rebuilds,
+                },
+            ),
+            Next::LookBeforeAbsent => self.look(seg, LookFor::Absent),
             Next::Fetch => self.fetch(seg)?,
             Next::Scan { scan, rebuilds } => self.scan(seg, scan, *rebuilds)?,
             Next::Lock { rel, mode } => self.lock(seg, *rel, *mode)?,

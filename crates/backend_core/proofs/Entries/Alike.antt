@@ -1,5 +1,5 @@
 -- A backend whose locks have more room, or whose plan is held in another form, agrees as before.
-use Rattle.std.proofs.Common.{◌≡◌, ◌∙◌, ◌&&◌, ◌||◌, ℕ, Bool, true, false, not, Option, Some, None, List, refl, sym, ap, subst, drop, is_some}
+use Rattle.std.proofs.Common.{◌≡◌, ◌∙◌, ◌&&◌, ◌||◌, ℕ, Bool, true, false, not, Option, Some, None, List, refl, sym, ap, subst, take, drop, is_some}
 use Rattle.std.proofs.Math.Bool.{and-false}
 use Rattle.lock_modes.specs.Rooms.{Roomy}
 use Rattle.ddl_effect.specs.Commands.{writing}
@@ -61,6 +61,7 @@ module _ (scenario : Scenario) (seen : List Entry) (s : Backend) (exec : Exec) (
     lines = waits.lines;
     tells = record { answer = waits.tells.answer; out = λ some. ap (λ p. is_settled (outcome_of p)) plan ∙ waits.tells.out some };
     answered = answered;
+    before = λ part m number less is. waits.before part m number less is ∙ ap (λ x. Some (settled (facts_of seen s.progress.id) (drop s.progress.finished (take m s.progress.commands)) x)) (sym (session_same waits.rests.holds.rest));
   }
 
 -- there is room for one more lock

@@ -5,7 +5,7 @@ use Rattle.event_kinds.specs.declared.entry.Event.TheVariants as events
 use Rattle.txn_blocks.specs.Blocks.{no_block}
 use Rattle.inval_messages.specs.Lists.{has_write_from}
 use Rattle.std.specs.Option.{option_map_or}
-use Rattle.history_model.specs.Legal.{FollowsVisible, FollowsGone}
+use Rattle.history_model.specs.Legal.{MayFollow, FollowsVisible, FollowsGone}
 use Rattle.history_model.specs.Lives.{FollowsLife, life_of}
 use Rattle.history_model.specs.Transactions.{Running, is_visible}
 use Rattle.history_model.specs.Writes.{is_empty}
@@ -25,7 +25,9 @@ use Rattle.backend_core.specs.Types.{Command, Scenario, Entry, Progress, Backend
 use Rattle.backend_core.specs.declared.life.Life.TheVariants as lives
 use Rattle.backend_core.specs.Agrees.{IsPlayed, AgreesNow, HasNotJoined}
 use Rattle.backend_core.specs.Fits.{looks_due, IsPast, Fits}
-use Rattle.backend_core.specs.Steps.{MakesEntry, Enters}
+use Rattle.backend_core.specs.Halts.{AwaitsCommand, begins_at}
+use Rattle.backend_core.specs.Steps.{Enters}
+use Rattle.backend_core.proofs.Cutting.Before.{before_start, ends_start}
 use Rattle.backend_core.proofs.Own.{no_entry, appended_makes}
 use Rattle.backend_core.proofs.Fitting.Rebuilding.{bare_fits}
 
@@ -71,29 +73,26 @@ fits_first facts o at runs lists last = record {
     none = ap (λ r. option_map_or (λ (t : Running). elim (t.first == 1) as (λ x. ℕ) [ true ↦ 1 | false ↦ 0 ]) r 0) runs
 
 -- the state after it
-pub join_enters : (scenario : Scenario) (old new : List Entry) (had has : ℕ → ℕ) (was : Backend) (p : Progress) → HasNotJoined scenario old was → IsPlayed scenario old → HasStarted scenario old was.progress p → kept_at p ≡ kept_at was.progress → p.answer ≡ was.progress.answer
-    → Appends old new had has (entry_of was.progress.id 0 events.Start) → Enters scenario old new had has was (record was { progress = p; life = lives.Alive })
+join_agrees : (scenario : Scenario) (old : List Entry) (was : Backend) (p : Progress) → HasNotJoined scenario old was → IsPlayed scenario old → MayFollow old (entry_of was.progress.id 0 events.Start) → HasStarted scenario old was.progress p → kept_at p ≡ kept_at was.progress → p.answer ≡ was.progress.answer
+    → AgreesNow scenario (old ++ entry_of was.progress.id 0 events.Start ∷ []) (record was { progress = p; life = lives.Alive })
 unfolding start_answers
-join_enters scenario old new had has was p before played started kept same appends = record {
-  makes = makes;
-  id = started.moves.id;
-  agrees = subst (λ h. AgreesNow scenario h now) (sym appends.entries) (record {
-    keeps = record {
-      alive = refl;
-      life = record { last = 0; alive = ap (life_of (old ++ e ∷ [])) started.moves.id ∙ life_of-own old e b own; most = omega arith };
-      places = answers.places;
-    };
-    holds = started.holds;
-    fits = subst (λ f. Fits f (slice_get p.commands p.finished) (session_at p started.holds.rest) was.looked was.frames was.told) (sym facts_are)
-        (subst (λ x. Fits facts (slice_get p.commands p.finished) x was.looked was.frames was.told) (sym started.session)
-        (subst (λ o. Fits facts o (at_command no_block none_open [] [] (length old + 1) (slice_get was.progress.commands 0)) was.looked was.frames was.told) (sym first_command)
-        (subst (λ t. Fits facts (slice_get was.progress.commands 0) (at_command no_block none_open [] [] (length old + 1) (slice_get was.progress.commands 0)) was.looked was.frames t) (sym before.new.told)
-        (subst (λ t. Fits facts (slice_get was.progress.commands 0) (at_command no_block none_open [] [] (length old + 1) (slice_get was.progress.commands 0)) was.looked t false) (sym before.new.frames)
-        (subst (λ t. Fits facts (slice_get was.progress.commands 0) (at_command no_block none_open [] [] (length old + 1) (slice_get was.progress.commands 0)) t [] false) (sym before.new.looked)
-        (fits_first facts (slice_get was.progress.commands 0) (length old + 1) refl (ap (λ f. f.lists) before.facts) refl))))));
-    tells = answers.tells;
-    lines = before.new.lines ∙ answers.lines_are;
-  });
+join_agrees scenario old was p before played follows started kept same = record {
+  keeps = record {
+    alive = refl;
+    life = record { last = 0; alive = ap (life_of (old ++ e ∷ [])) started.moves.id ∙ life_of-own old e b own; most = omega arith };
+    places = answers.places;
+  };
+  holds = started.holds;
+  fits = subst (λ f. Fits f (slice_get p.commands p.finished) (session_at p started.holds.rest) was.looked was.frames was.told) (sym facts_are)
+      (subst (λ x. Fits facts (slice_get p.commands p.finished) x was.looked was.frames was.told) (sym started.session)
+      (subst (λ o. Fits facts o (at_command no_block none_open [] [] (length old + 1) (slice_get was.progress.commands 0)) was.looked was.frames was.told) (sym first_command)
+      (subst (λ t. Fits facts (slice_get was.progress.commands 0) (at_command no_block none_open [] [] (length old + 1) (slice_get was.progress.commands 0)) was.looked was.frames t) (sym before.new.told)
+      (subst (λ t. Fits facts (slice_get was.progress.commands 0) (at_command no_block none_open [] [] (length old + 1) (slice_get was.progress.commands 0)) was.looked t false) (sym before.new.frames)
+      (subst (λ t. Fits facts (slice_get was.progress.commands 0) (at_command no_block none_open [] [] (length old + 1) (slice_get was.progress.commands 0)) t [] false) (sym before.new.looked)
+      (fits_first facts (slice_get was.progress.commands 0) (length old + 1) refl (ap (λ f. f.lists) before.facts) refl))))));
+  tells = answers.tells;
+  lines = before.new.lines ∙ answers.lines_are;
+  before = before_start scenario old was.progress p started before.new.progress.finished;
 }
   where
     b : ℕ
@@ -101,9 +100,6 @@ join_enters scenario old new had has was p before played started kept same appen
 
     e : Entry
     e = entry_of was.progress.id 0 events.Start
-
-    now : Backend
-    now = record was { progress = p; life = lives.Alive }
 
     own : (e.backend == b) ≡ true
     own = eq-eqb b b refl
@@ -118,7 +114,53 @@ join_enters scenario old new had has was p before played started kept same appen
     first_command = ap (λ l. slice_get l p.finished) started.moves.commands ∙ ap (slice_get was.progress.commands) (started.moves.finished ∙ before.new.progress.finished)
 
     answers : AnswersNow scenario (old ++ e ∷ []) p []
-    answers = start_answers scenario old was.progress p (no_entry before) played.spelled (sound_is_legal old played.sound) played.plays appends.comes.follows started kept same
+    answers = start_answers scenario old was.progress p (no_entry before) played.spelled (sound_is_legal old played.sound) played.plays follows started kept same
 
-    makes : MakesEntry scenario old new had has b
-    makes = appended_makes scenario old new had has e (before.waits.number, subst (λ o. MayPlayAt scenario old b o 0 events.Start) (sym before.session) tt) (record { needed = tt; truly = tt; columns = tt; indexes = tt; names = tt; queue = tt }) appends
+pub join_enters : (scenario : Scenario) (old new : List Entry) (had has : ℕ → ℕ) (was : Backend) (p : Progress) → HasNotJoined scenario old was → IsPlayed scenario old → HasStarted scenario old was.progress p → kept_at p ≡ kept_at was.progress → p.answer ≡ was.progress.answer
+    → Appends old new had has (entry_of was.progress.id 0 events.Start) → Enters scenario old new had has was (record was { progress = p; life = lives.Alive })
+join_enters scenario old new had has was p before played started kept same appends = record {
+  makes = appended_makes scenario old new had has (entry_of was.progress.id 0 events.Start) (before.waits.number, subst (λ o. MayPlayAt scenario old was.progress.id o 0 events.Start) (sym before.session) tt) (record { needed = tt; truly = tt; columns = tt; indexes = tt; names = tt; queue = tt }) appends;
+  id = started.moves.id;
+  agrees = subst (λ h. AgreesNow scenario h (record was { progress = p; life = lives.Alive })) (sym appends.entries) (join_agrees scenario old was p before played appends.comes.follows started kept same);
+}
+
+-- then it is at the beginning of a command
+start_awaits : (scenario : Scenario) (old : List Entry) (was : Backend) (p : Progress) → HasNotJoined scenario old was → IsPlayed scenario old → MayFollow old (entry_of was.progress.id 0 events.Start) → HasStarted scenario old was.progress p → kept_at p ≡ kept_at was.progress → p.answer ≡ was.progress.answer
+    → AwaitsCommand scenario (old ++ entry_of was.progress.id 0 events.Start ∷ []) (record was { progress = p; life = lives.Alive })
+unfolding join_agrees
+start_awaits scenario old was p before played follows started kept same = record {
+  agrees = join_agrees scenario old was p before played follows started kept same;
+  begins = started.session ∙ at_first (slice_get was.progress.commands 0) ∙ ap (begins_at p started.holds.rest) (sym first_command);
+  ends = λ part number is. ends_start scenario old was.progress p started before.new.progress.finished part is;
+  fits = subst (λ f. Fits f None (begins_at p started.holds.rest None) false [] false) (sym facts_are)
+      (subst (λ x. Fits facts None x false [] false) (at_first None) (fits_first facts None (length old + 1) refl (ap (λ f. f.lists) before.facts) refl));
+  last = 0;
+  alive = ap (life_of (old ++ e ∷ [])) started.moves.id ∙ life_of-own old e b own;
+  before = omega arith;
+}
+  where
+    b : ℕ
+    b = was.progress.id
+
+    e : Entry
+    e = entry_of was.progress.id 0 events.Start
+
+    own : (e.backend == b) ≡ true
+    own = eq-eqb b b refl
+
+    facts : Facts
+    facts = facts_by old b 0 events.Start (facts_of old b)
+
+    facts_are : facts_of (old ++ e ∷ []) p.id ≡ facts
+    facts_are = ap (facts_of (old ++ e ∷ [])) started.moves.id ∙ facts_of-own old e b own
+
+    first_command : slice_get p.commands p.finished ≡ slice_get was.progress.commands 0
+    first_command = ap (λ l. slice_get l p.finished) started.moves.commands ∙ ap (slice_get was.progress.commands) (started.moves.finished ∙ before.new.progress.finished)
+
+    at_first : (o : Option Command) → at_command no_block none_open [] [] (length old + 1) o ≡ begins_at p started.holds.rest o
+    at_first o = ap (λ s. at_command s.blocks s.opens s.finished s.locks s.last o) (sym started.session)
+
+pub join_awaits : (scenario : Scenario) (old new : List Entry) (had has : ℕ → ℕ) (was : Backend) (p : Progress) → HasNotJoined scenario old was → IsPlayed scenario old → HasStarted scenario old was.progress p → kept_at p ≡ kept_at was.progress → p.answer ≡ was.progress.answer
+    → Appends old new had has (entry_of was.progress.id 0 events.Start) → AwaitsCommand scenario new (record was { progress = p; life = lives.Alive })
+join_awaits scenario old new had has was p before played started kept same appends =
+    subst (λ h. AwaitsCommand scenario h (record was { progress = p; life = lives.Alive })) (sym appends.entries) (start_awaits scenario old was p before played appends.comes.follows started kept same)

@@ -6,13 +6,12 @@ use Rattle.std.proofs.Math.Bool.{and-false, or-false, or-true}
 use Rattle.event_kinds.specs.declared.entry.Event.TheVariants as events
 use Rattle.txn_blocks.specs.Blocks.{Block, Outside, Inside, Failed, no_block, ends_block, refused_by}
 use Rattle.history_model.specs.Drawn.{next_oid}
-use Rattle.history_model.specs.Legal.{AllowsEvent}
+use Rattle.history_model.specs.Legal.{IsLegal, MayFollow, AllowsLook}
 use Rattle.history_model.specs.Log.{is_waiting}
 use Rattle.history_model.specs.Transactions.{Running, begun, is_visible}
 use Rattle.history_model.specs.Writes.{is_empty}
-use Rattle.history_model.proofs.Sound.{sound_is_legal}
 use Rattle.history_model.proofs.Waiting.{not_waited}
-use Rattle.seg_calls.specs.Calls.{entry_of, took_back, MayCall, Appends}
+use Rattle.seg_calls.specs.Calls.{took_back, MayCall, Appends}
 use Rattle.cacheless.specs.declared.progress.Due.TheVariants as dues
 use Rattle.cacheless.specs.Facts.{Facts, facts_of, facts_by}
 use Rattle.cacheless.specs.Holds.{HasEntered, with_own}
@@ -26,15 +25,18 @@ use Rattle.cacheless.specs.Session.{Session, number_of, is_settled, outcome_of, 
 use Rattle.cacheless.specs.Sessions.{entered}
 use Rattle.cacheless.specs.State.{kept_at, owed_at, owed_first, one_if, running_of, is_kept, is_absent}
 use Rattle.backend_core.specs.Types.{Command, Scenario, Entry, Event, Progress, Backend, Frame, Purpose, Opening}
-use Rattle.backend_core.specs.Agrees.{IsPlayed, command_at, AwaitsEntry}
+use Rattle.backend_core.specs.Agrees.{IsPlayed, command_at, AgreesNow, AwaitsEntry, IsReady}
 use Rattle.backend_core.specs.Fits.{looks_due, LooksFit, Fits, IsLookedFor, Lacks, Unfound, Said, FramesFit, IsTakenBack, IsUnheld, looked_in, looked_on_top, told_owed, lacks_scan, is_lost}
-use Rattle.backend_core.specs.Steps.{OwesLookNow, IsLookNext, Enters, IsScanNext, FindsNone, Looks, Says, IsAcceptNext, IsInTurn}
+use Rattle.backend_core.specs.Looks.{next_of_look, look_of, LooksWell}
+use Rattle.backend_core.specs.declared.look_for.LookFor.{LookFor}
+use Rattle.backend_core.specs.declared.look_for.LookFor.TheVariants as looks
+use Rattle.backend_core.specs.Steps.{OwesLookNow, IsLookNext, Enters, IsScanNext, FindsNone, Looks, Says, IsAcceptNext, IsInTurn, IsNextOf}
 use Rattle.backend_core.specs.Words.{has_error, is_looked_for, is_unfound, scan_on_top, frames_looked}
 use Rattle.backend_core.proofs.Choosing.ActsRun.{scan_runs, find_runs}
 use Rattle.backend_core.proofs.Choosing.Chosen.{Busy, Due, Begins, Scans, StartsNow, starts_now, may_call, hidden, started_most, started_by, started_now, started_still, look_may, Acts, Sought, standing}
 use Rattle.backend_core.proofs.Fitting.Entered.{fits_at}
 use Rattle.backend_core.proofs.Fitting.FitsEntries.{RunsHere, Goes, Starts, fits_inside}
-use Rattle.backend_core.proofs.Own.{waiting, over, unlost, own_enters}
+use Rattle.backend_core.proofs.Own.{waiting, over, unlost, plays_next, own_agrees, next_makes}
 use Rattle.backend_core.proofs.Fitting.Sought.{takes_cleared, unfound_facts, sought_looked, sought_rebuilt, next_act, well_most, unheld_lacking}
 use Rattle.ddl_effect.specs.Stages.{plan_at}
 use Rattle.ddl_effect.specs.Plans.{Plan, left_rests_on, told_rests_on, Done, Do, Absent, Open, Lookup, Search, Read, Lock, Write}
@@ -55,13 +57,10 @@ look_busy last p next = by_side next.owes
     by_side (inl due) = Due (ap (λ d. is_empty (owed_at d)) due)
     by_side (inr (due, owes)) = Begins owes
 
-look_allowed : (scenario : Scenario) (seen : List Entry) (b c : ℕ) (some_wait : Bool) → IsPlayed scenario seen → is_waiting seen b ≡ some_wait → AllowsEvent seen b c (events.Look some_wait)
-look_allowed scenario seen b c true played is = is
-look_allowed scenario seen b c false played is = not_waited seen b (sound_is_legal seen played.sound) is
-
--- the look that is owed may be called for
-pub look_call : (scenario : Scenario) (seen : List Entry) (s : Backend) (some_wait : Bool) → AwaitsEntry scenario seen s → IsPlayed scenario seen → OwesLookNow s.progress → some_wait ≡ is_waiting seen s.progress.id → MayCall scenario seen (entry_of s.progress.id (s.progress.finished + 1) (events.Look some_wait))
-look_call scenario seen s some_wait waits played next is = may_call scenario seen s waits next.command next.at (events.Look some_wait) (look_busy (facts_of seen s.progress.id).last s.progress next) refl (look_allowed scenario seen s.progress.id (s.progress.finished + 1) some_wait played (sym is))
+-- a look that says what is so is allowed
+pub look_allowed : (seen : List Entry) (b : ℕ) (some_wait : Bool) → IsLegal seen → is_waiting seen b ≡ some_wait → AllowsLook seen b some_wait
+look_allowed seen b true legal is = is
+look_allowed seen b false legal is = not_waited seen b legal is
 
 look_true : (seen : List Entry) (b : ℕ) (some_wait : Bool) → is_waiting seen b ≡ some_wait → LooksTruly seen b (events.Look some_wait)
 look_true seen b true is = tt
@@ -198,22 +197,27 @@ module _ (scenario : Scenario) (old : List Entry) (was : Backend) (waits : Await
         (record { blocks = refl; opens = refl; held = inl refl; finished = refl; blocked = refl; ended = refl; left = λ is there. refl }) counts.goes hides (over scenario old was waits courses command at) looks_more rebuilds sought (takes_cleared _ (number_of s) s.locks s.taken s.left waits.fits.takes)))
 
     -- so after it the backend agrees
-    pub look_agrees : (new : List Entry) (had has : ℕ → ℕ) (p : Progress) → IsPlayed scenario old → some_wait ≡ is_waiting old was.progress.id → Busy (facts_of old was.progress.id).last was.progress command → FramesFit facts (command_at was) s frames → MadeFor → HasEntered scenario old was.progress event waits.rests p → kept_at p ≡ kept_at was.progress → p.answer ≡ None
-        → Appends old new had has (entry_of was.progress.id (was.progress.finished + 1) event) → Enters scenario old new had has was (record was { progress = p; looked = looked; frames = frames; told = told })
-    look_agrees new had has p played is busy rebuilds sought goes kept none appends =
-        own_enters scenario old new had has was (record was { progress = p; looked = looked; frames = frames; told = told }) event waits played courses
-        (record { plays = subst (λ o. MayPlayIn (next_oid old) facts o s event) (sym at) (look_may facts s counts.owes within); truly = look_true old was.progress.id some_wait (sym is); queue = tt })
-        goes kept
-        (fits_at scenario old was event waits p goes looked frames told (look_fits (hidden scenario old was waits command at busy) (look_rebuilds busy rebuilds) sought))
-        refl refl refl (λ stop. cc stop) none appends
+    pub look_agrees : (p : Progress) → IsPlayed scenario old → MayFollow old (look_of was some_wait) → Busy (facts_of old was.progress.id).last was.progress command → FramesFit facts (command_at was) s frames → MadeFor → HasEntered scenario old was.progress event waits.rests p → kept_at p ≡ kept_at was.progress → p.answer ≡ None
+        → LooksWell scenario old was some_wait (record was { progress = p; looked = looked; frames = frames; told = told })
+    look_agrees p played follows busy rebuilds sought goes kept none = record {
+      next = plays_next scenario old was event waits plays;
+      agrees = own_agrees scenario old was (record was { progress = p; looked = looked; frames = frames; told = told }) event waits played courses plays follows goes kept
+          (fits_at scenario old was event waits p goes looked frames told (look_fits (hidden scenario old was waits command at busy) (look_rebuilds busy rebuilds) sought))
+          refl refl refl (λ stop. cc stop) none;
+      id = goes.moves.id;
+      number = goes.moves.finished;
+    }
+      where
+        plays : MayPlayIn (next_oid old) facts (command_at was) s event
+        plays = subst (λ o. MayPlayIn (next_oid old) facts o s event) (sym at) (look_may facts s counts.owes within)
 
 -- the look that is owed
-pub look_enters : (scenario : Scenario) (old new : List Entry) (had has : ℕ → ℕ) (was : Backend) (p : Progress) (some_wait : Bool) (waits : AwaitsEntry scenario old was) → IsPlayed scenario old → AllOnCourse scenario old → OwesLookNow was.progress → some_wait ≡ is_waiting old was.progress.id
+pub look_well : (scenario : Scenario) (old : List Entry) (was : Backend) (p : Progress) (some_wait : Bool) (waits : AwaitsEntry scenario old was) → IsPlayed scenario old → AllOnCourse scenario old → OwesLookNow was.progress → MayFollow old (look_of was some_wait)
     → HasEntered scenario old was.progress (events.Look some_wait) waits.rests p → kept_at p ≡ kept_at was.progress → p.answer ≡ None
-    → Appends old new had has (entry_of was.progress.id (was.progress.finished + 1) (events.Look some_wait)) → Enters scenario old new had has was (record was { progress = p })
-look_enters scenario old new had has was p some_wait waits played courses next is goes kept none appends =
-    look_agrees scenario old was waits courses next.command next.at some_wait was.looked was.frames was.told (by_side next.owes) new had has p played is (look_busy facts.last was.progress next) waits.fits.rebuilds
-    (λ made. (sought_looked facts (looked_facts facts (waiting waits) some_wait) was.frames (waiting waits).taken (waiting waits).left refl refl refl (waits.fits.sought made), waits.fits.unheld made)) goes kept none appends
+    → LooksWell scenario old was some_wait (record was { progress = p })
+look_well scenario old was p some_wait waits played courses next follows goes kept none =
+    look_agrees scenario old was waits courses next.command next.at some_wait was.looked was.frames was.told (by_side next.owes) p played follows (look_busy facts.last was.progress next) waits.fits.rebuilds
+    (λ made. (sought_looked facts (looked_facts facts (waiting waits) some_wait) was.frames (waiting waits).taken (waiting waits).left refl refl refl (waits.fits.sought made), waits.fits.unheld made)) goes kept none
   where
     facts : Facts
     facts = facts_of old was.progress.id
@@ -252,11 +256,6 @@ scan_stands scenario seen s scan rebuilds waits next = by_last (facts_of seen s.
 
 pub scan_busy : (scenario : Scenario) (seen : List Entry) (s : Backend) (scan : Purpose) (rebuilds : Bool) (waits : AwaitsEntry scenario seen s) (next : IsScanNext s scan rebuilds) → Busy (facts_of seen s.progress.id).last s.progress next.command
 scan_busy scenario seen s scan rebuilds waits next = Scans next.lacks (scan_stands scenario seen s scan rebuilds waits next)
-
--- the look before a scan
-pub look_before_call : (scenario : Scenario) (seen : List Entry) (s : Backend) (some_wait builds : Bool) → AwaitsEntry scenario seen s → IsPlayed scenario seen → IsLookNext builds s → some_wait ≡ is_waiting seen s.progress.id → MayCall scenario seen (entry_of s.progress.id (s.progress.finished + 1) (events.Look some_wait))
-look_before_call scenario seen s some_wait builds waits played next is = may_call scenario seen s waits next.next.command next.next.free.at (events.Look some_wait) (scan_busy scenario seen s next.scan builds waits next.next) refl
-    (look_allowed scenario seen s.progress.id (s.progress.finished + 1) some_wait played (sym is))
 
 -- the scan is that of the rebuild on top
 pub record IsOnTop (s : Backend) (scan : Purpose) : Type 0 where
@@ -297,10 +296,11 @@ opens_unheld scenario seen s waits courses command at busy bare lacking = by_pla
     by_plan (Do (Write draft) rest) is lacks_it = tt
     by_plan p is lacks_it = tt
 
-pub look_before_enters : (scenario : Scenario) (old new : List Entry) (had has : ℕ → ℕ) (was : Backend) (p : Progress) (some_wait rebuilds : Bool) (waits : AwaitsEntry scenario old was) → IsPlayed scenario old → AllOnCourse scenario old → IsLookNext rebuilds was → some_wait ≡ is_waiting old was.progress.id
+-- the look before a scan
+pub look_before_well : (scenario : Scenario) (old : List Entry) (was : Backend) (p : Progress) (some_wait rebuilds : Bool) (waits : AwaitsEntry scenario old was) → IsPlayed scenario old → AllOnCourse scenario old → IsLookNext rebuilds was → MayFollow old (look_of was some_wait)
     → HasEntered scenario old was.progress (events.Look some_wait) waits.rests p → kept_at p ≡ kept_at was.progress → p.answer ≡ None
-    → Appends old new had has (entry_of was.progress.id (was.progress.finished + 1) (events.Look some_wait)) → Enters scenario old new had has was (record was { progress = p; looked = was.looked || not rebuilds; frames = frames_looked rebuilds was.frames })
-look_before_enters scenario old new had has was p some_wait rebuilds waits played courses next is goes kept none appends = by_kind rebuilds next.next next.unlooked
+    → LooksWell scenario old was some_wait (record was { progress = p; looked = was.looked || not rebuilds; frames = frames_looked rebuilds was.frames })
+look_before_well scenario old was p some_wait rebuilds waits played courses next follows goes kept none = by_kind rebuilds next.next next.unlooked
   where
     facts : Facts
     facts = facts_of old was.progress.id
@@ -318,29 +318,29 @@ look_before_enters scenario old new had has was p some_wait rebuilds waits playe
     stays : IsScanNext was next.scan true → (was.looked || false) ≡ true → IsLookedFor later (on_top with_look was.frames) (waiting waits).taken (waiting waits).left × IsUnheld (waiting waits).opened (waiting waits).left
     stays scan made = let before = sym (or-false was.looked) ∙ made in (sought_rebuilt facts later was.frames (on_top with_look was.frames) (waiting waits).taken (waiting waits).left refl (on_some was next.scan (on_top_of was next.scan scan.turn)) (waits.fits.sought before), waits.fits.unheld before)
 
-    of_rebuild : IsScanNext was next.scan true → is_looked_for true was ≡ false → Enters scenario old new had has was (record was { progress = p; looked = was.looked || false; frames = on_top with_look was.frames })
+    of_rebuild : IsScanNext was next.scan true → is_looked_for true was ≡ false → LooksWell scenario old was some_wait (record was { progress = p; looked = was.looked || false; frames = on_top with_look was.frames })
     of_rebuild scan unlooked = look_agrees scenario old was waits courses next.next.command next.next.free.at some_wait (was.looked || false) (on_top with_look was.frames) was.told
         (subst (λ l. LookCounts facts (waiting waits) next.next.command was.looked was.frames was.told l (on_top with_look was.frames) was.told) (sym (or-false was.looked))
         (subst (λ l. LookCounts facts (waiting waits) next.next.command was.looked l was.told was.looked (on_top with_look l) was.told) (sym on.parts.is)
         (subst (λ l. LookCounts facts (waiting waits) next.next.command was.looked (on.parts.under ++ on.parts.one ∷ []) was.told was.looked l was.told) (sym (on_top_push with_look on.parts.under on.parts.one))
         (counts_rebuild facts (waiting waits) next.next.command was.looked was.told on.parts.under on.parts.one owed runs (sym on.looked ∙ unlooked)))))
-        new had has p played is (scan_busy scenario old was next.scan rebuilds waits next.next) (look_fit facts (command_at was) (waiting waits) was.frames waits.fits.rebuilds) (stays scan) goes kept none appends
+        p played follows (scan_busy scenario old was next.scan rebuilds waits next.next) (look_fit facts (command_at was) (waiting waits) was.frames waits.fits.rebuilds) (stays scan) goes kept none
       where
         on : IsOnTop was next.scan
         on = on_top_of was next.scan scan.turn
 
-    of_act : IsScanNext was next.scan false → was.looked ≡ false → Enters scenario old new had has was (record was { progress = p; looked = was.looked || true; frames = was.frames })
+    of_act : IsScanNext was next.scan false → was.looked ≡ false → LooksWell scenario old was some_wait (record was { progress = p; looked = was.looked || true; frames = was.frames })
     of_act scan unlooked = look_agrees scenario old was waits courses next.next.command next.next.free.at some_wait (was.looked || true) was.frames was.told
         (subst (λ l. LookCounts facts (waiting waits) next.next.command was.looked was.frames was.told l was.frames was.told) (sym (or-true was.looked))
         (subst (λ l. LookCounts facts (waiting waits) next.next.command was.looked l was.told true l was.told) (sym scan.turn.0)
         (counts_act facts (waiting waits) next.next.command was.looked was.told owed runs unlooked)))
-        new had has p played is (scan_busy scenario old was next.scan rebuilds waits next.next) waits.fits.rebuilds
-        (λ made. (Lacks lacking, opens_unheld scenario old was waits courses next.next.command next.next.free.at (scan_busy scenario old was next.scan rebuilds waits next.next) scan.turn.0 lacking)) goes kept none appends
+        p played follows (scan_busy scenario old was next.scan rebuilds waits next.next) waits.fits.rebuilds
+        (λ made. (Lacks lacking, opens_unheld scenario old was waits courses next.next.command next.next.free.at (scan_busy scenario old was next.scan rebuilds waits next.next) scan.turn.0 lacking)) goes kept none
       where
         lacking : lacks_scan facts (plan_at was.progress.opens was.progress.exec) ≡ true
         lacking = next_act facts was.progress next.scan waits.rests.holds.facts (plan_at was.progress.opens was.progress.exec) scan.turn.1
 
-    by_kind : (t : Bool) → IsScanNext was next.scan t → is_looked_for t was ≡ false → Enters scenario old new had has was (record was { progress = p; looked = was.looked || not t; frames = frames_looked t was.frames })
+    by_kind : (t : Bool) → IsScanNext was next.scan t → is_looked_for t was ≡ false → LooksWell scenario old was some_wait (record was { progress = p; looked = was.looked || not t; frames = frames_looked t was.frames })
     by_kind true scan unlooked = of_rebuild scan unlooked
     by_kind false scan unlooked = of_act scan unlooked
 
@@ -354,19 +354,15 @@ find_busy last p command (Looks unfound owes) = Acts (by_plan (plan_at p.opens p
 find_busy last p command (Says absent quiet) = Sought absent quiet
 
 -- the look of a lookup that has found no relation
-pub accept_call : (scenario : Scenario) (seen : List Entry) (s : Backend) (some_wait : Bool) → AwaitsEntry scenario seen s → IsPlayed scenario seen → IsAcceptNext s → some_wait ≡ is_waiting seen s.progress.id → MayCall scenario seen (entry_of s.progress.id (s.progress.finished + 1) (events.Look some_wait))
-accept_call scenario seen s some_wait waits played next is = may_call scenario seen s waits next.command next.free.at (events.Look some_wait) (find_busy (facts_of seen s.progress.id).last s.progress next.command next.finds) refl
-    (look_allowed scenario seen s.progress.id (s.progress.finished + 1) some_wait played (sym is))
-
-pub accept_enters : (scenario : Scenario) (old new : List Entry) (had has : ℕ → ℕ) (was : Backend) (p : Progress) (some_wait told : Bool) (waits : AwaitsEntry scenario old was) → IsPlayed scenario old → AllOnCourse scenario old → IsAcceptNext was → some_wait ≡ is_waiting old was.progress.id → told ≡ (was.told && not was.looked)
+pub accept_well : (scenario : Scenario) (old : List Entry) (was : Backend) (p : Progress) (some_wait told : Bool) (waits : AwaitsEntry scenario old was) → IsPlayed scenario old → AllOnCourse scenario old → IsAcceptNext was → MayFollow old (look_of was some_wait) → told ≡ (was.told && not was.looked)
     → HasEntered scenario old was.progress (events.Look some_wait) waits.rests p → kept_at p ≡ kept_at was.progress → p.answer ≡ None
-    → Appends old new had has (entry_of was.progress.id (was.progress.finished + 1) (events.Look some_wait)) → Enters scenario old new had has was (record was { progress = p; looked = true; told = told })
-accept_enters scenario old new had has was p some_wait told waits played courses next is told_is goes kept none appends =
+    → LooksWell scenario old was some_wait (record was { progress = p; looked = true; told = told })
+accept_well scenario old was p some_wait told waits played courses next follows told_is goes kept none =
     look_agrees scenario old was waits courses next.command next.free.at some_wait true was.frames told
     (subst (LookCounts facts (waiting waits) next.command was.looked was.frames was.told true was.frames) (sym told_is)
     (subst (λ l. LookCounts facts (waiting waits) next.command was.looked l was.told true l (was.told && not was.looked)) (sym (bare next.finds))
     (counts_accept facts (waiting waits) next.command was.looked was.told (waits.rests.holds.facts.owed ∙ next.free.due) runs next.unlooked)))
-    new had has p played is (find_busy (facts_of old was.progress.id).last was.progress next.command next.finds) waits.fits.rebuilds (λ made. by_side next.finds) goes kept none appends
+    p played follows (find_busy (facts_of old was.progress.id).last was.progress next.command next.finds) waits.fits.rebuilds (λ made. by_side next.finds) goes kept none
   where
     facts : Facts
     facts = facts_of old was.progress.id
@@ -404,3 +400,17 @@ accept_enters scenario old new had has was p some_wait told waits played courses
 
     runs : is_some facts.running ≡ true
     runs = find_runs scenario old was waits courses next.command next.free.at next.free.first next.finds
+
+-- a look that comes next may be called for, where the history allows it
+pub looks_call : (scenario : Scenario) (seen : List Entry) (s : Backend) (look : LookFor) (some_wait : Bool) → AwaitsEntry scenario seen s → IsNextOf s (next_of_look look) → AllowsLook seen s.progress.id some_wait → MayCall scenario seen (look_of s some_wait)
+looks_call scenario seen s looks.Accept some_wait waits next allows = may_call scenario seen s waits next.command next.at (events.Look some_wait) (look_busy (facts_of seen s.progress.id).last s.progress next) refl allows
+looks_call scenario seen s (looks.Scan rebuilds) some_wait waits next allows = may_call scenario seen s waits next.next.command next.next.free.at (events.Look some_wait) (scan_busy scenario seen s next.scan rebuilds waits next.next) refl allows
+looks_call scenario seen s looks.Absent some_wait waits next allows = may_call scenario seen s waits next.command next.free.at (events.Look some_wait) (find_busy (facts_of seen s.progress.id).last s.progress next.command next.finds) refl allows
+
+-- where a segment has made it, it is an entry of the backend
+pub looks_enter : (scenario : Scenario) (old new : List Entry) (had has : ℕ → ℕ) (was now : Backend) (some_wait : Bool) → IsReady scenario old was → some_wait ≡ is_waiting old was.progress.id → LooksWell scenario old was some_wait now → Appends old new had has (look_of was some_wait) → Enters scenario old new had has was now
+looks_enter scenario old new had has was now some_wait ready is well appends = record {
+  makes = next_makes scenario old new had has was (events.Look some_wait) ready.played ready.course well.next (look_true old was.progress.id some_wait (sym is)) tt appends;
+  id = well.id;
+  agrees = subst (λ h. AgreesNow scenario h now) (sym appends.entries) well.agrees;
+}

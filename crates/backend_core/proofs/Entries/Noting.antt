@@ -1,15 +1,19 @@
 -- What a backend notes with an entry, and what of it stays where it goes on without one.
-use Rattle.std.proofs.Common.{Bool, true, false, ◌&&◌, ◌≡◌, ◌+◌, ◌∙◌, ◌++◌, ◌∷◌, [], ℕ, false, List, Result, OnOk, refl, ap, arith}
+use Rattle.std.proofs.Common.{Bool, true, false, ◌&&◌, ◌||◌, ◌≡◌, ◌<◌, ◌+◌, ◌∙◌, ◌++◌, ◌∷◌, [], ℕ, List, Option, Result, OnOk, refl, sym, ap, subst, arith, length}
 use Rattle.event_kinds.specs.declared.entry.Event.TheVariants as events
 use Rattle.lock_modes.specs.Rooms.{Roomy}
 use Rattle.seg_calls.specs.Calls.{Appends, entry_of}
 use Rattle.cacheless.specs.Holds.{Holds, Rests, HasEntered, HasActed, HasPassed}
-use Rattle.cacheless.specs.Silently.{HasAnswered}
-use Rattle.cacheless.specs.State.{IsLockedIn}
+use Rattle.cacheless.specs.Silently.{HasAnswered, left_of, unanswered}
+use Rattle.cacheless.specs.State.{IsLockedIn, is_absent}
+use Rattle.ddl_effect.specs.Plans.{Plan, Do, Lookup, Open, Search, Read, Lock, Write}
+use Rattle.ddl_effect.specs.Stages.{plan_at, acts_left}
 use Rattle.backend_core.specs.Types.{Oid, Mode, Exec, OwnLock, Scenario, Entry, Event, Line, Frame, Next, Progress, Backend}
 use Rattle.backend_core.specs.declared.next.Next.TheVariants as nexts
 use Rattle.backend_core.specs.Agrees.{AgreesNow}
 use Rattle.backend_core.specs.Noted.{Noted, noted_of, noted_by, IsNoted, Settles, Stays, Acts, Passes}
+use Rattle.backend_core.specs.Words.{is_unfound, finds_none}
+use Rattle.backend_core.proofs.Silent.{act_finds}
 use Rattle.backend_core.proofs.Entries.Inside.{then_so}
 
 -- an entry that is appended, by which the backend stays in its command
@@ -46,42 +50,71 @@ written_noted old new was now q exec same noted = record {
   noted = noted.noted ∙ ap (λ (x : Progress). noted_by old (record was { progress = record x { exec = exec } }) nexts.Write noted.event) same.is ∙ write_alike old was q.locks exec noted.event;
 }
 
-both_true : (t : Bool) → (t && true) ≡ t
-both_true true = refl
-both_true false = refl
+-- after an act fewer are left
+acts_fewer : (was now : Progress) → left_of now < left_of was → now.commands ≡ was.commands → now.finished ≡ was.finished → now.answer ≡ was.answer → acts_left now.exec < acts_left was.exec
+acts_fewer was now less commands number answer = omega (arith, less, ap (λ l. length l) commands, number, ap (λ (x : Option (List ℕ)). unanswered (record was { answer = x })) answer)
 
-both_false : (t : Bool) → (t && false) ≡ false
-both_false true = refl
-both_false false = refl
-
--- it does an act, or works out what its command answers
-pub act_settles : (was : Backend) (p : Progress) (keeps told : Bool) → told ≡ was.told && keeps → ((scenario : Scenario) (seen : List Entry) (held : Holds scenario seen was.progress) → HasActed scenario seen was.progress held p)
-    → (scenario : Scenario) (seen : List Entry) → AgreesNow scenario seen was → Settles was (record was { progress = p; told = told })
-act_settles was p keeps told is acts scenario seen agrees = by_keeps keeps is
+-- it does an act
+pub act_settles : (was : Backend) (p : Progress) (told : Bool) → told ≡ was.told && is_absent (plan_at p.opens p.exec) → ((scenario : Scenario) (seen : List Entry) (held : Holds scenario seen was.progress) → HasActed scenario seen was.progress held p)
+    → left_of p < left_of was.progress → p.answer ≡ was.progress.answer → (scenario : Scenario) (seen : List Entry) → AgreesNow scenario seen was → Settles was (record was { progress = p; told = told })
+act_settles was p told is acts less answer scenario seen agrees = Acts
+    (record { number = acted.moves.finished; fewer = acts_fewer was.progress p less acted.moves.commands acted.moves.finished answer; lost = λ none. sym finds ∙ none })
+    (λ i. record { looked = was.looked; frames = was.frames; told = (is ∙ ap (λ t. was.told && t) (sym finds)) i })
   where
-    same : p.finished ≡ was.progress.finished
-    same = (acts scenario seen agrees.holds).moves.finished
+    acted : HasActed scenario seen was.progress agrees.holds p
+    acted = acts scenario seen agrees.holds
 
-    by_keeps : (k : Bool) → told ≡ was.told && k → Settles was (record was { progress = p; told = told })
-    by_keeps true so = Stays same (λ i. record { looked = was.looked; frames = was.frames; told = (so ∙ both_true was.told) i })
-    by_keeps false so = Acts same (λ i. record { looked = was.looked; frames = was.frames; told = (so ∙ both_false was.told) i })
+    finds : finds_none was.progress ≡ is_absent (plan_at p.opens p.exec)
+    finds = act_finds scenario seen was p agrees acted
 
+-- it works out what its command answers
 pub answer_settles : {E : Type 0} (was : Backend) (p : Progress) (result : Result (Unit {0}) E) → OnOk result (HasAnswered was.progress p) → OnOk result ((scenario : Scenario) (seen : List Entry) → AgreesNow scenario seen was → Settles was (record was { progress = p }))
-answer_settles was p result answers = then_so result (λ answered scenario seen agrees. Stays (ap (λ (x : Progress). x.finished) answered.is) refl) answers
+answer_settles was p result answers = then_so result (λ answered scenario seen agrees. Stays (answered.is ∙ ap (λ a. record was.progress { answer = a }) (sym (ap (λ (x : Progress). x.answer) answered.is))) refl) answers
 
 -- it passes to its next command
 pub pass_settles : (was : Backend) (p : Progress) (frames : List Frame) (lines : List Line) → ((scenario : Scenario) (seen : List Entry) (held : Holds scenario seen was.progress) → HasPassed scenario seen was.progress held p) → frames ≡ []
     → (scenario : Scenario) (seen : List Entry) → AgreesNow scenario seen was → Settles was (record was { progress = p; lines = lines; looked = false; frames = frames; told = false })
 pass_settles was p frames lines passes none scenario seen agrees = Passes (omega (arith, (passes scenario seen agrees.holds).finished)) (λ i. record { looked = false; frames = none i; told = false })
 
+-- whether a lookup finds no relation doesn't rest on what is answered
+unfound_answered : (s : Progress) (answer : Option (List ℕ)) (p : Plan) → is_unfound (record s { answer = answer }) p ≡ is_unfound s p
+unfound_answered s answer (Do (Lookup name mode) rest) = refl
+unfound_answered s answer (Do (Open rel kind) rest) = refl
+unfound_answered s answer (Do (Search scan) rest) = refl
+unfound_answered s answer (Do (Read scan) rest) = refl
+unfound_answered s answer (Do (Lock rel mode) rest) = refl
+unfound_answered s answer (Do (Write draft) rest) = refl
+unfound_answered s answer p = refl
+
+finds_answered : (was now : Progress) → now ≡ record was { answer = now.answer } → finds_none now ≡ finds_none was
+finds_answered was now same = ap finds_none same ∙ ap (λ t. is_absent (plan_at was.opens was.exec) || t) (unfound_answered was now.answer (plan_at was.opens was.exec))
+
+-- what is noted after an act of a lookup that finds none, or of any other
+abbrev after_act : Noted → Bool → Noted
+after_act noted none = record noted { told = noted.told && none }
+
+told_once : (told first again : Bool) → (first ≡ true → again ≡ true) → ((told && first) && again) ≡ told && first
+told_once true true again lost = lost refl
+told_once true false again lost = refl
+told_once false first again lost = refl
+
 -- one after another
 pub settles_on : (first was now : Backend) → Settles first was → Settles was now → Settles first now
-settles_on first was now (Stays same noted) (Stays still on) = Stays (still ∙ same) (on ∙ noted)
-settles_on first was now (Stays same noted) (Acts still on) = Acts (still ∙ same) (on ∙ ap (λ (x : Noted). record x { told = false }) noted)
-settles_on first was now (Acts same noted) (Stays still on) = Acts (still ∙ same) (on ∙ noted)
-settles_on first was now (Acts same noted) (Acts still on) = Acts (still ∙ same) (on ∙ ap (λ (x : Noted). record x { told = false }) noted)
-settles_on first was now (Acts same noted) (Passes more none) = Passes (omega (arith, same, more)) none
-settles_on first was now (Passes more none) (Acts still on) = Passes (omega (arith, still, more)) (on ∙ ap (λ (x : Noted). record x { told = false }) none)
-settles_on first was now (Stays same noted) (Passes more none) = Passes (omega (arith, same, more)) none
-settles_on first was now (Passes more none) (Stays still on) = Passes (omega (arith, still, more)) (on ∙ none)
+settles_on first was now (Stays same noted) (Stays still on) = Stays (still ∙ ap (λ (x : Progress). record x { answer = now.progress.answer }) same) (on ∙ noted)
+settles_on first was now (Stays same noted) (Acts does on) = Acts
+    (record { number = does.number ∙ ap (λ (x : Progress). x.finished) same; fewer = subst (λ e. acts_left now.progress.exec < acts_left e) (ap (λ (x : Progress). x.exec) same) does.fewer; lost = λ none. does.lost (finds_answered first.progress was.progress same ∙ none) })
+    (on ∙ (λ i. after_act (noted i) (finds_answered first.progress was.progress same i)))
+settles_on first was now (Acts does noted) (Stays still on) = Acts
+    (record { number = ap (λ (x : Progress). x.finished) still ∙ does.number; fewer = subst (λ e. acts_left e < acts_left first.progress.exec) (sym (ap (λ (x : Progress). x.exec) still)) does.fewer; lost = λ none. ap (λ (x : Progress). is_absent (plan_at x.opens x.exec)) still ∙ does.lost none })
+    (on ∙ noted)
+settles_on first was now (Acts does noted) (Acts more on) = Acts
+    (record { number = more.number ∙ does.number; fewer = omega (arith, more.fewer, does.fewer); lost = λ none. more.lost (again none) })
+    (on ∙ ap (λ x. after_act x (finds_none was.progress)) noted ∙ (λ i. record { looked = first.looked; frames = first.frames; told = told_once first.told (finds_none first.progress) (finds_none was.progress) again i }))
+  where
+    again : finds_none first.progress ≡ true → finds_none was.progress ≡ true
+    again none = ap (λ t. t || is_unfound was.progress (plan_at was.progress.opens was.progress.exec)) (does.lost none)
+settles_on first was now (Stays same noted) (Passes more none) = Passes (omega (arith, ap (λ (x : Progress). x.finished) same, more)) none
+settles_on first was now (Acts does noted) (Passes more none) = Passes (omega (arith, does.number, more)) none
+settles_on first was now (Passes more none) (Stays still on) = Passes (omega (arith, ap (λ (x : Progress). x.finished) still, more)) (on ∙ none)
+settles_on first was now (Passes more none) (Acts does on) = Passes (omega (arith, does.number, more)) (on ∙ ap (λ x. after_act x (finds_none was.progress)) none)
 settles_on first was now (Passes more none) (Passes most nothing) = Passes (omega (arith, more, most)) nothing

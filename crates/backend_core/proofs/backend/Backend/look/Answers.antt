@@ -1,13 +1,19 @@
-use Rattle.backend_core.proofs.Entries.Looking.{look_call, look_enters}
-use Rattle.std.proofs.Common.{refl}
-use Rattle.backend_core.proofs.Entries.Noting.{noted_with}
+use Rattle.std.proofs.Common.{sym}
+use Rattle.event_kinds.specs.declared.entry.Event.TheVariants as events
+use Rattle.history_model.proofs.Sound.{sound_is_legal}
+use Rattle.backend_core.proofs.Entries.Looking.{look_allowed, looks_call, looks_enter}
 use Rattle.backend_core.proofs.backend.Backend.look.Goals as goal
 
 pub looked-requires-clause-call : goal.looked-requires-clause-call
-looked-requires-clause-call g c = look_call _ _ c.args.self.now _ c.requires.ready.waits c.requires.ready.played c.requires.next c.waits-some_wait.ensures
+looked-requires-clause-call g c = looks_call _ _ c.args.self.now c.args.look _ c.requires.ready.waits c.requires.next (look_allowed _ _ _ (sound_is_legal _ c.requires.ready.played.sound) (sym c.waits-some_wait.ensures))
 
 pub returns-clause-enters : goal.returns-clause-enters
-returns-clause-enters g c = look_enters _ _ _ _ _ c.args.self.now _ _ c.requires.ready.waits c.requires.ready.played c.requires.ready.course c.requires.next c.waits-some_wait.ensures (c.enter_look.ensures.holds _ _ c.requires.ready.waits.rests) c.enter_look.ensures.kept c.enter_look.ensures.answer c.looked.ensures.appends
+returns-clause-enters g c = looks_enter _ _ _ _ _ c.args.self.now _ _ c.requires.ready c.waits-some_wait.ensures (c.take_look.ensures.looks _ _ c.requires.ready c.looked.ensures.appends.comes.follows) c.looked.ensures.appends
 
 pub returns-clause-noted : goal.returns-clause-noted
-returns-clause-noted g c = noted_with _ _ _ _ _ c.args.self.now _ _ _ _ (c.enter_look.ensures.holds _ _ c.requires.ready.waits.rests) c.looked.ensures.appends refl
+returns-clause-noted g c = record {
+  event = events.Look c.waits-some_wait.result;
+  entered = c.looked.ensures.appends.entries;
+  number = (c.take_look.ensures.looks _ _ c.requires.ready c.looked.ensures.appends.comes.follows).number;
+  noted = c.take_look.ensures.noted (g.L.Seg.history c.args.seg.now);
+}

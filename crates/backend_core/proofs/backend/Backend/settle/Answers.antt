@@ -1,17 +1,17 @@
-use Rattle.std.proofs.Common.{◌∙◌, subst}
-use Rattle.cacheless.specs.Silently.{IsSilentOf}
-use Rattle.backend_core.proofs.Silent.{rest_awaits}
+use Rattle.std.proofs.Common.{◌∙◌, ap, length, arith}
 use Rattle.backend_core.proofs.Entries.Noting.{settles_on}
 use Rattle.backend_core.proofs.backend.Backend.settle.Goals as goal
 
-pub settling-preserved-in-Continue-1 : goal.settling-preserved-in-Continue-1
-settling-preserved-in-Continue-1 g c = let now = c.in_ok-act-in-Act.ensures.keeps _ _ c.settling.invariant.0 in (now.agrees, (now.id ∙ c.settling.invariant.1.0, settles_on _ _ _ c.settling.invariant.1.1 (c.in_ok-act-in-Act.ensures.noted _ _ c.settling.invariant.0)))
+pub settle_command-requires : goal.settle_command-requires
+settle_command-requires c = record { few = omega (arith, c.requires.few, ap length c.settling.invariant.0) }
 
-pub settling-preserved-in-Continue-branch-2 : goal.settling-preserved-in-Continue-branch-2
-settling-preserved-in-Continue-branch-2 g c = let now = c.in_ok-answer-in-Answer.ensures.keeps _ _ c.settling.invariant.0 in (now.agrees, (now.id ∙ c.settling.invariant.1.0, settles_on _ _ _ c.settling.invariant.1.1 (c.in_ok-answer-in-Answer.ensures.noted _ _ c.settling.invariant.0)))
+pub returns-then-not-branch : goal.returns-then-not-branch
+returns-then-not-branch c = λ scenario seen agrees. let was = c.settling.invariant.1 scenario seen agrees in let now = c.in_ok-settle_command.ensures.goes scenario seen was.0 in
+    record { waits = now.waits c.if-not-branch.true; id = now.id ∙ was.1.0; noted = settles_on _ _ _ was.1.1 now.noted }
 
 pub settling-preserved : goal.settling-preserved
-settling-preserved g c = let now = c.in_ok-pass-in-Finish.ensures.keeps _ _ c.settling.invariant.0 in (now.agrees, (now.id ∙ c.settling.invariant.1.0, settles_on _ _ _ c.settling.invariant.1.1 (c.in_ok-pass-in-Finish.ensures.noted _ _ c.settling.invariant.0)))
-
-pub returns-in-Rest : goal.returns-in-Rest
-returns-in-Rest g c = record { waits = rest_awaits _ _ c.settling.self c.settling.invariant.0 (subst (IsSilentOf c.settling.self.progress) c.in-Rest.is c.silent.ensures); same = c.settling.invariant.1.0; noted = c.settling.invariant.1.1 }
+settling-preserved c = (
+  c.in_ok-settle_command.ensures.same ∙ c.settling.invariant.0,
+  λ scenario seen agrees. let was = c.settling.invariant.1 scenario seen agrees in
+      let now = c.in_ok-settle_command.ensures.goes scenario seen was.0 in (now.agrees, (now.id ∙ was.1.0, settles_on _ _ _ was.1.1 now.noted)),
+)

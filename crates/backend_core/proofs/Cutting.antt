@@ -1,0 +1,7 @@
+pub mod Scripts
+pub mod Sessions
+pub mod Parts
+pub mod LinesAlike
+pub mod StandsAlike
+pub mod Before
+pub mod Halting
