@@ -1,11 +1,11 @@
 #!/usr/bin/env python3
-"""Compares what `check walk` says of outputs with a second reading of the rules: whether each is one of its script, how many entries
+"""Compares what `check walk` or `check run` says of outputs with a second reading of the rules: whether each is one of its script, how many entries
 it has, and else the first entry that differs. CATSYNC_ORACLE names the folder with that reading. For its time it is no part of ./prove.
 
-    tests/forged_agree.py [--seed N] [--scripts N] [--forged N] [--program FILE] [--keep FILE]
+    tests/forged_agree.py [--kind walk|run] [--seed N] [--scripts N] [--forged N] [--program FILE] [--keep FILE]
 
-The scripts are random. Of each there is the output of its walk, of every second also one that the rules allow and no walk makes, with
-other looks and other orders of scans; and forged ones: their entries changed as in tests/lines_agree.py, or the bytes of the whole
+The scripts are random. Of each there is the output of its walk, of every second (with `--kind run` of each) also one that the rules
+allow and no walk makes, with other looks and other orders of scans, and for `run` of the backends; and forged ones: their entries changed as in tests/lines_agree.py, or the bytes of the whole
 (a line that goes, comes twice or elsewhere, other bytes, a blank after the end, all cut off). Prints
 'N outputs, M forged (K of them outputs): D differ'; the first that differ go to the file of --keep. The exit status is 0 where none does.
 """
@@ -38,8 +38,8 @@ class Verdict(NamedTuple):
 class Judge:
     """The second reading of the rules."""
 
-    def __init__(self, folder):
-        self.oracle = lines_agree.Oracle(folder)
+    def __init__(self, folder, kind):
+        self.oracle, self.kind = lines_agree.Oracle(folder), kind
         self.rules = self.oracle.rules
 
     def walked(self, script):
@@ -48,7 +48,7 @@ class Judge:
 
     def played(self, script, draw):
         """An output that the rules allow; none where the play is too long, or comes to no end."""
-        player = self.oracle.players.Player(self.rules.read_script(script.encode()), "walk", draw, 0, draw.choice((0.02, 0.1, 0.3)))
+        player = self.oracle.players.Player(self.rules.read_script(script.encode()), self.kind, draw, 0, draw.choice((0.02, 0.1, 0.3)))
         player.play(MOST_PLAYED)
         return None if player.checker.complete() else self.text(player.checker)
 
@@ -56,7 +56,7 @@ class Judge:
         return self.rules.text(checker.history.entries, checker.lines())
 
     def checker(self, script):
-        return self.rules.Checker(self.rules.read_script(script.encode()), "walk")
+        return self.rules.Checker(self.rules.read_script(script.encode()), self.kind)
 
     def entries(self, output):
         return self.oracle.entries(output.split("\n")[:-1])
@@ -97,11 +97,10 @@ class Judge:
                 checker.take(entry)
         return [found[number] if number in found else self.verdict(script, output) for number, output in enumerate(outputs)]
 
-    @staticmethod
-    def may_come(checker, entry):
-        """Whether an entry may come next, by the rules and the schedule."""
+    def may_come(self, checker, entry):
+        """Whether an entry may come next, by the rules and for `walk` by the schedule."""
         return (entry.event != "fail" and entry.backend in checker.sessions and checker.allowed(entry) is None
-                and checker.follows(entry) is None)
+                and (self.kind == "run" or checker.follows(entry) is None))
 
 
 # ---------------------------------------------------------------- forged outputs
@@ -162,9 +161,9 @@ FORGERS = (with_entries,) * 10 + (with_answers,) * 3 + (with_bytes,) * 3 + (afte
 
 # ---------------------------------------------------------------- the comparison
 
-def asked(program, script, output):
+def asked(program, kind, script, output):
     """The program's verdict, or what it says where that is none."""
-    done = subprocess.run([program, "check", "walk"], input=(script + output).encode("latin-1"), capture_output=True, check=False)
+    done = subprocess.run([program, "check", kind], input=(script + output).encode("latin-1"), capture_output=True, check=False)
     said = (done.stdout + done.stderr).decode("latin-1").strip()
     found = re.fullmatch(r"checked (\d+) entries", said)
     if done.returncode == 0 and found:
@@ -178,15 +177,15 @@ def asked(program, script, output):
 class Tally:
     """What was compared."""
 
-    def __init__(self, program, kept):
-        self.program, self.kept = program, kept
+    def __init__(self, program, kind, kept):
+        self.program, self.kind, self.kept = program, kind, kept
         self.outputs = self.forged = self.still = self.differ = 0
 
     def __str__(self):
         return "%d outputs, %d forged (%d of them outputs): %d differ" % (self.outputs, self.forged, self.still, self.differ)
 
     def compare(self, name, script, output, wanted):
-        found = asked(self.program, script, output)
+        found = asked(self.program, self.kind, script, output)
         if found == wanted:
             return
         self.differ += 1
@@ -199,7 +198,7 @@ class Tally:
 def bases(judge, seed, draw, script):
     """Outputs of a script, by their names."""
     yield "%d walked" % seed, judge.walked(script)
-    if seed % 2 == 0:
+    if seed % 2 == 0 or judge.kind == "run":
         played = judge.played(script, draw)
         if played:
             yield "%d played" % seed, played
@@ -221,6 +220,7 @@ def compare_script(judge, tally, seed, most):
 
 def main():
     parser = argparse.ArgumentParser(description=__doc__, formatter_class=argparse.RawDescriptionHelpFormatter)
+    parser.add_argument("--kind", choices=("walk", "run"), default="walk", help="which check is compared")
     parser.add_argument("--seed", type=int, default=1, help="the first script's")
     parser.add_argument("--scripts", type=int, default=100)
     parser.add_argument("--forged", type=int, default=20, help="forged outputs of each output")
@@ -230,9 +230,9 @@ def main():
     if not os.environ.get("CATSYNC_ORACLE"):
         print("forged_agree: skipped: CATSYNC_ORACLE isn't set")
         return 0
-    judge = Judge(os.environ["CATSYNC_ORACLE"])
+    judge = Judge(os.environ["CATSYNC_ORACLE"], options.kind)
     with open(options.keep, "w", encoding="latin-1") as kept:
-        tally = Tally(options.program, kept)
+        tally = Tally(options.program, options.kind, kept)
         for number in range(options.scripts):
             compare_script(judge, tally, options.seed + number, options.forged)
             if number % 100 == 99:

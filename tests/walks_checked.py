@@ -1,6 +1,8 @@
 #!/usr/bin/env python3
 """Walks random scripts, and lets `check walk` judge each output: it is one of its script, and isn't with something after its
-end, without its last byte, or with its last entry twice or left out. No second reading of the rules is needed.
+end, without its last byte, or with its last entry twice or left out. `check run` finds the same of them where each backend has
+stopped by then, and takes also the output in which the first of them stops last, whatever the schedule. No second reading of
+the rules is needed.
 
     tests/walks_checked.py [--from N] [--to N] [--program FILE]
 
@@ -9,6 +11,7 @@ script that differs; the exit status is 0 where none does.
 """
 import argparse
 import os
+import re
 import subprocess
 import sys
 
@@ -38,20 +41,46 @@ def forged(output, entries):
     yield "", 1
 
 
+def have_stopped(script, output):
+    """Whether each backend of a script has stopped by its output's end."""
+    backends = re.search(r"^\s*backends\s+(\d+)", script, re.IGNORECASE | re.MULTILINE)[1]
+    return len(re.findall(r"^h .* stop$", output, re.MULTILINE)) == int(backends)
+
+
+def stops_later(output, entries):
+    """The output with its first stop moved after all other entries: those between come one line earlier."""
+    lines = output.splitlines(keepends=True)
+    first = next(at for at, line in enumerate(lines) if line.endswith(" stop\n"))
+    moved = lines[:first] + lines[first + 1:entries] + [lines[first]]
+    return "".join(moved + [re.sub(r"as of (\d+)", lambda place: "as of %d" % (int(place[1]) - (int(place[1]) > first)), line)
+                            for line in lines[entries:]])
+
+
+def judged(program, kind, text, entries, place):
+    """What is wrong with a check of a script and an output that has so many entries, or differs at this place."""
+    status, answer, said = run(program, ["check", kind], text)
+    if place is None and (status, answer) != (0, "checked %d entries\n" % entries):
+        return ["check %s: status %d, %s" % (kind, status, (answer + said).strip())]
+    if place is not None and (status != 7 or answer or not said.startswith("catsync: entry %d differs: " % place)):
+        return ["check %s: status %d, %s, and not entry %d" % (kind, status, (answer + said).strip(), place)]
+    return []
+
+
 def differences(program, script):
     """What is wrong with the walk of a script and the checks of it, and how many entries the walk has."""
     status, output, said = run(program, ["walk"], script)
     if status:
         return ["walk: status %d, %s" % (status, said.strip())], 0
     entries = sum(line.startswith("h ") for line in output.splitlines())
-    found = []
-    status, answer, said = run(program, ["check", "walk"], script + output)
-    if (status, answer) != (0, "checked %d entries\n" % entries):
-        found.append("check walk: status %d, %s" % (status, (answer + said).strip()))
-    for number, (text, place) in enumerate(forged(output, entries), 1):
-        status, answer, said = run(program, ["check", "walk"], script + text)
-        if status != 7 or answer or not said.startswith("catsync: entry %d differs: " % place):
-            found.append("forged output %d: status %d, %s, and not entry %d" % (number, status, (answer + said).strip(), place))
+    stopped = have_stopped(script, output)
+    found = judged(program, "walk", script + output, entries, None)
+    found += judged(program, "run", script + output, entries, None if stopped else entries + 1)
+    if stopped:
+        found += judged(program, "run", script + stops_later(output, entries), entries, None)
+    for text, place in forged(output, entries):
+        found += judged(program, "walk", script + text, entries, place)
+        if stopped:
+            found += judged(program, "run", script + text, entries, place)
     return found, entries
 
 

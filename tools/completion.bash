@@ -24,6 +24,9 @@ _catsync() {
     --picture | --programs)
         mapfile -t COMPREPLY < <(compgen -d -- "$current")
         ;;
+    check)
+        mapfile -t COMPREPLY < <(compgen -W "walk run" -- "$current")
+        ;;
     *)
         if [[ $current == -* || ( ${1##*/} == catsync && $COMP_CWORD -eq 1 ) ]]; then
             mapfile -t COMPREPLY < <(compgen -W "$(_catsync_options "$1")" -- "$current")

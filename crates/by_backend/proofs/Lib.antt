@@ -1,3 +1,4 @@
 pub mod LeftLists
 pub mod OwnParts
 pub mod Places
+pub mod PassingNumbers

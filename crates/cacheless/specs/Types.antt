@@ -24,4 +24,5 @@ pub use Rattle.ddl_effect.specs.declared.open_relation.OpenRelation.{OpenRelatio
 pub use Rattle.ddl_effect.specs.declared.draft.Draft.{Draft}
 pub use Rattle.ddl_effect.specs.declared.exec.Exec.{Exec}
 pub use Rattle.ddl_effect.specs.declared.told.Told.{Told}
+pub use Rattle.cacheless.specs.declared.check_kind.CheckKind.{CheckKind}
 pub use Rattle.cacheless.specs.declared.opening.Opening.{Opening}

@@ -40,6 +40,7 @@
 
 mod answering;
 mod begun;
+mod check_kind;
 mod draft_items;
 mod ending;
 mod enter;
@@ -54,6 +55,7 @@ mod progress;
 mod scans;
 mod silent;
 
+pub use check_kind::CheckKind;
 pub use ending::Ending;
 pub use opening::Opening;
 pub use progress::{Counts, Due, Progress};

@@ -2,6 +2,7 @@
 use Rattle.std.proofs.Common.{◌≡◌, ◌≤◌, ◌-◌, ◌∙◌, ℕ, Option, Ok, List, min, length, take, drop, sym, ap, subst}
 use Rattle.std.proofs.lemmas.List.{take_rest, drop_min}
 use Rattle.edge_io.specs.Reads.{ReadsAll}
+use Rattle.cacheless.specs.declared.check_kind.CheckKind.{CheckKind}
 use Rattle.check_tool.specs.Verdicts.{IsOutputOf, DiffersAt}
 use Rattle.script_text.specs.Grammar.{Reading, script_of}
 use Rattle.script_text.specs.declared.fault.Rest.TheVariants.{Given}
@@ -9,8 +10,8 @@ use Rattle.catsync_top.specs.Top.{IsChecked, HasFound, HasDiffered, checked_text
 use Rattle.catsync_top.proofs.Readable.{output_only}
 
 -- a script that was read
-abbrev is_checked : (left rest : Option (List ℕ)) (items input : List ℕ) (reading : Reading) → ReadsAll left rest 268435456 items → length items ≤ 268435456 → input ≡ items → script_of Given input ≡ Ok reading → IsChecked left rest
-is_checked left rest items input reading all short same spelled = record {
+abbrev is_checked : (kind : CheckKind) (left rest : Option (List ℕ)) (items input : List ℕ) (reading : Reading) → ReadsAll left rest 268435456 items → length items ≤ 268435456 → input ≡ items → script_of Given input ≡ Ok reading → IsChecked kind left rest
+is_checked kind left rest items input reading all short same spelled = record {
   input = items;
   whole = record { read = all.consumed; ended = all.ended short; short = short };
   reading = reading;
@@ -23,24 +24,24 @@ left_over items input at size from same long is =
     take_rest input from ∙ ap (λ n. drop n input) (is ∙ ap (min at) (long ∙ ap length (sym same))) ∙ drop_min at input ∙ ap (drop at) same
 
 -- an output, and the line that says so
-pub has_found : (left rest taken now : Option (List ℕ)) (Writes : Option (List ℕ) → Option (List ℕ) → List ℕ → Type 0) (items input : List ℕ) (reading : Reading) (size from count : ℕ)
+pub has_found : (kind : CheckKind) (left rest taken now : Option (List ℕ)) (Writes : Option (List ℕ) → Option (List ℕ) → List ℕ → Type 0) (items input : List ℕ) (reading : Reading) (size from count : ℕ)
     → ReadsAll left rest 268435456 items → length items ≤ 268435456 → input ≡ items → script_of Given input ≡ Ok reading → size ≡ length items → from ≡ min reading.rest_at size
-    → IsOutputOf reading.script (take (length input - from) (drop from input)) count → Writes taken now (checked_text count) → HasFound left rest taken now Writes
-has_found left rest taken now Writes items input reading size from count all short same spelled long at output written =
-    let found : IsOutputOf reading.script (drop reading.rest_at items) count = subst (λ text. IsOutputOf reading.script text count) (left_over items input reading.rest_at size from same long at) output in
+    → IsOutputOf kind reading.script (take (length input - from) (drop from input)) count → Writes taken now (checked_text count) → HasFound kind left rest taken now Writes
+has_found kind left rest taken now Writes items input reading size from count all short same spelled long at output written =
+    let found : IsOutputOf kind reading.script (drop reading.rest_at items) count = subst (λ text. IsOutputOf kind reading.script text count) (left_over items input reading.rest_at size from same long at) output in
     record {
-      is = is_checked left rest items input reading all short same spelled;
+      is = is_checked kind left rest items input reading all short same spelled;
       count = count;
       output = found;
-      only = output_only reading.script (drop reading.rest_at items) count found;
+      only = output_only kind reading.script (drop reading.rest_at items) count found;
       written = written;
     }
 
 -- something else
-pub has_differed : (left rest : Option (List ℕ)) (items input : List ℕ) (reading : Reading) (size from entry : ℕ)
+pub has_differed : (kind : CheckKind) (left rest : Option (List ℕ)) (items input : List ℕ) (reading : Reading) (size from entry : ℕ)
     → ReadsAll left rest 268435456 items → length items ≤ 268435456 → input ≡ items → script_of Given input ≡ Ok reading → size ≡ length items → from ≡ min reading.rest_at size
-    → DiffersAt reading.script (take (length input - from) (drop from input)) entry → HasDiffered left rest entry
-has_differed left rest items input reading size from entry all short same spelled long at differs = record {
-  is = is_checked left rest items input reading all short same spelled;
-  differs = subst (λ text. DiffersAt reading.script text entry) (left_over items input reading.rest_at size from same long at) differs;
+    → DiffersAt kind reading.script (take (length input - from) (drop from input)) entry → HasDiffered kind left rest entry
+has_differed kind left rest items input reading size from entry all short same spelled long at differs = record {
+  is = is_checked kind left rest items input reading all short same spelled;
+  differs = subst (λ text. DiffersAt kind reading.script text entry) (left_over items input reading.rest_at size from same long at) differs;
 }

@@ -23,7 +23,7 @@ has_made script made taken now Writes history seen answers said text sent are wa
     let spelled : text ≡ made_text script history (lines_of script history) = text_is ∙ ap (λ h. made_text script h said) entries ∙ ap (made_text script history) (lines ∙ walk.lines_are) in
     subst (λ s. HasMade s taken now Writes) are (record {
       output = text_of history (lines_of script history);
-      is = record { history = history; allowed = walk.allowed; follows = walk.follows; looks = walk.looks; complete = walk.complete; text_is = refl };
+      is = record { history = history; allowed = walk.allowed; interleaved = record { follows = walk.follows; looks = walk.looks }; complete = walk.complete; text_is = refl };
       sound = walk.sound;
       back = subst (IsReadBack script) spelled back;
       written = subst (Writes taken now) (all ∙ spelled) written;
@@ -45,4 +45,4 @@ makes_no_difference status holds ends = tt
 -- who asks for a script asks for no word
 pub apart : (arguments : List (List ℕ)) (word : Word) (number : ℕ) → Ask arguments word → AskToMake arguments number → ⊥
 apart arguments words.Walk number asks makes = let k = makes.are in cc
-apart arguments words.Check number asks makes = let k = makes.are in cc
+apart arguments (words.Check kind) number asks makes = let k = makes.are in cc

@@ -10,7 +10,7 @@ use Rattle.event_kinds.specs.Entries.{IsItem, IsEvent, IsHead, HasChange, IsEntr
 use Rattle.out_text.specs.Typed.{IsTyped, SpellsOnly}
 use Rattle.out_text.proofs.OneHistory.{spells_only}
 use Rattle.cacheless.specs.Lines.{lines_of}
-use Rattle.check_tool.specs.Types.{Scenario}
+use Rattle.check_tool.specs.Types.{CheckKind, Scenario}
 use Rattle.check_tool.specs.Verdicts.{IsOutputOf}
 use Rattle.history_model.specs.Prefixes.{EachFrom, EachEntry}
 
@@ -41,6 +41,6 @@ entry_typed e is =
     record { head = record { backend = is.backend; command = is.command; event = parts.0 }; changes = parts.1 }
 
 -- an output that was found spells its history and its answer lines alone
-pub output_only : (scenario : Scenario) (text : List ℕ) (count : ℕ) (output : IsOutputOf scenario text count) → SpellsOnly text output.is.is.history (lines_of scenario output.is.is.history)
-output_only scenario text count output =
+pub output_only : (kind : CheckKind) (scenario : Scenario) (text : List ℕ) (count : ℕ) (output : IsOutputOf kind scenario text count) → SpellsOnly text output.is.is.history (lines_of scenario output.is.is.history)
+output_only kind scenario text count output =
     spells_only text output.is.is.history (lines_of scenario output.is.is.history) output.is.is.text_is (All-weaker IsEntry IsTyped entry_typed output.is.is.history output.is.entries) output.answers

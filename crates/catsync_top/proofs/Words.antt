@@ -14,15 +14,6 @@ one_asked text [] word seen wanted same some few is read test yes-same = absurd 
 one_asked text (x ∷ []) word seen wanted same some few is read test yes-same = ap (λ t. t ∷ []) (ap text (sym is) ∙ same_word seen wanted (text word) same read test yes-same)
 one_asked text (x ∷ y ∷ words) word seen wanted same some few is read test yes-same = absurd (omega (arith, few))
 
--- so are the two words of one
-pub two_asked : {X : Type 0} (text : X → List ℕ) (words : List X) (first second : X) (seen wanted seen' wanted' : List ℕ) (same same' : Bool) → 2 ≤ length words → length words < 3 → first ≡ get_or words 0 first → second ≡ get_or words 1 second
-    → seen ≡ text first → same ≡ bytes_eq seen wanted → same ≡ true → seen' ≡ text second → same' ≡ bytes_eq seen' wanted' → same' ≡ true → map text words ≡ wanted ∷ wanted' ∷ []
-two_asked text [] first second seen wanted seen' wanted' same same' some few is is' read test yes-same read' test' yes-same' = absurd (omega (arith, some))
-two_asked text (x ∷ []) first second seen wanted seen' wanted' same same' some few is is' read test yes-same read' test' yes-same' = absurd (omega (arith, some))
-two_asked text (x ∷ y ∷ []) first second seen wanted seen' wanted' same same' some few is is' read test yes-same read' test' yes-same' =
-    ap (λ t. t ∷ text y ∷ []) (ap text (sym is) ∙ same_word seen wanted (text first) same read test yes-same) ∙ ap (λ t. wanted ∷ t ∷ []) (ap text (sym is') ∙ same_word seen' wanted' (text second) same' read' test' yes-same')
-two_asked text (x ∷ y ∷ z ∷ words) first second seen wanted seen' wanted' same same' some few is is' read test yes-same read' test' yes-same' = absurd (omega (arith, few))
-
 -- a list of two whose first word is the one that is wanted
 pub first_asked : {X : Type 0} (text : X → List ℕ) (words : List X) (first second : X) (seen wanted seen' : List ℕ) (same : Bool) → 2 ≤ length words → length words < 3 → first ≡ get_or words 0 first → second ≡ get_or words 1 second
     → seen ≡ text first → same ≡ bytes_eq seen wanted → same ≡ true → seen' ≡ text second → map text words ≡ wanted ∷ seen' ∷ []

@@ -22,19 +22,30 @@ use Rattle.script_text.specs.ReadBack.{IsReadBack}
 use Rattle.make_script.specs.declared.making.TheConstants.{MOST_NUMBER}
 use Rattle.make_script.specs.Texts.{made_text}
 use Rattle.catsync_top.specs.declared.top.TheConstants.{MOST_INPUT, MOST_CHECKED}
+use Rattle.cacheless.specs.declared.check_kind.CheckKind.{CheckKind}
+use Rattle.cacheless.specs.declared.check_kind.CheckKind.TheVariants as kinds
 use Rattle.catsync_top.specs.declared.arguments.Word.{Word}
 use Rattle.catsync_top.specs.declared.arguments.Word.TheVariants as words
 use Rattle.catsync_top.specs.declared.status.Status.{Status}
 use Rattle.catsync_top.specs.declared.status.Status.TheVariants as statuses
 
+-- the argument that names what is checked
+abbrev pub argument_of : CheckKind → List ℕ
+argument_of kinds.Walk = codes "walk"
+argument_of kinds.Run = codes "run"
+
 -- the arguments that ask for a word
 abbrev pub arguments_of : Word → List (List ℕ)
 arguments_of words.Walk = codes "walk" ∷ []
-arguments_of words.Check = codes "check" ∷ codes "walk" ∷ []
+arguments_of (words.Check kind) = codes "check" ∷ argument_of kind ∷ []
 
 -- these arguments ask for the word
 abbrev pub Ask : List (List ℕ) → Word → Type 0
 Ask arguments word = arguments ≡ arguments_of word
+
+-- a text names neither `walk` nor `run`
+abbrev pub IsNoKind : List ℕ → Type 0
+IsNoKind text = (kind : CheckKind) → text ≡ argument_of kind → ⊥
 
 -- a text is the number of a script that can be made, in decimal
 pub record IsNumber (text : List ℕ) (number : ℕ) : Type 0 where
@@ -82,12 +93,12 @@ AskSomething arguments = AskWord arguments ⊎ AskScript arguments
 -- the most bytes that are read
 abbrev pub most_of : Word → ℕ
 most_of words.Walk = MOST_INPUT
-most_of words.Check = MOST_CHECKED
+most_of (words.Check kind) = MOST_CHECKED
 
 -- whether something may follow the script: the output that is checked
 abbrev pub rest_of : Word → Rest
 rest_of words.Walk = Refused
-rest_of words.Check = Given
+rest_of (words.Check kind) = Given
 
 -- the exit status of each status
 abbrev pub exit_code_of : Status → ℕ
@@ -106,14 +117,14 @@ pub record IsInput (word : Word) (left rest : Option (List ℕ)) (input : List �
   pub ended : IsAtEnd rest
   pub short : length input ≤ most_of word
 
--- the input is a script; an output of the program for that script was written, or a prefix of one; its history is sound, and the script's commands have forms that lines may have, so that each law of such histories is one of it; its entries and lines are such as a reader of texts takes, and that output spells them alone; and the sessions are the backends that were run, with their parts of the answers
+-- the input is a script; an output of `walk` for that script was written, or a prefix of one; its history is sound, and the script's commands have forms that lines may have, so that each law of such histories is one of it; its entries and lines are such as a reader of texts takes, and that output spells them alone; and the sessions are the backends that were run, with their parts of the answers
 pub record Ran (left rest : Option (List ℕ)) (taken now : Option (List ℕ)) (Writes : Option (List ℕ) → Option (List ℕ) → List ℕ → Type 0) (sessions : List Backend) : Type 0 where
   pub input : List ℕ
   pub whole : IsInput words.Walk left rest input
   pub reading : Reading
   pub spelled : script_of Refused input ≡ Ok reading
   pub output : List ℕ
-  pub is : IsOutput reading.script output
+  pub is : IsOutput kinds.Walk reading.script output
   pub sound : IsSound is.history
   pub commands : AllByRecursion (λ p. IsCommand p.command) reading.script.commands
   pub entries : All IsEntry is.history
@@ -122,34 +133,40 @@ pub record Ran (left rest : Option (List ℕ)) (taken now : Option (List ℕ)) (
   pub are : AreSessions reading.script is.history (lines_of reading.script is.history) sessions
   pub written : Writes taken now output
 
--- the line by which `check walk` says that it found an output of so many entries
+-- the line by which a check says that it found an output of so many entries
 abbrev pub checked_text : ℕ → List ℕ
 checked_text entries = codes "checked " ++ decimal entries ++ codes " entries\n"
 
 -- the input is a script, and after it something that may be an output
-pub record IsChecked (left rest : Option (List ℕ)) : Type 0 where
+pub record IsChecked (kind : CheckKind) (left rest : Option (List ℕ)) : Type 0 where
   pub input : List ℕ
-  pub whole : IsInput words.Check left rest input
+  pub whole : IsInput (words.Check kind) left rest input
   pub reading : Reading
   pub spelled : script_of Given input ≡ Ok reading
 
--- what follows the script is an output of it, of a sound history, and spells that history and its answer lines alone (`IsOutputOf` has the rest of what `Ran` says of a history); and the number of its entries was written, or a prefix of that line
-pub record HasFound (left rest : Option (List ℕ)) (taken now : Option (List ℕ)) (Writes : Option (List ℕ) → Option (List ℕ) → List ℕ → Type 0) : Type 0 where
-  pub is : IsChecked left rest
+-- what follows the script is an output of `walk` or `run` of it, of a sound history, and spells that history and its answer lines alone (`IsOutputOf` has the rest of what `Ran` says of a history); and the number of its entries was written, or a prefix of that line
+pub record HasFound (kind : CheckKind) (left rest : Option (List ℕ)) (taken now : Option (List ℕ)) (Writes : Option (List ℕ) → Option (List ℕ) → List ℕ → Type 0) : Type 0 where
+  pub is : IsChecked kind left rest
   pub count : ℕ
-  pub output : IsOutputOf is.reading.script (drop is.reading.rest_at is.input) count
+  pub output : IsOutputOf kind is.reading.script (drop is.reading.rest_at is.input) count
   pub only : SpellsOnly (drop is.reading.rest_at is.input) output.is.is.history (lines_of is.reading.script output.is.is.history)
   pub written : Writes taken now (checked_text count)
 
--- what follows the script is no output of it, and a walk may make the entries before this one and not one more
-pub record HasDiffered (left rest : Option (List ℕ)) (entry : ℕ) : Type 0 where
-  pub is : IsChecked left rest
-  pub differs : DiffersAt is.reading.script (drop is.reading.rest_at is.input) entry
+-- what follows the script is no output of `walk` or `run` of it, and that may make the entries before this one and not one more
+pub record HasDiffered (kind : CheckKind) (left rest : Option (List ℕ)) (entry : ℕ) : Type 0 where
+  pub is : IsChecked kind left rest
+  pub differs : DiffersAt kind is.reading.script (drop is.reading.rest_at is.input) entry
+
+-- a check was asked for, and came to that entry
+pub record HasDifferedAsAsked (arguments : List (List ℕ)) (left rest : Option (List ℕ)) (entry : ℕ) : Type 0 where
+  pub kind : CheckKind
+  pub ask : Ask arguments (words.Check kind)
+  pub differs : HasDiffered kind left rest entry
 
 -- the script was written, or a prefix of it, under a comment that counts what is in an output of it: the entries of the history, those that publish, those that are resets, and the answers that are errors; that history is sound; and the whole text is read as the script
 pub record HasMade (script : Scenario) (taken now : Option (List ℕ)) (Writes : Option (List ℕ) → Option (List ℕ) → List ℕ → Type 0) : Type 0 where
   pub output : List ℕ
-  pub is : IsOutput script output
+  pub is : IsOutput kinds.Walk script output
   pub sound : IsSound is.history
   pub back : IsReadBack script (made_text script is.history (lines_of script is.history))
   pub written : Writes taken now (made_text script is.history (lines_of script is.history))
@@ -185,7 +202,7 @@ HadNoFault before now = Rose before now → ⊥
 abbrev pub HasEnded : Word → Status → Type 0
 HasEnded word statuses.Done = ⊤
 HasEnded word statuses.NoMemory = ⊤
-HasEnded words.Check (statuses.Differs entry) = ⊤
+HasEnded (words.Check kind) (statuses.Differs entry) = ⊤
 HasEnded word status = ⊥
 
 -- how the making of a script may end

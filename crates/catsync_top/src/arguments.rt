@@ -1,8 +1,9 @@
-ghost use Rattle.std.specs.Prelude.{map, MatchOption};
+ghost use Rattle.std.specs.Prelude.{◌≡◌, map, MatchOption};
 ghost use Rattle.std.specs.String.{string_bytes};
-ghost use Rattle.catsync_top.specs.Top.{Ask, AskToMake, AskNoWord, AskNoScript, IsNumber, IsNoNumber};
+ghost use Rattle.catsync_top.specs.Top.{Ask, AskToMake, AskNoWord, AskNoScript, IsNoKind, IsNumber, IsNoNumber, argument_of};
 
 use base_types::LineBuffer;
+use check_tool::CheckKind;
 use make_script::MOST_NUMBER;
 
 /// What the program is asked to read.
@@ -10,19 +11,30 @@ use make_script::MOST_NUMBER;
 pub enum Word {
     /// `walk`: a script, to walk it.
     Walk,
-    /// `check walk`: a script and after it an output, to check that.
-    Check,
+    /// `check walk`, `check run`: a script and after it an output, to check that.
+    Check(CheckKind),
 }
 
-// The word that the arguments ask for, if they ask for one.
-pub(crate) fn word_of(arguments: &[String]) -> Option<Word>
+/// The word that the arguments ask for, if they ask for one.
+pub fn word_of(arguments: &[String]) -> Option<Word>
     ensures { MatchOption result (AskNoWord (map string_bytes arguments.now)) (Ask (map string_bytes arguments.now)) }
 {
     match arguments {
         [word] if word.as_str() == "walk" => Some(Word::Walk),
-        [first, second] if first.as_str() == "check" && second.as_str() == "walk" => {
-            Some(Word::Check)
+        [first, second] if first.as_str() == "check" => {
+            Some(Word::Check(kind_of(second.as_str())?))
         }
+        _ => None,
+    }
+}
+
+// What a text names, if it is `walk` or `run`.
+fn kind_of(text: &str) -> Option<CheckKind>
+    ensures { MatchOption result (IsNoKind text.now) (λ kind. text.now ≡ argument_of kind) }
+{
+    match text {
+        "walk" => Some(CheckKind::Walk),
+        "run" => Some(CheckKind::Run),
         _ => None,
     }
 }

@@ -7,7 +7,7 @@ ghost use Rattle.catsync_top.specs.Top.{HasFound, HasDiffered, IsBad, IsTooLong,
 use crate::Status;
 use crate::top::MOST_CHECKED;
 use base_types::{LineBuffer, NoMemory};
-use check_tool::{Checked, check};
+use check_tool::{CheckKind, Checked, check};
 use edge_io::{Failed, ReadRefusal, Sink, Source, read_all, send};
 use script_text::{Rest, ScriptFault, read_script};
 use std::alloc::Global;
@@ -15,21 +15,22 @@ use std::alloc::Global;
 // Checks the output that the source gives after a script.
 pub(crate) fn check_output<S: Source, K: Sink>(
     alloc: Global,
+    kind: CheckKind,
     source: &mut S,
     sink: &mut K,
 ) -> Status
     ensures accepted { result ≢ Status.Usage }
-    ensures done { result ≡ Status.Done → HasFound (S.left source.old) (S.left source.new) (K.taken sink.old) (K.taken sink.new) Grows }
-    ensures write_front { result ≡ Status.WriteFault → HasFound (S.left source.old) (S.left source.new) (K.taken sink.old) (K.taken sink.new) GrowsByFront }
-    ensures differs { IfDiffers result (HasDiffered (S.left source.old) (S.left source.new)) }
+    ensures done { result ≡ Status.Done → HasFound kind (S.left source.old) (S.left source.new) (K.taken sink.old) (K.taken sink.new) Grows }
+    ensures write_front { result ≡ Status.WriteFault → HasFound kind (S.left source.old) (S.left source.new) (K.taken sink.old) (K.taken sink.new) GrowsByFront }
+    ensures differs { IfDiffers result (HasDiffered kind (S.left source.old) (S.left source.new)) }
     ensures nothing { result ≢ Status.Done → result ≢ Status.WriteFault → K.taken sink.new ≡ K.taken sink.old }
-    ensures bad_script { IfBadScript result (IsBad words.Check (S.left source.old) (S.left source.new)) }
-    ensures too_long { result ≡ Status.TooLong → IsTooLong words.Check (S.left source.old) (S.left source.new) }
+    ensures bad_script { IfBadScript result (IsBad (words.Check kind) (S.left source.old) (S.left source.new)) }
+    ensures too_long { result ≡ Status.TooLong → IsTooLong (words.Check kind) (S.left source.old) (S.left source.new) }
     ensures read_fault { result ≡ Status.ReadFault → Rose (S.faults source.old) (S.faults source.new) }
     ensures write_fault { result ≡ Status.WriteFault → Rose (K.faults sink.old) (K.faults sink.new) }
     ensures source_steady { result ≢ Status.ReadFault → S.faults source.new ≡ S.faults source.old }
     ensures sink_steady { result ≢ Status.WriteFault → K.faults sink.new ≡ K.faults sink.old }
-    ensures complete { HasScript words.Check (S.left source.old) → HadNoFault (S.faults source.old) (S.faults source.new) → HadNoFault (K.faults sink.old) (K.faults sink.new) → HasEnded words.Check result }
+    ensures complete { HasScript (words.Check kind) (S.left source.old) → HadNoFault (S.faults source.old) (S.faults source.new) → HadNoFault (K.faults sink.old) (K.faults sink.new) → HasEnded (words.Check kind) result }
 {
     let input = match read_all(alloc, source, MOST_CHECKED) {
         Ok(input) => input,
@@ -45,7 +46,7 @@ pub(crate) fn check_output<S: Source, K: Sink>(
         Err(ScriptFault::NoMemory) => return Status::NoMemory,
     };
     let output = &input[read.rest_at.min(input.len())..];
-    let count = match check(alloc, &read.script, output) {
+    let count = match check(alloc, &read.script, kind, output) {
         Ok(Checked::Output { entries }) => entries,
         Ok(Checked::Differs { entry }) => return Status::Differs { entry },
         Err(NoMemory) => return Status::NoMemory,

@@ -10,8 +10,8 @@ pub enum Status {
     /// All was written, and the input was read to its end.
     #[error("done")]
     Done,
-    /// The arguments are neither `walk` nor `check walk`, nor `make` with a number from 1 to 1,000.
-    #[error("usage: catsync walk < SCRIPT > OUTPUT, or catsync check walk < SCRIPT_AND_OUTPUT, or catsync make N > SCRIPT")]
+    /// The arguments are none of `walk`, `check walk`, `check run`, and `make` with a number from 1 to 1,000.
+    #[error("usage: catsync walk < SCRIPT > OUTPUT, or catsync check walk|run < SCRIPT_AND_OUTPUT, or catsync make N > SCRIPT")]
     Usage,
     /// The input isn't a script: the first line that breaks a rule, from 1, and the first rule that
     /// it breaks.
@@ -30,9 +30,9 @@ pub enum Status {
     #[error("want of memory")]
     NoMemory,
     /// The bytes after the script are none of its outputs, as far as the entries of these have texts: numbers of
-    /// four bytes, names as they may be, and at least one change in a write. The first entry, from 1, that a walk
-    /// may not make there; the number after the last where a walk may make all, and one is missing or what follows
-    /// them differs.
+    /// four bytes, names as they may be, and at least one change in a write. The first entry, from 1, that may not
+    /// come there; the number after the last where all of them may, and one is missing or what follows them
+    /// differs.
     #[error("entry {entry} differs")]
     Differs { entry: u64 },
 }

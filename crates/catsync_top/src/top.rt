@@ -3,9 +3,10 @@ ghost use Rattle.std.specs.String.{string_bytes};
 ghost use Rattle.edge_io.specs.Causes.{Rose};
 ghost use Rattle.edge_io.specs.Taken.{Grows, GrowsByFront};
 ghost use Rattle.make_script.specs.Scripts.{made_script};
+ghost use Rattle.cacheless.specs.declared.check_kind.CheckKind.{CheckKind};
 ghost use Rattle.catsync_top.specs.declared.arguments.Word.{Word};
 ghost use Rattle.catsync_top.specs.declared.arguments.Word.TheVariants as words;
-ghost use Rattle.catsync_top.specs.Top.{Ask, AskToMake, AskNothing, AskSomething, Ran, HasFound, HasDiffered, HasMade, IsBad, IsTooLong, HasScript, HadNoFault, IfBadScript, IfDiffers, HasEnded, IsEndOfMaking};
+ghost use Rattle.catsync_top.specs.Top.{Ask, AskToMake, AskNothing, AskSomething, Ran, HasFound, HasDifferedAsAsked, HasMade, IsBad, IsTooLong, HasScript, HadNoFault, IfBadScript, IfDiffers, HasEnded, IsEndOfMaking};
 
 use crate::Status;
 use crate::arguments::{Word, made_of, word_of};
@@ -28,25 +29,25 @@ pub const MOST_CHECKED: usize = 268_435_456;
 /// it writes. `sessions` is empty before the call; after `Done` and `WriteFault` of `walk` it holds
 /// the backends that were run.
 ///
-/// `walk` reads a script, and writes its history and answers. `check walk` reads a script and, after
-/// its `end` line, an output; it writes the number of the output's entries. `make N`, with N from 1
-/// to 1,000, reads nothing, and writes the script of that number under a comment that counts what
-/// came of a walk of it.
+/// `walk` reads a script, and writes its history and answers. `check walk` and `check run` read a
+/// script and, after its `end` line, an output; they write the number of the output's entries.
+/// `make N`, with N from 1 to 1,000, reads nothing, and writes the script of that number under a
+/// comment that counts what came of a walk of it.
 ///
 /// The order is: arguments, reading, script, work, writing. What is said of the bytes holds as far
 /// as the source and the sink tell them.
 ///
-/// - `Usage`: exactly where the arguments are neither `walk` nor `check walk`, nor `make` with a
-///   number from 1 to 1,000 in decimal; nothing is read.
+/// - `Usage`: exactly where the arguments are none of `walk`, `check walk`, `check run`, and `make`
+///   with a number from 1 to 1,000 in decimal; nothing is read.
 /// - `ReadFault`, `WriteFault`: only where the source's or the sink's count of faults rose.
 /// - `TooLong`: exactly where the source gives more bytes before its end than [`MOST_INPUT`] for
-///   `walk`, [`MOST_CHECKED`] for `check walk`.
+///   `walk`, [`MOST_CHECKED`] for a check.
 /// - `BadScript`: exactly where that line is the first that breaks a rule of scripts, and that rule
 ///   is the first that it breaks.
 /// - `NoMemory`: at any point before writing.
-/// - `Differs`: of `check walk`, exactly where what follows the script isn't an output of it whose
-///   entries have texts.
-/// - `Done`: the input was read to its end, and the whole output was written; for `check walk`, what
+/// - `Differs`: of a check, exactly where what follows the script isn't an output of it, of `walk` or
+///   of `run` as asked, whose entries have texts.
+/// - `Done`: the input was read to its end, and the whole output was written; for a check, what
 ///   follows the script is an output of it; for `make`, nothing was read.
 pub fn catsync<S: Source, K: Sink, G: Gate>(
     alloc: Global,
@@ -66,17 +67,17 @@ pub fn catsync<S: Source, K: Sink, G: Gate>(
     // What was written, of what was read.
     ensures done { Ask (map string_bytes arguments.now) words.Walk → result ≡ Status.Done → Ran (S.left source.old) (S.left source.new) (K.taken sink.old) (K.taken sink.new) Grows sessions.new.items }
     ensures write_front { Ask (map string_bytes arguments.now) words.Walk → result ≡ Status.WriteFault → Ran (S.left source.old) (S.left source.new) (K.taken sink.old) (K.taken sink.new) GrowsByFront sessions.new.items }
-    ensures found { Ask (map string_bytes arguments.now) words.Check → result ≡ Status.Done → HasFound (S.left source.old) (S.left source.new) (K.taken sink.old) (K.taken sink.new) Grows }
-    ensures found_front { Ask (map string_bytes arguments.now) words.Check → result ≡ Status.WriteFault → HasFound (S.left source.old) (S.left source.new) (K.taken sink.old) (K.taken sink.new) GrowsByFront }
+    ensures found { (kind : CheckKind) → Ask (map string_bytes arguments.now) (words.Check kind) → result ≡ Status.Done → HasFound kind (S.left source.old) (S.left source.new) (K.taken sink.old) (K.taken sink.new) Grows }
+    ensures found_front { (kind : CheckKind) → Ask (map string_bytes arguments.now) (words.Check kind) → result ≡ Status.WriteFault → HasFound kind (S.left source.old) (S.left source.new) (K.taken sink.old) (K.taken sink.new) GrowsByFront }
     ensures made { (number : ℕ) → AskToMake (map string_bytes arguments.now) number → result ≡ Status.Done → HasMade (made_script number) (K.taken sink.old) (K.taken sink.new) Grows }
     ensures made_front { (number : ℕ) → AskToMake (map string_bytes arguments.now) number → result ≡ Status.WriteFault → HasMade (made_script number) (K.taken sink.old) (K.taken sink.new) GrowsByFront }
     ensures nothing { result ≢ Status.Done → result ≢ Status.WriteFault → K.taken sink.new ≡ K.taken sink.old }
     ensures no_sessions { result ≢ Status.Done → result ≢ Status.WriteFault → sessions.new.items ≡ [] }
     ensures none_made { (number : ℕ) → AskToMake (map string_bytes arguments.now) number → sessions.new.items ≡ [] }
-    ensures none_checked { Ask (map string_bytes arguments.now) words.Check → sessions.new.items ≡ [] }
+    ensures none_checked { (kind : CheckKind) → Ask (map string_bytes arguments.now) (words.Check kind) → sessions.new.items ≡ [] }
 
     // When each refusal comes.
-    ensures differs { IfDiffers result (λ entry. Ask (map string_bytes arguments.now) words.Check × HasDiffered (S.left source.old) (S.left source.new) entry) }
+    ensures differs { IfDiffers result (HasDifferedAsAsked (map string_bytes arguments.now) (S.left source.old) (S.left source.new)) }
     ensures bad_script { (word : Word) → Ask (map string_bytes arguments.now) word → IfBadScript result (IsBad word (S.left source.old) (S.left source.new)) }
     ensures too_long { (word : Word) → Ask (map string_bytes arguments.now) word → result ≡ Status.TooLong → IsTooLong word (S.left source.old) (S.left source.new) }
     ensures made_ends { (number : ℕ) → AskToMake (map string_bytes arguments.now) number → IsEndOfMaking result }
@@ -102,6 +103,6 @@ pub fn catsync<S: Source, K: Sink, G: Gate>(
     };
     match word {
         Word::Walk => walk_script(alloc, source, sink, sessions),
-        Word::Check => check_output(alloc, source, sink),
+        Word::Check(kind) => check_output(alloc, kind, source, sink),
     }
 }

@@ -4,5 +4,6 @@ pub mod AnswerLines
 pub mod Longest
 pub mod Places
 pub mod Schedule
+pub mod Interleavings
 pub mod Verdicts
 pub mod Worked

@@ -1,12 +1,10 @@
 -- Whose turn comes, over one entry more.
 use Rattle.std.proofs.Common.{◌≡◌, ◌≢◌, ◌≤◌, ◌<◌, ◌+◌, ◌-◌, ◌∙◌, ◌⊎◌, inl, inr, ℕ, zero, suc, Bool, true, false, not, Option, Some, None, List, [], ◌∷◌, ◌++◌, ◌==◌, refl, sym, ap, subst, length, take, drop, filter, get_or, slice_get, slice_set, replicate, arith}
-use Rattle.std.specs.Prelude.{is_some}
-use Rattle.std.specs.Bool.{Decides}
 use Rattle.std.specs.List.{AllByRecursion, range_with_len, flat_map}
 use Rattle.std.proofs.lemmas.Bool.{ne_eqb, eq-eqb}
 use Rattle.std.proofs.lemmas.Bool.Decides.{eqb_tells}
 use Rattle.std.proofs.lemmas.List.Elements.{All-get_or, All-from_recursion}
-use Rattle.std.proofs.lemmas.List.{drop-drop, drop_more, drop_all, take_more, take_all, flat_map_more, get_or_default, length-drop, length-replicate}
+use Rattle.std.proofs.lemmas.List.{drop-drop, drop_more, drop_all, take_more, take_all, flat_map_more, get_or_default, length-replicate}
 use Rattle.std.proofs.lemmas.Option.{slice_get_read}
 use Rattle.base_types.specs.declared.command.Turns.{Turns}
 use Rattle.base_types.specs.Scenario.{IsBackend, IsScript, AreTurns, schedule_of, turns_of}
@@ -14,11 +12,11 @@ use Rattle.event_kinds.specs.declared.entry.Event.TheVariants.{Stop}
 use Rattle.history_model.specs.Lives.{life_by}
 use Rattle.history_model.proofs.Prefixes.{along-more}
 use Rattle.history_model.proofs.Reading.{life_of-own, life_of-other}
-use Rattle.cacheless.specs.Schedule.{FollowsSchedule, IsComplete, is_stopped, has_stopped, pass_stopped, steps_after, turns_by, turns_left}
+use Rattle.cacheless.specs.Schedule.{FollowsSchedule, is_stopped, has_stopped, pass_stopped, steps_after, turns_by, turns_left}
 use Rattle.by_backend.proofs.Places.{get_of_set, get_beside_set}
 use Rattle.check_tool.specs.Types.{Scenario, Entry, Event}
 use Rattle.check_tool.specs.Turning.{TellStopped, stopped_after}
-use Rattle.check_tool.specs.Walked.{HaveFollowed}
+use Rattle.check_tool.specs.Reached.{HaveFollowed}
 use Rattle.check_tool.proofs.Longest.{prefix_more, each_next, longest_here, longest_all}
 use Rattle.check_tool.proofs.Places.{of_replicate}
 
@@ -157,13 +155,6 @@ turns_by-some : (scenario : Scenario) (seen : List Entry) (lines : List (List Tu
 turns_by-some scenario seen [] some = absurd (omega (arith, some))
 turns_by-some scenario seen (line ∷ lines) some = refl
 
-no_first : {X : Type 0} (xs : List X) → slice_get xs 0 ≡ None → xs ≡ []
-no_first [] none = refl
-no_first (x ∷ xs) none = absurd cc
-
-no_first_of : {X : Type 0} (xs : List X) → xs ≡ [] → slice_get xs 0 ≡ None
-no_first_of xs none = ap (λ all. slice_get all 0) none
-
 -- entries that follow, with who has stopped by them
 pub record Follows (scenario : Scenario) (seen : List Entry) (stopped : List Bool) : Type 0 where
   pub follows : FollowsSchedule scenario seen
@@ -205,12 +196,6 @@ pub turn_in_order : (scenario : Scenario) (seen : List Entry) (stopped given : L
     → ((history : List Entry) → TellStopped history given → turn ≡ slice_get (filter (runs_in history) (range_with_len 1 (length given))) 0) → slice_get (turns_left scenario seen) 0 ≡ turn
 turn_in_order scenario seen stopped given turn none held same first =
     ap (λ turns. slice_get turns 0) (turns_by-none scenario seen scenario.steps none) ∙ ap (λ n. slice_get (filter (runs_in seen) (range_with_len 1 n)) 0) (sym (ap length same ∙ held.count)) ∙ sym (first seen (subst (TellStopped seen) (sym same) held.tell))
-
--- ---- whether none is left
-
--- no turn comes where none is left
-pub none_left : (scenario : Scenario) (seen : List Entry) (turn : Option ℕ) → slice_get (turns_left scenario seen) 0 ≡ turn → (turn ≡ None → IsComplete scenario seen) × (IsComplete scenario seen → turn ≡ None)
-none_left scenario seen turn first = (λ none. no_first (turns_left scenario seen) (first ∙ none), λ complete. sym first ∙ no_first_of (turns_left scenario seen) complete)
 
 -- ---- by lines of steps
 

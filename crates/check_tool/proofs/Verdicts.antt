@@ -12,21 +12,20 @@ use Rattle.history_ledger.specs.Longest.{IsLongest}
 use Rattle.history_model.specs.Prefixes.{EachFrom}
 use Rattle.history_model.proofs.Prefixes.{EachEntry-prefix}
 use Rattle.cacheless.specs.Lines.{lines_of}
-use Rattle.cacheless.specs.Output.{IsAllowed}
+use Rattle.cacheless.specs.Output.{IsAllowed, IsInterleaved, HasAllCome}
 use Rattle.cacheless.specs.Played.{AreSpelled}
 use Rattle.cacheless.specs.Plays.{IsNext}
-use Rattle.cacheless.specs.Schedule.{FollowsSchedule, AreLooksTrue, IsComplete, turns_left}
 use Rattle.cacheless.proofs.Allowed.AllowedHistories.{allowed_sound}
 use Rattle.history_lines.specs.Answered.{IsAnswered}
-use Rattle.check_tool.specs.Types.{Scenario, Entry, Line}
+use Rattle.check_tool.specs.Types.{CheckKind, Scenario, Entry, Line}
 use Rattle.check_tool.specs.Leading.{Leads}
-use Rattle.check_tool.specs.Walked.{MayBeWalked, HaveFollowed, HaveWalked}
+use Rattle.check_tool.specs.Reached.{MayBeReached, AreInterleaved, HaveReached, due_after}
 use Rattle.check_tool.specs.Verdicts.{IsTypedOutput, IsOutputOf, DiffersAt}
 use Rattle.check_tool.proofs.Longest.{longest_both, holds_shorter}
-use Rattle.check_tool.proofs.Schedule.{none_left}
+use Rattle.check_tool.proofs.Interleavings.{interleaved-prefix, none_due}
 use Rattle.check_tool.proofs.FirstLines.{leads_once, none_in_lines}
 
--- ---- how far a walk may have come
+-- ---- how far a walk or a run may have come
 
 allowed-prefix : (scenario : Scenario) (history rest : List Entry) → IsAllowed scenario (history ++ rest) → IsAllowed scenario history
 allowed-prefix scenario history rest all = record {
@@ -36,12 +35,8 @@ allowed-prefix scenario history rest all = record {
   economical = EachEntry-prefix _ history rest all.economical;
 }
 
-walked-prefix : (scenario : Scenario) (history rest : List Entry) → MayBeWalked scenario (history ++ rest) → MayBeWalked scenario history
-walked-prefix scenario history rest all = record {
-  allowed = allowed-prefix scenario history rest all.allowed;
-  follows = EachEntry-prefix _ history rest all.follows;
-  looks = EachEntry-prefix _ history rest all.looks;
-}
+reached-prefix : (kind : CheckKind) (scenario : Scenario) (history rest : List Entry) → MayBeReached kind scenario (history ++ rest) → MayBeReached kind scenario history
+reached-prefix kind scenario history rest all = record { allowed = allowed-prefix scenario history rest all.allowed; interleaved = interleaved-prefix kind scenario history rest all.interleaved }
 
 -- the backends of an allowed history are those of the script
 backends_from : (scenario : Scenario) (before history : List Entry) → EachFrom (IsNext scenario) before history → AllByRecursion (λ e. IsBackend scenario.backends e.backend) history
@@ -52,97 +47,80 @@ pub allowed_backends : (scenario : Scenario) (history : List Entry) (backends : 
 allowed_backends scenario history backends same allowed =
     subst (λ n. All (λ e. IsBackend n e.backend) history) (sym same) (All-from_recursion (λ e. IsBackend scenario.backends e.backend) history (backends_from scenario [] history allowed.plays))
 
-both-prefix : (scenario : Scenario) (history rest : List Entry) → IsAllowed scenario (history ++ rest) × AreLooksTrue (history ++ rest) → IsAllowed scenario history × AreLooksTrue history
-both-prefix scenario history rest both = (allowed-prefix scenario history rest both.0, EachEntry-prefix _ history rest both.1)
-
--- of what the script allows the looks are judged, and of that the turns
-pub walked_far : (scenario : Scenario) (entries : List Entry) (allowed looks followed : ℕ) (lines : List Line) (turn : Option ℕ) → AreSpelled scenario → IsAnswered scenario entries allowed lines → IsLongest AreLooksTrue (take allowed entries) looks
-    → HaveFollowed scenario (take looks (take allowed entries)) followed turn → HaveWalked scenario entries followed turn lines
-walked_far scenario entries allowed looks followed lines turn spelled answered looked turns = record {
+-- of what the script allows it is judged how the entries come
+pub reached_far : (kind : CheckKind) (scenario : Scenario) (entries : List Entry) (allowed far : ℕ) (lines : List Line) (due : Option ℕ) → AreSpelled scenario → IsAnswered scenario entries allowed lines → AreInterleaved kind scenario (take allowed entries) far due
+    → HaveReached kind scenario entries far due lines
+reached_far kind scenario entries allowed far lines due spelled answered come = record {
   spelled = spelled;
-  longest = record { within = longest.within; holds = record { allowed = longest.holds.0.0; follows = longest.holds.1; looks = longest.holds.0.1 }; most = λ less more. longest.most less ((more.allowed, more.looks), more.follows) };
-  turn_is = ap (λ seen. slice_get (turns_left scenario seen) 0) (sym (take-take followed looks entries (omega (arith, few, fewer))) ∙ ap (take followed) (sym nested)) ∙ turns.turn_is;
-  lines_are = λ last. answered.lines_are ∙ ap (lines_of scenario) (take_all allowed entries (omega (arith, last, few, fewer, least)));
+  longest = record { within = longest.within; holds = record { allowed = longest.holds.0; interleaved = longest.holds.1 }; most = λ less more. longest.most less (more.allowed, more.interleaved) };
+  due_is = ap (λ seen. slice_get (due_after kind scenario seen) 0) (sym (take-take far allowed entries fewer)) ∙ come.due_is;
+  lines_are = λ last. answered.lines_are ∙ ap (lines_of scenario) (take_all allowed entries (omega (arith, last, fewer)));
 }
   where
-    size : length (take allowed entries) ≡ allowed
-    size = length-take-le allowed entries answered.longest.within
+    fewer : far ≤ allowed
+    fewer = omega (arith, come.longest.within, length-take-le allowed entries answered.longest.within)
 
-    least : looks ≤ allowed
-    least = omega (arith, looked.within, size)
-
-    fewer : length (take looks (take allowed entries)) ≡ looks
-    fewer = length-take-le looks (take allowed entries) looked.within
-
-    few : followed ≤ length (take looks (take allowed entries))
-    few = turns.longest.within
-
-    nested : take looks (take allowed entries) ≡ take looks entries
-    nested = take-take looks allowed entries least
-
-    longest : IsLongest (λ history. (IsAllowed scenario history × AreLooksTrue history) × FollowsSchedule scenario history) entries followed
-    longest = longest_both (λ history. IsAllowed scenario history × AreLooksTrue history) (FollowsSchedule scenario) (both-prefix scenario) entries looks followed
-        (longest_both (IsAllowed scenario) AreLooksTrue (allowed-prefix scenario) entries allowed looks answered.longest looked) (subst (λ history. IsLongest (FollowsSchedule scenario) history followed) nested turns.longest)
+    longest : IsLongest (λ history. IsAllowed scenario history × IsInterleaved kind scenario history) entries far
+    longest = longest_both (IsAllowed scenario) (IsInterleaved kind scenario) (allowed-prefix scenario) entries allowed far answered.longest come.longest
 
 -- ---- the verdict
 
 -- the history of an output is all that its text begins with, and its lines follow
-output_parts : (scenario : Scenario) (text : List ℕ) (entries : List Entry) (rest : List ℕ) → Leads text entries rest → (o : IsTypedOutput scenario text) → (entries ≡ o.is.history) × (rest ≡ lines_text (lines_of scenario o.is.history) ++ codes "end\n")
-output_parts scenario text entries rest leads o = leads_once text entries o.is.history rest (lines_text (lines_of scenario o.is.history) ++ codes "end\n") leads (record {
+output_parts : (kind : CheckKind) (scenario : Scenario) (text : List ℕ) (entries : List Entry) (rest : List ℕ) → Leads text entries rest → (o : IsTypedOutput kind scenario text) → (entries ≡ o.is.history) × (rest ≡ lines_text (lines_of scenario o.is.history) ++ codes "end\n")
+output_parts kind scenario text entries rest leads o = leads_once text entries o.is.history rest (lines_text (lines_of scenario o.is.history) ++ codes "end\n") leads (record {
   text_is = o.is.text_is ∙ append_assoc (entries_text o.is.history) (lines_text (lines_of scenario o.is.history)) (codes "end\n");
   entries_are = o.entries;
   ends = none_in_lines (lines_of scenario o.is.history);
 })
 
--- all that the text begins with is a whole walk, and its lines follow
-pub is_output : (scenario : Scenario) (text : List ℕ) (entries : List Entry) (rest : List ℕ) (count : ℕ) (turn : Option ℕ) (lines : List Line) → Leads text entries rest → HaveWalked scenario entries count turn lines → (count ≡ length entries) × (turn ≡ None) → All IsLine lines
-    → rest ≡ lines_text lines ++ codes "end\n" → IsOutputOf scenario text count
-is_output scenario text entries rest count turn lines leads far end typed same =
+-- all that the text begins with is a whole history of that kind, and its lines follow
+pub is_output : (kind : CheckKind) (scenario : Scenario) (text : List ℕ) (entries : List Entry) (rest : List ℕ) (count : ℕ) (due : Option ℕ) (lines : List Line) → Leads text entries rest → HaveReached kind scenario entries count due lines → (count ≡ length entries) × (due ≡ None) → All IsLine lines
+    → rest ≡ lines_text lines ++ codes "end\n" → IsOutputOf kind scenario text count
+is_output kind scenario text entries rest count due lines leads far end typed same =
     let all : take count entries ≡ entries = take_all count entries (omega (arith, end.0)) in
-    let walked : MayBeWalked scenario entries = subst (MayBeWalked scenario) all far.longest.holds in
+    let reached : MayBeReached kind scenario entries = subst (MayBeReached kind scenario) all far.longest.holds in
     record {
       is = record {
         is = record {
           history = entries;
-          allowed = walked.allowed;
-          follows = walked.follows;
-          looks = walked.looks;
-          complete = subst (IsComplete scenario) all ((none_left scenario (take count entries) turn far.turn_is).0 end.1);
+          allowed = reached.allowed;
+          interleaved = reached.interleaved;
+          complete = subst (HasAllCome kind scenario) all ((none_due kind scenario (take count entries) due far.due_is).0 end.1);
           text_is = leads.text_is ∙ ap (λ t. entries_text entries ++ t) (same ∙ ap (λ ls. lines_text ls ++ codes "end\n") (far.lines_are end.0)) ∙ sym (append_assoc (entries_text entries) (lines_text (lines_of scenario entries)) (codes "end\n"));
         };
         entries = leads.entries_are;
       };
-      sound = allowed_sound scenario entries far.spelled walked.allowed;
+      sound = allowed_sound scenario entries far.spelled reached.allowed;
       commands = far.spelled;
       answers = subst (All IsLine) (far.lines_are end.0) typed;
       count_is = end.0;
     }
 
--- the longest prefix of a walk is all of it
-all_of : (scenario : Scenario) (entries : List Entry) (count : ℕ) → IsLongest (MayBeWalked scenario) entries count → MayBeWalked scenario entries → count ≡ length entries
-all_of scenario entries count longest walked = by_order (leb_tells (count + 1) (length entries))
+-- the longest prefix of a history that may be reached is all of it
+all_of : (kind : CheckKind) (scenario : Scenario) (entries : List Entry) (count : ℕ) → IsLongest (MayBeReached kind scenario) entries count → MayBeReached kind scenario entries → count ≡ length entries
+all_of kind scenario entries count longest reached = by_order (leb_tells (count + 1) (length entries))
   where
     by_order : ((leb (count + 1) (length entries) ≡ true) × (count + 1 ≤ length entries)) ⊎ ((leb (count + 1) (length entries) ≡ false) × (length entries < count + 1)) → count ≡ length entries
     by_order (inl less) =
-        absurd (longest.most (omega (arith, less.1)) (holds_shorter (MayBeWalked scenario) (walked-prefix scenario) entries (length entries) (count + 1) less.1 (subst (MayBeWalked scenario) (sym (take_all (length entries) entries (omega arith))) walked)))
+        absurd (longest.most (omega (arith, less.1)) (holds_shorter (MayBeReached kind scenario) (reached-prefix kind scenario) entries (length entries) (count + 1) less.1 (subst (MayBeReached kind scenario) (sym (take_all (length entries) entries (omega arith))) reached)))
     by_order (inr more) = omega (arith, more.1, longest.within)
 
 -- an output would have ended so
-no_output : (scenario : Scenario) (text : List ℕ) (entries : List Entry) (rest : List ℕ) (count : ℕ) (turn : Option ℕ) (lines : List Line) → Leads text entries rest → HaveWalked scenario entries count turn lines
-    → ((count ≡ length entries) × (turn ≡ None) → rest ≡ lines_text lines ++ codes "end\n" → ⊥) → IsTypedOutput scenario text → ⊥
-no_output scenario text entries rest count turn lines leads far never o =
-    let parts = output_parts scenario text entries rest leads o in
-    let walked : MayBeWalked scenario entries = subst (MayBeWalked scenario) (sym parts.0) (record { allowed = o.is.allowed; follows = o.is.follows; looks = o.is.looks }) in
-    let last : count ≡ length entries = all_of scenario entries count far.longest walked in
+no_output : (kind : CheckKind) (scenario : Scenario) (text : List ℕ) (entries : List Entry) (rest : List ℕ) (count : ℕ) (due : Option ℕ) (lines : List Line) → Leads text entries rest → HaveReached kind scenario entries count due lines
+    → ((count ≡ length entries) × (due ≡ None) → rest ≡ lines_text lines ++ codes "end\n" → ⊥) → IsTypedOutput kind scenario text → ⊥
+no_output kind scenario text entries rest count due lines leads far never o =
+    let parts = output_parts kind scenario text entries rest leads o in
+    let reached : MayBeReached kind scenario entries = subst (MayBeReached kind scenario) (sym parts.0) (record { allowed = o.is.allowed; interleaved = o.is.interleaved }) in
+    let last : count ≡ length entries = all_of kind scenario entries count far.longest reached in
     let all : take count entries ≡ entries = take_all count entries (omega (arith, last)) in
-    never (last, (none_left scenario (take count entries) turn far.turn_is).1 (subst (IsComplete scenario) (sym parts.0 ∙ sym all) o.is.complete))
+    never (last, (none_due kind scenario (take count entries) due far.due_is).1 (subst (HasAllCome kind scenario) (sym parts.0 ∙ sym all) o.is.complete))
     (parts.1 ∙ ap (λ h. lines_text (lines_of scenario h) ++ codes "end\n") (sym parts.0) ∙ ap (λ ls. lines_text ls ++ codes "end\n") (sym (far.lines_are last)))
 
 -- something is missing
-pub differs_at : (scenario : Scenario) (text : List ℕ) (entries : List Entry) (rest : List ℕ) (count : ℕ) (turn : Option ℕ) (lines : List Line) → Leads text entries rest → HaveWalked scenario entries count turn lines
-    → ((count ≡ length entries) × (turn ≡ None) → rest ≡ lines_text lines ++ codes "end\n" → ⊥) → DiffersAt scenario text (count + 1)
-differs_at scenario text entries rest count turn lines leads far never = record {
-  differs = no_output scenario text entries rest count turn lines leads far never;
+pub differs_at : (kind : CheckKind) (scenario : Scenario) (text : List ℕ) (entries : List Entry) (rest : List ℕ) (count : ℕ) (due : Option ℕ) (lines : List Line) → Leads text entries rest → HaveReached kind scenario entries count due lines
+    → ((count ≡ length entries) × (due ≡ None) → rest ≡ lines_text lines ++ codes "end\n" → ⊥) → DiffersAt kind scenario text (count + 1)
+differs_at kind scenario text entries rest count due lines leads far never = record {
+  differs = no_output kind scenario text entries rest count due lines leads far never;
   entries = entries;
   rest = rest;
   leads = leads;

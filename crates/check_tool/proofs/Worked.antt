@@ -4,10 +4,11 @@ use Rattle.std.proofs.Common.{◌≤◌, ◌<◌, ℕ, Some, None, List, [], ◌
 use Rattle.std.proofs.lemmas.List.Elements.{All-from_recursion}
 use Rattle.event_kinds.specs.declared.entry.Event.TheVariants.{Start, Stop}
 use Rattle.event_kinds.specs.Entries.{IsEntry, IsLine}
+use Rattle.cacheless.specs.declared.check_kind.CheckKind.TheVariants.{Walk}
 use Rattle.check_tool.specs.Leading.{Leads}
 use Rattle.check_tool.specs.Types.{Scenario, Entry, Event}
 use Rattle.check_tool.specs.Verdicts.{IsOutputOf, DiffersAt}
-use Rattle.check_tool.specs.Walked.{MayBeWalked, HaveWalked}
+use Rattle.check_tool.specs.Reached.{MayBeReached, HaveReached}
 use Rattle.check_tool.proofs.FirstLines.{none_without_end, none_in_lines}
 use Rattle.check_tool.proofs.Verdicts.{is_output, differs_at}
 
@@ -36,17 +37,16 @@ stopped_typed = record { backend = small 1 (omega arith); command = small 1 (ome
 at_least_1 : 1 ≤ 1
 at_least_1 = omega arith
 
-started_walked : MayBeWalked idle started
+started_walked : MayBeReached Walk idle started
 started_walked = record {
   allowed = record { legal = (record { life = refl; visible = tt; gone = tt; event = tt }, tt); queue = (tt, tt); plays = (((at_least_1, at_least_1), tt), tt); economical = (tt, tt) };
-  follows = (refl, tt);
-  looks = (tt, tt);
+  interleaved = record { follows = (refl, tt); looks = (tt, tt) };
 }
 
 later : 0 ≤ 1
 later = omega arith
 
-stopped_walked : MayBeWalked idle stopped
+stopped_walked : MayBeReached Walk idle stopped
 stopped_walked = record {
   allowed = record {
     legal = (record { life = refl; visible = tt; gone = tt; event = tt }, (record { life = later; visible = tt; gone = tt; event = refl }, tt));
@@ -54,8 +54,7 @@ stopped_walked = record {
     plays = (((at_least_1, at_least_1), tt), (((at_least_1, at_least_1), (refl, refl)), tt));
     economical = (tt, (tt, tt));
   };
-  follows = (refl, (refl, tt));
-  looks = (tt, (tt, tt));
+  interleaved = record { follows = (refl, (refl, tt)); looks = (tt, (tt, tt)) };
 }
 
 -- ---- the whole output
@@ -64,25 +63,25 @@ stopped_leads : Leads (codes "h 1 0 start\nh 1 1 stop\nend\n") stopped (codes "e
 unfolding digits
 stopped_leads = record { text_is = refl; entries_are = All-from_recursion IsEntry stopped (started_typed, (stopped_typed, tt)); ends = none_in_lines [] }
 
-stopped_far : HaveWalked idle stopped 2 None []
+stopped_far : HaveReached Walk idle stopped 2 None []
 stopped_far = record {
   spelled = tt;
   longest = record { within = omega arith; holds = stopped_walked; most = λ less more. absurd (omega (arith, less)) };
-  turn_is = refl;
+  due_is = refl;
   lines_are = λ all. refl;
 }
 
 -- it is one, with two entries
-pub whole_output : IsOutputOf idle (codes "h 1 0 start\nh 1 1 stop\nend\n") 2
-whole_output = is_output idle (codes "h 1 0 start\nh 1 1 stop\nend\n") stopped (codes "end\n") 2 None [] stopped_leads stopped_far (refl, refl) (All-from_recursion IsLine [] tt) refl
+pub whole_output : IsOutputOf Walk idle (codes "h 1 0 start\nh 1 1 stop\nend\n") 2
+whole_output = is_output Walk idle (codes "h 1 0 start\nh 1 1 stop\nend\n") stopped (codes "end\n") 2 None [] stopped_leads stopped_far (refl, refl) (All-from_recursion IsLine [] tt) refl
 
 blank_leads : Leads (codes "h 1 0 start\nh 1 1 stop\nend\n ") stopped (codes "end\n ")
 unfolding digits
 blank_leads = record { text_is = refl; entries_are = All-from_recursion IsEntry stopped (started_typed, (stopped_typed, tt)); ends = λ e more is same. absurd cc }
 
 -- a blank after it
-pub something_follows : DiffersAt idle (codes "h 1 0 start\nh 1 1 stop\nend\n ") 3
-something_follows = differs_at idle (codes "h 1 0 start\nh 1 1 stop\nend\n ") stopped (codes "end\n ") 2 None [] blank_leads stopped_far (λ all same. absurd cc)
+pub something_follows : DiffersAt Walk idle (codes "h 1 0 start\nh 1 1 stop\nend\n ") 3
+something_follows = differs_at Walk idle (codes "h 1 0 start\nh 1 1 stop\nend\n ") stopped (codes "end\n ") 2 None [] blank_leads stopped_far (λ all same. absurd cc)
 
 -- ---- the stop is cut off in its middle
 
@@ -90,23 +89,23 @@ cut_leads : Leads (codes "h 1 0 start\nh 1 1 sto") started (codes "h 1 1 sto")
 unfolding digits
 cut_leads = record { text_is = refl; entries_are = All-from_recursion IsEntry started (started_typed, tt); ends = none_without_end (codes "h 1 1 sto") 9 refl refl }
 
-started_far : HaveWalked idle started 1 (Some 1) []
+started_far : HaveReached Walk idle started 1 (Some 1) []
 started_far = record {
   spelled = tt;
   longest = record { within = omega arith; holds = started_walked; most = λ less more. absurd (omega (arith, less)) };
-  turn_is = refl;
+  due_is = refl;
   lines_are = λ all. refl;
 }
 
 -- the second entry is missing
-pub cut_off : DiffersAt idle (codes "h 1 0 start\nh 1 1 sto") 2
-cut_off = differs_at idle (codes "h 1 0 start\nh 1 1 sto") started (codes "h 1 1 sto") 1 (Some 1) [] cut_leads started_far (λ all same. let never = all.1 in absurd cc)
+pub cut_off : DiffersAt Walk idle (codes "h 1 0 start\nh 1 1 sto") 2
+cut_off = differs_at Walk idle (codes "h 1 0 start\nh 1 1 sto") started (codes "h 1 1 sto") 1 (Some 1) [] cut_leads started_far (λ all same. let never = all.1 in absurd cc)
 
 -- nothing at all
-pub empty_output : DiffersAt idle [] 1
-empty_output = differs_at idle [] [] [] 0 (Some 1) [] (record { text_is = refl; entries_are = All-from_recursion IsEntry [] tt; ends = λ e more is same. absurd cc }) (record {
+pub empty_output : DiffersAt Walk idle [] 1
+empty_output = differs_at Walk idle [] [] [] 0 (Some 1) [] (record { text_is = refl; entries_are = All-from_recursion IsEntry [] tt; ends = λ e more is same. absurd cc }) (record {
   spelled = tt;
-  longest = record { within = omega arith; holds = record { allowed = record { legal = tt; queue = tt; plays = tt; economical = tt }; follows = tt; looks = tt }; most = λ less more. absurd (omega (arith, less)) };
-  turn_is = refl;
+  longest = record { within = omega arith; holds = record { allowed = record { legal = tt; queue = tt; plays = tt; economical = tt }; interleaved = record { follows = tt; looks = tt } }; most = λ less more. absurd (omega (arith, less)) };
+  due_is = refl;
   lines_are = λ all. refl;
 }) (λ all same. let never = all.1 in absurd cc)

@@ -1,5 +1,5 @@
 pub mod Types
 pub mod Leading
-pub mod Walked
+pub mod Reached
 pub mod Verdicts
 pub mod Turning

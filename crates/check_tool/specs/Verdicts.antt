@@ -8,35 +8,35 @@ use Rattle.history_model.specs.Orderly.{IsSound}
 use Rattle.cacheless.specs.Lines.{lines_of}
 use Rattle.cacheless.specs.Output.{IsOutput}
 use Rattle.check_tool.specs.Leading.{Leads}
-use Rattle.check_tool.specs.Types.{Scenario, Entry}
-use Rattle.check_tool.specs.Walked.{MayBeWalked}
+use Rattle.check_tool.specs.Types.{CheckKind, Scenario, Entry}
+use Rattle.check_tool.specs.Reached.{MayBeReached}
 use Rattle.check_tool.specs.declared.checking.Checked.{Checked}
 use Rattle.check_tool.specs.declared.checking.Checked.TheVariants as answers
 
--- an output of the script, each of whose entries has a text: numbers of four bytes, names as they may be, and a write of something
-pub record IsTypedOutput (scenario : Scenario) (text : List ℕ) : Type 0 where
-  pub is : IsOutput scenario text
+-- an output of `walk` or `run` of the script, each of whose entries has a text: numbers of four bytes, names as they may be, and a write of something
+pub record IsTypedOutput (kind : CheckKind) (scenario : Scenario) (text : List ℕ) : Type 0 where
+  pub is : IsOutput kind scenario text
   pub entries : All IsEntry is.history
 
--- an output of the script, with so many entries; its history is sound, and the script's commands have forms that lines may have, so that each law of such histories is one of it; and its answer lines are such as a reader of texts takes
-pub record IsOutputOf (scenario : Scenario) (text : List ℕ) (count : ℕ) : Type 0 where
-  pub is : IsTypedOutput scenario text
+-- an output of the script of that kind, with so many entries; its history is sound, and the script's commands have forms that lines may have, so that each law of such histories is one of it; and its answer lines are such as a reader of texts takes
+pub record IsOutputOf (kind : CheckKind) (scenario : Scenario) (text : List ℕ) (count : ℕ) : Type 0 where
+  pub is : IsTypedOutput kind scenario text
   pub sound : IsSound is.is.history
   pub commands : AllByRecursion (λ p. IsCommand p.command) scenario.commands
   pub answers : All IsLine (lines_of scenario is.is.history)
   pub count_is : count ≡ length is.is.history
 
--- no output of the script; a walk of it may have come to the entries before this one of those that the text begins with, and not to one more
-pub record DiffersAt (scenario : Scenario) (text : List ℕ) (entry : ℕ) : Type 0 where
-  pub differs : IsTypedOutput scenario text → ⊥
+-- no output of the script; its `walk` or `run` may have come to the entries before this one of those that the text begins with, and not to one more
+pub record DiffersAt (kind : CheckKind) (scenario : Scenario) (text : List ℕ) (entry : ℕ) : Type 0 where
+  pub differs : IsTypedOutput kind scenario text → ⊥
   pub entries : List Entry
   pub rest : List ℕ
   pub leads : Leads text entries rest
   pub count : ℕ
-  pub longest : IsLongest (MayBeWalked scenario) entries count
+  pub longest : IsLongest (MayBeReached kind scenario) entries count
   pub entry_is : entry ≡ count + 1
 
 -- what holds of the script and the text where a check answers so
-abbrev pub IsVerdict : Scenario → List ℕ → Checked → Type 0
-IsVerdict scenario text (answers.Output entries) = IsOutputOf scenario text entries
-IsVerdict scenario text (answers.Differs entry) = DiffersAt scenario text entry
+abbrev pub IsVerdict : CheckKind → Scenario → List ℕ → Checked → Type 0
+IsVerdict kind scenario text (answers.Output entries) = IsOutputOf kind scenario text entries
+IsVerdict kind scenario text (answers.Differs entry) = DiffersAt kind scenario text entry

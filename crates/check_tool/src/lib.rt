@@ -1,16 +1,17 @@
-//! Whether some bytes are what `walk` writes for a script, by the definitions alone: no walk is made.
+//! Whether some bytes are what `walk` or `run` writes for a script, by the definitions alone: nothing is run.
 //!
-//! [`check`] reads the entries that the bytes begin with, line by line, and asks three times how many of these,
-//! from the first on, are right: how many the script allows (`history_lines`), how many look truly, as a walk
-//! does, and how many come in the order of the script's schedule. Then the schedule has to be at its end, and
-//! what follows the entries has to be the answer lines of the history and the line `end`, byte for byte.
+//! [`check`] reads the entries that the bytes begin with, line by line, and asks how many of these, from the first
+//! on, are right: how many the script allows (`history_lines`), and for `walk`, how many look truly and how many
+//! come in the order of the script's schedule. Then nothing may be left to come: for `walk` no turn of the
+//! schedule, for `run` no backend that hasn't stopped. What follows the entries has to be the answer lines of the
+//! history and the line `end`, byte for byte.
 //!
-//! The promise: `Output` comes exactly where the bytes are an output of the script (`IsTypedOutput`), with the
-//! number of its entries. Else the answer names one entry: the first of the leading ones that a walk may not make
-//! there, or the one after the last where all of them are right.
+//! The promise: `Output` comes exactly where the bytes are an output of the script of that kind (`IsTypedOutput`),
+//! with the number of its entries. Else the answer names one entry: the first of the leading ones that may not
+//! come there, or the one after the last where all of them are right.
 //!
 //! ```text
-//! let checked = check(alloc, &script, &bytes)?;
+//! let checked = check(alloc, &script, CheckKind::Walk, &bytes)?;
 //! let is_output = matches!(checked, Checked::Output { .. });
 //! ```
 //!
@@ -22,12 +23,15 @@
 
 mod answer_lines;
 mod checking;
+mod interleaved;
 mod leading;
 mod looking;
+mod reached;
 mod scheduled;
-mod walked;
+mod stopped;
 
 pub use answer_lines::after_line;
+pub use cacheless::CheckKind;
 pub use checking::{Checked, check};
 pub use leading::{Leading, leading_entries};
-pub use walked::{Walked, walked_prefix};
+pub use reached::{Reached, reached_prefix};

@@ -1,31 +1,26 @@
-ghost use Rattle.std.specs.Prelude.{◌≡◌, ◌≤◌, ◌+◌, ◌-◌, ◌++◌, ◌∷◌, [], Some, true, false, not, List, ℕ, length, drop, filter, slice_get, slice_set, replicate, All, IfOk, IfSome, OnOk};
+ghost use Rattle.std.specs.Prelude.{◌≡◌, ◌≤◌, ◌++◌, [], Some, List, length, drop, slice_get, replicate, IfOk, OnOk};
 ghost use Rattle.std.specs.Bool.{Decides};
-ghost use Rattle.std.specs.List.{AllByRecursion, range_with_len, flat_map};
-ghost use Rattle.base_types.specs.Scenario.{IsBackend, AreTurns, schedule_of, turns_of};
+ghost use Rattle.std.specs.List.{AllByRecursion};
+ghost use Rattle.base_types.specs.Scenario.{IsBackend, schedule_of, turns_of};
 ghost use Rattle.event_kinds.specs.declared.entry.Entry.{Entry};
-ghost use Rattle.cacheless.specs.Schedule.{has_stopped, pass_stopped};
-ghost use Rattle.check_tool.specs.Walked.{HaveFollowed};
-ghost use Rattle.check_tool.specs.Turning.{TellStopped, stopped_after};
+ghost use Rattle.cacheless.specs.Schedule.{pass_stopped};
+ghost use Rattle.check_tool.specs.Reached.{HaveFollowed};
+ghost use Rattle.check_tool.specs.Turning.{TellStopped};
 
-use base_types::{Listed, NoMemory, Turns};
-use event_kinds::{Entry, Event};
+use crate::interleaved::Interleaved;
+use crate::stopped::{all_running, first_running, note};
+use base_types::{NoMemory, Turns};
+use event_kinds::Entry;
 use script_text::Script;
 use std::alloc::Global;
-
-// How many entries, from the first on, follow a schedule, and the backend whose turn comes after these, if one does.
-#[derive(Drop)]
-pub(crate) struct Followed {
-    pub(crate) entries: usize,
-    pub(crate) turn: Option<u32>,
-}
 
 // How far these entries follow the script's schedule.
 pub(crate) fn follow(
     alloc: Global,
     script: &Script,
     entries: &[Entry],
-) -> Result<Followed, NoMemory>
-    ensures { IfOk result (λ f. HaveFollowed script.now entries.now f.entries f.turn) }
+) -> Result<Interleaved, NoMemory>
+    ensures { IfOk result (λ f. HaveFollowed script.now entries.now f.entries f.due) }
 {
     if script.steps().is_empty() {
         in_turn(alloc, script, entries)
@@ -35,28 +30,31 @@ pub(crate) fn follow(
 }
 
 // The same without lines of steps: each backend runs to its stop.
-fn in_turn(alloc: Global, script: &Script, entries: &[Entry]) -> Result<Followed, NoMemory>
+fn in_turn(alloc: Global, script: &Script, entries: &[Entry]) -> Result<Interleaved, NoMemory>
     requires { script.now.steps ≡ [] }
-    ensures { IfOk result (λ f. HaveFollowed script.now entries.now f.entries f.turn) }
+    ensures { IfOk result (λ f. HaveFollowed script.now entries.now f.entries f.due) }
 {
     let mut stopped = all_running(alloc, script.backends())?;
     for (at, e) in entries.iter().enumerate() {
         let turn = first_running(&stopped);
         if !is_turn_of(turn, e.backend) {
-            return Ok(Followed { entries: at, turn });
+            return Ok(Interleaved {
+                entries: at,
+                due: turn,
+            });
         }
         note(&mut stopped, e);
     }
-    Ok(Followed {
+    Ok(Interleaved {
         entries: entries.len(),
-        turn: first_running(&stopped),
+        due: first_running(&stopped),
     })
 }
 
 // The same by lines of steps.
-fn by_steps(alloc: Global, script: &Script, entries: &[Entry]) -> Result<Followed, NoMemory>
+fn by_steps(alloc: Global, script: &Script, entries: &[Entry]) -> Result<Interleaved, NoMemory>
     requires { 1 ≤ length script.now.steps }
-    ensures { IfOk result (λ f. HaveFollowed script.now entries.now f.entries f.turn) }
+    ensures { IfOk result (λ f. HaveFollowed script.now entries.now f.entries f.due) }
 {
     let steps = all_steps(alloc, script)?;
     let mut stopped = all_running(alloc, script.backends())?;
@@ -65,15 +63,18 @@ fn by_steps(alloc: Global, script: &Script, entries: &[Entry]) -> Result<Followe
         taken = pass(&steps, taken, &stopped);
         let turn = step_at(&steps, taken);
         if !is_turn_of(turn, e.backend) {
-            return Ok(Followed { entries: at, turn });
+            return Ok(Interleaved {
+                entries: at,
+                due: turn,
+            });
         }
         taken += 1;
         note(&mut stopped, e);
     }
     let left = pass(&steps, taken, &stopped);
-    Ok(Followed {
+    Ok(Interleaved {
         entries: entries.len(),
-        turn: step_at(&steps, left),
+        due: step_at(&steps, left),
     })
 }
 
@@ -110,47 +111,6 @@ fn pass(steps: &[u32], from: usize, stopped: &[bool]) -> usize
         at += 1;
     }
     at
-}
-
-// The first backend that hasn't stopped.
-fn first_running(stopped: &[bool]) -> Option<u32>
-    requires { length stopped.now ≤ 64 }
-    ensures range { IfSome result (λ b. IsBackend (length stopped.now) b) }
-    ensures first { (seen : List Entry) → TellStopped seen stopped.now → result ≡ slice_get (filter (λ b. not (has_stopped seen b)) (range_with_len 1 (length stopped.now))) 0 }
-{
-    for (i, has) in stopped.iter().enumerate() {
-        if !*has {
-            return Some(i as u32 + 1);
-        }
-    }
-    None
-}
-
-// No backend has stopped yet.
-fn all_running(alloc: Global, backends: u32) -> Result<Vec<bool>, NoMemory>
-    ensures { IfOk result (λ stopped. stopped.items ≡ replicate backends false) }
-{
-    let mut stopped = Vec::new(alloc);
-    for _number in 0..backends {
-        stopped.push(false)?;
-    }
-    Ok(stopped)
-}
-
-// Notes an entry.
-fn note(stopped: &mut [bool], e: &Entry)
-    requires { IsBackend (length stopped.old) e.now.backend }
-    ensures tell { (seen : List Entry) → TellStopped seen stopped.old → TellStopped (seen ++ e.now ∷ []) stopped.new }
-    ensures count { length stopped.new ≡ length stopped.old }
-{
-    stopped[e.backend as usize - 1] = is_stop(&e.event);
-}
-
-// Whether a backend has stopped, after one of its events.
-fn is_stop(event: &Event) -> bool
-    ensures { result ≡ stopped_after event.now }
-{
-    matches!(event, Event::Stop)
 }
 
 // The backends of all steps, in order.

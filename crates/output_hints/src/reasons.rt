@@ -1,5 +1,6 @@
 use crate::holding::held;
 use base_types::NoMemory;
+use check_tool::CheckKind;
 use event_kinds::{Entry, Event};
 use history_ledger::Ledger;
 use script_text::Script;
@@ -12,10 +13,11 @@ const ALL_MESSAGES: u32 = u32::MAX;
 // The most messages that one fetch takes.
 const MOST_FETCHED: usize = 32;
 
-// Why an entry of the backend whose turn it is may not come after these.
+// Why an entry may not come after these, whose backend may make one here.
 pub(crate) fn reason(
     alloc: Global,
     text: &mut String,
+    kind: CheckKind,
     script: &Script,
     before: &[Entry],
     e: &Entry,
@@ -23,7 +25,7 @@ pub(crate) fn reason(
     let Some(ledger) = held(alloc, script.size(), before)? else {
         return Ok(text.push_str("it may not come here")?);
     };
-    if of_event(text, &ledger, script.size(), e)? {
+    if of_event(text, &ledger, kind, script.size(), e)? {
         return Ok(());
     }
     if ledger.may_follow(e, script.size())? {
@@ -39,9 +41,15 @@ pub(crate) fn reason(
 }
 
 // What the entries before say of the entry, where that is a number. Answers whether it is.
-fn of_event(text: &mut String, ledger: &Ledger, size: u32, e: &Entry) -> Result<bool, NoMemory> {
+fn of_event(
+    text: &mut String,
+    ledger: &Ledger,
+    kind: CheckKind,
+    size: u32,
+    e: &Entry,
+) -> Result<bool, NoMemory> {
     match &e.event {
-        Event::Look { yes } => of_look(text, ledger, e.backend, *yes),
+        Event::Look { yes } => of_look(text, ledger, kind, e.backend, *yes),
         Event::Fetch { count } => of_fetch(text, ledger, size, e.backend, *count),
         Event::FetchReset => of_reset(text, ledger, size, e.backend),
         Event::Scan { purpose, rows } => {
@@ -61,9 +69,19 @@ fn waiting(ledger: &Ledger, b: u32) -> usize {
     ledger.fetched(b, ALL_MESSAGES).len()
 }
 
-fn of_look(text: &mut String, ledger: &Ledger, b: u32, yes: bool) -> Result<bool, NoMemory> {
+// A look of `run` may say no though messages have come since its backend's last entry.
+fn of_look(
+    text: &mut String,
+    ledger: &Ledger,
+    kind: CheckKind,
+    b: u32,
+    yes: bool,
+) -> Result<bool, NoMemory> {
     let count = waiting(ledger, b);
-    let differs = yes != (count > 0);
+    let differs = match kind {
+        CheckKind::Walk => yes != (count > 0),
+        CheckKind::Run => yes && count == 0,
+    };
     if differs {
         push_waiting(text, count)?;
     }
@@ -138,7 +156,8 @@ fn rule(event: &Event) -> &'static str {
         Event::Release { .. } =>
             "messages are still to send, a write is still open, or another command was the first",
         Event::Gone { .. } => "there is no write to take back",
-        Event::Fail => "no command runs out of memory in a walk",
+        Event::Look { .. } => "messages waited at its backend's last entry",
+        Event::Fail => "no command of an output runs out of memory",
         _ => "the entries before don't allow it",
     }
 }

@@ -10,30 +10,11 @@ use Rattle.event_kinds.specs.declared.entry.Entry.{Entry}
 use Rattle.history_model.proofs.Prefixes.{EachEntry-more}
 use Rattle.history_model.proofs.Reading.{life_of-other}
 use Rattle.cacheless.specs.Schedule.{FollowsSchedule, IsComplete, is_stopped, has_stopped, turns_by, turns_left}
+use Rattle.by_backend.proofs.PassingNumbers.{first_that_passes, none_passes}
 use Rattle.backend_core.specs.declared.backend.Backend.{Backend}
 use Rattle.backend_core.specs.Words.{has_left}
 use Rattle.walk_run.specs.Walks.{AllStand, InTurn, GoesOn, IsRunning, Makes}
 use Rattle.walk_run.proofs.ScheduleSteps.{stand_more, stands_there, stopped_at}
-
--- the first of some numbers that passes, where all before it fail
-first_that_passes : (passes : ℕ → Bool) (a n b : ℕ) → a ≤ b → b < a + n → ((c : ℕ) → a ≤ c → c < b → passes c ≡ false) → passes b ≡ true → slice_get (filter passes (range_with_len a n)) 0 ≡ Some b
-first_that_passes passes a zero b low high fail pass = absurd (omega arith)
-first_that_passes passes a (suc n) b low high fail pass = of (eqb_tells a b) (λ below. first_that_passes passes (a + 1) n b (omega arith) (omega arith) (λ c from to. fail c (omega arith) to) pass)
-  where
-    of : (((a == b) ≡ true) × (a ≡ b)) ⊎ (((a == b) ≡ false) × (a ≢ b)) → (a < b → slice_get (filter passes (range_with_len (a + 1) n)) 0 ≡ Some b)
-        → slice_get (cond (passes a) (a ∷ filter passes (range_with_len (a + 1) n)) (filter passes (range_with_len (a + 1) n))) 0 ≡ Some b
-    of (inl same) rest = ap (λ t. slice_get (cond t (a ∷ filter passes (range_with_len (a + 1) n)) (filter passes (range_with_len (a + 1) n))) 0) (ap passes same.1 ∙ pass) ∙ ap Some same.1
-    of (inr apart) rest =
-        let ne = apart.1 in
-        let below : a < b = omega arith in
-        ap (λ t. slice_get (cond t (a ∷ filter passes (range_with_len (a + 1) n)) (filter passes (range_with_len (a + 1) n))) 0) (fail a (omega arith) below) ∙ rest below
-
--- none of some numbers passes
-none_passes : (passes : ℕ → Bool) (a n : ℕ) → ((c : ℕ) → a ≤ c → c < a + n → passes c ≡ false) → filter passes (range_with_len a n) ≡ []
-none_passes passes a zero fail = refl
-none_passes passes a (suc n) fail =
-    ap (λ t. cond t (a ∷ filter passes (range_with_len (a + 1) n)) (filter passes (range_with_len (a + 1) n))) (fail a (omega arith) (omega arith))
-    ∙ none_passes passes (a + 1) n (λ c from to. fail c (omega arith) (omega arith))
 
 turns_by-none : (s : Scenario) (h : List Entry) (lines : List (List Turns)) → lines ≡ [] → turns_by s h lines ≡ filter (λ b. not (has_stopped h b)) (range_with_len 1 s.backends)
 turns_by-none s h lines none = ap (turns_by s h) none

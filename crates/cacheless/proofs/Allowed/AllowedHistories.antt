@@ -4,7 +4,7 @@ use Rattle.history_model.specs.Legal.{MayFollow, IsLegal}
 use Rattle.history_model.specs.Orderly.{MayComeNext, IsSound}
 use Rattle.history_model.specs.Read.{ScansOnlyIfNeeded, IsEconomical}
 use Rattle.history_model.proofs.Prefixes.{EachEntry-more, EachEntry-weaker, EachFrom-both, each-keeps}
-use Rattle.cacheless.specs.Types.{Scenario, Entry}
+use Rattle.cacheless.specs.Types.{Scenario, Entry, CheckKind}
 use Rattle.cacheless.specs.OnCourse.{AllOnCourse}
 use Rattle.cacheless.specs.Played.{AreSpelled, IsPlayed}
 use Rattle.cacheless.specs.Plays.{IsNext, Plays}
@@ -61,5 +61,5 @@ pub allowed_on_course : (scenario : Scenario) (history : List Entry) → AreSpel
 allowed_on_course scenario history spelled allowed = (plays_on_course scenario history spelled allowed.legal allowed.plays).1
 
 -- as is the history of an output
-pub output_sound : (scenario : Scenario) (text : List ℕ) (output : IsOutput scenario text) → AreSpelled scenario → IsSound output.history
-output_sound scenario text output spelled = allowed_sound scenario output.history spelled output.allowed
+pub output_sound : (kind : CheckKind) (scenario : Scenario) (text : List ℕ) (output : IsOutput kind scenario text) → AreSpelled scenario → IsSound output.history
+output_sound kind scenario text output spelled = allowed_sound scenario output.history spelled output.allowed

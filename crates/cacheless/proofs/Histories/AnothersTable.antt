@@ -15,6 +15,7 @@ use Rattle.history_model.proofs.Sound.{sound_is_legal}
 use Rattle.cacheless.specs.Plays.{IsNext, Plays}
 use Rattle.cacheless.specs.Schedule.{FollowsSchedule, AreLooksTrue, IsComplete}
 use Rattle.cacheless.specs.Lines.{lines_of}
+use Rattle.cacheless.specs.declared.check_kind.CheckKind.TheVariants.{Walk}
 use Rattle.cacheless.specs.Output.{IsOutput}
 use Rattle.cacheless.proofs.Plans.Given.{oid, xid, entry, placed, turns, script, creating, new_table}
 
@@ -292,5 +293,5 @@ pub show_of_anothers_table_spelled : text_of stopped (lines_of show_of_anothers_
 unfolding digits
 show_of_anothers_table_spelled = refl
 
-pub show_of_anothers_table_output : IsOutput show_of_anothers_table show_of_anothers_table_text
-show_of_anothers_table_output = record { history = stopped; allowed = record { legal = sound_is_legal stopped show_of_anothers_table_sound; queue = show_of_anothers_table_queue; plays = show_of_anothers_table_plays; economical = show_of_anothers_table_economical }; follows = show_of_anothers_table_follows; looks = show_of_anothers_table_looks; complete = show_of_anothers_table_complete; text_is = sym show_of_anothers_table_spelled }
+pub show_of_anothers_table_output : IsOutput Walk show_of_anothers_table show_of_anothers_table_text
+show_of_anothers_table_output = record { history = stopped; allowed = record { legal = sound_is_legal stopped show_of_anothers_table_sound; queue = show_of_anothers_table_queue; plays = show_of_anothers_table_plays; economical = show_of_anothers_table_economical }; interleaved = record { follows = show_of_anothers_table_follows; looks = show_of_anothers_table_looks }; complete = show_of_anothers_table_complete; text_is = sym show_of_anothers_table_spelled }

@@ -15,6 +15,7 @@ use Rattle.history_model.proofs.Sound.{sound_is_legal}
 use Rattle.cacheless.specs.Plays.{IsNext, Plays}
 use Rattle.cacheless.specs.Schedule.{FollowsSchedule, AreLooksTrue, IsComplete}
 use Rattle.cacheless.specs.Lines.{lines_of}
+use Rattle.cacheless.specs.declared.check_kind.CheckKind.TheVariants.{Walk}
 use Rattle.cacheless.specs.Output.{IsOutput}
 use Rattle.cacheless.proofs.Plans.Given.{oid, xid, entry, placed, turns, script, creating, new_table}
 
@@ -243,8 +244,8 @@ pub columns_of_a_later_table_spelled : text_of listed (lines_of columns_of_a_lat
 unfolding digits
 columns_of_a_later_table_spelled = refl
 
-pub columns_of_a_later_table_output : IsOutput columns_of_a_later_table columns_of_a_later_table_text
-columns_of_a_later_table_output = record { history = listed; allowed = record { legal = sound_is_legal listed columns_of_a_later_table_sound; queue = columns_of_a_later_table_queue; plays = columns_of_a_later_table_plays; economical = columns_of_a_later_table_economical }; follows = columns_of_a_later_table_follows; looks = columns_of_a_later_table_looks; complete = columns_of_a_later_table_complete; text_is = sym columns_of_a_later_table_spelled }
+pub columns_of_a_later_table_output : IsOutput Walk columns_of_a_later_table columns_of_a_later_table_text
+columns_of_a_later_table_output = record { history = listed; allowed = record { legal = sound_is_legal listed columns_of_a_later_table_sound; queue = columns_of_a_later_table_queue; plays = columns_of_a_later_table_plays; economical = columns_of_a_later_table_economical }; interleaved = record { follows = columns_of_a_later_table_follows; looks = columns_of_a_later_table_looks }; complete = columns_of_a_later_table_complete; text_is = sym columns_of_a_later_table_spelled }
 
 -- after the other table's messages, the reader has looked once more than it has to
 abbrev pub name_kept : List Entry

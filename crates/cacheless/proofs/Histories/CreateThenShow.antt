@@ -15,6 +15,7 @@ use Rattle.history_model.proofs.Sound.{sound_is_legal}
 use Rattle.cacheless.specs.Plays.{IsNext, Plays}
 use Rattle.cacheless.specs.Schedule.{FollowsSchedule, AreLooksTrue, IsComplete}
 use Rattle.cacheless.specs.Lines.{lines_of}
+use Rattle.cacheless.specs.declared.check_kind.CheckKind.TheVariants.{Walk}
 use Rattle.cacheless.specs.Output.{IsOutput}
 use Rattle.cacheless.proofs.Plans.Given.{oid, xid, entry, placed, script, creating, new_table}
 
@@ -280,5 +281,5 @@ pub create_then_show_spelled : text_of stopped (lines_of create_then_show stoppe
 unfolding digits
 create_then_show_spelled = refl
 
-pub create_then_show_output : IsOutput create_then_show create_then_show_text
-create_then_show_output = record { history = stopped; allowed = record { legal = sound_is_legal stopped create_then_show_sound; queue = create_then_show_queue; plays = create_then_show_plays; economical = create_then_show_economical }; follows = create_then_show_follows; looks = create_then_show_looks; complete = create_then_show_complete; text_is = sym create_then_show_spelled }
+pub create_then_show_output : IsOutput Walk create_then_show create_then_show_text
+create_then_show_output = record { history = stopped; allowed = record { legal = sound_is_legal stopped create_then_show_sound; queue = create_then_show_queue; plays = create_then_show_plays; economical = create_then_show_economical }; interleaved = record { follows = create_then_show_follows; looks = create_then_show_looks }; complete = create_then_show_complete; text_is = sym create_then_show_spelled }

@@ -14,6 +14,7 @@ use Rattle.history_model.proofs.Sound.{sound_is_legal}
 use Rattle.cacheless.specs.Plays.{IsNext, Plays}
 use Rattle.cacheless.specs.Schedule.{FollowsSchedule, AreLooksTrue, IsComplete}
 use Rattle.cacheless.specs.Lines.{lines_of}
+use Rattle.cacheless.specs.declared.check_kind.CheckKind.TheVariants.{Walk}
 use Rattle.cacheless.specs.Output.{IsOutput}
 use Rattle.cacheless.proofs.Plans.Given.{xid, entry, placed, script, creating, new_table}
 
@@ -132,5 +133,5 @@ pub failed_block_spelled : text_of stopped (lines_of failed_block stopped) ≡ f
 unfolding digits
 failed_block_spelled = refl
 
-pub failed_block_output : IsOutput failed_block failed_block_text
-failed_block_output = record { history = stopped; allowed = record { legal = sound_is_legal stopped failed_block_sound; queue = failed_block_queue; plays = failed_block_plays; economical = failed_block_economical }; follows = failed_block_follows; looks = failed_block_looks; complete = failed_block_complete; text_is = sym failed_block_spelled }
+pub failed_block_output : IsOutput Walk failed_block failed_block_text
+failed_block_output = record { history = stopped; allowed = record { legal = sound_is_legal stopped failed_block_sound; queue = failed_block_queue; plays = failed_block_plays; economical = failed_block_economical }; interleaved = record { follows = failed_block_follows; looks = failed_block_looks }; complete = failed_block_complete; text_is = sym failed_block_spelled }

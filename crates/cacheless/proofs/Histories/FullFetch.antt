@@ -14,6 +14,7 @@ use Rattle.history_model.proofs.Sound.{sound_is_legal}
 use Rattle.cacheless.specs.Plays.{IsNext, Plays}
 use Rattle.cacheless.specs.Schedule.{FollowsSchedule, AreLooksTrue, IsComplete}
 use Rattle.cacheless.specs.Lines.{lines_of}
+use Rattle.cacheless.specs.declared.check_kind.CheckKind.TheVariants.{Walk}
 use Rattle.cacheless.specs.Output.{IsOutput}
 use Rattle.cacheless.proofs.Plans.Given.{xid, entry, placed, turns, script, wide_columns, wide_table}
 
@@ -204,5 +205,5 @@ pub fetch_of_exactly_32_spelled : text_of writer_stopped (lines_of fetch_of_exac
 unfolding digits
 fetch_of_exactly_32_spelled = refl
 
-pub fetch_of_exactly_32_output : IsOutput fetch_of_exactly_32 fetch_of_exactly_32_text
-fetch_of_exactly_32_output = record { history = writer_stopped; allowed = record { legal = sound_is_legal writer_stopped fetch_of_exactly_32_sound; queue = fetch_of_exactly_32_queue; plays = fetch_of_exactly_32_plays; economical = fetch_of_exactly_32_economical }; follows = fetch_of_exactly_32_follows; looks = fetch_of_exactly_32_looks; complete = fetch_of_exactly_32_complete; text_is = sym fetch_of_exactly_32_spelled }
+pub fetch_of_exactly_32_output : IsOutput Walk fetch_of_exactly_32 fetch_of_exactly_32_text
+fetch_of_exactly_32_output = record { history = writer_stopped; allowed = record { legal = sound_is_legal writer_stopped fetch_of_exactly_32_sound; queue = fetch_of_exactly_32_queue; plays = fetch_of_exactly_32_plays; economical = fetch_of_exactly_32_economical }; interleaved = record { follows = fetch_of_exactly_32_follows; looks = fetch_of_exactly_32_looks }; complete = fetch_of_exactly_32_complete; text_is = sym fetch_of_exactly_32_spelled }

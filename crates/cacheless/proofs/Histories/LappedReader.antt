@@ -14,6 +14,7 @@ use Rattle.history_model.proofs.Sound.{sound_is_legal}
 use Rattle.cacheless.specs.Plays.{IsNext, Plays}
 use Rattle.cacheless.specs.Schedule.{FollowsSchedule, AreLooksTrue, IsComplete}
 use Rattle.cacheless.specs.Lines.{lines_of}
+use Rattle.cacheless.specs.declared.check_kind.CheckKind.TheVariants.{Walk}
 use Rattle.cacheless.specs.Output.{IsOutput}
 use Rattle.cacheless.proofs.Plans.Given.{xid, entry, placed, turns, small_queue, wide_columns, wide_table}
 
@@ -246,5 +247,5 @@ pub lapped_reader_spelled : text_of stopped (lines_of lapped_reader stopped) ≡
 unfolding digits
 lapped_reader_spelled = refl
 
-pub lapped_reader_output : IsOutput lapped_reader lapped_reader_text
-lapped_reader_output = record { history = stopped; allowed = record { legal = sound_is_legal stopped lapped_reader_sound; queue = lapped_reader_queue; plays = lapped_reader_plays; economical = lapped_reader_economical }; follows = lapped_reader_follows; looks = lapped_reader_looks; complete = lapped_reader_complete; text_is = sym lapped_reader_spelled }
+pub lapped_reader_output : IsOutput Walk lapped_reader lapped_reader_text
+lapped_reader_output = record { history = stopped; allowed = record { legal = sound_is_legal stopped lapped_reader_sound; queue = lapped_reader_queue; plays = lapped_reader_plays; economical = lapped_reader_economical }; interleaved = record { follows = lapped_reader_follows; looks = lapped_reader_looks }; complete = lapped_reader_complete; text_is = sym lapped_reader_spelled }

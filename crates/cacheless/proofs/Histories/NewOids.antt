@@ -13,6 +13,7 @@ use Rattle.history_model.proofs.Sound.{sound_is_legal}
 use Rattle.cacheless.specs.Plays.{IsNext, Plays}
 use Rattle.cacheless.specs.Schedule.{FollowsSchedule, AreLooksTrue, IsComplete}
 use Rattle.cacheless.specs.Lines.{lines_of}
+use Rattle.cacheless.specs.declared.check_kind.CheckKind.TheVariants.{Walk}
 use Rattle.cacheless.specs.Output.{IsOutput}
 use Rattle.cacheless.proofs.Plans.Given.{xid, entry, placed, script, creating, new_table}
 
@@ -155,5 +156,5 @@ pub oids_are_not_drawn_again_spelled : text_of stopped (lines_of oids_are_not_dr
 unfolding digits
 oids_are_not_drawn_again_spelled = refl
 
-pub oids_are_not_drawn_again_output : IsOutput oids_are_not_drawn_again oids_are_not_drawn_again_text
-oids_are_not_drawn_again_output = record { history = stopped; allowed = record { legal = sound_is_legal stopped oids_are_not_drawn_again_sound; queue = oids_are_not_drawn_again_queue; plays = oids_are_not_drawn_again_plays; economical = oids_are_not_drawn_again_economical }; follows = oids_are_not_drawn_again_follows; looks = oids_are_not_drawn_again_looks; complete = oids_are_not_drawn_again_complete; text_is = sym oids_are_not_drawn_again_spelled }
+pub oids_are_not_drawn_again_output : IsOutput Walk oids_are_not_drawn_again oids_are_not_drawn_again_text
+oids_are_not_drawn_again_output = record { history = stopped; allowed = record { legal = sound_is_legal stopped oids_are_not_drawn_again_sound; queue = oids_are_not_drawn_again_queue; plays = oids_are_not_drawn_again_plays; economical = oids_are_not_drawn_again_economical }; interleaved = record { follows = oids_are_not_drawn_again_follows; looks = oids_are_not_drawn_again_looks }; complete = oids_are_not_drawn_again_complete; text_is = sym oids_are_not_drawn_again_spelled }

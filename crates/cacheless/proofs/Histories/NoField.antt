@@ -16,6 +16,7 @@ use Rattle.history_model.proofs.Sound.{sound_is_legal}
 use Rattle.cacheless.specs.Plays.{IsNext, Plays}
 use Rattle.cacheless.specs.Schedule.{FollowsSchedule, AreLooksTrue, IsComplete}
 use Rattle.cacheless.specs.Lines.{lines_of}
+use Rattle.cacheless.specs.declared.check_kind.CheckKind.TheVariants.{Walk}
 use Rattle.cacheless.specs.Output.{IsOutput}
 use Rattle.cacheless.proofs.Plans.Given.{oid, xid, entry, placed, script, creating, new_table}
 
@@ -164,5 +165,5 @@ pub no_field_spelled : text_of stopped (lines_of no_field stopped) ≡ no_field_
 unfolding digits
 no_field_spelled = refl
 
-pub no_field_output : IsOutput no_field no_field_text
-no_field_output = record { history = stopped; allowed = record { legal = sound_is_legal stopped no_field_sound; queue = no_field_queue; plays = no_field_plays; economical = no_field_economical }; follows = no_field_follows; looks = no_field_looks; complete = no_field_complete; text_is = sym no_field_spelled }
+pub no_field_output : IsOutput Walk no_field no_field_text
+no_field_output = record { history = stopped; allowed = record { legal = sound_is_legal stopped no_field_sound; queue = no_field_queue; plays = no_field_plays; economical = no_field_economical }; interleaved = record { follows = no_field_follows; looks = no_field_looks }; complete = no_field_complete; text_is = sym no_field_spelled }

@@ -19,6 +19,7 @@ use Rattle.history_model.proofs.Sound.{sound_is_legal}
 use Rattle.cacheless.specs.Plays.{IsNext, Plays}
 use Rattle.cacheless.specs.Schedule.{FollowsSchedule, AreLooksTrue, IsComplete}
 use Rattle.cacheless.specs.Lines.{lines_of}
+use Rattle.cacheless.specs.declared.check_kind.CheckKind.TheVariants.{Walk}
 use Rattle.cacheless.specs.Output.{IsOutput}
 use Rattle.cacheless.proofs.Plans.Given.{oid, xid, entry, placed, turns, script, creating, new_table}
 
@@ -97,8 +98,8 @@ pub open_table_spelled : text_of ended (lines_of open_table ended) ≡ open_tabl
 unfolding digits
 open_table_spelled = refl
 
-pub open_table_output : IsOutput open_table open_table_text
-open_table_output = record { history = ended; allowed = record { legal = sound_is_legal ended open_table_sound; queue = open_table_queue; plays = open_table_plays; economical = open_table_economical }; follows = open_table_follows; looks = open_table_looks; complete = open_table_complete; text_is = sym open_table_spelled }
+pub open_table_output : IsOutput Walk open_table open_table_text
+open_table_output = record { history = ended; allowed = record { legal = sound_is_legal ended open_table_sound; queue = open_table_queue; plays = open_table_plays; economical = open_table_economical }; interleaved = record { follows = open_table_follows; looks = open_table_looks }; complete = open_table_complete; text_is = sym open_table_spelled }
 
 -- the open table isn't read again unless a message for it comes
 pub open_read_again : IsNext open_table (opened ++ entry 1 4 (Look false) ∷ []) (entry 1 4 (Scan (scans.Class (oid 16384)) 1)) → ⊥

@@ -19,6 +19,7 @@ use Rattle.history_model.proofs.Sound.{sound_is_legal}
 use Rattle.cacheless.specs.Plays.{IsNext, Plays}
 use Rattle.cacheless.specs.Schedule.{FollowsSchedule, AreLooksTrue, IsComplete}
 use Rattle.cacheless.specs.Lines.{lines_of}
+use Rattle.cacheless.specs.declared.check_kind.CheckKind.TheVariants.{Walk}
 use Rattle.cacheless.specs.Output.{IsOutput}
 use Rattle.cacheless.proofs.Plans.Given.{oid, xid, entry, placed, turns, script, creating, new_table}
 
@@ -105,8 +106,8 @@ pub rebuilt_table_spelled : text_of ended (lines_of rebuilt_table ended) ≡ reb
 unfolding digits
 rebuilt_table_spelled = refl
 
-pub rebuilt_table_output : IsOutput rebuilt_table rebuilt_table_text
-rebuilt_table_output = record { history = ended; allowed = record { legal = sound_is_legal ended rebuilt_table_sound; queue = rebuilt_table_queue; plays = rebuilt_table_plays; economical = rebuilt_table_economical }; follows = rebuilt_table_follows; looks = rebuilt_table_looks; complete = rebuilt_table_complete; text_is = sym rebuilt_table_spelled }
+pub rebuilt_table_output : IsOutput Walk rebuilt_table rebuilt_table_text
+rebuilt_table_output = record { history = ended; allowed = record { legal = sound_is_legal ended rebuilt_table_sound; queue = rebuilt_table_queue; plays = rebuilt_table_plays; economical = rebuilt_table_economical }; interleaved = record { follows = rebuilt_table_follows; looks = rebuilt_table_looks }; complete = rebuilt_table_complete; text_is = sym rebuilt_table_spelled }
 
 -- in a failed block nothing is read
 pub read_in_failed_block : IsNext rebuilt_table fetched (entry 1 7 (Scan (scans.Class (oid 16384)) 1)) → ⊥

@@ -14,6 +14,7 @@ use Rattle.history_model.proofs.Sound.{sound_is_legal}
 use Rattle.cacheless.specs.Plays.{IsNext, Plays}
 use Rattle.cacheless.specs.Schedule.{FollowsSchedule, AreLooksTrue, IsComplete}
 use Rattle.cacheless.specs.Lines.{lines_of}
+use Rattle.cacheless.specs.declared.check_kind.CheckKind.TheVariants.{Walk}
 use Rattle.cacheless.specs.Output.{IsOutput}
 use Rattle.cacheless.proofs.Plans.Given.{xid, entry, placed, script, creating, new_table}
 
@@ -126,5 +127,5 @@ pub refused_commands_spelled : text_of stopped (lines_of refused_commands stoppe
 unfolding digits
 refused_commands_spelled = refl
 
-pub refused_commands_output : IsOutput refused_commands refused_commands_text
-refused_commands_output = record { history = stopped; allowed = record { legal = sound_is_legal stopped refused_commands_sound; queue = refused_commands_queue; plays = refused_commands_plays; economical = refused_commands_economical }; follows = refused_commands_follows; looks = refused_commands_looks; complete = refused_commands_complete; text_is = sym refused_commands_spelled }
+pub refused_commands_output : IsOutput Walk refused_commands refused_commands_text
+refused_commands_output = record { history = stopped; allowed = record { legal = sound_is_legal stopped refused_commands_sound; queue = refused_commands_queue; plays = refused_commands_plays; economical = refused_commands_economical }; interleaved = record { follows = refused_commands_follows; looks = refused_commands_looks }; complete = refused_commands_complete; text_is = sym refused_commands_spelled }

@@ -15,6 +15,7 @@ use Rattle.history_model.proofs.Sound.{sound_is_legal}
 use Rattle.cacheless.specs.Plays.{IsNext, Plays}
 use Rattle.cacheless.specs.Schedule.{FollowsSchedule, AreLooksTrue, IsComplete}
 use Rattle.cacheless.specs.Lines.{lines_of}
+use Rattle.cacheless.specs.declared.check_kind.CheckKind.TheVariants.{Walk}
 use Rattle.cacheless.specs.Output.{IsOutput}
 use Rattle.cacheless.proofs.Plans.Given.{oid, xid, entry, placed, turns, script, creating, new_table}
 
@@ -178,5 +179,5 @@ pub refused_lock_spelled : text_of stopped (lines_of refused_lock stopped) ≡ r
 unfolding digits
 refused_lock_spelled = refl
 
-pub refused_lock_output : IsOutput refused_lock refused_lock_text
-refused_lock_output = record { history = stopped; allowed = record { legal = sound_is_legal stopped refused_lock_sound; queue = refused_lock_queue; plays = refused_lock_plays; economical = refused_lock_economical }; follows = refused_lock_follows; looks = refused_lock_looks; complete = refused_lock_complete; text_is = sym refused_lock_spelled }
+pub refused_lock_output : IsOutput Walk refused_lock refused_lock_text
+refused_lock_output = record { history = stopped; allowed = record { legal = sound_is_legal stopped refused_lock_sound; queue = refused_lock_queue; plays = refused_lock_plays; economical = refused_lock_economical }; interleaved = record { follows = refused_lock_follows; looks = refused_lock_looks }; complete = refused_lock_complete; text_is = sym refused_lock_spelled }

@@ -16,6 +16,7 @@ use Rattle.history_model.proofs.Sound.{sound_is_legal}
 use Rattle.cacheless.specs.Plays.{IsNext, Plays}
 use Rattle.cacheless.specs.Schedule.{FollowsSchedule, AreLooksTrue, IsComplete}
 use Rattle.cacheless.specs.Lines.{lines_of}
+use Rattle.cacheless.specs.declared.check_kind.CheckKind.TheVariants.{Walk}
 use Rattle.cacheless.specs.Output.{IsOutput}
 use Rattle.cacheless.proofs.Plans.Given.{oid, xid, entry, placed, turns, small_queue, creating, new_table, wide_columns, wide_table}
 
@@ -383,5 +384,5 @@ pub reset_inside_build_spelled : text_of stopped (lines_of reset_inside_build st
 unfolding digits
 reset_inside_build_spelled = refl
 
-pub reset_inside_build_output : IsOutput reset_inside_build reset_inside_build_text
-reset_inside_build_output = record { history = stopped; allowed = record { legal = sound_is_legal stopped reset_inside_build_sound; queue = reset_inside_build_queue; plays = reset_inside_build_plays; economical = reset_inside_build_economical }; follows = reset_inside_build_follows; looks = reset_inside_build_looks; complete = reset_inside_build_complete; text_is = sym reset_inside_build_spelled }
+pub reset_inside_build_output : IsOutput Walk reset_inside_build reset_inside_build_text
+reset_inside_build_output = record { history = stopped; allowed = record { legal = sound_is_legal stopped reset_inside_build_sound; queue = reset_inside_build_queue; plays = reset_inside_build_plays; economical = reset_inside_build_economical }; interleaved = record { follows = reset_inside_build_follows; looks = reset_inside_build_looks }; complete = reset_inside_build_complete; text_is = sym reset_inside_build_spelled }

@@ -14,6 +14,7 @@ use Rattle.history_model.proofs.Sound.{sound_is_legal}
 use Rattle.cacheless.specs.Plays.{IsNext, Plays}
 use Rattle.cacheless.specs.Schedule.{FollowsSchedule, AreLooksTrue, IsComplete}
 use Rattle.cacheless.specs.Lines.{lines_of}
+use Rattle.cacheless.specs.declared.check_kind.CheckKind.TheVariants.{Walk}
 use Rattle.cacheless.specs.Output.{IsOutput}
 use Rattle.cacheless.proofs.Plans.Given.{xid, entry, placed, script, creating, new_table}
 
@@ -94,8 +95,8 @@ pub saved_block_spelled : text_of ended (lines_of saved_block ended) ≡ saved_b
 unfolding digits
 saved_block_spelled = refl
 
-pub saved_block_output : IsOutput saved_block saved_block_text
-saved_block_output = record { history = ended; allowed = record { legal = sound_is_legal ended saved_block_sound; queue = saved_block_queue; plays = saved_block_plays; economical = saved_block_economical }; follows = saved_block_follows; looks = saved_block_looks; complete = saved_block_complete; text_is = sym saved_block_spelled }
+pub saved_block_output : IsOutput Walk saved_block saved_block_text
+saved_block_output = record { history = ended; allowed = record { legal = sound_is_legal ended saved_block_sound; queue = saved_block_queue; plays = saved_block_plays; economical = saved_block_economical }; interleaved = record { follows = saved_block_follows; looks = saved_block_looks }; complete = saved_block_complete; text_is = sym saved_block_spelled }
 
 -- an error after a savepoint doesn't take back what was written before it
 pub whole_gone_in_level : IsNext saved_block failed (entry 1 5 (Gone 1)) → ⊥

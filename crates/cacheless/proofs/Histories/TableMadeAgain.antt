@@ -17,6 +17,7 @@ use Rattle.history_model.proofs.Sound.{sound_is_legal}
 use Rattle.cacheless.specs.Plays.{IsNext, Plays}
 use Rattle.cacheless.specs.Schedule.{FollowsSchedule, AreLooksTrue, IsComplete}
 use Rattle.cacheless.specs.Lines.{lines_of}
+use Rattle.cacheless.specs.declared.check_kind.CheckKind.TheVariants.{Walk}
 use Rattle.cacheless.specs.Output.{IsOutput}
 use Rattle.cacheless.proofs.Plans.Given.{oid, xid, entry, placed, turns, script, creating, new_table}
 
@@ -111,8 +112,8 @@ pub table_made_again_spelled : text_of ended (lines_of table_made_again ended) �
 unfolding digits
 table_made_again_spelled = refl
 
-pub table_made_again_output : IsOutput table_made_again table_made_again_text
-table_made_again_output = record { history = ended; allowed = record { legal = sound_is_legal ended table_made_again_sound; queue = table_made_again_queue; plays = table_made_again_plays; economical = table_made_again_economical }; follows = table_made_again_follows; looks = table_made_again_looks; complete = table_made_again_complete; text_is = sym table_made_again_spelled }
+pub table_made_again_output : IsOutput Walk table_made_again table_made_again_text
+table_made_again_output = record { history = ended; allowed = record { legal = sound_is_legal ended table_made_again_sound; queue = table_made_again_queue; plays = table_made_again_plays; economical = table_made_again_economical }; interleaved = record { follows = table_made_again_follows; looks = table_made_again_looks }; complete = table_made_again_complete; text_is = sym table_made_again_spelled }
 
 -- the class row is taken away, and its column isn't
 pub column_left : IsNext table_made_again opened_to_drop (entry 1 2 (Write (xid 2) (Remove (keys.Class (oid 16384)) ∷ []))) → ⊥

@@ -18,6 +18,7 @@ use Rattle.history_model.proofs.Sound.{sound_is_legal}
 use Rattle.cacheless.specs.Plays.{IsNext, Plays}
 use Rattle.cacheless.specs.Schedule.{FollowsSchedule, AreLooksTrue, IsComplete}
 use Rattle.cacheless.specs.Lines.{lines_of}
+use Rattle.cacheless.specs.declared.check_kind.CheckKind.TheVariants.{Walk}
 use Rattle.cacheless.specs.Output.{IsOutput}
 use Rattle.cacheless.proofs.Plans.Given.{oid, xid, entry, placed, turns, script, creating, new_table}
 
@@ -108,8 +109,8 @@ pub table_renamed_spelled : text_of ended (lines_of table_renamed ended) ≡ tab
 unfolding digits
 table_renamed_spelled = refl
 
-pub table_renamed_output : IsOutput table_renamed table_renamed_text
-table_renamed_output = record { history = ended; allowed = record { legal = sound_is_legal ended table_renamed_sound; queue = table_renamed_queue; plays = table_renamed_plays; economical = table_renamed_economical }; follows = table_renamed_follows; looks = table_renamed_looks; complete = table_renamed_complete; text_is = sym table_renamed_spelled }
+pub table_renamed_output : IsOutput Walk table_renamed table_renamed_text
+table_renamed_output = record { history = ended; allowed = record { legal = sound_is_legal ended table_renamed_sound; queue = table_renamed_queue; plays = table_renamed_plays; economical = table_renamed_economical }; interleaved = record { follows = table_renamed_follows; looks = table_renamed_looks }; complete = table_renamed_complete; text_is = sym table_renamed_spelled }
 
 -- the table is given another name than the command's
 pub otherwise_named : IsNext table_renamed opened_to_rename (entry 1 2 (Write (xid 2) (Put (rows.Class (oid 16384) (codes "v") Table None) ∷ []))) → ⊥

@@ -15,6 +15,7 @@ use Rattle.history_model.proofs.Sound.{sound_is_legal}
 use Rattle.cacheless.specs.Plays.{IsNext, Plays}
 use Rattle.cacheless.specs.Schedule.{FollowsSchedule, AreLooksTrue, IsComplete}
 use Rattle.cacheless.specs.Lines.{lines_of}
+use Rattle.cacheless.specs.declared.check_kind.CheckKind.TheVariants.{Walk}
 use Rattle.cacheless.specs.Output.{IsOutput}
 use Rattle.cacheless.proofs.Plans.Given.{oid, xid, entry, placed, turns, script, creating, new_table}
 
@@ -250,5 +251,5 @@ pub holders_in_order_of_grant_spelled : text_of third_released (lines_of holders
 unfolding digits
 holders_in_order_of_grant_spelled = refl
 
-pub holders_in_order_of_grant_output : IsOutput holders_in_order_of_grant holders_in_order_of_grant_text
-holders_in_order_of_grant_output = record { history = third_released; allowed = record { legal = sound_is_legal third_released holders_in_order_of_grant_sound; queue = holders_in_order_of_grant_queue; plays = holders_in_order_of_grant_plays; economical = holders_in_order_of_grant_economical }; follows = holders_in_order_of_grant_follows; looks = holders_in_order_of_grant_looks; complete = holders_in_order_of_grant_complete; text_is = sym holders_in_order_of_grant_spelled }
+pub holders_in_order_of_grant_output : IsOutput Walk holders_in_order_of_grant holders_in_order_of_grant_text
+holders_in_order_of_grant_output = record { history = third_released; allowed = record { legal = sound_is_legal third_released holders_in_order_of_grant_sound; queue = holders_in_order_of_grant_queue; plays = holders_in_order_of_grant_plays; economical = holders_in_order_of_grant_economical }; interleaved = record { follows = holders_in_order_of_grant_follows; looks = holders_in_order_of_grant_looks }; complete = holders_in_order_of_grant_complete; text_is = sym holders_in_order_of_grant_spelled }

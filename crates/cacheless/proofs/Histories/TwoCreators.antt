@@ -13,6 +13,7 @@ use Rattle.history_model.proofs.Sound.{sound_is_legal}
 use Rattle.cacheless.specs.Plays.{IsNext, Plays}
 use Rattle.cacheless.specs.Schedule.{FollowsSchedule, AreLooksTrue, IsComplete}
 use Rattle.cacheless.specs.Lines.{lines_of}
+use Rattle.cacheless.specs.declared.check_kind.CheckKind.TheVariants.{Walk}
 use Rattle.cacheless.specs.Output.{IsOutput}
 use Rattle.cacheless.proofs.Plans.Given.{oid, xid, entry, placed, turns, script, creating, new_table}
 
@@ -212,5 +213,5 @@ pub clash_of_two_creators_spelled : text_of second_stopped (lines_of clash_of_tw
 unfolding digits
 clash_of_two_creators_spelled = refl
 
-pub clash_of_two_creators_output : IsOutput clash_of_two_creators clash_of_two_creators_text
-clash_of_two_creators_output = record { history = second_stopped; allowed = record { legal = sound_is_legal second_stopped clash_of_two_creators_sound; queue = clash_of_two_creators_queue; plays = clash_of_two_creators_plays; economical = clash_of_two_creators_economical }; follows = clash_of_two_creators_follows; looks = clash_of_two_creators_looks; complete = clash_of_two_creators_complete; text_is = sym clash_of_two_creators_spelled }
+pub clash_of_two_creators_output : IsOutput Walk clash_of_two_creators clash_of_two_creators_text
+clash_of_two_creators_output = record { history = second_stopped; allowed = record { legal = sound_is_legal second_stopped clash_of_two_creators_sound; queue = clash_of_two_creators_queue; plays = clash_of_two_creators_plays; economical = clash_of_two_creators_economical }; interleaved = record { follows = clash_of_two_creators_follows; looks = clash_of_two_creators_looks }; complete = clash_of_two_creators_complete; text_is = sym clash_of_two_creators_spelled }

@@ -1,6 +1,6 @@
 use Rattle.std.proofs.Common.{◌∙◌, ◌++◌, ◌∷◌, [], false, ap, replicate, arith}
 use Rattle.std.proofs.lemmas.List.{replicate-append-replicate}
-use Rattle.check_tool.proofs.scheduled.all_running.Goals as goal
+use Rattle.check_tool.proofs.stopped.all_running.Goals as goal
 
 pub loop-number-init : goal.loop-number-init
 loop-number-init c = c.new-stopped.ensures.items

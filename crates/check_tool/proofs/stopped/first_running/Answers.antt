@@ -1,6 +1,6 @@
 use Rattle.std.proofs.Common.{refl, arith}
 use Rattle.check_tool.proofs.Schedule.{first_start, first_here, first_next, first_never}
-use Rattle.check_tool.proofs.scheduled.first_running.Goals as goal
+use Rattle.check_tool.proofs.stopped.first_running.Goals as goal
 
 pub loop-i-init : goal.loop-i-init
 loop-i-init c = first_start c.args.stopped.now
