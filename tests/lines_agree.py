@@ -3,7 +3,7 @@
 script allows, from the first on, and the answer lines by these. CATSYNC_ORACLE names the folder with that reading.
 
     tests/lines_agree.py [--seed N] [--walks N] [--changed N] [--program FILE] [--keep FILE]
-    tests/lines_agree.py [--seed N] [--walks N] [--changed N] --write NAME [OUTPUT..]
+    tests/lines_agree.py [--seed N] [--walks N] [--changed N] [--only CHANGES] --write NAME [OUTPUT..]
 
 The scripts are random, half of them that reading's and half our own (random_scripts.py). Of each there is the walk's
 history and one that was played by the rules without a schedule; and of these two, by turns, changed ones: entries that
@@ -12,7 +12,8 @@ new oids, other queues, other orders of the backends. Prints 'N walks, M changed
 go to the file of --keep, each with what was wanted of it. The exit status is 0 where none differs.
 
 With --write nothing is compared: the cases go to NAME.cases, and what the rules say of them to NAME.expected. Where outputs
-are named, FOLDER/NAME.output beside FOLDER/NAME.script, the histories are theirs in place of random scripts'.
+are named, FOLDER/NAME.output beside FOLDER/NAME.script, the histories are theirs in place of random scripts'. CHANGES are the names
+of some of the changes below, with commas between: tests/lines/rebuild_orders is of order_builds,order_builds,order_builds,drop,double.
 """
 import argparse
 import functools
@@ -39,6 +40,7 @@ MOST_PLAYED = 300           # entries of a history that is played by the rules
 MOST_KEPT = 20              # cases that differ
 EACH_PLAYED = 4             # of so many scripts one has a played history too
 MODES = ("as", "rs", "rx", "su", "sh", "sr", "ex", "ax")
+BUILD_SCAN = re.compile(r" scan (?:class|attribute|attrdef|constraint|index|trigger|indexrow) (\d+) ")
 WORDS = (MODES, ("yes", "no"), ("row", "running"), ("ok", "held 1 ax"), ("t", "u", "big", "w"), ("a", "b", "c", "z"),
          ("visible", "gone", "release", "publish", "fetch"), ("start", "stop", "fail", "look no"), ("unlock", "lock"))
 
@@ -272,6 +274,31 @@ def go_on(draw, lines):
         lines.insert(draw.randrange(at, len(lines)) + 1, "h %d %d %s" % (backend, command, event))
 
 
+def stretches(lines):
+    """Lists of places: of the scans of several descriptors that one backend makes in one command with nothing but looks between."""
+    found = []
+    for _, group in itertools.groupby(enumerate(lines), lambda numbered: (
+            head_of(numbered[1]) if BUILD_SCAN.search(numbered[1]) or numbered[1].endswith(" look no") else None)):
+        places = [at for at, line in group if BUILD_SCAN.search(line)]
+        if len({BUILD_SCAN.search(lines[at])[1] for at in places}) > 1:
+            found.append(places)
+    return found
+
+
+def order_builds(draw, lines):
+    """Descriptors that are built one after another are built in another order, or by turns; each one's scans stay in theirs."""
+    found = stretches(lines)
+    if not found:
+        return
+    places, wholly, left, relation = draw.choice(found), draw.random() < 0.5, {}, None
+    for at in places:
+        left.setdefault(BUILD_SCAN.search(lines[at])[1], []).append(lines[at])
+    for at in places:
+        if not (wholly and left.get(relation)):
+            relation = draw.choice([rel for rel, scans in left.items() if scans])
+        lines[at] = left[relation].pop(0)
+
+
 def cut(draw, lines):
     del lines[draw.randrange(len(lines) + 1):]
 
@@ -283,7 +310,7 @@ def two(draw, lines):
 
 
 CHANGES = (drop, double, swap, move, mix, put_look, put_fetch, put_other, look_twice, change_number, change_word,
-           change_command, change_backend, change_oids, change_items, go_on, cut, two)
+           change_command, change_backend, change_oids, change_items, order_builds, go_on, cut, two)
 
 
 def other_queue(draw, script):
@@ -292,13 +319,13 @@ def other_queue(draw, script):
     return "\n".join(["ring %d" % draw.choice((64, 128, 256, 4096))] + lines)
 
 
-def changed(draw, case, name):
+def changed(draw, case, name, changes=CHANGES):
     """A case with one change."""
     lines, script = list(case.lines), case.script
     if draw.random() < 0.05:
         script = other_queue(draw, script)
     elif len(lines) > 1:
-        draw.choice(CHANGES)(draw, lines)
+        draw.choice(changes)(draw, lines)
     return Case(name, script, lines, True)
 
 
@@ -323,13 +350,15 @@ def groups_of(oracle, options):
 
 def given_groups(options):
     """The same of outputs that are given, each with as many changed forms."""
+    changes = tuple(globals()[name] for name in options.only.split(",")) if options.only else CHANGES
     for number, path in enumerate(options.outputs):
         with open(path[:-len("output")] + "script", encoding="latin-1") as script, open(path, encoding="latin-1") as output:
             text, lines = script.read(), [line for line in output.read().split("\n") if line.startswith("h ")]
         if text.endswith("\nend\n"):
             base = Case(os.path.basename(path), text, lines, False)
             draw = random.Random(options.seed + number)
-            yield [base] + [changed(draw, base, "%s %d" % (base.name, of_base)) for of_base in range(options.changed // len(options.outputs))]
+            yield [base] + [changed(draw, base, "%s %d" % (base.name, of_base), changes)
+                            for of_base in range(options.changed // len(options.outputs))]
 
 
 def batches(groups):
@@ -428,6 +457,7 @@ def main():
     parser.add_argument("--program", help="an executable of lines_replay, in place of one that is built without proof")
     parser.add_argument("--keep", default=os.path.join(tempfile.gettempdir(), "lines_agree.cases"), help="the file for cases that differ")
     parser.add_argument("--write", metavar="NAME", help="write the cases and what the rules say of them, and compare nothing")
+    parser.add_argument("--only", metavar="CHANGES", help="names of changes, with commas between; of outputs that are given")
     parser.add_argument("outputs", nargs="*", help="outputs whose histories are written")
     options = parser.parse_args()
     if not os.environ.get("CATSYNC_ORACLE"):

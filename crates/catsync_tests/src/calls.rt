@@ -2,12 +2,12 @@
 
 ghost use Rattle.std.specs.Prelude.{◌≤◌, length, IfOk};
 
-use crate::ends::{Calls, STEADY, sink_of, source_of};
 use backend_core::Backend;
 use base_types::NoMemory;
 use catsync_top::{MOST_BACKENDS, Status, catsync};
 use edge_io::{MemorySink, OpenGate, Source};
 use std::alloc::Global;
+use test_inputs::{Calls, STEADY, sink_of, source_of};
 
 // What a call came to: how it ended, what was written, and the backends that were run.
 #[derive(Drop)]

@@ -1,11 +1,11 @@
 use crate::calls::{Outcome, called};
-use crate::ends::{Calls, STEADY};
 use base_types::NoMemory;
-use catsync_top::Status;
+use catsync_top::{CheckKind, Status};
 use output_hints::difference;
 use std::alloc::Global;
 use std::fmt::Write;
 use std::test::Fail;
+use test_inputs::{Calls, STEADY};
 
 // A table of 67 columns is made, and another backend, which doesn't look meanwhile, is lapped by a queue of 64.
 fn lapped_script(alloc: Global) -> Result<String, NoMemory> {
@@ -99,7 +99,7 @@ const FORGED: &[(&str, &str, u64, &str)] = &[
         "h 1 1 release 1\n",
         "h 1 1 fail\nh 1 1 release 1\n",
         14,
-        "h 1 1 fail: no command runs out of memory in a walk",
+        "h 1 1 fail: no command of an output runs out of memory",
     ),
     (
         "h 1 2 stop\n",
@@ -186,7 +186,7 @@ fn differs(alloc: Global, output: &str, entry: u64, why: &str) -> Result<bool, N
     let Status::Differs { entry: found } = outcome.status else {
         return Ok(false);
     };
-    let said = difference(alloc, input_of(alloc, output)?.as_bytes())?;
+    let said = difference(alloc, CheckKind::Walk, input_of(alloc, output)?.as_bytes())?;
     Ok(
         found == entry
             && outcome.sent().is_empty()

@@ -1,11 +1,11 @@
 use crate::ledgers::entries_with;
-use crate::scripts::script_of;
 use base_types::NoMemory;
 use event_kinds::{Entry, Line};
 use history_lines::lines;
 use script_text::Script;
 use std::alloc::Global;
 use std::test::Fail;
+use test_inputs::script_of;
 
 // The script of the history of `ledgers` (tests/runs/block_fails_after_an_unlock.script), without its schedule.
 const SCRIPT: &[u8] = b"\

@@ -1,9 +1,9 @@
-use crate::scripts::script_of;
 use base_types::NoMemory;
 use make_script::{made_text, make};
 use script_text::write_script;
 use std::alloc::Global;
 use std::test::Fail;
+use test_inputs::script_of;
 use walk_run::walk;
 
 // How the script of 7 begins, and how it ends.

@@ -1,13 +1,14 @@
 use crate::calls::{Outcome, called, called_over, gives, walked};
-use crate::ends::{Calls, STEADY};
-use crate::readers::EndlessReader;
 use base_types::NoMemory;
 use catsync_top::{MOST_INPUT, Status};
 use edge_io::{PIECE, StdSource};
 use script_text::ScriptCause;
 use std::alloc::Global;
 use std::fmt::Write;
+use std::io;
+use std::io::Read;
 use std::test::Fail;
+use test_inputs::{Calls, STEADY};
 
 // A table that isn't there.
 const ABSENT: &[u8] = b"backends 1\n1: show t\nend\n";
@@ -124,7 +125,9 @@ const REFUSED: &[(&[&str], &[u8], u8, &str)] = &[
     (&["make", "4294967303"], ABSENT, 1, "usage"),
     (&["make", "7", "7"], ABSENT, 1, "usage"),
     (&["check"], ABSENT, 1, "usage"),
-    (&["check", "run"], ABSENT, 1, "usage"),
+    (&["check", "make"], ABSENT, 1, "usage"),
+    (&["check", "run", "run"], ABSENT, 1, "usage"),
+    (&["check", "run"], ABSENT, 7, "entry 1 differs"),
     (&["check", "walk", "walk"], ABSENT, 1, "usage"),
     (&["walk", "check"], ABSENT, 1, "usage"),
     (&["check", "walk"], ABSENT, 7, "entry 1 differs"),
@@ -208,6 +211,19 @@ fn the_most_bytes_and_one_more(rt: HostRuntime) -> Result<(), Fail> {
     assert!(rt; code_of_input(rt.alloc(), MOST_INPUT)? == 0);
     assert!(rt; code_of_input(rt.alloc(), MOST_INPUT + 1)? == 3);
     Ok(())
+}
+
+// A reader without an end, and how many bytes it gave.
+#[derive(Drop)]
+struct EndlessReader {
+    given: u64,
+}
+
+impl Read for EndlessReader {
+    fn read(&mut self, buf: &mut [u8]) -> io::Result<usize> {
+        self.given = self.given.saturating_add(buf.len() as u64);
+        Ok(buf.len())
+    }
 }
 
 // The exit status of a walk of an input without an end, and how many bytes of it are read.
@@ -394,7 +410,7 @@ const STATUSES: &[(Status, &str)] = &[
     (Status::Done, "done"),
     (
         Status::Usage,
-        "usage: catsync walk < SCRIPT > OUTPUT, or catsync check walk < SCRIPT_AND_OUTPUT, or catsync make N > SCRIPT",
+        "usage: catsync walk < SCRIPT > OUTPUT, or catsync check walk|run < SCRIPT_AND_OUTPUT, or catsync make N > SCRIPT",
     ),
     (
         Status::TooLong,

@@ -1,5 +1,4 @@
 use crate::calls::walked;
-use crate::scripts::script_of;
 use crate::segments::walked_segment;
 use backend_core::Backend;
 use base_types::{Listed, NoMemory};
@@ -7,6 +6,7 @@ use event_kinds::Line;
 use script_text::Script;
 use std::alloc::Global;
 use std::test::Fail;
+use test_inputs::script_of;
 use walk_run::walk;
 
 // Of each backend its answers in order, and whether it stops.

@@ -1,0 +1,162 @@
+use crate::calls::{Outcome, called};
+use base_types::NoMemory;
+use catsync_top::{CheckKind, Status};
+use output_hints::difference;
+use std::alloc::Global;
+use std::test::Fail;
+use test_inputs::STEADY;
+
+// A table is made, and another backend lists its columns.
+const SCRIPT: &str = "backends 2\n1: create table t (a int4)\n2: show t columns\nend\n";
+
+// An output of a run of it, with 31 entries. The second backend starts first, which no walk without a schedule
+// does, and its look at entry 10 says no though four messages wait by then.
+const OUTPUT: &str = "\
+h 2 0 start
+h 2 1 look no
+h 1 0 start
+h 1 1 look no
+h 1 1 write 1 +class(16384,t,r,-) +att(16384,1,a,int4,-1,l)
+h 1 1 visible 1
+h 1 1 publish 3
+h 1 1 publish 1
+h 1 1 release 1
+h 2 1 look no
+h 1 2 stop
+h 2 1 scan relname t rows 1
+h 2 1 lock 16384 as ok
+h 2 1 look yes
+h 2 1 fetch 4
+h 2 1 look no
+h 2 1 scan relname t rows 1
+h 2 1 look no
+h 2 1 scan class 16384 rows 1
+h 2 1 look no
+h 2 1 scan attribute 16384 rows 1
+h 2 1 look no
+h 2 1 scan attrdef 16384 rows 0
+h 2 1 look no
+h 2 1 scan constraint 16384 rows 0
+h 2 1 look no
+h 2 1 scan index 16384 rows 0
+h 2 1 look no
+h 2 1 scan trigger 16384 rows 0
+h 2 1 release 1
+h 2 2 stop
+l 1 1 ok
+l 2 1 columns a:int4
+end
+";
+
+// What is changed in the output, at which entry it then differs from those of a run, and what is said of that.
+const FORGED: &[(&str, &str, u64, &str)] = &[
+    (
+        "h 2 1 look no\nh 1 0",
+        "h 2 1 look yes\nh 1 0",
+        2,
+        "h 2 1 look yes: no message waits",
+    ),
+    (
+        "h 1 1 publish 3\n",
+        "",
+        7,
+        "h 1 1 publish 1: so many messages aren't the next to send",
+    ),
+    (
+        "look yes",
+        "look no",
+        14,
+        "h 2 1 look no: messages waited at its backend's last entry",
+    ),
+    (
+        "h 1 2 stop\n",
+        "",
+        31,
+        "there is none, and backend 1 hasn't stopped: l 1 1 ok",
+    ),
+    (
+        "h 2 2 stop\n",
+        "",
+        31,
+        "there is none, and backend 2 hasn't stopped: l 1 1 ok",
+    ),
+    (
+        "h 2 2 stop\n",
+        "h 2 2 stop\nh 2 2 stop\n",
+        32,
+        "h 2 2 stop: a backend stops once, when no transaction of it runs",
+    ),
+    (
+        "a:int4\nend",
+        "a:int8\nend",
+        32,
+        "there are 31 entries, and line 33 of the output should be 'l 2 1 columns a:int4' and is 'l 2 1 columns a:int8'",
+    ),
+];
+
+fn input_of(alloc: Global, output: &str) -> Result<String, NoMemory> {
+    let mut input = String::from_str(alloc, SCRIPT)?;
+    input.push_str(output)?;
+    Ok(input)
+}
+
+// The output with its first `old` replaced.
+fn changed(alloc: Global, old: &str, new: &str) -> Result<String, NoMemory> {
+    let mut text = String::new(alloc);
+    if let Some((front, back)) = OUTPUT.split_once(old) {
+        text.push_str(front)?;
+        text.push_str(new)?;
+        text.push_str(back)?;
+    }
+    Ok(text)
+}
+
+// What a check makes of the script with this after it.
+fn checked(alloc: Global, kind: &str, output: &str) -> Result<Outcome, NoMemory> {
+    let input = input_of(alloc, output)?;
+    called(alloc, &["check", kind], input.as_bytes(), STEADY, STEADY)
+}
+
+// The entry at which an output differs; 0 where it doesn't.
+fn entry_of(outcome: &Outcome) -> u64 {
+    match outcome.status {
+        Status::Differs { entry } => entry,
+        _ => 0,
+    }
+}
+
+// Whether this is said of an output.
+fn is_said(alloc: Global, kind: CheckKind, output: &str, why: &str) -> Result<bool, NoMemory> {
+    let said = difference(alloc, kind, input_of(alloc, output)?.as_bytes())?;
+    Ok(said.is_some_and(|text| text.as_str() == why))
+}
+
+#[test]
+fn an_output_of_a_run_is_one_of_no_walk(rt: HostRuntime) -> Result<(), Fail> {
+    let outcome = checked(rt.alloc(), "run", OUTPUT)?;
+    assert!(rt; outcome.gave(b"checked 31 entries\n") && outcome.sessions.is_empty());
+    assert!(rt; entry_of(&checked(rt.alloc(), "walk", OUTPUT)?) == 1);
+    assert!(rt;
+        is_said(
+            rt.alloc(),
+            CheckKind::Walk,
+            OUTPUT,
+            "h 2 0 start: it is backend 1's turn"
+        )?
+    );
+    Ok(())
+}
+
+#[test]
+fn forged_outputs_of_a_run_differ(rt: HostRuntime) -> Result<(), Fail> {
+    for &(old, new, entry, why) in FORGED {
+        let output = changed(rt.alloc(), old, new)?;
+        let outcome = checked(rt.alloc(), "run", &output)?;
+        assert!(rt;
+            entry_of(&outcome) == entry && outcome.sent().is_empty(),
+            "{old}"
+        );
+        assert!(rt; is_said(rt.alloc(), CheckKind::Run, &output, why)?, "{old}");
+    }
+    Ok(())
+}

@@ -1,0 +1,53 @@
+//! The tests of the crates below what plays a script, one file a crate: texts, tables, caches, the queue and the turns.
+//!
+//! They stand in one crate since a crate with tests is proved twice, and apart from `catsync_tests` since
+//! these can be proved while what that needs is being proved. They test what no clause says:
+//! the definitions against tables from outside, that a call with ample memory succeeds, the texts
+//! that are printed, and what happens where a reader, a writer or a call in its middle fails.
+//!
+//! Each test is proved before it runs, so most are tables: of calls and what each is answered, or of
+//! texts and what they come to. A helper tries one row. What a proof costs is the steps of a function
+//! times what is alive at each, so nothing that owns memory lives beside an `assert!` or a second `?`,
+//! and a long literal outside a table has a function of its own.
+#![tactic(auto)]
+
+#[cfg(test)]
+mod answers;
+#[cfg(test)]
+mod backend_caches;
+#[cfg(test)]
+mod cat_caches;
+#[cfg(test)]
+mod commands;
+#[cfg(test)]
+mod descriptors;
+#[cfg(test)]
+mod edge;
+#[cfg(test)]
+mod events;
+#[cfg(test)]
+mod faults;
+#[cfg(test)]
+mod locks;
+#[cfg(test)]
+mod messages;
+#[cfg(test)]
+mod pins;
+#[cfg(test)]
+mod queues;
+#[cfg(test)]
+mod readers;
+#[cfg(test)]
+mod rel_caches;
+#[cfg(test)]
+mod row_texts;
+#[cfg(test)]
+mod rows;
+#[cfg(test)]
+mod scripts;
+#[cfg(test)]
+mod shared_turns;
+#[cfg(test)]
+mod turns;
+#[cfg(test)]
+mod values;
