@@ -1,15 +1,15 @@
 #!/usr/bin/env bash
 # Measures the check of an output of many entries, beside the walk that made it, and of half as many commands; then the same of
-# about a million entries, those of 81 resets of a backend that holds 1,003 relations open, and of half as many: the processor time
+# about a million entries, those of 80 resets of a backend that holds 1,003 relations open, and of half as many: the processor time
 # and the most memory of one run each. It decides nothing.
-# usage: bench/check.sh [COMMANDS [RESETS]]; 20000, the most that a script can have, and 81 if left out
+# usage: bench/check.sh [COMMANDS [RESETS]]; 20000, the most that a script can have, and 80 if left out
 set -u
 
 cd "$(dirname "${BASH_SOURCE[0]}")/.." || exit 1
 . bench/common.sh
 need_program catsync ' -- walk < ../../examples/two_backends.script'
 commands=${1:-20000}
-resets=${2:-81}
+resets=${2:-80}
 
 # The script that has just been made.
 measure() {

@@ -1,4 +1,4 @@
-# Writes a script in which one backend holds relations open and is lapped again and again, so that each command of it rebuilds
+# Writes a script in which one backend holds relations open and is lapped again and again, so that each lock of it rebuilds
 # all of them: awk -v relations=N -v resets=N -f resets.awk. Its walk makes about 12 entries for each relation and reset.
 
 BEGIN {
@@ -19,14 +19,14 @@ BEGIN {
         print "2: open t" i
     }
     for (i = 1; i <= resets; i++) {
-        print "2: column t1 a"
+        print "2: lock table t" i " in row share mode"
     }
     print "2: commit"
-    # the tables are made and opened first; then each table of 67 columns laps the second backend
+    # the tables are made and opened first; then each table of 67 columns laps the second backend, which locks one more
     print "steps 1*" 7 * relations
     print "steps 2*" 2 + 16 * relations
     for (i = 1; i <= resets; i++) {
-        print "steps 1*8 2*" 12 * relations + (i == 1 ? 3 : 5)
+        print "steps 1*8 2*" 12 * relations + 5
     }
     print "end"
 }
