@@ -1,5 +1,5 @@
-# Writes a script in which one backend holds many relations open as another one's wide table laps it:
-# awk -v relations=N -f open_relations.awk.
+# Writes a script in which one backend holds many relations open as another one's wide table laps it; those of least oid are
+# opened last, or first where that is asked for: awk -v relations=N [-v least_first=1] -f open_relations.awk.
 
 BEGIN {
     print "ring 64"
@@ -13,8 +13,8 @@ BEGIN {
     }
     print line ")"
     print "2: begin"
-    for (i = relations; i >= 1; i--) {
-        print "2: open t" i
+    for (i = 1; i <= relations; i++) {
+        print "2: open t" (least_first ? i : relations + 1 - i)
     }
     print "2: lock table t1 in row share mode"
     print "2: peek t1 fillfactor"

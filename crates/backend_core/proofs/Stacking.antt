@@ -6,3 +6,4 @@ pub mod Messages
 pub mod Rests
 pub mod Scanned
 pub mod Looked
+pub mod Least

@@ -77,6 +77,7 @@ impl Backend {
         self.frames.reset(
             fails,
             &self.progress.caches,
+            &self.progress.suspects,
             self.progress.opened.as_slice(),
         )
     }

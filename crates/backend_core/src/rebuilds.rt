@@ -6,11 +6,12 @@ ghost use Rattle.std.specs.List.{find};
 ghost use Rattle.base_types.specs.Scans.{same_oid};
 ghost use Rattle.local_caches.specs.Caches.{kept_of};
 ghost use Rattle.local_caches.specs.Kept.{is_kept};
+ghost use Rattle.cacheless.specs.Suspects.{AreKnown};
 ghost use Rattle.backend_core.specs.Frames.{lacks, left_of, restarted, told_if, lesser};
 
 use crate::{Frame, Frames};
 use base_types::{NoMemory, Oid};
-use cacheless::Opening;
+use cacheless::{Opening, Suspects};
 use inval_messages::Message;
 use local_caches::LocalCaches;
 use std::alloc::Global;
@@ -152,50 +153,87 @@ impl Frames {
         &mut self,
         fails: bool,
         caches: &LocalCaches,
+        suspects: &Suspects,
         held: &[Opening],
     ) -> Result<(), NoMemory>
+        requires { AreKnown (is_kept (kept_of caches.now)) held.now suspects.now }
         ensures { OnOk result (self.new ≡ unless fails self.old (with_rest (is_kept (kept_of caches.now)) held.now self.old)) }
     {
         if fails {
             return Ok(());
         }
-        self.put_rest(caches, held)
+        self.put_rest(caches, suspects, held)
     }
 
     // After a reset, and after each rebuild that it put on: the next held relation that isn't whole and
     // isn't being rebuilt is.
-    fn put_rest(&mut self, caches: &LocalCaches, held: &[Opening]) -> Result<(), NoMemory>
+    fn put_rest(
+        &mut self,
+        caches: &LocalCaches,
+        suspects: &Suspects,
+        held: &[Opening],
+    ) -> Result<(), NoMemory>
+        requires { AreKnown (is_kept (kept_of caches.now)) held.now suspects.now }
         ensures { OnOk result (self.new ≡ with_rest (is_kept (kept_of caches.now)) held.now self.old) }
     {
-        match self.least_left(caches, held) {
+        match self.least_left(caches, suspects, held) {
             Some(o) => self.push(o, true),
             None => Ok(()),
         }
     }
 
-    // The one of least oid.
-    fn least_left(&self, caches: &LocalCaches, held: &[Opening]) -> Option<Opening>
+    // The one of least oid: the first that is left of those that may lack a scan, where these are known.
+    fn least_left(
+        &self,
+        caches: &LocalCaches,
+        suspects: &Suspects,
+        held: &[Opening],
+    ) -> Option<Opening>
+        requires { AreKnown (is_kept (kept_of caches.now)) held.now suspects.now }
+        ensures { result ≡ first_left (is_kept (kept_of caches.now)) self.now held.now }
+    {
+        match suspects.noted() {
+            Some(found) => self.first_of(caches, found),
+            None => self.least_of(caches, held),
+        }
+    }
+
+    // The first of these that is left.
+    fn first_of(&self, caches: &LocalCaches, found: &[Opening]) -> Option<Opening>
+        ensures { result ≡ find (awaits (is_kept (kept_of caches.now)) self.now) found.now }
+    {
+        found.iter().find(|o| self.is_left(caches, o)).copied()
+    }
+
+    // The one of least oid of those that are left.
+    fn least_of(&self, caches: &LocalCaches, held: &[Opening]) -> Option<Opening>
         ensures { result ≡ first_left (is_kept (kept_of caches.now)) self.now held.now }
     {
         let mut least = None;
-        for (at, o) in held.iter().enumerate() {
-            if self.is_left(caches, at, o) {
+        for o in held {
+            if self.is_left(caches, o) {
                 least = the_lesser(least, *o);
             }
         }
         least
     }
 
-    // Whether a held relation, which is at this place of those, isn't whole and isn't being rebuilt.
-    fn is_left(&self, caches: &LocalCaches, at: usize, o: &Opening) -> bool
+    // Whether a held relation isn't whole and isn't being rebuilt.
+    fn is_left(&self, caches: &LocalCaches, o: &Opening) -> bool
         ensures { result ≡ awaits (is_kept (kept_of caches.now)) self.now o.now }
     {
-        caches.lacks_scan(at, o.kind, o.rel) && !self.is_rebuilding(o.rel)
+        lacks_some(caches, o) && !self.is_rebuilding(o.rel)
     }
 
     // The next scan of the one on top is made. After its last one it goes, and what a reset has left comes,
     // if that put it on.
-    pub(crate) fn scan(&mut self, caches: &LocalCaches, held: &[Opening]) -> Result<(), NoMemory>
+    pub(crate) fn scan(
+        &mut self,
+        caches: &LocalCaches,
+        suspects: &Suspects,
+        held: &[Opening],
+    ) -> Result<(), NoMemory>
+        requires { AreKnown (is_kept (kept_of caches.now)) held.now suspects.now }
         ensures { OnOk result (self.new ≡ frames_scanned (is_kept (kept_of caches.now)) held.now self.old) }
     {
         let Some(top) = self.items.pop() else {
@@ -203,7 +241,7 @@ impl Frames {
         };
         match lacking_of(caches, held, &top) {
             Some(o) => self.push(o, top.of_reset),
-            None if top.of_reset => self.put_rest(caches, held),
+            None if top.of_reset => self.put_rest(caches, suspects, held),
             None => Ok(()),
         }
     }

@@ -35,3 +35,4 @@ pub mod Matching
 pub mod SameRows
 pub mod Deciding
 mod WantedPlans
+pub mod Lacking

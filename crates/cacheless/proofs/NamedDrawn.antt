@@ -1,5 +1,5 @@
 -- The relations that rows name are drawn, and so are those of the rows that a backend's scans have given.
-use Rattle.std.proofs.Common.{◌≡◌, ◌<◌, ◌≤◌, ◌∙◌, ◌==◌, ◌&&◌, ℕ, Bool, true, false, Option, Some, None, List, [], ◌∷◌, ◌++◌, refl, sym, ap, subst, map, filter, cond, take, drop, append_assoc, append-nil, arith}
+use Rattle.std.proofs.Common.{◌≡◌, ◌<◌, ◌≤◌, ◌∙◌, ◌==◌, ◌&&◌, ℕ, Bool, true, false, Option, Some, None, List, [], ◌∷◌, ◌++◌, refl, sym, ap, subst, filter, cond, take, drop, append_assoc, append-nil, arith}
 use Rattle.std.specs.Prelude.{nat_le}
 use Rattle.std.specs.List.{AllByRecursion, find, flat_map}
 use Rattle.std.specs.Option.{IfSome, option_map_or}
@@ -16,7 +16,6 @@ use Rattle.event_kinds.specs.declared.entry.Event.TheVariants as events
 use Rattle.event_kinds.specs.declared.entry.Item.TheVariants as forms
 use Rattle.lock_modes.specs.declared.grant.Grant.{Grant}
 use Rattle.row_visibility.specs.declared.version.Stamp.{Stamp}
-use Rattle.row_visibility.specs.declared.version.Version.{Version}
 use Rattle.history_model.specs.Drawn.{next_oid}
 use Rattle.history_model.specs.Held.{held_by, held_of}
 use Rattle.history_model.specs.Legal.{AllowsEvent}
@@ -29,7 +28,7 @@ use Rattle.history_model.proofs.EnoughModes.{is_enough, IsHeldFor}
 use Rattle.history_model.proofs.Every.{every, every-weaker, every-append, every-map, every-filter, every-kept, every-both}
 use Rattle.history_model.proofs.Guards.{guards_in, IsHeldIn, any_with}
 use Rattle.history_model.proofs.InOrder.{every_given}
-use Rattle.history_model.proofs.Ordered.{sound_ordered, locks_exclude, early_at, if_some, guarded_rows}
+use Rattle.history_model.proofs.Ordered.{sound_ordered, locks_exclude, early_at, guarded_rows}
 use Rattle.history_model.proofs.Prefixes.{EachEntry-more, EachEntry-prefix, each-keeps}
 use Rattle.history_model.proofs.Reached.{next_rises}
 use Rattle.history_model.proofs.Reading.{versions_of-more, held_of-more}

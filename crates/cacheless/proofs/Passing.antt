@@ -22,6 +22,8 @@ use Rattle.history_model.proofs.Prefixes.{along-keeps}
 use Rattle.history_model.proofs.GivenRows.{given_seen}
 use Rattle.cacheless.specs.Types.{Mode, Row, Purpose, Command, CommandError, Scenario, Entry, OpenRelation, Opening, Exec}
 use Rattle.cacheless.specs.declared.progress.Counts.{Counts}
+use Rattle.cacheless.specs.Suspects.{AreKnown}
+use Rattle.cacheless.specs.declared.suspects.Suspects.{Suspects}
 use Rattle.cacheless.specs.declared.progress.Progress.{Progress}
 use Rattle.cacheless.specs.Facts.{Facts, facts_of}
 use Rattle.cacheless.specs.Session.{Session, held_in, first_of, plan_first, is_blocked}
@@ -85,10 +87,10 @@ pub out_of : (command : Command) (s : Progress) → is_finished_at command s ≡
 out_of command s is = (and_true (is_out s) (s.ended || is_ends (end_at s command)) (and_true (is_out s && (s.ended || is_ends (end_at s command))) (owes_nothing command s) is).0).0
 
 -- an act that needs no entry, whichever it is
-pub act_keeps : (scenario : Scenario) (seen : List Entry) (was : Progress) (exec : Exec) (opened : List Opening) (caches : LocalCaches) (command : Command) (act : Act) (plan : List Row → Plan) (gave : List Row) → Holds scenario seen was → slice_get was.commands was.finished ≡ Some command
+pub act_keeps : (scenario : Scenario) (seen : List Entry) (was : Progress) (exec : Exec) (opened : List Opening) (caches : LocalCaches) (suspects : Suspects) (known : AreKnown (is_kept (kept_of caches)) opened suspects) (command : Command) (act : Act) (plan : List Row → Plan) (gave : List Row) → Holds scenario seen was → slice_get was.commands was.finished ≡ Some command
     → owes_nothing command was ≡ true → plan_at was.opens was.exec ≡ Do act plan → gives_at was act ≡ Some gave → plan_at was.opens exec ≡ plan gave → ((name : List ℕ) → plan_at was.opens exec ≡ Absent name → plan_again was.opens exec ≡ plan_at was.opens was.exec) → opened ≡ was.opened ++ opened_by act → kept_of caches ≡ kept_at was
-    → Holds scenario seen (record was { exec = exec; opened = opened; caches = caches; taken = None })
-act_keeps scenario seen was exec opened caches command act plan gave holds has owes at gives_it on again opens keeps = record {
+    → Holds scenario seen (record was { exec = exec; opened = opened; caches = caches; suspects = suspects; known = known; taken = None })
+act_keeps scenario seen was exec opened caches suspects known command act plan gave holds has owes at gives_it on again opens keeps = record {
   number = holds.number;
   commands = holds.commands;
   few = holds.few;
@@ -131,12 +133,12 @@ act_keeps scenario seen was exec opened caches command act plan gave holds has o
     left = left_command was command has
 
 -- and its session is that after the act
-pub act_acts : (scenario : Scenario) (seen : List Entry) (was : Progress) (exec : Exec) (opened : List Opening) (caches : LocalCaches) (command : Command) (act : Act) (plan : List Row → Plan) (gave : List Row) (held : Holds scenario seen was) → slice_get was.commands was.finished ≡ Some command
+pub act_acts : (scenario : Scenario) (seen : List Entry) (was : Progress) (exec : Exec) (opened : List Opening) (caches : LocalCaches) (suspects : Suspects) (known : AreKnown (is_kept (kept_of caches)) opened suspects) (command : Command) (act : Act) (plan : List Row → Plan) (gave : List Row) (held : Holds scenario seen was) → slice_get was.commands was.finished ≡ Some command
     → owes_nothing command was ≡ true → plan_at was.opens was.exec ≡ Do act plan → gives_at was act ≡ Some gave → plan_at was.opens exec ≡ plan gave → ((name : List ℕ) → plan_at was.opens exec ≡ Absent name → plan_again was.opens exec ≡ plan_at was.opens was.exec) → opened ≡ was.opened ++ opened_by act → kept_of caches ≡ kept_at was
-    → HasActed scenario seen was held (record was { exec = exec; opened = opened; caches = caches; taken = None })
+    → HasActed scenario seen was held (record was { exec = exec; opened = opened; caches = caches; suspects = suspects; known = known; taken = None })
 unfolding act_keeps
-act_acts scenario seen was exec opened caches command act plan gave held has owes at gives_it on again opens keeps = record {
-  holds = act_keeps scenario seen was exec opened caches command act plan gave held has owes at gives_it on again opens keeps;
+act_acts scenario seen was exec opened caches suspects known command act plan gave held has owes at gives_it on again opens keeps = record {
+  holds = act_keeps scenario seen was exec opened caches suspects known command act plan gave held has owes at gives_it on again opens keeps;
   command = command;
   at = has;
   free = free.first;
@@ -153,15 +155,15 @@ act_acts scenario seen was exec opened caches command act plan gave held has owe
     free = free_now (facts_of seen was.id) command was held.rest held.facts owes
 
 -- the state at the next command
-abbrev pub at_next : Progress → Exec → Bool → Blocks → List OpenRelation → List Opening → LocalCaches → Progress
-at_next was exec blocked blocks opens opened caches = record was { finished = was.finished + 1; exec = exec; blocked = blocked; ended = false; blocks = blocks; opens = opens; taken = None; opened = opened; caches = caches; tally = no_counts; answer = None }
+abbrev pub at_next : (was : Progress) (exec : Exec) (blocked : Bool) (blocks : Blocks) (opens : List OpenRelation) (opened : List Opening) (caches : LocalCaches) (suspects : Suspects) → AreKnown (is_kept (kept_of caches)) opened suspects → Progress
+at_next was exec blocked blocks opens opened caches suspects known = record was { finished = was.finished + 1; exec = exec; blocked = blocked; ended = false; blocks = blocks; opens = opens; taken = None; opened = opened; caches = caches; suspects = suspects; known = known; tally = no_counts; answer = None }
 
 -- a finished command is passed over
-pub finish_keeps : (scenario : Scenario) (seen : List Entry) (was : Progress) (exec : Exec) (blocked : Bool) (blocks : Blocks) (opens : List OpenRelation) (opened : List Opening) (caches : LocalCaches) (command : Command) → Holds scenario seen was → slice_get was.commands was.finished ≡ Some command → is_finished_at command was ≡ true
+pub finish_keeps : (scenario : Scenario) (seen : List Entry) (was : Progress) (exec : Exec) (blocked : Bool) (blocks : Blocks) (opens : List OpenRelation) (opened : List Opening) (caches : LocalCaches) (suspects : Suspects) (known : AreKnown (is_kept (kept_of caches)) opened suspects) (command : Command) → Holds scenario seen was → slice_get was.commands was.finished ≡ Some command → is_finished_at command was ≡ true
     → blocks ≡ blocks_passed (plan_at was.opens was.exec) (was.finished + 1) command was.blocks → opens ≡ opens_passed (plan_at was.opens was.exec) (was.finished + 1) command was.blocked was.blocks.levels was.opened was.opens → opened ≡ held_in blocks.block opens → kept_of caches ≡ kept_at was
     → plan_at opens exec ≡ plan_first blocks opens (slice_get was.commands (was.finished + 1)) → blocked ≡ is_blocked blocks (slice_get was.commands (was.finished + 1))
-    → Holds scenario seen (at_next was exec blocked blocks opens opened caches)
-finish_keeps scenario seen was exec blocked blocks opens opened caches command holds has finished passes after pinned keeps on refuses = record {
+    → Holds scenario seen (at_next was exec blocked blocks opens opened caches suspects known)
+finish_keeps scenario seen was exec blocked blocks opens opened caches suspects known command holds has finished passes after pinned keeps on refuses = record {
   number = holds.number;
   commands = holds.commands;
   few = holds.few;
@@ -202,7 +204,7 @@ finish_keeps scenario seen was exec blocked blocks opens opened caches command h
     opens_are : opens_after command (session_at was holds.rest) ≡ opens
     opens_are = ap (λ n. opens_passed (plan_at was.opens was.exec) (n + 1) command was.blocked was.blocks.levels was.opened was.opens) holds.count ∙ sym after
 
-    same : next_session command (first_of (drop (was.finished + 1) was.commands)) (session_at was holds.rest) ≡ session_at (at_next was exec blocked blocks opens opened caches) (rest_of next)
+    same : next_session command (first_of (drop (was.finished + 1) was.commands)) (session_at was holds.rest) ≡ session_at (at_next was exec blocked blocks opens opened caches suspects known) (rest_of next)
     same = ap (λ o. next_session command o (session_at was holds.rest)) (first_left was.commands (was.finished + 1))
         ∙ (λ i. record next {
           blocks = blocks_are i;
@@ -213,13 +215,13 @@ finish_keeps scenario seen was exec blocked blocks opens opened caches command h
         })
 
 -- and its session is that at the next command
-pub finish_passes : (scenario : Scenario) (seen : List Entry) (was : Progress) (exec : Exec) (blocked : Bool) (blocks : Blocks) (opens : List OpenRelation) (opened : List Opening) (caches : LocalCaches) (command : Command) (held : Holds scenario seen was) → slice_get was.commands was.finished ≡ Some command → is_finished_at command was ≡ true
+pub finish_passes : (scenario : Scenario) (seen : List Entry) (was : Progress) (exec : Exec) (blocked : Bool) (blocks : Blocks) (opens : List OpenRelation) (opened : List Opening) (caches : LocalCaches) (suspects : Suspects) (known : AreKnown (is_kept (kept_of caches)) opened suspects) (command : Command) (held : Holds scenario seen was) → slice_get was.commands was.finished ≡ Some command → is_finished_at command was ≡ true
     → blocks ≡ blocks_passed (plan_at was.opens was.exec) (was.finished + 1) command was.blocks → opens ≡ opens_passed (plan_at was.opens was.exec) (was.finished + 1) command was.blocked was.blocks.levels was.opened was.opens → opened ≡ held_in blocks.block opens → kept_of caches ≡ kept_at was
     → plan_at opens exec ≡ plan_first blocks opens (slice_get was.commands (was.finished + 1)) → blocked ≡ is_blocked blocks (slice_get was.commands (was.finished + 1))
-    → HasPassed scenario seen was held (at_next was exec blocked blocks opens opened caches)
+    → HasPassed scenario seen was held (at_next was exec blocked blocks opens opened caches suspects known)
 unfolding finish_keeps
-finish_passes scenario seen was exec blocked blocks opens opened caches command held has finished passes after pinned keeps on refuses = record {
-  holds = finish_keeps scenario seen was exec blocked blocks opens opened caches command held has finished passes after pinned keeps on refuses;
+finish_passes scenario seen was exec blocked blocks opens opened caches suspects known command held has finished passes after pinned keeps on refuses = record {
+  holds = finish_keeps scenario seen was exec blocked blocks opens opened caches suspects known command held has finished passes after pinned keeps on refuses;
   command = command;
   at = has;
   over = finished_same (facts_of seen was.id) command was held.rest held.facts held.count ∙ finished;
@@ -306,15 +308,15 @@ act_is_left s acts = by_plan (plan_at s.opens s.exec) refl (and_true (owes_nothi
     by_plan (Absent name) at is = absurd (cc)
 
 -- the act that is done without an entry
-pub acted_keeps : (was : Progress) (exec : Exec) (opened : List Opening) (caches : LocalCaches) (want : Want) (acts : Acts was) → want ≡ want_of (plan_at was.opens was.exec)
+pub acted_keeps : (was : Progress) (exec : Exec) (opened : List Opening) (caches : LocalCaches) (suspects : Suspects) (known : AreKnown (is_kept (kept_of caches)) opened suspects) (want : Want) (acts : Acts was) → want ≡ want_of (plan_at was.opens was.exec)
     → plan_at was.opens exec ≡ after_act (rows_given was want) (plan_at was.opens was.exec) → ((name : List ℕ) → 0 < acts_left was.exec → plan_at was.opens exec ≡ Absent name → plan_again was.opens exec ≡ plan_at was.opens was.exec) → opened ≡ was.opened ++ opened_for want → kept_of caches ≡ kept_at was
-    → (scenario : Scenario) (seen : List Entry) (held : Holds scenario seen was) → HasActed scenario seen was held (record was { exec = exec; opened = opened; caches = caches; taken = None })
-acted_keeps was exec opened caches want acts wants on again opens keeps scenario seen held = by_plan (plan_at was.opens was.exec) refl (and_true (owes_nothing acts.command was) (gives_next was (plan_at was.opens was.exec)) acts.acts)
+    → (scenario : Scenario) (seen : List Entry) (held : Holds scenario seen was) → HasActed scenario seen was held (record was { exec = exec; opened = opened; caches = caches; suspects = suspects; known = known; taken = None })
+acted_keeps was exec opened caches suspects known want acts wants on again opens keeps scenario seen held = by_plan (plan_at was.opens was.exec) refl (and_true (owes_nothing acts.command was) (gives_next was (plan_at was.opens was.exec)) acts.acts)
   where
-    by_plan : (p : Plan) → plan_at was.opens was.exec ≡ p → (owes_nothing acts.command was ≡ true) × (gives_next was (plan_at was.opens was.exec) ≡ true) → HasActed scenario seen was held (record was { exec = exec; opened = opened; caches = caches; taken = None })
+    by_plan : (p : Plan) → plan_at was.opens was.exec ≡ p → (owes_nothing acts.command was ≡ true) × (gives_next was (plan_at was.opens was.exec) ≡ true) → HasActed scenario seen was held (record was { exec = exec; opened = opened; caches = caches; suspects = suspects; known = known; taken = None })
     by_plan (Do act plan) at parts =
         let want_is : want ≡ want_of (Do act plan) = wants ∙ ap want_of at in
-        act_acts scenario seen was exec opened caches acts.command act plan (rows_given was (want_of (Do act plan))) held acts.at parts.0 at
+        act_acts scenario seen was exec opened caches suspects known acts.command act plan (rows_given was (want_of (Do act plan))) held acts.at parts.0 at
         (gave_is was act plan (sym (ap (gives_next was) at) ∙ parts.1))
         (on ∙ ap (after_act (rows_given was want)) at ∙ ap (λ w. plan (rows_given was w)) want_is)
         (λ name. again name (act_is_left was acts))
@@ -325,21 +327,21 @@ acted_keeps was exec opened caches want acts wants on again opens keeps scenario
     by_plan (Absent name) at parts = absurd (let both : false ≡ true = sym (ap (gives_next was) at) ∙ parts.1 in cc)
 
 -- the same by the rows that the code gives, and by the relations that it goes by
-pub acted_code : (was : Progress) (exec : Exec) (opened : List Opening) (caches : LocalCaches) (want : Want) (opens : List OpenRelation) (given : List Row) (acts : Acts was) → want ≡ want_of (plan_at was.opens was.exec) → given ≡ rows_given was want → opens ≡ was.opens
+pub acted_code : (was : Progress) (exec : Exec) (opened : List Opening) (caches : LocalCaches) (suspects : Suspects) (known : AreKnown (is_kept (kept_of caches)) opened suspects) (want : Want) (opens : List OpenRelation) (given : List Row) (acts : Acts was) → want ≡ want_of (plan_at was.opens was.exec) → given ≡ rows_given was want → opens ≡ was.opens
     → plan_at opens exec ≡ after_act given (plan_at opens was.exec) → ((name : List ℕ) → 0 < acts_left was.exec → plan_at opens exec ≡ Absent name → plan_again opens exec ≡ plan_at opens was.exec) → opened ≡ was.opened ++ opened_for want → kept_of caches ≡ kept_at was
-    → (scenario : Scenario) (seen : List Entry) (held : Holds scenario seen was) → HasActed scenario seen was held (record was { exec = exec; opened = opened; caches = caches; taken = None })
-acted_code was exec opened caches want opens given acts wants gives same on again pushes keeps = acted_keeps was exec opened caches want acts wants
+    → (scenario : Scenario) (seen : List Entry) (held : Holds scenario seen was) → HasActed scenario seen was held (record was { exec = exec; opened = opened; caches = caches; suspects = suspects; known = known; taken = None })
+acted_code was exec opened caches suspects known want opens given acts wants gives same on again pushes keeps = acted_keeps was exec opened caches suspects known want acts wants
     (subst (λ o. plan_at o exec ≡ after_act given (plan_at o was.exec)) same on ∙ ap (λ l. after_act l (plan_at was.opens was.exec)) gives)
     (subst (λ o. (name : List ℕ) → 0 < acts_left was.exec → plan_at o exec ≡ Absent name → plan_again o exec ≡ plan_at o was.exec) same again) pushes keeps
 
 -- the code's step to the next command
-pub finish_code : (was : Progress) (exec : Exec) (blocked : Bool) (blocks : Blocks) (tally : Counts) (opens : List OpenRelation) (opened : List Opening) (caches : LocalCaches) (answer : Option (List ℕ)) (were : List OpenRelation) (held_before : List Opening) (are : List OpenRelation) (commands : List Command) (command : Command) → Finishes was → slice_get was.commands was.finished ≡ Some command
+pub finish_code : (was : Progress) (exec : Exec) (blocked : Bool) (blocks : Blocks) (tally : Counts) (opens : List OpenRelation) (opened : List Opening) (caches : LocalCaches) (suspects : Suspects) (known : AreKnown (is_kept (kept_of caches)) opened suspects) (answer : Option (List ℕ)) (were : List OpenRelation) (held_before : List Opening) (are : List OpenRelation) (commands : List Command) (command : Command) → Finishes was → slice_get was.commands was.finished ≡ Some command
     → blocks ≡ blocks_passed (plan_at was.opens was.exec) (was.finished + 1) command was.blocks → were ≡ was.opens → held_before ≡ was.opened → opens ≡ opens_passed (plan_at were was.exec) (was.finished + 1) command was.blocked was.blocks.levels held_before were → commands ≡ was.commands → are ≡ opens → plan_at are exec ≡ plan_first blocks are (slice_get commands (was.finished + 1)) → blocked ≡ is_blocked blocks (slice_get commands (was.finished + 1)) → tally ≡ no_counts → opened ≡ held_in blocks.block opens → kept_of caches ≡ kept_at was → answer ≡ None
     → (scenario : Scenario) (seen : List Entry) (held : Holds scenario seen was)
-    → HasPassed scenario seen was held (record was { finished = was.finished + 1; exec = exec; blocked = blocked; ended = false; tally = tally; blocks = blocks; opens = opens; taken = None; opened = opened; caches = caches; answer = answer })
-finish_code was exec blocked blocks tally opens opened caches answer were held_before are commands command finishes at passes was_open was_held after same is_open on refuses fresh pinned keeps taken scenario seen held =
-    subst (HasPassed scenario seen was held) (λ i. record (at_next was exec blocked blocks opens opened caches) { tally = sym fresh i; answer = sym taken i })
-    (finish_passes scenario seen was exec blocked blocks opens opened caches command held at (subst (λ c. is_finished_at c was ≡ true) one finishes.finished) passes (after ∙ (λ i. opens_passed (plan_at (was_open i) was.exec) (was.finished + 1) command was.blocked was.blocks.levels (was_held i) (was_open i))) pinned keeps
+    → HasPassed scenario seen was held (record was { finished = was.finished + 1; exec = exec; blocked = blocked; ended = false; tally = tally; blocks = blocks; opens = opens; taken = None; opened = opened; caches = caches; suspects = suspects; known = known; answer = answer })
+finish_code was exec blocked blocks tally opens opened caches suspects known answer were held_before are commands command finishes at passes was_open was_held after same is_open on refuses fresh pinned keeps taken scenario seen held =
+    subst (HasPassed scenario seen was held) (λ i. record (at_next was exec blocked blocks opens opened caches suspects known) { tally = sym fresh i; answer = sym taken i })
+    (finish_passes scenario seen was exec blocked blocks opens opened caches suspects known command held at (subst (λ c. is_finished_at c was ≡ true) one finishes.finished) passes (after ∙ (λ i. opens_passed (plan_at (was_open i) was.exec) (was.finished + 1) command was.blocked was.blocks.levels (was_held i) (was_open i))) pinned keeps
     (subst (λ o. plan_at o exec ≡ plan_first blocks o (slice_get commands (was.finished + 1))) is_open on ∙ ap (λ l. plan_first blocks opens (slice_get l (was.finished + 1))) same) (refuses ∙ ap (λ l. is_blocked blocks (slice_get l (was.finished + 1))) same))
   where
     one : finishes.command ≡ command

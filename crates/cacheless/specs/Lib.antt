@@ -23,6 +23,7 @@ pub mod Puts
 pub mod State
 pub mod SameItems
 pub mod May
+pub mod Suspects
 pub mod Endings
 pub mod Answering
 pub mod Silently

@@ -6,7 +6,7 @@ use Rattle.event_kinds.specs.declared.entry.Event.TheVariants.{LockOk, Unlock, W
 use Rattle.event_kinds.specs.declared.entry.Item.TheVariants.{Add}
 use Rattle.lock_modes.specs.declared.grant.Grant.{Grant}
 use Rattle.lock_modes.specs.Own.{is_own, new_lock}
-use Rattle.cacheless.specs.Types.{Oid, OwnLock, Item, Event}
+use Rattle.cacheless.specs.Types.{OwnLock, Item, Event}
 
 -- the grant that a lock of a backend is
 abbrev pub grant_of : ℕ → OwnLock → Grant

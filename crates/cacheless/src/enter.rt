@@ -8,7 +8,6 @@ ghost use Rattle.event_kinds.specs.declared.entry.Entry.{Entry};
 ghost use Rattle.history_model.specs.Log.{fetched_by};
 ghost use Rattle.cacheless.specs.State.{due_looked, due_fetched, locks_accepted};
 
-use crate::scans::note_whole;
 use crate::{Due, Progress};
 use base_types::Command;
 use event_kinds::Event;
@@ -80,7 +79,7 @@ impl Progress {
     {
         self.running = Some(RunningTransaction::begun(self.finished + 1, self.running));
         self.caches.execute(messages);
-        note_whole(&mut self.caches, self.opened.as_slice());
+        self.suspects.find(&self.caches, &self.opened);
         self.due = after_fetch(messages.len());
         self.search_again();
         self.tally.fetches += 1;
@@ -103,6 +102,7 @@ impl Progress {
     {
         self.running = Some(RunningTransaction::begun(self.finished + 1, self.running));
         self.caches.reset();
+        self.suspects.find(&self.caches, &self.opened);
         self.due = Due::Nothing;
         self.search_again();
         self.tally.fetches += 1;

@@ -73,6 +73,7 @@ impl Progress {
         self.running = Some(RunningTransaction::begun(self.finished + 1, self.running));
         self.caches.execute(self.lists.cats_from(from));
         self.caches.execute(self.lists.rels_from(from));
+        self.suspects.find(&self.caches, &self.opened);
         self.lists.abort_from(from);
         self.due = Due::Nothing;
         let accepting = self.is_in_acceptance();
@@ -99,8 +100,10 @@ impl Progress {
         );
         self.running = RunningTransaction::begun(self.finished + 1, self.running).released(from);
         self.locks.release(from);
+        self.suspects.forget();
         self.opened = openings_of(alloc, left.as_slice())?;
         pin_anew(&mut self.caches, left.as_slice())?;
+        self.suspects.find(&self.caches, &self.opened);
         self.ended = true;
         self.due = Due::Nothing;
         let accepting = self.is_in_acceptance();

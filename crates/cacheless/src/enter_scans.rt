@@ -6,7 +6,6 @@ ghost use Rattle.event_kinds.specs.declared.entry.Entry.{Entry};
 ghost use Rattle.history_model.specs.Versions.{answer_of};
 
 use crate::enter::accept;
-use crate::scans::note_whole;
 use crate::{Due, Progress};
 use base_types::{NoMemory, Purpose, Row};
 use event_kinds::Event;
@@ -33,7 +32,7 @@ impl Progress {
         ensures same { OnOk result (self.new.commands ≡ self.old.commands) }
     {
         self.caches.put(scan, rows, at)?;
-        note_whole(&mut self.caches, self.opened.as_slice());
+        self.suspects.go_on(&self.caches);
         self.running = Some(RunningTransaction::begun(self.finished + 1, self.running));
         self.due = Due::Nothing;
         self.tally.scans += 1;

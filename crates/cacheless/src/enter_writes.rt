@@ -14,7 +14,6 @@ ghost use Rattle.cacheless.specs.State.{messages_in, clash_event, error_of, lock
 
 use crate::enter::accept;
 use crate::opens::{held_in, pin_anew};
-use crate::scans::note_whole;
 use crate::{Due, Progress};
 use base_types::{Listed, Name, NoMemory, Oid, Xid};
 use command_answers::CommandError;
@@ -56,6 +55,7 @@ impl Progress {
     {
         let command = self.finished + 1;
         register(&mut self.lists, command, messages)?;
+        self.suspects.forget();
         self.caches.execute(messages);
         lock_new(&mut self.locks, made, command);
         self.running = Some(RunningTransaction::begun(command, self.running).with_xid(xid));
@@ -63,7 +63,7 @@ impl Progress {
         self.exec.give(alloc, self.opens.as_slice(), &[])?;
         self.opened = held_in(alloc, &self.blocks, self.opens.as_slice())?;
         pin_anew(&mut self.caches, self.opens.as_slice())?;
-        note_whole(&mut self.caches, self.opened.as_slice());
+        self.suspects.find(&self.caches, &self.opened);
         self.taken = None;
         let accepting = self.is_in_acceptance();
         accept(&mut self.locks, accepting);

@@ -54,10 +54,13 @@ mod opens;
 mod progress;
 mod scans;
 mod silent;
+mod suspects;
+mod unstarted;
 
 pub use check_kind::CheckKind;
 pub use ending::Ending;
 pub use opening::Opening;
 pub use progress::{Counts, Due, Progress};
-pub use scans::first_lacking;
+pub use scans::lacks_scan;
 pub use silent::Silent;
+pub use suspects::Suspects;

@@ -11,7 +11,6 @@ ghost use Rattle.cacheless.specs.May.{is_first_missing as is_first, is_missing a
 ghost use Rattle.local_caches.specs.Caches.{kept_of};
 
 use crate::draft_items::{gives_name, writes_items};
-use crate::scans::first_lacking;
 use crate::{Due, Progress};
 use base_types::{Command, Kind, Mode, Name, Oid, Purpose, Row, same_scan};
 use ddl_effect::Want;
@@ -297,7 +296,7 @@ impl Progress {
     fn lacks_build(&self) -> bool
         ensures { result ≡ lacks_opened (kept_at self.now) self.now.opened }
     {
-        first_lacking(&self.caches, self.opened.as_slice()).is_some()
+        self.suspects.lack(&self.caches, &self.opened)
     }
 
     // Whether an opened descriptor lacks a scan, in a command that hasn't failed.

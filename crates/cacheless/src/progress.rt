@@ -1,18 +1,14 @@
-ghost use Rattle.std.specs.Prelude.{◌≡◌, ◌≤◌, [], IfOk, length};
-ghost use Rattle.base_types.specs.Scenario.{Scenario, IsBackend};
-ghost use Rattle.ddl_effect.specs.Commands.{commands_of};
-ghost use Rattle.cacheless.specs.State.{IsNew};
-ghost use Rattle.cacheless.specs.Holds.{HasNotStarted};
+ghost use Rattle.local_caches.specs.Caches.{kept_of};
+ghost use Rattle.local_caches.specs.Kept.{is_kept};
+ghost use Rattle.cacheless.specs.Suspects.{AreKnown};
 
-use crate::Opening;
-use crate::begun::begun;
-use base_types::{Command, Listed, NoMemory, Oid};
+use crate::{Opening, Suspects};
+use base_types::{Command, Listed, Oid};
 use command_lists::InvalLists;
 use ddl_effect::{Exec, OpenRelation};
 use event_kinds::LineText;
 use local_caches::LocalCaches;
 use lock_modes::OwnLocks;
-use std::alloc::Global;
 use txn_blocks::{RunningTransaction, TxnBlocks};
 
 /// What has to come right after the last entry of a backend.
@@ -36,23 +32,6 @@ pub struct Counts {
     pub grants: u64,
     pub fetches: u64,
     pub full: u64,
-}
-
-impl Counts {
-    ghost use Rattle.cacheless.specs.State.{no_counts};
-
-    // Nothing is counted.
-    pub(crate) fn none() -> Counts
-        ensures { result ≡ no_counts }
-    {
-        Counts {
-            looks: 0,
-            scans: 0,
-            grants: 0,
-            fetches: 0,
-            full: 0,
-        }
-    }
 }
 
 /// How far a backend is in its commands: what the definitions' session and the facts of its own entries
@@ -82,8 +61,12 @@ pub struct Progress {
     pub locks: OwnLocks,
     // what it has read of the catalogs
     pub caches: LocalCaches,
+    // which of the held descriptors may lack a scan
+    pub suspects: Suspects,
     // what the running command answers, where that is worked out
     pub answer: Option<LineText>,
+    // all that lack one are among those
+    ghost known: { AreKnown (is_kept (kept_of caches)) opened suspects },
 }
 
 // Written out, and not derived: so it is proved here, and not again wherever one is dropped.
@@ -106,38 +89,8 @@ impl Drop for Progress {
             opened: _,
             locks: _,
             caches: _,
+            suspects: _,
             answer: _,
         } = self;
-    }
-}
-
-impl Progress {
-    /// The backend of this number with its commands in order, before it has started.
-    pub fn new(alloc: Global, id: u32, commands: Listed<Command>) -> Result<Progress, NoMemory>
-        ensures new { IfOk result (λ s. IsNew id commands s) }
-        ensures waits { IfOk result (λ s. (scenario : Scenario) → IsBackend scenario.backends id → commands ≡ commands_of scenario id → length commands ≤ 20000 → HasNotStarted scenario [] s) }
-    {
-        let blocks = TxnBlocks::new(alloc);
-        let opens = Listed::new(alloc);
-        let first = begun(alloc, &blocks, opens.as_slice(), commands.as_slice(), 0)?;
-        Ok(Progress {
-            id,
-            commands,
-            finished: 0,
-            exec: first.exec,
-            blocked: first.blocked,
-            ended: false,
-            tally: Counts::none(),
-            due: Due::Nothing,
-            blocks,
-            opens,
-            running: None,
-            lists: InvalLists::new(alloc),
-            taken: None,
-            opened: Listed::new(alloc),
-            locks: OwnLocks::new(alloc),
-            caches: LocalCaches::new(alloc),
-            answer: None,
-        })
     }
 }

@@ -9,7 +9,6 @@ ghost use Rattle.local_caches.specs.Caches.{kept_of};
 
 use crate::begun::begun;
 use crate::opens::{held_in, opens_after, pin_others};
-use crate::scans::note_whole;
 use crate::{Counts, Due, Opening, Progress};
 use base_types::{Command, Kind, Listed, Mode, Name, NoMemory, Oid, Purpose, Row};
 use ddl_effect::{Exec, OpenRelation, Told, Want};
@@ -210,9 +209,10 @@ impl Progress {
         ensures less { OnOk result (left_of self.new < left_of self.old) }
         ensures same { OnOk result (self.new.commands ≡ self.old.commands) }
     {
-        self.opened.push(Opening { rel, kind })?;
+        let opening = Opening { rel, kind };
         self.caches.pin(rel)?;
-        note_whole(&mut self.caches, self.opened.as_slice());
+        self.opened.push(opening)?;
+        self.suspects.hold(&self.caches, &self.opened, &opening);
         self.exec.give(alloc, self.opens.as_slice(), &[])?;
         self.taken = None;
         Ok(())
@@ -247,7 +247,8 @@ impl Progress {
         let Some(command) = self.commands.as_slice().get(self.finished as usize) else {
             unreachable!()
         };
-        self.answer = Some(self.told_text(alloc, command)?);
+        let text = self.told_text(alloc, command)?;
+        self.answer = Some(text);
         Ok(())
     }
 
@@ -295,9 +296,12 @@ impl Progress {
         self.ended = false;
         self.tally = Counts::none();
         self.taken = None;
-        self.opened = held_in(alloc, &self.blocks, opens.as_slice())?;
+        let opened = held_in(alloc, &self.blocks, opens.as_slice())?;
         self.opens = opens;
         pin_others(&mut self.caches, self.opens.as_slice(), held)?;
+        self.suspects
+            .hold_others(&self.caches, &self.opened, &opened);
+        self.opened = opened;
         Ok(Line {
             backend: self.id,
             command: number,

@@ -19,7 +19,9 @@ use Rattle.cacheless.specs.Session.{Session, Finished, is_blocked}
 use Rattle.cacheless.specs.Sessions.{session_of}
 use Rattle.cacheless.specs.Silently.{is_to_answer}
 use Rattle.cacheless.specs.Settled.{settled}
-use Rattle.cacheless.specs.State.{Rest, rest_of, session_at}
+use Rattle.cacheless.specs.State.{Rest, rest_of, session_at, kept_at, is_kept}
+use Rattle.cacheless.specs.Suspects.{AreKnown}
+use Rattle.cacheless.proofs.Lacking.{with_known}
 use Rattle.cacheless.proofs.CommandEnds.{left_none}
 use Rattle.cacheless.proofs.Written.Putting.{puts_first}
 use Rattle.backend_core.specs.Types.{Command, Frame, Scenario, Entry, Progress, Backend}
@@ -149,11 +151,12 @@ module _ (scenario : Scenario) (seen : List Entry) (was : Backend) (awaits : Awa
     before = says_before;
   }
 
-pub halts : (was : Backend) (commands : List Command) (frames : List Frame) → commands ≡ take was.progress.finished was.progress.commands → frames ≡ []
-    → HaltsWherever was (record was { progress = record was.progress { commands = commands; exec = stages.Done tells.Ok; blocked = false; answer = None }; looked = false; frames = frames; told = false })
-halts was commands frames same bare = subst (λ l. HaltsWherever was (record was { progress = record was.progress { commands = l; exec = stages.Done tells.Ok; blocked = false; answer = None }; looked = false; frames = frames; told = false })) (sym same)
+pub halts : (was : Backend) (commands : List Command) (frames : List Frame) (known : AreKnown (is_kept (kept_at was.progress)) was.progress.opened was.progress.suspects) → commands ≡ take was.progress.finished was.progress.commands → frames ≡ []
+    → HaltsWherever was (record was { progress = record was.progress { commands = commands; exec = stages.Done tells.Ok; blocked = false; answer = None; known = known }; looked = false; frames = frames; told = false })
+halts was commands frames known same bare = with_known (λ p. HaltsWherever was (record was { progress = p; looked = false; frames = frames; told = false })) (record was.progress { commands = commands; exec = stages.Done tells.Ok; blocked = false; answer = None }) known
+    (subst (λ l. HaltsWherever was (record was { progress = record was.progress { commands = l; exec = stages.Done tells.Ok; blocked = false; answer = None }; looked = false; frames = frames; told = false })) (sym same)
     (λ scenario seen awaits part is. record {
       id = refl;
       played = played_cut scenario part was.progress.id was.progress.finished is seen (ends scenario seen was awaits part is) awaits.agrees.tells.played;
       stands = awaits_stands part seen (record was { progress = halted was.progress; looked = false; frames = frames; told = false }) (halted_waits scenario seen was awaits part is frames bare);
-    })
+    }))

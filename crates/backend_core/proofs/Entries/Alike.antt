@@ -13,7 +13,9 @@ use Rattle.cacheless.specs.Puts.{PutsOpened}
 use Rattle.cacheless.specs.Session.{Badly, outcome_of, is_settled}
 use Rattle.cacheless.specs.Settled.{settled}
 use Rattle.cacheless.specs.Silently.{IsAtRest, is_to_answer_at}
-use Rattle.cacheless.specs.State.{kept_at, owed_at, owed_first, act_missing, is_absent, IsLockedIn, Rest, session_at}
+use Rattle.cacheless.specs.State.{kept_at, is_kept, owed_at, owed_first, act_missing, is_absent, IsLockedIn, Rest, session_at}
+use Rattle.cacheless.specs.Suspects.{AreKnown}
+use Rattle.cacheless.proofs.Lacking.{with_known}
 use Rattle.backend_core.specs.Types.{Oid, Mode, Command, Draft, Exec, OwnLock, Scenario, Entry, Progress, Backend}
 use Rattle.backend_core.specs.Agrees.{command_at, AwaitsEntry}
 use Rattle.backend_core.specs.Fits.{Fits}
@@ -93,13 +95,14 @@ none_answered : (o : Option Command) → elim o as (λ x. Bool) [ Some command �
 none_answered None is = absurd (cc is)
 none_answered (Some command) is = absurd (cc is)
 
-pub drafted_awaits : (scenario : Scenario) (seen : List Entry) (s : Backend) (draft : Draft) → plan_at s.progress.opens s.progress.exec ≡ writing draft → AwaitsEntry scenario seen s → AwaitsEntry scenario seen (record s { progress = record s.progress { exec = stages.Writing draft } })
-drafted_awaits scenario seen s draft plan waits = alike_awaits scenario seen s (stages.Writing draft) s.progress.locks (sym plan) refl (λ is. absurd (cc is))
+pub drafted_awaits : (scenario : Scenario) (seen : List Entry) (s : Backend) (draft : Draft) (known : AreKnown (is_kept (kept_at s.progress)) s.progress.opened s.progress.suspects) → plan_at s.progress.opens s.progress.exec ≡ writing draft → AwaitsEntry scenario seen s → AwaitsEntry scenario seen (record s { progress = record s.progress { exec = stages.Writing draft; known = known } })
+drafted_awaits scenario seen s draft known plan waits = with_known (λ p. AwaitsEntry scenario seen (record s { progress = p })) (record s.progress { exec = stages.Writing draft }) known
+    (alike_awaits scenario seen s (stages.Writing draft) s.progress.locks (sym plan) refl (λ is. absurd (cc is))
     (λ command at. (and-false (owes_nothing command (record s.progress { exec = stages.Writing draft })), refl))
-    (λ is. absurd (none_answered (command_at s) is)) waits
+    (λ is. absurd (none_answered (command_at s) is)) waits)
 
-pub drafted_write : (s : Progress) (draft : Draft) → plan_at s.opens s.exec ≡ writing draft → IsWriteNext s → IsWriteNext (record s { exec = stages.Writing draft })
-drafted_write s draft plan next = record {
+pub drafted_write : (s : Progress) (draft : Draft) (known : AreKnown (is_kept (kept_at s)) s.opened s.suspects) → plan_at s.opens s.exec ≡ writing draft → IsWriteNext s → IsWriteNext (record s { exec = stages.Writing draft; known = known })
+drafted_write s draft known plan next = record {
   command = next.command;
   free = record { at = next.free.at; due = next.free.due; first = next.free.first };
   owes = subst (λ p. (is_empty (owed_first s next.command) && is_empty (owed_at s.due) && not (not (elim (outcome_of p) as (λ x. Bool) [ Badly ↦ true | outcome ↦ false ]) && (lacks_opened (kept_at s) s.opened || not (is_empty (act_missing s p))))) ≡ true) plan next.owes;

@@ -5,7 +5,9 @@ use Rattle.lock_modes.specs.Rooms.{Roomy}
 use Rattle.seg_calls.specs.Calls.{Appends, entry_of}
 use Rattle.cacheless.specs.Holds.{Holds, Rests, HasEntered, HasActed, HasPassed}
 use Rattle.cacheless.specs.Silently.{HasAnswered, left_of, unanswered}
-use Rattle.cacheless.specs.State.{IsLockedIn, is_absent}
+use Rattle.cacheless.specs.State.{kept_at, is_kept, IsLockedIn, is_absent}
+use Rattle.cacheless.specs.Suspects.{AreKnown}
+use Rattle.cacheless.proofs.Lacking.{another_known}
 use Rattle.ddl_effect.specs.Plans.{Plan, Do, Lookup, Open, Search, Read, Lock, Write}
 use Rattle.ddl_effect.specs.Stages.{plan_at, acts_left}
 use Rattle.backend_core.specs.Types.{Oid, Mode, Exec, OwnLock, Scenario, Entry, Event, Line, Frame, Next, Progress, Backend}
@@ -42,12 +44,12 @@ write_alike : (old : List Entry) (was : Backend) (locks : Roomy OwnLock) (exec :
 write_alike old was locks exec (events.Write xid items) = refl
 write_alike old was locks exec event = refl
 
-pub written_noted : (old new : List Entry) (was now : Backend) (q : Progress) (exec : Exec) → IsLockedIn was.progress.locks.items was.progress q → IsNoted old new (record was { progress = record q { exec = exec } }) nexts.Write now → IsNoted old new was nexts.Write now
-written_noted old new was now q exec same noted = record {
+pub written_noted : (old new : List Entry) (was now : Backend) (q : Progress) (exec : Exec) (known : AreKnown (is_kept (kept_at q)) q.opened q.suspects) → IsLockedIn was.progress.locks.items was.progress q → IsNoted old new (record was { progress = record q { exec = exec; known = known } }) nexts.Write now → IsNoted old new was nexts.Write now
+written_noted old new was now q exec known same noted = record {
   event = noted.event;
   entered = noted.entered ∙ ap (λ (x : Progress). old ++ entry_of x.id (x.finished + 1) noted.event ∷ []) same.is;
   number = noted.number ∙ ap (λ (x : Progress). x.finished) same.is;
-  noted = noted.noted ∙ ap (λ (x : Progress). noted_by old (record was { progress = record x { exec = exec } }) nexts.Write noted.event) same.is ∙ write_alike old was q.locks exec noted.event;
+  noted = noted.noted ∙ sym (λ i. noted_by old (record was { progress = record q { exec = exec; known = another_known q known i } }) nexts.Write noted.event) ∙ ap (λ (x : Progress). noted_by old (record was { progress = record x { exec = exec } }) nexts.Write noted.event) same.is ∙ write_alike old was q.locks exec noted.event;
 }
 
 -- after an act fewer are left

@@ -1,5 +1,5 @@
 -- A command that is about to write has read the rows of the relations that it has opened as they are: so its new names are those that its plan names.
-use Rattle.std.proofs.Common.{◌≡◌, ◌∙◌, ◌⊎◌, inl, inr, ℕ, Bool, true, false, not, Some, List, [], ◌∷◌, ◌++◌, cond, refl, sym, ap, subst, map, length, slice_get}
+use Rattle.std.proofs.Common.{◌≡◌, ◌∙◌, ℕ, Bool, true, false, not, Some, List, [], ◌∷◌, ◌++◌, cond, refl, sym, ap, subst, map, length, slice_get}
 use Rattle.std.specs.List.{AllByRecursion}
 use Rattle.std.proofs.lemmas.Grind.{flat_map-append}
 use Rattle.base_types.specs.Scans.{build_scans}

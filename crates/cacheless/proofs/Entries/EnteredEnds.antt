@@ -15,6 +15,8 @@ use Rattle.history_model.proofs.Every.{every-weaker, every-filter}
 use Rattle.cacheless.specs.Types.{Xid, Message, Purpose, Scenario, Entry, Event, OwnLock}
 use Rattle.cacheless.specs.declared.progress.Due.TheVariants as dues
 use Rattle.txn_blocks.specs.declared.transaction.RunningTransaction.{RunningTransaction}
+use Rattle.cacheless.specs.Suspects.{AreKnown}
+use Rattle.cacheless.specs.declared.suspects.Suspects.{Suspects}
 use Rattle.cacheless.specs.declared.progress.Progress.{Progress}
 use Rattle.cacheless.specs.Facts.{Facts, facts_of}
 use Rattle.txn_blocks.specs.Transactions.{begun_own, ends_own, released_own}
@@ -102,11 +104,13 @@ kept_twice first later kept scan =
     turned false false c = refl
 
 -- the state once writes are taken back
-abbrev pub taken_back : Progress → LocalCaches → Held → Progress
-taken_back was caches lists = record was {
+abbrev pub taken_back : (was : Progress) (caches : LocalCaches) (suspects : Suspects) → AreKnown (is_kept (kept_of caches)) was.opened suspects → Held → Progress
+taken_back was caches suspects known lists = record was {
   due = dues.Nothing;
   running = Some (begun_own (was.finished + 1) was.running);
   caches = caches;
+  suspects = suspects;
+  known = known;
   lists = lists;
 }
 
@@ -115,11 +119,11 @@ gone_usable : (old : List Entry) (was : Progress) (from : ℕ) (cats rels : List
     → is_spared scan (sent_in (lists_from from (facts_of old was.id).lists)) ≡ is_spared scan (cats ++ rels)
 gone_usable old was from cats rels scan fits cats_are rels_are = ap (λ l. is_spared scan (sent_in (lists_from from l))) fits.lists ∙ sym (λ i. is_spared scan (cats_are i ++ rels_are i))
 
-pub gone_holds : (scenario : Scenario) (old : List Entry) (was : Progress) (from : ℕ) (cats rels : List Message) (caches : LocalCaches) (lists : Held) (locks : Roomy OwnLock) (rests : Rests scenario old was)
+pub gone_holds : (scenario : Scenario) (old : List Entry) (was : Progress) (from : ℕ) (cats rels : List Message) (caches : LocalCaches) (suspects : Suspects) (known : AreKnown (is_kept (kept_of caches)) was.opened suspects) (lists : Held) (locks : Roomy OwnLock) (rests : Rests scenario old was)
     → cats ≡ cats_in (lists_from from (lists_at was)) → rels ≡ rels_in (lists_from from (lists_at was)) → kept_of caches ≡ kept_spared rels (kept_spared cats (kept_at was)) → all_lists lists.lists ≡ lists_before from (lists_at was)
-    → locks.items ≡ locks_accepted (is_in_accept (taken_back was caches lists) (slice_get was.commands was.finished)) was.locks.items
-    → HasEntered scenario old was (events.Gone from) rests (with_locks (taken_back was caches lists) locks)
-gone_holds scenario old was from cats rels caches lists locks rests cats_are rels_are keeps before items = own_entered scenario old was (taken_back was caches lists) event locks rests (record { session = λ _ _ _ _ _ _. refl; finished = λ _. refl }) (record {
+    → locks.items ≡ locks_accepted (is_in_accept (taken_back was caches suspects known lists) (slice_get was.commands was.finished)) was.locks.items
+    → HasEntered scenario old was (events.Gone from) rests (with_locks (taken_back was caches suspects known lists) locks)
+gone_holds scenario old was from cats rels caches suspects known lists locks rests cats_are rels_are keeps before items = own_entered scenario old was (taken_back was caches suspects known lists) event locks rests (record { session = λ _ _ _ _ _ _. refl; finished = λ _. refl }) (record {
   moves = record { id = refl; commands = refl; finished = refl };
   session = refl;
   facts = let f = rests.holds.facts in record {
@@ -144,14 +148,14 @@ gone_holds scenario old was from cats rels caches lists locks rests cats_are rel
     after = facts_after old was event
 
 -- the state after a release
-abbrev pub let_go : Progress → ℕ → LocalCaches → Held → Roomy OwnLock → Progress
-let_go was from caches lists locks = record was { due = dues.Nothing; ended = true; opened = map opening_of (opens_before from was.opens); running = released_own from (begun_own (was.finished + 1) was.running); caches = caches; lists = lists; locks = locks }
+abbrev pub let_go : (was : Progress) (from : ℕ) (caches : LocalCaches) (suspects : Suspects) → AreKnown (is_kept (kept_of caches)) (map opening_of (opens_before from was.opens)) suspects → Held → Roomy OwnLock → Progress
+let_go was from caches suspects known lists locks = record was { due = dues.Nothing; ended = true; opened = map opening_of (opens_before from was.opens); running = released_own from (begun_own (was.finished + 1) was.running); caches = caches; suspects = suspects; known = known; lists = lists; locks = locks }
 
-pub release_holds : (scenario : Scenario) (old : List Entry) (was : Progress) (from : ℕ) (caches : LocalCaches) (lists : Held) (held locks : Roomy OwnLock) (rests : Rests scenario old was) → is_out was ≡ true → kept_of caches ≡ kept_at was
+pub release_holds : (scenario : Scenario) (old : List Entry) (was : Progress) (from : ℕ) (caches : LocalCaches) (suspects : Suspects) (known : AreKnown (is_kept (kept_of caches)) (map opening_of (opens_before from was.opens)) suspects) (lists : Held) (held locks : Roomy OwnLock) (rests : Rests scenario old was) → is_out was ≡ true → kept_of caches ≡ kept_at was
     → all_lists lists.lists ≡ lists_left (ends_own from was.running) (lists_at was) → held.items ≡ filter (λ lock. nat_lt lock.command from) was.locks.items
-    → locks.items ≡ locks_accepted (is_in_accept (let_go was from caches lists held) (slice_get was.commands was.finished)) held.items
-    → HasEntered scenario old was (events.Release from) rests (with_locks (let_go was from caches lists held) locks)
-release_holds scenario old was from caches lists held locks rests out keeps left stay items = own_entered scenario old was (let_go was from caches lists held) event locks rests (record { session = λ _ _ _ _ _ _. refl; finished = λ _. refl }) (record {
+    → locks.items ≡ locks_accepted (is_in_accept (let_go was from caches suspects known lists held) (slice_get was.commands was.finished)) held.items
+    → HasEntered scenario old was (events.Release from) rests (with_locks (let_go was from caches suspects known lists held) locks)
+release_holds scenario old was from caches suspects known lists held locks rests out keeps left stay items = own_entered scenario old was (let_go was from caches suspects known lists held) event locks rests (record { session = λ _ _ _ _ _ _. refl; finished = λ _. refl }) (record {
   moves = record { id = refl; commands = refl; finished = refl };
   session = λ i. record (noted_after old was event rests.holds.rest) { locks = sym stay i };
   facts = let f = rests.holds.facts in record {

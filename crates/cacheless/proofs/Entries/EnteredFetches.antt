@@ -16,6 +16,8 @@ use Rattle.history_model.specs.Transactions.{begun}
 use Rattle.cacheless.specs.Types.{Oid, Message, Purpose, Scenario, Entry, Event, OpenRelation, OwnLock, Exec}
 use Rattle.cacheless.specs.declared.progress.Due.{Due}
 use Rattle.cacheless.specs.declared.progress.Due.TheVariants as dues
+use Rattle.cacheless.specs.Suspects.{AreKnown}
+use Rattle.cacheless.specs.declared.suspects.Suspects.{Suspects}
 use Rattle.cacheless.specs.declared.progress.Progress.{Progress}
 use Rattle.cacheless.specs.Facts.{Facts, facts_of}
 use Rattle.cacheless.specs.Session.{Session, Tally}
@@ -98,19 +100,21 @@ resumed_same was exec rest sought again = resumed_is (plan_at was.opens was.exec
     ∙ (λ i. record (session_at was rest) { left = (left_is was rest sought (plan_at was.opens was.exec) refl ∙ sym again) i; found = found_again (plan_at was.opens was.exec) (session_at was rest) })
 
 -- the state after a fetch of these messages, but for its full fetches
-abbrev pub fetched_first : Progress → ℕ → LocalCaches → Exec → Progress
-fetched_first was count caches exec = record was {
+abbrev pub fetched_first : (was : Progress) (count : ℕ) (caches : LocalCaches) (suspects : Suspects) → AreKnown (is_kept (kept_of caches)) was.opened suspects → Exec → Progress
+fetched_first was count caches suspects known exec = record was {
   exec = exec;
   due = due_fetched count;
   running = Some (begun_own (was.finished + 1) was.running);
   caches = caches;
+  suspects = suspects;
+  known = known;
   tally = record was.tally { fetches = was.tally.fetches + 1 };
   answer = None;
 }
 
 -- the state after the fetch
-abbrev pub fetched : Progress → ℕ → LocalCaches → Exec → Progress
-fetched was count caches exec = record (fetched_first was count caches exec) { tally = record was.tally { fetches = was.tally.fetches + 1; full = was.tally.full + one_if (is_full count (fetched_first was count caches exec)) } }
+abbrev pub fetched : (was : Progress) (count : ℕ) (caches : LocalCaches) (suspects : Suspects) → AreKnown (is_kept (kept_of caches)) was.opened suspects → Exec → Progress
+fetched was count caches suspects known exec = record (fetched_first was count caches suspects known exec) { tally = record was.tally { fetches = was.tally.fetches + 1; full = was.tally.full + one_if (is_full count (fetched_first was count caches suspects known exec)) } }
 
 owed_fetched : (count : ℕ) → owed_after (Some (events.Fetch count)) ≡ owed_at (due_fetched count)
 owed_fetched count = by_test (count == 32)
@@ -137,10 +141,10 @@ one_at_most : (t : Bool) → one_if t ≤ 1
 one_at_most true = omega arith
 one_at_most false = omega arith
 
-pub fetch_holds : (scenario : Scenario) (old : List Entry) (was : Progress) (count : ℕ) (messages : List Message) (caches : LocalCaches) (exec : Exec) (locks : Roomy OwnLock) (rests : Rests scenario old was) → messages ≡ fetched_by old was.id count → kept_of caches ≡ kept_spared messages (kept_at was) → plan_at was.opens exec ≡ plan_again was.opens was.exec
-    → locks.items ≡ locks_accepted (is_in_accept (fetched was count caches exec) (slice_get was.commands was.finished)) was.locks.items
-    → HasEntered scenario old was (events.Fetch count) rests (with_locks (fetched was count caches exec) locks)
-fetch_holds scenario old was count messages caches exec locks rests are keeps again items = own_entered scenario old was now event locks rests (record { session = λ _ _ _ _ _ _. refl; finished = λ s. ends_same s.left s }) (record {
+pub fetch_holds : (scenario : Scenario) (old : List Entry) (was : Progress) (count : ℕ) (messages : List Message) (caches : LocalCaches) (suspects : Suspects) (known : AreKnown (is_kept (kept_of caches)) was.opened suspects) (exec : Exec) (locks : Roomy OwnLock) (rests : Rests scenario old was) → messages ≡ fetched_by old was.id count → kept_of caches ≡ kept_spared messages (kept_at was) → plan_at was.opens exec ≡ plan_again was.opens was.exec
+    → locks.items ≡ locks_accepted (is_in_accept (fetched was count caches suspects known exec) (slice_get was.commands was.finished)) was.locks.items
+    → HasEntered scenario old was (events.Fetch count) rests (with_locks (fetched was count caches suspects known exec) locks)
+fetch_holds scenario old was count messages caches suspects known exec locks rests are keeps again items = own_entered scenario old was now event locks rests (record { session = λ _ _ _ _ _ _. refl; finished = λ s. ends_same s.left s }) (record {
   moves = record { id = refl; commands = refl; finished = refl };
   session = whole ∙ sym (ap (λ t. session_at now (rest_of t)) whole);
   facts = record { running = fits.running; lists = fits.lists; owed = fits.owed; quiet = fits.quiet; usable = fits.usable; kept = fits.kept };
@@ -158,10 +162,10 @@ fetch_holds scenario old was count messages caches exec locks rests are keeps ag
     event = events.Fetch count
 
     now : Progress
-    now = fetched was count caches exec
+    now = fetched was count caches suspects known exec
 
     first : Progress
-    first = fetched_first was count caches exec
+    first = fetched_first was count caches suspects known exec
 
     after : Facts
     after = facts_after old was event
@@ -195,20 +199,22 @@ fetch_holds scenario old was count messages caches exec locks rests are keeps ag
         ∙ ap noted_as (full_more (is_full count first) once)
 
 -- the state after a reset
-abbrev pub was_reset : Progress → LocalCaches → Exec → Progress
-was_reset was caches exec = record was {
+abbrev pub was_reset : (was : Progress) (caches : LocalCaches) (suspects : Suspects) → AreKnown (is_kept (kept_of caches)) was.opened suspects → Exec → Progress
+was_reset was caches suspects known exec = record was {
   exec = exec;
   due = dues.Nothing;
   running = Some (begun_own (was.finished + 1) was.running);
   caches = caches;
+  suspects = suspects;
+  known = known;
   tally = record was.tally { fetches = was.tally.fetches + 1 };
   answer = None;
 }
 
-pub reset_holds : (scenario : Scenario) (old : List Entry) (was : Progress) (caches : LocalCaches) (exec : Exec) (locks : Roomy OwnLock) (rests : Rests scenario old was) → kept_of caches ≡ nothing_kept → plan_at was.opens exec ≡ plan_again was.opens was.exec
-    → locks.items ≡ locks_accepted (is_in_accept (was_reset was caches exec) (slice_get was.commands was.finished)) was.locks.items
-    → HasEntered scenario old was events.FetchReset rests (with_locks (was_reset was caches exec) locks)
-reset_holds scenario old was caches exec locks rests keeps again items = own_entered scenario old was now event locks rests (record { session = λ _ _ _ _ _ _. refl; finished = λ s. ends_same s.left s }) (record {
+pub reset_holds : (scenario : Scenario) (old : List Entry) (was : Progress) (caches : LocalCaches) (suspects : Suspects) (known : AreKnown (is_kept (kept_of caches)) was.opened suspects) (exec : Exec) (locks : Roomy OwnLock) (rests : Rests scenario old was) → kept_of caches ≡ nothing_kept → plan_at was.opens exec ≡ plan_again was.opens was.exec
+    → locks.items ≡ locks_accepted (is_in_accept (was_reset was caches suspects known exec) (slice_get was.commands was.finished)) was.locks.items
+    → HasEntered scenario old was events.FetchReset rests (with_locks (was_reset was caches suspects known exec) locks)
+reset_holds scenario old was caches suspects known exec locks rests keeps again items = own_entered scenario old was now event locks rests (record { session = λ _ _ _ _ _ _. refl; finished = λ s. ends_same s.left s }) (record {
   moves = record { id = refl; commands = refl; finished = refl };
   session = whole ∙ sym (ap (λ t. session_at now (rest_of t)) whole);
   facts = let f = rests.holds.facts in record {
@@ -233,7 +239,7 @@ reset_holds scenario old was caches exec locks rests keeps again items = own_ent
     event = events.FetchReset
 
     now : Progress
-    now = was_reset was caches exec
+    now = was_reset was caches suspects known exec
 
     after : Facts
     after = facts_after old was event

@@ -8,7 +8,7 @@ use Rattle.lock_modes.specs.Rooms.{Roomy}
 use Rattle.txn_blocks.specs.Blocks.{Blocks, no_block, refused_by}
 use Rattle.ddl_effect.specs.Commands.{plan_of}
 use Rattle.ddl_effect.specs.declared.told.Told.TheVariants as tells
-use Rattle.ddl_effect.specs.Plans.{Done, Do}
+use Rattle.ddl_effect.specs.Plans.{Done}
 use Rattle.ddl_effect.specs.Stages.{plan_at}
 use Rattle.history_model.specs.Transactions.{begun}
 use Rattle.cacheless.specs.Types.{Command, CommandError, Scenario, Entry, OpenRelation, OwnLock}

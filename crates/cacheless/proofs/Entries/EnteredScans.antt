@@ -18,6 +18,8 @@ use Rattle.history_model.specs.Transactions.{begun}
 use Rattle.history_model.specs.Versions.{answer_of}
 use Rattle.cacheless.specs.Types.{Kind, Oid, Row, Purpose, Scenario, Entry, Event, Opening, OwnLock}
 use Rattle.cacheless.specs.declared.progress.Due.TheVariants as dues
+use Rattle.cacheless.specs.Suspects.{AreKnown}
+use Rattle.cacheless.specs.declared.suspects.Suspects.{Suspects}
 use Rattle.cacheless.specs.declared.progress.Progress.{Progress}
 use Rattle.cacheless.specs.Facts.{Facts, facts_of}
 use Rattle.txn_blocks.specs.Transactions.{begun_own}
@@ -79,8 +81,8 @@ rows_by-own : (old : List Entry) (b : ℕ) (made scan : Purpose) (count : ℕ) (
 rows_by-own old b made scan count given is = ap (λ t. elim t [ true ↦ answer_of old b scan | false ↦ given ]) is ∙ ap (answer_of old b) (sym (same_scan-true made scan is))
 
 -- the state after a scan
-abbrev pub built_scan : Progress → LocalCaches → Progress
-built_scan was caches = record was { due = dues.Nothing; running = Some (begun_own (was.finished + 1) was.running); tally = record was.tally { scans = was.tally.scans + 1 }; caches = caches; answer = None }
+abbrev pub built_scan : (was : Progress) (caches : LocalCaches) (suspects : Suspects) → AreKnown (is_kept (kept_of caches)) was.opened suspects → Progress
+built_scan was caches suspects known = record was { due = dues.Nothing; running = Some (begun_own (was.finished + 1) was.running); tally = record was.tally { scans = was.tally.scans + 1 }; caches = caches; suspects = suspects; known = known; answer = None }
 
 -- with the scan more is kept
 kept_more : (kept : Kept) (scan : Purpose) (given : List Row) (at : ℕ) (other : Purpose) → (same_scan scan other || is_kept kept other) ≡ is_kept (kept_with scan given at kept) other
@@ -105,11 +107,11 @@ right_more old b kept scan given at count are right other = by_test (same_scan s
     by_test true same = are ∙ sym (rows_by-own old b scan other count before same)
     by_test false apart = by_read apart (kept other) (right other)
 
-pub built_holds : (scenario : Scenario) (old : List Entry) (was : Progress) (scan : Purpose) (count : ℕ) (given : List Row) (at : ℕ) (caches : LocalCaches) (locks : Roomy OwnLock) (rests : Rests scenario old was)
+pub built_holds : (scenario : Scenario) (old : List Entry) (was : Progress) (scan : Purpose) (count : ℕ) (given : List Row) (at : ℕ) (caches : LocalCaches) (suspects : Suspects) (known : AreKnown (is_kept (kept_of caches)) was.opened suspects) (locks : Roomy OwnLock) (rests : Rests scenario old was)
     → is_next_at scan was ≡ true → given ≡ answer_of old was.id scan → kept_of caches ≡ kept_with scan given at (kept_at was)
-    → locks.items ≡ locks_accepted (is_in_accept (built_scan was caches) (slice_get was.commands was.finished)) was.locks.items
-    → HasEntered scenario old was (events.Scan scan count) rests (with_locks (built_scan was caches) locks)
-built_holds scenario old was scan count given at caches locks rests next are pushed items = own_entered scenario old was (built_scan was caches) event locks rests (record { session = λ _ _ _ _ _ _. refl; finished = λ _. refl }) (record {
+    → locks.items ≡ locks_accepted (is_in_accept (built_scan was caches suspects known) (slice_get was.commands was.finished)) was.locks.items
+    → HasEntered scenario old was (events.Scan scan count) rests (with_locks (built_scan was caches suspects known) locks)
+built_holds scenario old was scan count given at caches suspects known locks rests next are pushed items = own_entered scenario old was (built_scan was caches suspects known) event locks rests (record { session = λ _ _ _ _ _ _. refl; finished = λ _. refl }) (record {
   moves = record { id = refl; commands = refl; finished = refl };
   session = refl;
   facts = let f = rests.holds.facts in record {

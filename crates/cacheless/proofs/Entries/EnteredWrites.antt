@@ -27,6 +27,8 @@ use Rattle.history_model.proofs.Every.{every-append}
 use Rattle.cacheless.specs.Types.{Oid, Xid, Message, Row, Purpose, Scenario, Entry, Event, Item, OpenRelation, OwnLock, Exec}
 use Rattle.cacheless.specs.declared.progress.Due.TheVariants as dues
 use Rattle.txn_blocks.specs.declared.transaction.RunningTransaction.{RunningTransaction}
+use Rattle.cacheless.specs.Suspects.{AreKnown}
+use Rattle.cacheless.specs.declared.suspects.Suspects.{Suspects}
 use Rattle.cacheless.specs.declared.progress.Progress.{Progress}
 use Rattle.cacheless.specs.Facts.{Facts, facts_of}
 use Rattle.cacheless.specs.Locks.{locked_by}
@@ -98,8 +100,8 @@ written_is (Fails error) s is = absurd (cc)
 written_is (Absent name) s is = absurd (cc)
 
 -- the state after a write
-abbrev pub wrote : Progress → Xid → LocalCaches → Held → Exec → Roomy OwnLock → Progress
-wrote was xid caches lists exec locks = record was {
+abbrev pub wrote : (was : Progress) (xid : Xid) (caches : LocalCaches) (suspects : Suspects) → AreKnown (is_kept (kept_of caches)) (held_in was.blocks.block was.opens) suspects → Held → Exec → Roomy OwnLock → Progress
+wrote was xid caches suspects known lists exec locks = record was {
   exec = exec;
   opened = held_in was.blocks.block was.opens;
   taken = None;
@@ -107,6 +109,8 @@ wrote was xid caches lists exec locks = record was {
   running = Some (record (begun_own (was.finished + 1) was.running) { xid = Some xid });
   lists = lists;
   caches = caches;
+  suspects = suspects;
+  known = known;
   locks = locks;
   answer = None;
 }
@@ -115,12 +119,12 @@ runs_written : (number : ℕ) (xid : Xid) (own : Option RunningTransaction) → 
 runs_written number xid None = refl
 runs_written number xid (Some t) = refl
 
-pub write_holds : (scenario : Scenario) (old : List Entry) (was : Progress) (xid : Xid) (items : List Item) (messages : List Message) (made : Option Oid) (caches : LocalCaches) (lists : Held) (exec : Exec) (locked locks : Roomy OwnLock) (rests : Rests scenario old was)
+pub write_holds : (scenario : Scenario) (old : List Entry) (was : Progress) (xid : Xid) (items : List Item) (messages : List Message) (made : Option Oid) (caches : LocalCaches) (suspects : Suspects) (known : AreKnown (is_kept (kept_of caches)) (held_in was.blocks.block was.opens) suspects) (lists : Held) (exec : Exec) (locked locks : Roomy OwnLock) (rests : Rests scenario old was)
     → want_of (plan_at was.opens was.exec) ≡ wants.Write → messages ≡ messages_in old was.id items → flat_map (locked_by (was.finished + 1)) items ≡ locks_made (was.finished + 1) made
     → all_lists lists.lists ≡ lists_at was ++ with_messages messages (new_list (was.finished + 1)) ∷ [] → kept_of caches ≡ kept_spared messages (kept_at was) → plan_at was.opens exec ≡ after_act [] (plan_at was.opens was.exec) → locked.items ≡ was.locks.items ++ locks_made (was.finished + 1) made
-    → locks.items ≡ locks_accepted (is_in_accept (wrote was xid caches lists exec locked) (slice_get was.commands was.finished)) locked.items
-    → HasEntered scenario old was (events.Write xid items) rests (with_locks (wrote was xid caches lists exec locked) locks)
-write_holds scenario old was xid items messages made caches lists exec locked locks rests wants_it are makes pushed keeps goes held accepts = own_entered scenario old was now event locks rests (record { session = λ _ _ _ _ _ _. refl; finished = λ s. ends_same s.left s }) (record {
+    → locks.items ≡ locks_accepted (is_in_accept (wrote was xid caches suspects known lists exec locked) (slice_get was.commands was.finished)) locked.items
+    → HasEntered scenario old was (events.Write xid items) rests (with_locks (wrote was xid caches suspects known lists exec locked) locks)
+write_holds scenario old was xid items messages made caches suspects known lists exec locked locks rests wants_it are makes pushed keeps goes held accepts = own_entered scenario old was now event locks rests (record { session = λ _ _ _ _ _ _. refl; finished = λ s. ends_same s.left s }) (record {
   moves = record { id = refl; commands = refl; finished = refl };
   session = whole ∙ sym (ap (λ t. session_at now (rest_of t)) whole);
   facts = let f = rests.holds.facts in record {
@@ -146,7 +150,7 @@ write_holds scenario old was xid items messages made caches lists exec locked lo
     event = events.Write xid items
 
     now : Progress
-    now = wrote was xid caches lists exec locked
+    now = wrote was xid caches suspects known lists exec locked
 
     after : Facts
     after = facts_after old was event

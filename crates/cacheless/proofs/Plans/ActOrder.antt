@@ -15,7 +15,7 @@ use Rattle.base_types.specs.declared.scan.Purpose.TheVariants as scans
 use Rattle.command_answers.specs.declared.error.CommandError.TheVariants as errors
 use Rattle.ddl_effect.specs.declared.told.Told.TheVariants as tells
 use Rattle.ddl_effect.specs.Plans.{Done}
-use Rattle.ddl_effect.specs.Commands.{plan_of, if_passes, if_no_column, first_twice, writing, opening, showing, showing_field, told_fields, keeping, peeking, closing, is_table, locking, new_table, drop_table, renaming_table, rename_table, with_column, changing, reading, adding, add_column, drop_column, with_name, renaming, rename_column, targeting, set_statistics, filling, set_fillfactor, set_default, add_check, add_foreign, validate_constraint, drop_constraint, set_trigger, create_trigger, create_index, drop_index, live_column, listing_columns, telling_column, finding_column}
+use Rattle.ddl_effect.specs.Commands.{plan_of, if_passes, if_no_column, first_twice, writing, showing, showing_field, told_fields, keeping, peeking, closing, is_table, locking, new_table, drop_table, renaming_table, rename_table, with_column, changing, reading, adding, add_column, drop_column, with_name, renaming, rename_column, targeting, set_statistics, filling, set_fillfactor, set_default, add_check, add_foreign, validate_constraint, drop_constraint, set_trigger, create_trigger, create_index, drop_index, live_column, listing_columns, telling_column, finding_column}
 use Rattle.ddl_effect.specs.Opens.{latest_open}
 use Rattle.history_model.proofs.FixedRows.{fixed}
 use Rattle.cacheless.specs.Types.{Oid, AccessExclusive, Kind, Field, Row, Command, OpenRelation, Draft, Opening}

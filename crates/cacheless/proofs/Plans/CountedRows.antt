@@ -1,12 +1,11 @@
 -- What plans make of a table's constraints goes by what counts of them for it: whether a foreign key of another table is known to hold doesn't.
-use Rattle.std.proofs.Common.{◌≡◌, ◌∙◌, ◌||◌, ◌&&◌, ℕ, Bool, true, false, Option, Some, None, List, [], ◌∷◌, ◌++◌, cond, fold, refl, sym, ap, map}
+use Rattle.std.proofs.Common.{◌≡◌, ◌∙◌, ◌||◌, ◌&&◌, ℕ, Bool, true, false, Some, List, [], ◌∷◌, ◌++◌, cond, fold, refl, sym, ap, map}
 use Rattle.std.specs.List.{find, list_any, flat_map}
 use Rattle.std.specs.Str.{bytes_eq}
 use Rattle.std.proofs.Math.Bool.{and-true}
 use Rattle.std.proofs.lemmas.Bool.{and_parts}
 use Rattle.base_types.specs.RowKeys.{key_of}
 use Rattle.base_types.specs.Scans.{same_oid}
-use Rattle.base_types.specs.declared.change.Change.{Change}
 use Rattle.base_types.specs.declared.change.Change.TheVariants.{Delete}
 use Rattle.base_types.specs.declared.row.ConKind.TheVariants as demands
 use Rattle.base_types.specs.declared.row.Row.TheVariants as rows

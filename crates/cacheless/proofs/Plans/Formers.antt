@@ -12,7 +12,7 @@ use Rattle.ddl_effect.specs.Commands.{looking_up, if_passes, writing, opening, a
 use Rattle.ddl_effect.specs.Opens.{has_open}
 use Rattle.history_model.specs.Covered.{counted_for}
 use Rattle.history_model.proofs.Every.{SomeOf}
-use Rattle.cacheless.specs.Types.{Oid, Mode, Kind, Row, Purpose, CommandError, OpenRelation, Draft, Opening}
+use Rattle.cacheless.specs.Types.{Oid, Mode, Kind, Row, Purpose, CommandError, OpenRelation, Draft}
 use Rattle.cacheless.specs.ActsDone.{LockOn}
 use Rattle.cacheless.specs.OpenedReads.{is_of_opened}
 use Rattle.cacheless.proofs.Plans.UnderLocks.{KeepsRows, GoesUnder, IsKeptBy, Footing, at_first, with_found, with_open, with_rows, Follows}

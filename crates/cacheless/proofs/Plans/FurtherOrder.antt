@@ -1,5 +1,5 @@
 -- The plans of commands on constraints, triggers, indexes and defaults, and those that lock further relations, are plans under locks.
-use Rattle.std.proofs.Common.{◌≡◌, ◌∙◌, inl, inr, ℕ, Bool, true, false, Option, Some, None, List, [], ◌∷◌, ◌++◌, refl, sym, ap, subst, map, cond, fold, length, not, arith}
+use Rattle.std.proofs.Common.{◌≡◌, inl, inr, ℕ, Bool, true, false, Option, Some, None, List, [], ◌∷◌, ◌++◌, refl, ap, subst, map, cond, fold, length, not, arith}
 use Rattle.std.specs.Prelude.{if◌then◌else◌}
 use Rattle.std.specs.List.{AllByRecursion, find, list_any, flat_map}
 use Rattle.base_types.specs.RowKeys.{key_of}
@@ -13,21 +13,21 @@ use Rattle.base_types.specs.declared.row_key.RowKey.TheVariants as keys
 use Rattle.base_types.specs.declared.scan.Purpose.TheVariants as scans
 use Rattle.command_answers.specs.declared.error.CommandError.TheVariants as errors
 use Rattle.ddl_effect.specs.Plans.{Plan}
-use Rattle.ddl_effect.specs.Commands.{if_passes, if_closed, opening, writing, forcing, locking_all, reading, with_column, dropping, if_unused, drop_unindexed, drop_unreferred, drop_found, drop_column, uses_column, column_number, defaulting, default_found, set_default}
+use Rattle.ddl_effect.specs.Commands.{if_passes, opening, writing, locking_all, reading, with_column, dropping, drop_unindexed, drop_unreferred, drop_found, drop_column, uses_column, column_number, defaulting, default_found, set_default}
 use Rattle.ddl_effect.specs.Commands.{removing, by_oid, dropped_index, dropped_table, referred_by, with_relation, referred, index_of, dropping_table, drop_triggers, drop_defaults, drop_indexes, drop_constraints, drop_table, is_of_other, renaming_table, rename_table, altering_index, looking_up, is_table}
 use Rattle.ddl_effect.specs.Commands.{is_own_named, if_constraint, if_no_constraint, constraint_there, constraint_free, with_constraint, without_constraint, adding_check, add_check, adding_foreign, referring_to, referring, foreign_named, add_foreign, validating, validate_constraint, dropping_constraint, drop_constraint}
-use Rattle.ddl_effect.specs.Commands.{is_trigger, if_trigger, if_no_trigger, trigger_there, trigger_free, same_state, unless_so, switching, set_trigger, adding_trigger, create_trigger, adding_index, numbered_too, numbering, is_index_width, create_index, dropping_index, drop_index}
+use Rattle.ddl_effect.specs.Commands.{is_trigger, if_trigger, if_no_trigger, trigger_there, trigger_free, same_state, unless_so, switching, set_trigger, adding_trigger, create_trigger, numbered_too, numbering, is_index_width, create_index, dropping_index, drop_index}
 use Rattle.ddl_effect.specs.declared.foreign_key.ForeignKey.{ForeignKey}
 use Rattle.ddl_effect.specs.Opens.{has_open}
 use Rattle.history_model.specs.Covered.{counted_for}
 use Rattle.history_model.specs.Writes.{relations_of}
 use Rattle.history_model.proofs.Every.{every-weaker, every-append, SomeOf, some-left, some-right}
-use Rattle.cacheless.specs.Types.{Oid, Mode, AccessExclusive, Kind, Row, Purpose, CommandError, OpenRelation, Draft, Opening}
+use Rattle.cacheless.specs.Types.{Oid, Mode, AccessExclusive, Kind, Row, Purpose, OpenRelation, Draft}
 use Rattle.cacheless.specs.OpenedReads.{is_of_opened}
 use Rattle.cacheless.proofs.Plans.CountedRows.{counted_of, removing_counted, referred_rows, others_counted, using_counted, own_found}
 use Rattle.cacheless.proofs.Plans.Formers.{on_found, on_opened, of_one, f_passes, f_looking, f_opening, f_writing, f_column, f_reading}
 use Rattle.cacheless.proofs.Plans.StillUnder.{every_sides}
-use Rattle.cacheless.proofs.Plans.UnderLocks.{KeepsRows, IsKeptBy, Footing, at_first, with_lock, with_found, with_open, with_rows, Follows}
+use Rattle.cacheless.proofs.Plans.UnderLocks.{KeepsRows, IsKeptBy, Footing, at_first, with_lock, with_found, with_rows, Follows}
 
 -- rows that are read as far as they count
 f_counted : (on : Footing) (scan : Purpose) (rest : List Row → Plan) → is_of_opened scan on.opened ≡ true → SomeOf (KeepsRows scan) on.locked → ((given : List Row) → rest given ≡ rest (map (counted_for scan) given)) → ((given : List Row) → Follows (with_rows given on) (rest given)) → Follows on (reading scan rest)

@@ -12,7 +12,7 @@ use Rattle.history_model.specs.Versions.{answer_of}
 use Rattle.history_model.specs.Writes.{is_empty}
 use Rattle.history_model.proofs.Every.{every-append}
 use Rattle.cacheless.specs.Types.{Mode, Row, Purpose, Scenario, Command, CommandError, OwnLock, Entry}
-use Rattle.cacheless.specs.ActsDone.{LockOn, locks_by, named_by, IsDrawn, IsHeldOn, after_given, reached, made_in, made_first, opening_by, IsFirstStill}
+use Rattle.cacheless.specs.ActsDone.{LockOn, locks_by, named_by, IsDrawn, IsHeldOn, after_given, made_in, made_first, opening_by, IsFirstStill}
 use Rattle.cacheless.specs.Facts.{Facts, facts_of}
 use Rattle.cacheless.specs.OnCourse.{is_absent, TakesNew, OnItsWay, Way, Begun, Wrote, Over, GaveNow, NamedFits, WasSought, FollowsPlan}
 use Rattle.cacheless.specs.Owed.{builds_owed, act_owed}

@@ -1,5 +1,5 @@
 -- Plans under locks: what a command reads it reads of relations that it has locked, in modes that keep what it goes by, or it goes on whatever it reads; what it reads of descriptors it has opened, and what it tells of relations too.
-use Rattle.std.proofs.Common.{◌≡◌, ◌⊎◌, ℕ, Bool, true, false, Option, Some, None, List, [], ◌∷◌, ◌++◌, Contains, refl, sym, ap, subst, map, append_assoc, append-nil}
+use Rattle.std.proofs.Common.{◌≡◌, ◌⊎◌, ℕ, Bool, true, false, Option, Some, None, List, [], ◌∷◌, ◌++◌, Contains, refl, sym, subst, map, append_assoc, append-nil}
 use Rattle.std.specs.Prelude.{⊤}
 use Rattle.std.specs.List.{AllByRecursion, list_all, flat_map}
 use Rattle.base_types.specs.Fields.{has_field}

@@ -1,6 +1,6 @@
 -- What commands write of defaults, constraints, triggers, indexes and whole tables may be written.
 use Rattle.cacheless.specs.State.{relation_made}
-use Rattle.std.proofs.Common.{◌≡◌, ◌∙◌, ◌+◌, ℕ, Bool, true, false, Option, Some, None, List, [], ◌∷◌, ◌++◌, refl, ap, subst, map, length, not, arith}
+use Rattle.std.proofs.Common.{◌≡◌, ◌∙◌, ℕ, Bool, true, false, Option, Some, None, List, [], ◌∷◌, ◌++◌, refl, ap, subst, map, length, not, arith}
 use Rattle.std.specs.List.{find, list_any, flat_map}
 use Rattle.std.specs.Option.{option_to_list}
 use Rattle.std.proofs.lemmas.Bool.{and_parts, not-true}

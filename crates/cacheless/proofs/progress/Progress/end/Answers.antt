@@ -3,7 +3,7 @@ use Rattle.ddl_effect.specs.Stages.{plan_at}
 use Rattle.cacheless.specs.Session.{Outcome, Well, Badly, Unsettled}
 use Rattle.cacheless.specs.Ends.{End, Ends}
 use Rattle.cacheless.specs.State.{end_in_well, end_in_badly}
-use Rattle.cacheless.proofs.WantedPlans.{came_badly, came_absent, goes_on}
+use Rattle.cacheless.proofs.WantedPlans.{came_badly, goes_on}
 use Rattle.cacheless.proofs.progress.Progress.end.Goals as goal
 
 pub returns-in-Fails : goal.returns-in-Fails

@@ -4,4 +4,4 @@ use Rattle.cacheless.proofs.Entries.EntryCodes.{publish_code}
 use Rattle.cacheless.proofs.progress.Progress.enter_publish.Goals as goal
 
 pub returns-clause-holds : goal.returns-clause-holds
-returns-clause-holds c = publish_code _ _ _ _ c.begun-own.ensures (c.accept.ensures ∙ ap (λ t. locks_accepted t c.args.self.now.locks.items) c.is_in_acceptance-accepting.ensures)
+returns-clause-holds c = publish_code _ _ _ _ _ c.begun-own.ensures (c.accept.ensures ∙ ap (λ t. locks_accepted t c.args.self.now.locks.items) c.is_in_acceptance-accepting.ensures)

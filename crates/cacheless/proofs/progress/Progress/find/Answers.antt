@@ -7,7 +7,7 @@ use Rattle.cacheless.proofs.Passing.{acted_code, act_is_left, given_is}
 use Rattle.cacheless.proofs.progress.Progress.find.Goals as goal
 
 pub returns-clause-acts : goal.returns-clause-acts
-returns-clause-acts c = acted_code c.args.self.now _ _ _ _ c.as_slice.result.now c.rows_for-rows.result.now c.requires.acts (c.next-want.ensures c.args.self.now.opens)
+returns-clause-acts c = acted_code c.args.self.now _ _ _ _ _ _ c.as_slice.result.now c.rows_for-rows.result.now c.requires.acts (c.next-want.ensures c.args.self.now.opens)
     (c.rows_for-rows.ensures ∙ (λ i. rows_for (c.next-want.ensures c.args.self.now.opens i) (c.row_next-row.ensures i) (kept_at c.args.self.now)) ∙ given_is c.args.self.now (plan_at c.args.self.now.opens c.args.self.now.exec) ∙ ap (rows_given c.args.self.now) (sym (c.next-want.ensures c.args.self.now.opens)))
     c.as_slice.ensures c.in_ok-give.ensures.plan c.in_ok-give.ensures.again
     (sym (ap (λ l. c.args.self.now.opened ++ l) (ap opened_for (c.next-want.ensures c.args.self.now.opens) ∙ c.requires.other) ∙ append-nil c.args.self.now.opened)) refl

@@ -1,4 +1,4 @@
-use Rattle.std.proofs.Common.{◌≡◌, ◌∙◌, false, ap, sym, rules}
+use Rattle.std.proofs.Common.{◌≡◌, ◌∙◌, ap, sym, rules}
 use Rattle.ddl_effect.specs.declared.want.Want.TheVariants as wants
 use Rattle.ddl_effect.specs.Stages.{plan_at}
 use Rattle.cacheless.proofs.WantedPlans.{unlock_of_want, unlock_wanted, no_unlock}

@@ -1,7 +1,6 @@
 use Rattle.std.proofs.Common.{◌∙◌, ap, sym}
 use Rattle.ddl_effect.proofs.Driven.{fails_is}
 use Rattle.ddl_effect.specs.Stages.{plan_at}
-use Rattle.local_caches.specs.Caches.{kept_of}
 use Rattle.cacheless.specs.State.{kept_at, rows_kept, place_kept}
 use Rattle.cacheless.specs.Told.{told_left}
 use Rattle.cacheless.proofs.progress.Progress.told.Goals as goal
