@@ -4,4 +4,3 @@ pub mod Homes
 pub mod Putting
 pub mod Unpinned
 pub mod Texts
-pub mod Known

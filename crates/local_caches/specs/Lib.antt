@@ -8,5 +8,4 @@ pub mod CatCaches
 pub mod Parts
 pub mod Whole
 pub mod Descriptors
-pub mod Known
 pub mod Caches

@@ -23,8 +23,6 @@
 //!
 //! A lookup goes by the hash of its key or by its relation, and a message to what it takes out: neither
 //! passes over anything else, but for the lists of columns, all of which a message for a column takes out.
-//! A descriptor that was found whole is noted by its place among those that a backend holds: until a message
-//! for a relation comes, to ask again whether it lacks a scan (`lacks_scan`) is a comparison.
 //!
 //! Different from the server: a descriptor is kept scan by scan as it is built, and serves as soon as the
 //! scan is there that is asked for; one that is pinned and to be built anew keeps its place, and its rows,
@@ -39,7 +37,6 @@ mod keyed;
 mod local_caches;
 mod part;
 mod parts;
-mod whole;
 
 pub use home::is_keyed;
 pub use local_caches::LocalCaches;

@@ -1,17 +1,15 @@
-ghost use Rattle.std.specs.Prelude.{◌≡◌, ◌≤◌, ◌∷◌, [], true, None, not, is_some, length, OnOk, OnErr};
+ghost use Rattle.std.specs.Prelude.{◌≡◌, ◌≤◌, ◌∷◌, [], true, None, not, length, OnOk, OnErr};
 ghost use Rattle.std.specs.Option.{option_copied, option_map};
 ghost use Rattle.std.specs.List.{find};
 ghost use Rattle.base_types.specs.Scans.{build_scans};
 ghost use Rattle.base_types.specs.Fields.{field_text, read_by};
 ghost use Rattle.local_caches.specs.Reads.{given};
-ghost use Rattle.local_caches.specs.Known.{AreKnown};
 
 use crate::cat_caches::CatCaches;
 use crate::descriptors::Descriptors;
 use crate::given::Given;
 use crate::home::{Home, home_of};
 use crate::parts::first_missing_of;
-use crate::whole::Whole;
 use base_types::{CacheId, Field, KeyPart, Kind, Listed, NoMemory, Oid, Purpose, Row};
 use event_kinds::LineText;
 use inval_messages::Message;
@@ -24,9 +22,6 @@ use std::alloc::Global;
 pub struct LocalCaches {
     catalogs: CatCaches,
     descriptors: Descriptors,
-    // descriptors that are known to lack no scan, in the order in which they are asked for
-    whole: Vec<Whole>,
-    ghost known: { AreKnown descriptors whole.items },
 }
 
 // Written out, and not derived: so it is proved here, and not again wherever one is dropped.
@@ -35,7 +30,6 @@ impl Drop for LocalCaches {
         let LocalCaches {
             catalogs: _,
             descriptors: _,
-            whole: _,
         } = self;
     }
 }
@@ -53,7 +47,6 @@ impl LocalCaches {
         LocalCaches {
             catalogs: CatCaches::new(alloc),
             descriptors: Descriptors::new(alloc),
-            whole: Vec::new(alloc),
         }
     }
 
@@ -130,35 +123,6 @@ impl LocalCaches {
         first_missing_of(self.descriptors.parts(rel), kind, rel)
     }
 
-    /// Whether a relation's descriptor lacks a scan. It is told at once where `note_whole` has noted it as
-    /// whole at this place, and no message for a relation has come since.
-    pub fn lacks_scan(&self, at: usize, kind: Kind, rel: Oid) -> bool
-        ensures { result ≡ is_some (find (λ scan. not (is_kept (kept_of self.now) scan)) (build_scans kind rel)) }
-    {
-        match self.whole.get(at) {
-            Some(known) if known.is_of(kind, rel) => false,
-            _ => self.first_missing(kind, rel).is_some(),
-        }
-    }
-
-    /// Notes a relation's descriptor at this place, where it lacks no scan, and tells whether it lacks none.
-    /// What was noted after that place goes, but where it is noted there already. Out of memory, nothing is noted.
-    pub fn note_whole(&mut self, at: usize, kind: Kind, rel: Oid) -> bool
-        ensures { kept_of self.new ≡ kept_of self.old }
-    {
-        if let Some(known) = self.whole.get(at) {
-            if known.is_of(kind, rel) {
-                return true;
-            }
-        }
-        if first_missing_of(self.descriptors.parts(rel), kind, rel).is_some() {
-            return false;
-        }
-        self.whole.truncate(at);
-        let _ = self.whole.push(Whole { rel, kind });
-        true
-    }
-
     /// Keeps what a scan gave at an entry of the history (`CatalogCacheCreateEntry` in
     /// `src/backend/utils/cache/catcache.c`, `RelationBuildDesc` in `src/backend/utils/cache/relcache.c`).
     /// Out of memory, nothing changes. Conditions: nothing is kept of the scan, and a scan for the row of a
@@ -195,10 +159,7 @@ impl LocalCaches {
     {
         match message {
             Message::Cat { cache, hash } => self.catalogs.execute(cache, hash),
-            Message::Rel { rel } => {
-                self.whole.clear();
-                self.descriptors.execute(rel);
-            }
+            Message::Rel { rel } => self.descriptors.execute(rel),
         }
     }
 
@@ -207,7 +168,6 @@ impl LocalCaches {
     pub fn reset(&mut self)
         ensures { kept_of self.new ≡ nothing_kept }
     {
-        self.whole.clear();
         self.catalogs.reset();
         self.descriptors.reset();
     }

@@ -4,7 +4,6 @@ use Rattle.local_caches.specs.CatCaches.{PutsLookup}
 use Rattle.local_caches.specs.Parts.{IsPartOf}
 use Rattle.local_caches.specs.Caches.{kept_of, read_at}
 use Rattle.local_caches.proofs.Putting.{put_cat, put_rel}
-use Rattle.local_caches.proofs.Known.{put_known}
 use Rattle.local_caches.proofs.local_caches.LocalCaches.put.Goals as goal
 
 pub returns-in-Cat-clause-ok : goal.returns-in-Cat-clause-ok
@@ -17,7 +16,4 @@ unfolding kept_of
 returns-in_ok-part-in-Rel-clause-ok c =
     let there = sym c.home_of.ensures ∙ c.in-Rel.is in
     let it = subst (λ rows. IsPartOf c.in_ok-part-in-Rel.part c.args.scan.now rows c.args.at) c.from_vec-rows.ensures c.in_ok-part-in-Rel.ensures in
-    on_ok_weaker c.put-in-Rel.result (λ adds. put_rel c.args.self.now (record c.args.self.now { descriptors = c.put-in-Rel.new.self; known = put_known _ _ _ _ c.args.self.now.whole.items c.put-in-Rel.result c.put-in-Rel.ensures.ok c.put-in-Rel.ensures.err c.args.self.now.known }) c.args.scan.now c.args.rows.items c.args.at c.in-Rel.rel c.in_ok-part-in-Rel.part there refl (sym (ap (read_at c.args.self.now c.args.scan.now) there) ∙ c.requires.new) it adds) c.put-in-Rel.ensures.ok
-
-pub invariant_of-self-in-Rel : goal.invariant_of-self-in-Rel
-invariant_of-self-in-Rel c = record { known = put_known _ _ _ _ c.args.self.now.whole.items c.put-in-Rel.result c.put-in-Rel.ensures.ok c.put-in-Rel.ensures.err c.args.self.now.known }
+    on_ok_weaker c.put-in-Rel.result (λ adds. put_rel c.args.self.now _ c.args.scan.now c.args.rows.items c.args.at c.in-Rel.rel c.in_ok-part-in-Rel.part there refl (sym (ap (read_at c.args.self.now c.args.scan.now) there) ∙ c.requires.new) it adds) c.put-in-Rel.ensures.ok
