@@ -7,3 +7,4 @@ pub mod Rests
 pub mod Scanned
 pub mod Looked
 pub mod Least
+pub mod OfRelation

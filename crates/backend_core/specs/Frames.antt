@@ -101,6 +101,11 @@ with_rest has held frames = with_new (least_left has frames held) true frames
 abbrev pub frames_reset : (Purpose → Bool) → List Opening → List Frame → List Frame
 frames_reset has held frames = with_rest (λ scan. false) held (map (restarted has) frames)
 
+-- one that is so, if it is
+abbrev pub if_so : (Opening → Bool) → Option Opening → Option Opening
+if_so p None = None
+if_so p (Some o) = if p o then Some o else None
+
 -- what a rebuild lacks still: its descriptor, or another one that is held of its relation
 abbrev pub left_of : (Purpose → Bool) → List Opening → Frame → Option Opening
 left_of has held f = elim (lacks has f.opening) [ true ↦ Some f.opening | false ↦ find (λ o. same_oid f.opening.rel o.rel && lacks has o) held ]

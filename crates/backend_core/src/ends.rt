@@ -74,12 +74,7 @@ impl Backend {
         seg.release(self.progress.id, self.progress.finished + 1, from);
         self.progress.enter_release(alloc, from)?;
         let fails = self.progress.has_failed();
-        self.frames.reset(
-            fails,
-            &self.progress.caches,
-            &self.progress.suspects,
-            self.progress.opened.as_slice(),
-        )
+        self.frames.reset(fails, &self.progress)
     }
 
     // It leaves.

@@ -115,12 +115,7 @@ impl Backend {
         let unfound = self.finds_none();
         let marked = self.is_marked(messages);
         let fails = self.has_error();
-        self.frames.fetch(
-            fails,
-            &self.progress.caches,
-            self.progress.opened.as_slice(),
-            messages,
-        )?;
+        self.frames.fetch(fails, &self.progress, messages)?;
         self.progress.enter_fetch(messages);
         self.told = self.told_after(unfound, marked);
         self.looked = self.looked_after(unfound, marked);
@@ -143,14 +138,9 @@ impl Backend {
         let fails = self.has_error();
         self.told = self.told_after(unfound, marked);
         self.looked = self.looked_after(unfound, marked);
-        self.frames.restart(fails, &self.progress.caches);
+        self.frames.restart(fails, &self.progress);
         self.progress.enter_reset();
-        self.frames.reset(
-            fails,
-            &self.progress.caches,
-            &self.progress.suspects,
-            self.progress.opened.as_slice(),
-        )
+        self.frames.reset(fails, &self.progress)
     }
 
     // Whether its command has failed, but for a lookup that found no relation.

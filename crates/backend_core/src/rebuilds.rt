@@ -1,17 +1,18 @@
 // The rebuilds of held descriptors that are on their way (`RelationRebuildRelation` in
 // `src/backend/utils/cache/relcache.c`, each within an acceptance of messages of the one below it).
 
-ghost use Rattle.std.specs.Prelude.{◌≡◌, ◌&&◌, map, OnOk};
+ghost use Rattle.std.specs.Prelude.{◌≡◌, ◌&&◌, None, true, map, slice_get, OnOk};
 ghost use Rattle.std.specs.List.{find};
 ghost use Rattle.base_types.specs.Scans.{same_oid};
 ghost use Rattle.local_caches.specs.Caches.{kept_of};
 ghost use Rattle.local_caches.specs.Kept.{is_kept};
-ghost use Rattle.cacheless.specs.Suspects.{AreKnown};
-ghost use Rattle.backend_core.specs.Frames.{lacks, left_of, restarted, told_if, lesser};
+ghost use Rattle.cacheless.specs.State.{kept_at};
+ghost use Rattle.cacheless.specs.Suspects.{ascend};
+ghost use Rattle.backend_core.specs.Frames.{lacks, if_so, left_of, restarted, told_if, lesser};
 
 use crate::{Frame, Frames};
 use base_types::{NoMemory, Oid};
-use cacheless::{Opening, Suspects};
+use cacheless::{Opening, Progress, lacks_scan};
 use inval_messages::Message;
 use local_caches::LocalCaches;
 use std::alloc::Global;
@@ -76,17 +77,16 @@ impl Frames {
     pub(crate) fn fetch(
         &mut self,
         fails: bool,
-        caches: &LocalCaches,
-        held: &[Opening],
+        progress: &Progress,
         messages: &[Message],
     ) -> Result<(), NoMemory>
-        ensures { OnOk result (self.new ≡ unless fails self.old (frames_fetched (is_kept (kept_of caches.now)) held.now messages.now self.old)) }
+        ensures { OnOk result (self.new ≡ unless fails self.old (frames_fetched (is_kept (kept_at progress.now)) progress.now.opened messages.now self.old)) }
     {
         if fails {
             return Ok(());
         }
         let before = self.items.len();
-        self.tell_each(caches, held, messages)?;
+        self.tell_each(progress, messages)?;
         if messages.len() == 32 && before < self.items.len() {
             self.look();
         }
@@ -96,14 +96,13 @@ impl Frames {
     // Messages, in order.
     pub(crate) fn tell_each(
         &mut self,
-        caches: &LocalCaches,
-        held: &[Opening],
+        progress: &Progress,
         messages: &[Message],
     ) -> Result<(), NoMemory>
-        ensures { OnOk result (self.new ≡ frames_after (is_kept (kept_of caches.now)) held.now messages.now self.old) }
+        ensures { OnOk result (self.new ≡ frames_after (is_kept (kept_at progress.now)) progress.now.opened messages.now self.old) }
     {
         for message in messages {
-            self.hear(caches, held, message)?;
+            self.hear(&progress.caches, progress.opened.as_slice(), message)?;
         }
         Ok(())
     }
@@ -140,61 +139,42 @@ impl Frames {
 
     // A reset: each rebuild starts over whose first scan is made (`RelationCacheInvalidate` there), unless the
     // command has failed.
-    pub(crate) fn restart(&mut self, fails: bool, caches: &LocalCaches)
-        ensures { self.new ≡ unless fails self.old (map (restarted (is_kept (kept_of caches.now))) self.old) }
+    pub(crate) fn restart(&mut self, fails: bool, progress: &Progress)
+        ensures { self.new ≡ unless fails self.old (map (restarted (is_kept (kept_at progress.now))) self.old) }
     {
         if !fails {
-            restart_each(&mut self.items, caches);
+            restart_each(&mut self.items, &progress.caches);
         }
     }
 
     // After it what is left is rebuilt, unless the command has failed.
-    pub(crate) fn reset(
-        &mut self,
-        fails: bool,
-        caches: &LocalCaches,
-        suspects: &Suspects,
-        held: &[Opening],
-    ) -> Result<(), NoMemory>
-        requires { AreKnown (is_kept (kept_of caches.now)) held.now suspects.now }
-        ensures { OnOk result (self.new ≡ unless fails self.old (with_rest (is_kept (kept_of caches.now)) held.now self.old)) }
+    pub(crate) fn reset(&mut self, fails: bool, progress: &Progress) -> Result<(), NoMemory>
+        ensures { OnOk result (self.new ≡ unless fails self.old (with_rest (is_kept (kept_at progress.now)) progress.now.opened self.old)) }
     {
         if fails {
             return Ok(());
         }
-        self.put_rest(caches, suspects, held)
+        self.put_rest(progress)
     }
 
     // After a reset, and after each rebuild that it put on: the next held relation that isn't whole and
     // isn't being rebuilt is.
-    fn put_rest(
-        &mut self,
-        caches: &LocalCaches,
-        suspects: &Suspects,
-        held: &[Opening],
-    ) -> Result<(), NoMemory>
-        requires { AreKnown (is_kept (kept_of caches.now)) held.now suspects.now }
-        ensures { OnOk result (self.new ≡ with_rest (is_kept (kept_of caches.now)) held.now self.old) }
+    fn put_rest(&mut self, progress: &Progress) -> Result<(), NoMemory>
+        ensures { OnOk result (self.new ≡ with_rest (is_kept (kept_at progress.now)) progress.now.opened self.old) }
     {
-        match self.least_left(caches, suspects, held) {
+        match self.least_left(progress) {
             Some(o) => self.push(o, true),
             None => Ok(()),
         }
     }
 
     // The one of least oid: the first that is left of those that may lack a scan, where these are known.
-    fn least_left(
-        &self,
-        caches: &LocalCaches,
-        suspects: &Suspects,
-        held: &[Opening],
-    ) -> Option<Opening>
-        requires { AreKnown (is_kept (kept_of caches.now)) held.now suspects.now }
-        ensures { result ≡ first_left (is_kept (kept_of caches.now)) self.now held.now }
+    fn least_left(&self, progress: &Progress) -> Option<Opening>
+        ensures { result ≡ first_left (is_kept (kept_at progress.now)) self.now progress.now.opened }
     {
-        match suspects.noted() {
-            Some(found) => self.first_of(caches, found),
-            None => self.least_of(caches, held),
+        match progress.suspects.noted() {
+            Some(found) => self.first_of(&progress.caches, found),
+            None => self.least_of(&progress.caches, progress.opened.as_slice()),
         }
     }
 
@@ -222,54 +202,70 @@ impl Frames {
     fn is_left(&self, caches: &LocalCaches, o: &Opening) -> bool
         ensures { result ≡ awaits (is_kept (kept_of caches.now)) self.now o.now }
     {
-        lacks_some(caches, o) && !self.is_rebuilding(o.rel)
+        lacks_scan(caches, o) && !self.is_rebuilding(o.rel)
     }
 
     // The next scan of the one on top is made. After its last one it goes, and what a reset has left comes,
     // if that put it on.
-    pub(crate) fn scan(
-        &mut self,
-        caches: &LocalCaches,
-        suspects: &Suspects,
-        held: &[Opening],
-    ) -> Result<(), NoMemory>
-        requires { AreKnown (is_kept (kept_of caches.now)) held.now suspects.now }
-        ensures { OnOk result (self.new ≡ frames_scanned (is_kept (kept_of caches.now)) held.now self.old) }
+    pub(crate) fn scan(&mut self, progress: &Progress) -> Result<(), NoMemory>
+        ensures { OnOk result (self.new ≡ frames_scanned (is_kept (kept_at progress.now)) progress.now.opened self.old) }
     {
         let Some(top) = self.items.pop() else {
             return Ok(());
         };
-        match lacking_of(caches, held, &top) {
+        match lacking_of(progress, &top) {
             Some(o) => self.push(o, top.of_reset),
-            None if top.of_reset => self.put_rest(caches, suspects, held),
+            None if top.of_reset => self.put_rest(progress),
             None => Ok(()),
         }
     }
 }
 
-// Whether a descriptor lacks a scan.
-fn lacks_some(caches: &LocalCaches, o: &Opening) -> bool
-    ensures { result ≡ lacks (is_kept (kept_of caches.now)) o.now }
-{
-    caches.first_missing(o.kind, o.rel).is_some()
-}
-
 // What a rebuild lacks still: its descriptor, or another one that is held of its relation.
-fn lacking_of(caches: &LocalCaches, held: &[Opening], frame: &Frame) -> Option<Opening>
-    ensures { result ≡ left_of (is_kept (kept_of caches.now)) held.now frame.now }
+fn lacking_of(progress: &Progress, frame: &Frame) -> Option<Opening>
+    ensures { result ≡ left_of (is_kept (kept_at progress.now)) progress.now.opened frame.now }
 {
-    if lacks_some(caches, &frame.opening) {
+    if lacks_scan(&progress.caches, &frame.opening) {
         return Some(frame.opening);
     }
-    lacking_held(caches, held, frame.opening.rel)
+    lacking_held(progress, frame.opening.rel)
 }
 
-// The first held descriptor of a relation that lacks a scan.
-fn lacking_held(caches: &LocalCaches, held: &[Opening], rel: Oid) -> Option<Opening>
+// The first held descriptor of a relation that lacks a scan: of those that may lack one, where these are known.
+fn lacking_held(progress: &Progress, rel: Oid) -> Option<Opening>
+    ensures { result ≡ find (λ o. same_oid rel o.rel && lacks (is_kept (kept_at progress.now)) o) progress.now.opened }
+{
+    match progress.suspects.noted() {
+        Some(found) => lacking_noted(&progress.caches, found, rel),
+        None => lacking_in(&progress.caches, progress.opened.as_slice(), rel),
+    }
+}
+
+// The first one of the relation that lacks a scan, where oids ascend.
+fn lacking_noted(caches: &LocalCaches, found: &[Opening], rel: Oid) -> Option<Opening>
+    requires { ascend None found.now ≡ true }
+    ensures { result ≡ find (λ o. same_oid rel o.rel && lacks (is_kept (kept_of caches.now)) o) found.now }
+{
+    let at = found.partition_point(|o| o.rel.0 < rel.0);
+    lacking_at(caches, found, at, rel)
+}
+
+// The one at this place, if it is of the relation and lacks a scan.
+fn lacking_at(caches: &LocalCaches, found: &[Opening], at: usize, rel: Oid) -> Option<Opening>
+    ensures { result ≡ if_so (λ o. same_oid rel o.rel && lacks (is_kept (kept_of caches.now)) o) (slice_get found.now at) }
+{
+    match found.get(at) {
+        Some(o) if rel.0 == o.rel.0 && lacks_scan(caches, o) => Some(*o),
+        _ => None,
+    }
+}
+
+// The first one of the relation that lacks a scan.
+fn lacking_in(caches: &LocalCaches, held: &[Opening], rel: Oid) -> Option<Opening>
     ensures { result ≡ find (λ o. same_oid rel o.rel && lacks (is_kept (kept_of caches.now)) o) held.now }
 {
     held.iter()
-        .find(|o| rel.0 == o.rel.0 && lacks_some(caches, o))
+        .find(|o| rel.0 == o.rel.0 && lacks_scan(caches, o))
         .copied()
 }
 

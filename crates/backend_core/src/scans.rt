@@ -37,11 +37,7 @@ impl Backend {
         ensures { OnOk result (self.new ≡ record self.old { looked = self.old.looked && rebuilds; frames = frames_noted rebuilds (is_kept (kept_at self.old.progress)) self.old.progress.opened self.old.frames }) }
     {
         if rebuilds {
-            self.frames.scan(
-                &self.progress.caches,
-                &self.progress.suspects,
-                self.progress.opened.as_slice(),
-            )
+            self.frames.scan(&self.progress)
         } else {
             self.looked = false;
             Ok(())

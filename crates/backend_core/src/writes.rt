@@ -33,11 +33,8 @@ impl Backend {
                 self.progress.exec = Exec::Writing(draft);
                 self.progress
                     .enter_write(alloc, written.xid, written.messages.as_slice(), made)?;
-                self.frames.tell_each(
-                    &self.progress.caches,
-                    self.progress.opened.as_slice(),
-                    written.messages.as_slice(),
-                )
+                self.frames
+                    .tell_each(&self.progress, written.messages.as_slice())
             }
             Err(refusal) => match refusal {
                 WriteRefusal::Clash(name, clash) => {

@@ -21,7 +21,7 @@ kind_self : (kind : Kind) → same_kind kind kind ≡ true
 kind_self Table = refl
 kind_self Index = refl
 
-same_is : (o other : Opening) → same_opening o other ≡ true → o ≡ other
+pub same_is : (o other : Opening) → same_opening o other ≡ true → o ≡ other
 same_is o other is =
     let parts = and_parts (same_kind o.kind other.kind) (same_oid o.rel other.rel) is in
     λ i. record { rel = oid_is o.rel other.rel parts.1 i; kind = kind_is o.kind other.kind parts.0 i }
@@ -29,7 +29,7 @@ same_is o other is =
 same_self : (o : Opening) → same_opening o o ≡ true
 same_self o = λ i. kind_self o.kind i && oid_itself o.rel i
 
-abbrev least : (Opening → Bool) → Option Opening → List Opening → Option Opening
+abbrev pub least : (Opening → Bool) → Option Opening → List Opening → Option Opening
 least left best xs = fold (λ b o. if left o then lesser b o else b) best xs
 
 -- a number that isn't greater is no lesser one
@@ -48,7 +48,7 @@ not_less n m above = by_lt (nat_lt n m) refl
     by_lt false at = refl
 
 -- what comes after one with a greater oid has a greater oid
-beyond : (n : ℕ) (o : Opening) (os : List Opening) (Q : Opening → Bool) → n < o.rel.0 → ascend (Some o) os ≡ true → list_any (λ x. nat_le x.rel.0 n && Q x) os ≡ false
+pub beyond : (n : ℕ) (o : Opening) (os : List Opening) (Q : Opening → Bool) → n < o.rel.0 → ascend (Some o) os ≡ true → list_any (λ x. nat_le x.rel.0 n && Q x) os ≡ false
 beyond n o [] Q less is = refl
 beyond n o (x ∷ os) Q less is =
     let parts = and_parts (nat_lt o.rel.0 x.rel.0 || same_opening o x) (ascend (Some x) os) is in
@@ -60,7 +60,7 @@ beyond n o (x ∷ os) Q less is =
     by_test false at one = subst (λ (y : Opening). n < y.rel.0) (same_is o x one) less
 
 -- of those after it whose oid isn't greater each is it
-alone : (o : Opening) (os : List Opening) (Q : Opening → Bool) → ascend (Some o) os ≡ true → Q o ≡ false → list_any (λ x. nat_le x.rel.0 o.rel.0 && Q x) os ≡ false
+pub alone : (o : Opening) (os : List Opening) (Q : Opening → Bool) → ascend (Some o) os ≡ true → Q o ≡ false → list_any (λ x. nat_le x.rel.0 o.rel.0 && Q x) os ≡ false
 alone o [] Q is none = refl
 alone o (x ∷ os) Q is none =
     let parts = and_parts (nat_lt o.rel.0 x.rel.0 || same_opening o x) (ascend (Some x) os) is in
@@ -75,7 +75,7 @@ alone o (x ∷ os) Q is none =
     by_test false at one rest more = by_same x (same_is o x one) rest more
 
 -- less is so of none
-none_less : (p q : Opening → Bool) (xs : List Opening) → ((x : Opening) → q x ≡ true → p x ≡ true) → list_any p xs ≡ false → list_any q xs ≡ false
+pub none_less : (p q : Opening → Bool) (xs : List Opening) → ((x : Opening) → q x ≡ true → p x ≡ true) → list_any p xs ≡ false → list_any q xs ≡ false
 none_less p q [] on none = refl
 none_less p q (x ∷ xs) on none = by_q (q x) refl (p x) refl none (none_less p q xs on)
   where
@@ -199,7 +199,7 @@ least_from left (x ∷ xs) best = by_left (left x) refl best (least_from left xs
     by_left false at b later = passed left x xs b (least left b xs) at (later b)
 
 -- the first of an ascending list is the least of another one, where some of both are so alike
-first_least : (left : Opening → Bool) (found held : List Opening) → ascend None found ≡ true → ((p : Opening → Bool) → list_any (λ o. left o && p o) found ≡ list_any (λ o. left o && p o) held) → find left found ≡ least left None held
+pub first_least : (left : Opening → Bool) (found held : List Opening) → ascend None found ≡ true → ((p : Opening → Bool) → list_any (λ o. left o && p o) found ≡ list_any (λ o. left o && p o) held) → find left found ≡ least left None held
 first_least left found held ascends alike = by_both (find left found) refl (least left None held) (least_from left held None)
   where
     all_left : (xs : List Opening) → list_any (λ o. left o && true) xs ≡ list_any left xs

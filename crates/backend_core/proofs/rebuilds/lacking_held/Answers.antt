@@ -1,11 +1,10 @@
-use Rattle.std.proofs.Common.{rules, tests, ◌∙◌, ◌&&◌}
-use Rattle.std.proofs.lemmas.Iterator.{YieldsList-from_slice}
-use Rattle.std.proofs.lemmas.Iterator.Search.{find_from_yields_List}
-use Rattle.base_types.specs.Scans.{same_oid}
-use Rattle.local_caches.specs.Caches.{kept_of}
-use Rattle.local_caches.specs.Kept.{is_kept}
-use Rattle.backend_core.specs.Frames.{lacks}
+use Rattle.std.proofs.Common.{◌∙◌}
+use Rattle.cacheless.specs.State.{kept_at, is_kept}
+use Rattle.backend_core.proofs.Stacking.OfRelation.{noted_lacking}
 use Rattle.backend_core.proofs.rebuilds.lacking_held.Goals as goal
 
-pub returns : goal.returns
-returns c = c.copied.ensures ∙ find_from_yields_List (λ o. same_oid c.args.rel o.rel && lacks (is_kept (kept_of c.args.caches.now)) o) _ _ c.find.result c.find.ensures.ran (YieldsList-from_slice c.args.held.now cc) (λ x b q k. search (rules, tests))
+pub lacking_noted-requires : goal.lacking_noted-requires
+lacking_noted-requires c = (c.in-Some.ensures _ _ c.args.progress.now.known).ascending
+
+pub returns-in-Some : goal.returns-in-Some
+returns-in-Some c = c.lacking_noted.ensures ∙ noted_lacking (is_kept (kept_at c.args.progress.now)) c.args.rel c.args.progress.now.opened c.in-Some.found.now (c.in-Some.ensures _ _ c.args.progress.now.known)

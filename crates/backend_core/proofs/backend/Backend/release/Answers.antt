@@ -2,7 +2,6 @@ use Rattle.std.proofs.Common.{refl}
 use Rattle.backend_core.proofs.Fitting.Entered.{is_few}
 use Rattle.backend_core.proofs.Entries.Inside.{made_refused, then_so}
 use Rattle.backend_core.proofs.Entries.Releasing.{release_call, release_out, release_enters, release_makes, release_noted, rest_is}
-use Rattle.cacheless.proofs.Lacking.{same_known}
 use Rattle.backend_core.proofs.backend.Backend.release.Goals as goal
 
 pub release-requires-clause-call : goal.release-requires-clause-call
@@ -19,11 +18,8 @@ returns-clause-refused g c = made_refused _ _ _ _ _ _ c.reset.result (release_ma
 
 pub returns-clause-enters : goal.returns-clause-enters
 returns-clause-enters g c = then_so c.reset.result (λ are. release_enters _ _ _ _ _ c.args.self.now _ _ _ c.requires.ready.waits c.requires.ready.played c.requires.ready.course c.requires.next (c.in_ok-enter_release.ensures.holds _ _ c.requires.ready.waits.rests) c.in_ok-enter_release.ensures.kept c.in_ok-enter_release.ensures.answer
-    (rest_is c.enter_release.new.self _ _ _ _ c.has_failed-fails.ensures c.as_slice.ensures are) c.release.ensures.appends) c.reset.ensures
+    (rest_is c.enter_release.new.self _ _ _ _ c.has_failed-fails.ensures refl are) c.release.ensures.appends) c.reset.ensures
 
 pub returns-clause-noted : goal.returns-clause-noted
 returns-clause-noted g c = then_so c.reset.result (λ are. release_noted _ _ _ _ _ c.args.self.now _ _ _ c.requires.ready.waits.rests (c.in_ok-enter_release.ensures.holds _ _ c.requires.ready.waits.rests) c.in_ok-enter_release.ensures.kept
-    (rest_is c.enter_release.new.self _ _ _ _ c.has_failed-fails.ensures c.as_slice.ensures are) c.release.ensures.appends) c.reset.ensures
-
-pub reset-requires : goal.reset-requires
-reset-requires g c = same_known _ _ _ _ c.enter_release.new.self.suspects refl c.as_slice.ensures c.enter_release.new.self.known
+    (rest_is c.enter_release.new.self _ _ _ _ c.has_failed-fails.ensures refl are) c.release.ensures.appends) c.reset.ensures
