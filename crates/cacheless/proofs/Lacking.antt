@@ -1,5 +1,6 @@
 -- What stays known of the held descriptors that may lack a scan.
-use Rattle.std.proofs.Common.{◌≡◌, ◌∙◌, ◌+◌, ◌<◌, ◌&&◌, ◌||◌, ℕ, Bool, true, false, not, Some, None, List, [], ◌∷◌, ◌++◌, cond, refl, sym, ap, subst, length, drop, get_or, filter, is_some}
+use Rattle.std.proofs.Common.{◌≡◌, ◌∙◌, ◌+◌, ◌<◌, ◌&&◌, ◌||◌, ℕ, Bool, true, false, not, Option, Some, None, List, [], ◌∷◌, ◌++◌, cond, refl, sym, ap, subst, length, drop, get_or, filter, is_some}
+use Rattle.std.specs.Option.{option_map_or}
 use Rattle.std.specs.List.{find, list_any}
 use Rattle.std.specs.List.Sorted.{IsPermutation}
 use Rattle.std.proofs.lemmas.List.{drop_more}
@@ -12,6 +13,7 @@ use Rattle.base_types.specs.Scans.{same_scan, build_scans}
 use Rattle.local_caches.specs.Caches.{kept_of}
 use Rattle.cacheless.specs.Types.{Row, Purpose, Opening}
 use Rattle.cacheless.specs.State.{Kept, is_kept, kept_with}
+use Rattle.cacheless.specs.May.{is_first_missing}
 use Rattle.cacheless.specs.Suspects.{lacks, follows, ascend, AreSuspects, AreKnown}
 use Rattle.cacheless.specs.declared.suspects.Suspects.{Suspects}
 use Rattle.cacheless.specs.declared.progress.Progress.{Progress}
@@ -35,6 +37,18 @@ lack_alike has held found are = found_any (lacks has) found ∙ sym (plain found
   where
     plain : (xs : List Opening) → list_any (λ o. lacks has o && true) xs ≡ list_any (lacks has) xs
     plain xs = ap (λ (p : Opening → Bool). list_any p xs) (λ i o. and_one (lacks has o) i)
+
+-- so a scan is the first that one of them lacks where it is that for a held descriptor
+pub first_alike : (scan : Purpose) (kept : Kept) (held found : List Opening) → AreSuspects (is_kept kept) held found
+    → list_any (λ o. is_first_missing scan kept o.kind o.rel) found ≡ list_any (λ o. is_first_missing scan kept o.kind o.rel) held
+first_alike scan kept held found are = both found ∙ are.same (λ o. is_first_missing scan kept o.kind o.rel) ∙ sym (both held)
+  where
+    by_first : (d : Option Purpose) → option_map_or (same_scan scan) d false ≡ (is_some d && option_map_or (same_scan scan) d false)
+    by_first None = refl
+    by_first (Some d) = refl
+
+    both : (xs : List Opening) → list_any (λ o. is_first_missing scan kept o.kind o.rel) xs ≡ list_any (λ o. lacks (is_kept kept) o && is_first_missing scan kept o.kind o.rel) xs
+    both xs = ap (λ (q : Opening → Bool). list_any q xs) (λ i o. by_first (find (λ d. not (is_kept kept d)) (build_scans o.kind o.rel)) i)
 
 -- those that lack one are found among themselves
 filtered : (has p : Opening → Bool) (xs : List Opening) → list_any (λ o. has o && p o) (filter has xs) ≡ list_any (λ o. has o && p o) xs

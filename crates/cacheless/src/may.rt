@@ -11,7 +11,7 @@ ghost use Rattle.cacheless.specs.May.{is_first_missing as is_first, is_missing a
 ghost use Rattle.local_caches.specs.Caches.{kept_of};
 
 use crate::draft_items::{gives_name, writes_items};
-use crate::{Due, Progress};
+use crate::{Due, Opening, Progress};
 use base_types::{Command, Kind, Mode, Name, Oid, Purpose, Row, same_scan};
 use ddl_effect::Want;
 use event_kinds::{Event, Item};
@@ -159,10 +159,10 @@ impl Progress {
     fn is_next_build(&self, scan: &Purpose) -> bool
         ensures { result ≡ list_any (λ o. is_first scan.now (kept_at self.now) o.kind o.rel) self.now.opened }
     {
-        self.opened
-            .as_slice()
-            .iter()
-            .any(|o| is_first_missing(scan, &self.caches, o.kind, o.rel))
+        match self.suspects.noted() {
+            Some(found) => is_first_of(scan, &self.caches, found),
+            None => is_first_of(scan, &self.caches, self.opened.as_slice()),
+        }
     }
 
     // Whether the scan is the first that the next act or the answer lacks.
@@ -348,6 +348,15 @@ impl Progress {
             _ => false,
         }
     }
+}
+
+// Whether the scan is the first that one of these descriptors lacks.
+fn is_first_of(scan: &Purpose, caches: &LocalCaches, opened: &[Opening]) -> bool
+    ensures { result ≡ list_any (λ o. is_first scan.now (kept_of caches.now) o.kind o.rel) opened.now }
+{
+    opened
+        .iter()
+        .any(|o| is_first_missing(scan, caches, o.kind, o.rel))
 }
 
 // Whether the scan is the first that a descriptor lacks.
