@@ -1,5 +1,6 @@
-use Rattle.std.proofs.Common.{◌∙◌, ap, subst, length, arith}
+use Rattle.std.proofs.Common.{◌∙◌, refl, ap, subst, length, arith}
 use Rattle.cacheless.specs.Silently.{IsSilentOf}
+use Rattle.backend_core.specs.Noted.{Stays}
 use Rattle.backend_core.proofs.Silent.{rest_awaits}
 use Rattle.backend_core.proofs.Entries.Noting.{settles_on}
 use Rattle.backend_core.proofs.backend.Backend.settle_command.Goals as goal
@@ -9,6 +10,9 @@ silent-requires c = omega (arith, c.requires.few, ap length c.settling.invariant
 
 pub pass-requires-clause-few : goal.pass-requires-clause-few
 pass-requires-clause-few c = omega (arith, c.requires.few, ap length c.settling.invariant.0)
+
+pub settling-init : goal.settling-init
+settling-init c = (refl, omega arith, λ scenario seen agrees. (agrees, (refl, (refl, Stays refl refl))))
 
 pub settling-preserved-in-Continue-1 : goal.settling-preserved-in-Continue-1
 settling-preserved-in-Continue-1 c = (

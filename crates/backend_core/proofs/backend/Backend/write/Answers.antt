@@ -27,7 +27,7 @@ pub returns-in_ok-enter_write-in-Ok-clause-refused : goal.returns-in_ok-enter_wr
 returns-in_ok-enter_write-in-Ok-clause-refused g c = wrote_refused _ _ _ c.in_ok-draft.draft refl (drafted_awaits _ _ _ c.in_ok-draft.draft c.reserve_lock.new.self.known (search rules) (reserved_awaits _ _ c.args.self.now _ c.reserve_lock.ensures.same c.requires.ready.waits)) c.requires.ready.played c.requires.ready.course (drafted_write _ c.in_ok-draft.draft c.reserve_lock.new.self.known (search rules) (reserved_write _ _ c.reserve_lock.ensures.same c.requires.next)) c.args.self.now (reserved_id _ _ c.reserve_lock.ensures.same) _ _ _ c.tell_each.result c.in-Ok.written c.in-Ok.ensures.writes
 
 pub returns-in_err-enter_write-in-Ok-clause-refused : goal.returns-in_err-enter_write-in-Ok-clause-refused
-returns-in_err-enter_write-in-Ok-clause-refused g c = wrote_refused _ _ _ c.in_ok-draft.draft refl (drafted_awaits _ _ _ c.in_ok-draft.draft c.reserve_lock.new.self.known (search rules) (reserved_awaits _ _ c.args.self.now _ c.reserve_lock.ensures.same c.requires.ready.waits)) c.requires.ready.played c.requires.ready.course (drafted_write _ c.in_ok-draft.draft c.reserve_lock.new.self.known (search rules) (reserved_write _ _ c.reserve_lock.ensures.same c.requires.next)) c.args.self.now (reserved_id _ _ c.reserve_lock.ensures.same) _ _ _ _ c.in-Ok.written c.in-Ok.ensures.writes
+returns-in_err-enter_write-in-Ok-clause-refused g c = wrote_refused _ _ _ c.in_ok-draft.draft refl (drafted_awaits _ _ (record c.args.self.now { progress = c.reserve_lock.new.self }) c.in_ok-draft.draft c.reserve_lock.new.self.known (search rules) (reserved_awaits _ _ c.args.self.now _ c.reserve_lock.ensures.same c.requires.ready.waits)) c.requires.ready.played c.requires.ready.course (drafted_write c.reserve_lock.new.self c.in_ok-draft.draft c.reserve_lock.new.self.known (search rules) (reserved_write _ _ c.reserve_lock.ensures.same c.requires.next)) c.args.self.now (reserved_id _ _ c.reserve_lock.ensures.same) _ _ _ _ c.in-Ok.written c.in-Ok.ensures.writes
 
 pub returns-in-Clash-clause-enters : goal.returns-in-Clash-clause-enters
 returns-in-Clash-clause-enters g c = clash_enters _ _ _ c.in_ok-draft.draft refl (drafted_awaits _ _ _ c.in_ok-draft.draft _ (search rules) (reserved_awaits _ _ c.args.self.now _ c.reserve_lock.ensures.same c.requires.ready.waits)) c.requires.ready.played c.requires.ready.course (drafted_write _ c.in_ok-draft.draft _ (search rules) (reserved_write _ _ c.reserve_lock.ensures.same c.requires.next))
