@@ -1,6 +1,10 @@
-use Rattle.std.proofs.Common.{◌∙◌, ap, length, arith}
+use Rattle.std.proofs.Common.{◌∙◌, refl, ap, length, arith}
+use Rattle.backend_core.specs.Noted.{Stays}
 use Rattle.backend_core.proofs.Entries.Noting.{settles_on}
 use Rattle.backend_core.proofs.backend.Backend.settle.Goals as goal
+
+pub settling-init : goal.settling-init
+settling-init c = (refl, λ scenario seen agrees. (agrees, (refl, Stays refl refl)))
 
 pub settle_command-requires : goal.settle_command-requires
 settle_command-requires c = record { few = omega (arith, c.requires.few, ap length c.settling.invariant.0) }
