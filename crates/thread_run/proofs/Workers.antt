@@ -1,0 +1,65 @@
+-- A worker from step to step.
+use Rattle.std.proofs.Common.{◌≡◌, ◌≤◌, ◌∙◌, ℕ, Bool, true, List, [], ◌∷◌, ◌++◌, refl, sym, ap, subst, append_assoc, append-nil, Result, Ok, Err, OnOk}
+use Rattle.base_types.specs.Scenario.{Scenario, IsBackend}
+use Rattle.event_kinds.specs.declared.entry.Entry.{Entry}
+use Rattle.history_model.specs.Log.{is_waiting}
+use Rattle.shared_seg.specs.Kept.{Kept}
+use Rattle.turn_table.specs.Histories.{Follows, Grew}
+use Rattle.turn_table.specs.Passes.{seen_by}
+use Rattle.backend_core.specs.declared.backend.Backend.{Backend}
+use Rattle.backend_core.specs.declared.turns.HeldLook.{HeldLook}
+use Rattle.backend_core.specs.Agrees.{IsPlayed}
+use Rattle.backend_core.specs.Apart.{IsHolding}
+use Rattle.thread_run.specs.declared.refusal.RunRefusal.{RunRefusal}
+use Rattle.thread_run.specs.declared.refusal.RunRefusal.TheVariants as refusals
+use Rattle.thread_run.specs.declared.worker.Worker.{Worker}
+use Rattle.thread_run.specs.Stops.{StopsBy}
+use Rattle.thread_run.specs.Turns.{backend_of, right_before, HasTakenTurn, MayTakeTurn, IsUnderway}
+use Rattle.thread_run.specs.Workers.{Table, IsAt, Extends, Goes}
+use Rattle.thread_run.proofs.Between.{turned}
+
+pub extends_same : (seen now : List Entry) → now ≡ seen → Extends seen now
+extends_same seen now same = record { more = []; is = same ∙ sym (append-nil seen) }
+
+pub extends_then : (seen now later : List Entry) → Extends seen now → Extends now later → Extends seen later
+extends_then seen now later first second = record { more = first.more ++ second.more; is = second.is ∙ ap (λ h. h ++ second.more) first.is ∙ append_assoc seen first.more second.more }
+
+pub extends_follows : (b : ℕ) (seen now : List Entry) → Follows backend_of b seen now → Extends seen now
+extends_follows b seen now follows = record { more = follows.rest; is = follows.grows }
+
+pub extends_grew : (b : ℕ) (seen now : List Entry) → Grew backend_of b seen now → Extends seen now
+extends_grew b seen now grew = record { more = grew.rest; is = grew.grows }
+
+-- a worker that stays
+pub goes_nowhere : (table : Table) (w : Worker) → IsAt table w → Goes table w w
+goes_nowhere table w at = record { at = at; number = refl; seen = extends_same (seen_by w.pass) (seen_by w.pass) refl }
+
+-- one step after another
+pub goes_then : (table : Table) (a b c : Worker) → Goes table a b → Goes table b c → Goes table a c
+goes_then table a b c first second = record {
+  at = second.at;
+  number = second.number ∙ first.number;
+  seen = extends_then (seen_by a.pass) (seen_by b.pass) (seen_by c.pass) first.seen second.seen;
+}
+
+-- a gate that was asked before, and is asked again
+pub stops_then : (before now later : ℕ) (result : Result (Unit {0}) RunRefusal) → now ≡ before → StopsBy now later result → StopsBy before later result
+stops_then before now later result same stops = subst (λ n. StopsBy n later result) same stops
+
+-- what was asked of the value of the table holds of the value in a turn
+pub turn_backend : (now opened : Kept) (script : Scenario) (b : ℕ) → now ≡ opened → opened.script ≡ script → IsBackend script.backends b → IsBackend now.script.backends b
+turn_backend now opened script b is same backend = subst (λ (k : Scenario). IsBackend k.backends b) (sym (ap (λ (v : Kept). v.script) is ∙ same)) backend
+
+-- what may be done in whatever turn comes, in this one
+pub turn_holds : (now opened : Kept) (script : Scenario) (enters : Bool) (b : ℕ) (seen : List Entry) (told : Bool) (held looks : List HeldLook) (s : Backend) → now ≡ opened → opened.script ≡ script → looks ≡ held → MayTakeTurn script enters b seen told held s
+    → Follows backend_of b seen opened.history → (told ≡ true → is_waiting opened.history b ≡ true) → IsPlayed now.script now.history → IsHolding (right_before enters) now.script b now.history looks s
+turn_holds now opened script enters b seen told held looks s is same all may follows waits = subst (λ (v : Kept). IsPlayed v.script v.history → IsHolding (right_before enters) v.script b v.history looks s) (sym is)
+    (subst (λ (k : Scenario). IsPlayed k opened.history → IsHolding (right_before enters) k b opened.history looks s) (sym same)
+    (λ played. subst (λ (l : List HeldLook). IsHolding (right_before enters) script b opened.history l s) (sym all) (may.holds opened.history follows played waits)))
+
+-- what a turn left, where it made what it had to
+pub turned_ok : {E : Type 0} (script later : Scenario) (b : ℕ) (seen history : List Entry) (held : List HeldLook) (s : Backend) (result : Result (Unit {0}) E) → later ≡ script → seen ≡ history → held ≡ [] → OnOk result (HasTakenTurn later b history s) → OnOk result (IsUnderway script b seen held s)
+turned_ok script later b seen history held s (Err e) same is none has = tt
+turned_ok script later b seen history held s (Ok x) same is none has =
+    subst (λ (l : List HeldLook). IsUnderway script b seen l s) (sym none) (subst (λ (h : List Entry). IsUnderway script b h [] s) (sym is)
+    (turned script b history s (subst (λ (k : Scenario). HasTakenTurn k b history s) same has)))
