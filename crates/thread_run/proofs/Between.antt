@@ -1,7 +1,8 @@
 -- From turn to turn.
-use Rattle.std.proofs.Common.{◌≡◌, ◌≢◌, ◌≤◌, ◌<◌, ◌+◌, ◌^◌, ◌∙◌, ℕ, Bool, true, false, List, [], ◌∷◌, ◌++◌, refl, sym, ap, subst, append_assoc, append-nil, length, map, arith}
+use Rattle.std.proofs.Common.{◌≡◌, ◌≢◌, ◌≤◌, ◌<◌, ◌+◌, ◌^◌, ◌∙◌, ◌⊎◌, inl, inr, ◌==◌, ℕ, Bool, true, false, List, [], ◌∷◌, ◌++◌, refl, sym, ap, subst, append_assoc, append-nil, length, map, arith}
 use Rattle.std.specs.List.{AllByRecursion}
 use Rattle.std.proofs.lemmas.Bool.{both_ways}
+use Rattle.std.proofs.lemmas.Bool.Decides.{eqb_tells}
 use Rattle.std.proofs.lemmas.List.{length_push}
 use lib.ListN.{length-map}
 use Rattle.std.proofs.lemmas.List.{length-append}
@@ -85,8 +86,8 @@ may_enter scenario b seen told held s between alive = record {
 }
 
 denied_push : (held : List HeldLook) (look : HeldLook) → AllByRecursion (λ l. l.some_wait ≡ false) held → look.some_wait ≡ false → AllByRecursion (λ l. l.some_wait ≡ false) (held ++ look ∷ [])
-denied_push [] look denied no = (no, tt)
-denied_push (first ∷ held) look denied no = (denied.0, denied_push held look denied.1 no)
+denied_push [] look denied last = (last, tt)
+denied_push (first ∷ held) look denied last = (denied.0, denied_push held look denied.1 last)
 
 -- the looks that were held back, and one more, made by a word that said whether something waits: each history that the pass may find in its next turn allows them
 looks_allowed : (scenario : Scenario) (b : ℕ) (seen : List Entry) (held : List HeldLook) (was : Backend) (between : IsBetween scenario b seen held was) (now_seen : List Entry) (some_wait : Bool) → Follows backend_of b seen now_seen → (some_wait ≡ false → is_waiting now_seen b ≡ false)
@@ -108,8 +109,19 @@ may_hand_over scenario b seen now_seen held was now some_wait between follows no
       let all = follows_then b between.last now_seen history (follows_then b between.last seen now_seen between.follows follows) later in
       subst (λ (h : List Entry). IsHolding AgreesNow scenario b h (held ++ held_look was some_wait ∷ []) now) (sym all.grows)
       (apart_look scenario b between.last held was now some_wait between.stands makes scenario (same_script scenario b) all.rest all.others (subst (IsPlayed scenario) all.grows played)
-      (looks_allowed scenario b seen held was between now_seen some_wait follows none all.rest all.others (λ yes. subst (λ (h : List Entry). is_waiting h b ≡ true) all.grows (waits yes))));
+      (looks_allowed scenario b seen held was between now_seen some_wait follows none all.rest all.others (λ told. subst (λ (h : List Entry). is_waiting h b ≡ true) all.grows (waits told))));
 }
+
+-- the looks with the last one are those that the turn finds
+pushed_as : (held items : List HeldLook) (look : HeldLook) (was : Backend) (some_wait : Bool) → items ≡ held ++ look ∷ [] → look ≡ held_look was some_wait → items ≡ held ++ held_look was some_wait ∷ []
+pushed_as held items look was some_wait pushed is = pushed ∙ ap (λ l. held ++ l ∷ []) is
+
+-- so it may with its pass and its looks as they are then
+pub may_hand_all : (scenario : Scenario) (b number : ℕ) (seen now_seen : List Entry) (held items : List HeldLook) (look : HeldLook) (was now : Backend) (some_wait told : Bool) → IsBetween scenario b seen held was → number ≡ b → told ≡ some_wait → Follows backend_of b seen now_seen → (some_wait ≡ false → is_waiting now_seen b ≡ false) → MakesLook was some_wait now
+    → items ≡ held ++ look ∷ [] → look ≡ held_look was some_wait → MayTakeTurn scenario false number now_seen told items now
+may_hand_all scenario b number seen now_seen held items look was now some_wait told between same tells follows none makes pushed is =
+    subst (λ n. MayTakeTurn scenario false n now_seen told items now) (sym same) (subst (λ t. MayTakeTurn scenario false b now_seen t items now) (sym tells)
+    (subst (λ (l : List HeldLook). MayTakeTurn scenario false b now_seen some_wait l now) (sym (pushed_as held items look was some_wait pushed is)) (may_hand_over scenario b seen now_seen held was now some_wait between follows none makes)))
 
 -- a life as that of a backend that has joined and hasn't left
 alive_stays : (life : Life) → life ≡ lives.Alive → has_left life ≡ false
@@ -142,13 +154,27 @@ looked_no scenario b seen now_seen held was now between follows none makes few =
     looks = held ++ held_look was false ∷ []
 
     may : (more : List Entry) → NoneOf backend_of b more → AllowsHeld (between.last ++ more) b looks
-    may more apart = looks_allowed scenario b seen held was between now_seen false follows (λ no. none) more apart (λ yes. absurd (cc yes))
+    may more apart = looks_allowed scenario b seen held was between now_seen false follows (λ denied. none) more apart (λ told. absurd (cc told))
 
     agreed : AgreesApart scenario b between.last looks now
     agreed = apart_look scenario b between.last held was now false between.stands makes
 
     here : IsHolding AgreesNow scenario b (between.last ++ []) looks now
     here = agreed scenario (same_script scenario b) [] tt (subst (IsPlayed scenario) (sym (append-nil between.last)) between.run.played) (may [] tt)
+
+-- where there is room for another look after one more
+pub not_full : (held items : List HeldLook) (look : HeldLook) → items ≡ held ++ look ∷ [] → length held < 16 → (length items == 16) ≡ false → length held + 1 < 16
+not_full held items look pushed few open = of (eqb_tells (length items) 16)
+  where
+    of : (((length items == 16) ≡ true) × (length items ≡ 16)) ⊎ (((length items == 16) ≡ false) × (length items ≢ 16)) → length held + 1 < 16
+    of (inl full) = absurd (both_ways _ open full.0)
+    of (inr apart) = let ne = apart.1 in let more = length_push held look in let same = ap length pushed in omega (arith, ne, few, more, same)
+
+pub looked_on : (scenario : Scenario) (b : ℕ) (seen now_seen : List Entry) (held items : List HeldLook) (look : HeldLook) (was now : Backend) (some_wait : Bool) → IsBetween scenario b seen held was → some_wait ≡ false → Follows backend_of b seen now_seen → (some_wait ≡ false → is_waiting now_seen b ≡ false) → MakesLook was some_wait now
+    → items ≡ held ++ look ∷ [] → look ≡ held_look was some_wait → length held + 1 < 16 → IsUnderway scenario b now_seen items now
+looked_on scenario b seen now_seen held items look was now true between denied follows none makes pushed is few = absurd (cc denied)
+looked_on scenario b seen now_seen held items look was now false between denied follows none makes pushed is few =
+    subst (λ (l : List HeldLook). IsUnderway scenario b now_seen l now) (sym (pushed_as held items look was false pushed is)) (looked_no scenario b seen now_seen held was now between follows (none refl) makes few)
 
 -- between two turns it is right, in the history that its last turn left and its looks
 pub between_right : (scenario : Scenario) (b : ℕ) (seen : List Entry) (held : List HeldLook) (s : Backend) → IsBetween scenario b seen held s → IsRight s

@@ -1,5 +1,5 @@
 -- What is shared, after looks and after an entry of a backend.
-use Rattle.std.proofs.Common.{◌≡◌, ◌≢◌, ◌≤◌, ◌+◌, ◌∙◌, ◌^◌, ◌⊎◌, inl, inr, ◌==◌, ℕ, zero, suc, true, false, List, [], ◌∷◌, ◌++◌, refl, sym, ap, subst, append_assoc, append-nil, length, arith, Result, Ok, Err, OnOk, OnErr}
+use Rattle.std.proofs.Common.{◌≡◌, ◌≢◌, ◌≤◌, ◌+◌, ◌∙◌, ◌^◌, ◌⊎◌, inl, inr, ◌==◌, max, ℕ, zero, suc, true, false, List, [], ◌∷◌, ◌++◌, refl, sym, ap, subst, append_assoc, append-nil, length, arith, Result, Ok, Err, OnOk, OnErr}
 use Rattle.std.proofs.lemmas.Bool.{both_ways}
 use Rattle.std.proofs.lemmas.Bool.Decides.{eqb_tells}
 use Rattle.base_types.specs.Scenario.{Scenario, IsBackend}
@@ -10,13 +10,13 @@ use Rattle.history_model.specs.Read.{ScansOnlyIfNeeded}
 use Rattle.history_model.proofs.Prefixes.{EachEntry-more}
 use Rattle.history_model.proofs.Sound.{sound_is_legal}
 use Rattle.cacheless.specs.Output.{IsAllowed}
-use Rattle.seg_calls.specs.Calls.{all_promised}
+use Rattle.seg_calls.specs.Calls.{Promises, all_promised}
 use Rattle.turn_table.specs.Histories.{Grew, OnlyOf}
 use Rattle.backend_core.specs.declared.turns.HeldLook.{HeldLook}
 use Rattle.backend_core.specs.Agrees.{AreSpelled, IsPlayed, AgreesNow}
 use Rattle.backend_core.specs.declared.backend.Backend.{Backend}
 use Rattle.backend_core.specs.Apart.{IsHolding}
-use Rattle.backend_core.specs.Looks.{entry_held, entries_of, MayCallAll}
+use Rattle.backend_core.specs.Looks.{entry_held, entries_of, MayCallAll, TakesPlaces}
 use Rattle.backend_core.specs.Steps.{MakesEntry, IsRefused, Before, After, MakesNext, Remains, Left}
 use Rattle.backend_core.specs.Words.{has_left}
 use Rattle.backend_core.proofs.Played.{IsPlayed-more}
@@ -118,11 +118,44 @@ handed_right Right scenario later old new b held s same is holds = subst (λ k. 
 pub calls_still : (scenario later : Scenario) (old now entries : List Entry) → later ≡ scenario → now ≡ old → MayCallAll scenario old entries → MayCallAll later now entries
 calls_still scenario later old now entries same is calls = subst (λ k. MayCallAll k now entries) (sym same) (subst (λ (h : List Entry). MayCallAll scenario h entries) (sym is) calls)
 
+-- what the looks that were handed over made of what is shared, once places were promised for them
+pub record Handed (scenario now : Scenario) (b : ℕ) (first old : List Entry) (at_first had : ℕ → ℕ) (held : List HeldLook) : Type 0 where
+  pub script : now ≡ scenario
+  pub is : old ≡ first ++ entries_of b held
+  pub run : IsRunSoFar now old
+  pub grew : Grew backend_of b first old
+  pub others : (a : ℕ) → a ≢ b → had a ≡ at_first a
+  pub backend : IsBackend now.backends b
+  pub some : 32 ≤ had b
+
+pub handed : {Right : Scenario → List Entry → Backend → Type 0} {scenario after now : Scenario} {b : ℕ} {first promised_at old : List Entry} {at_first promised had : ℕ → ℕ} {held : List HeldLook} {s : Backend} {result : Unit {0}}
+    → IsBackend scenario.backends b → length held ≤ 16 → IsRunSoFar scenario first → IsHolding Right scenario b first held s → after ≡ scenario → Promises first promised_at at_first promised b 48 (Ok result) → now ≡ after → old ≡ promised_at ++ entries_of s.progress.id held → TakesPlaces promised had s.progress.id (length held)
+    → Handed scenario now b first old at_first had held
+handed {Right} {scenario} {after} {now} {b} {first} {promised_at} {old} {at_first} {promised} {had} {held} {s} {result} backend few run holds script promises kept grows places = record {
+  script = same;
+  is = is;
+  run = handed_run scenario now first old b held same is run holds.played;
+  grew = grew_looked b first old held is;
+  others = λ a apart. places.others a (λ e. apart (e ∙ holds.id)) ∙ promises.others a apart;
+  backend = subst (λ (k : Scenario). IsBackend k.backends b) (sym same) backend;
+  some = let own = places.own in let all = promises.ok in let i = ap promised holds.id in let j = ap had holds.id in omega (arith, few, own, all, i, j);
+}
+  where
+    same : now ≡ scenario
+    same = kept ∙ script
+
+    is : old ≡ first ++ entries_of b held
+    is = grows ∙ ap (λ h. h ++ entries_of s.progress.id held) promises.entries ∙ ap (λ n. first ++ entries_of n held) holds.id
+
 -- an entry was made, or nothing has changed
 pub made_or_not : {E : Type 0} (scenario : Scenario) (old new : List Entry) (had has : ℕ → ℕ) (was now : Backend) (result : Result (Unit {0}) E) → OnOk result (MakesNext scenario old new had has was now) → OnErr result (IsRefused scenario old new had has was.progress.id) → IsRefused scenario old new had has was.progress.id
 made_or_not scenario old new had has was now (Ok x) (Remains enters) refused = After enters.makes
 made_or_not scenario old new had has was now (Ok x) (Left gone steps) refused = After steps.makes
 made_or_not scenario old new had has was now (Err e) makes refused = refused
+
+-- either way it was run so far
+pub made_run : {E : Type 0} (scenario later : Scenario) (old new : List Entry) (had has : ℕ → ℕ) (was now : Backend) (result : Result (Unit {0}) E) → later ≡ scenario → IsRunSoFar scenario old → OnOk result (MakesNext scenario old new had has was now) → OnErr result (IsRefused scenario old new had has was.progress.id) → IsRunSoFar later new
+made_run scenario later old new had has was now result same run makes refused = subst (λ k. IsRunSoFar k new) (sym same) (run_refused scenario old new had has was.progress.id run (made_or_not scenario old new had has was now result makes refused))
 
 -- what such a turn does to what is shared
 pub takes_turn : (scenario now later : Scenario) (b : ℕ) (first old new : List Entry) (at_first had has : ℕ → ℕ) → later ≡ scenario → Grew backend_of b first old → ((a : ℕ) → a ≢ b → had a ≡ at_first a) → IsRefused now old new had has b → TakesTurn b scenario later first new at_first has
