@@ -164,10 +164,10 @@ looked_no scenario b seen now_seen held was now between follows none makes few =
 
 -- where there is room for another look after one more
 pub not_full : (held items : List HeldLook) (look : HeldLook) → items ≡ held ++ look ∷ [] → length held < 16 → (length items == 16) ≡ false → length held + 1 < 16
-not_full held items look pushed few open = of (eqb_tells (length items) 16)
+not_full held items look pushed few free = of (eqb_tells (length items) 16)
   where
     of : (((length items == 16) ≡ true) × (length items ≡ 16)) ⊎ (((length items == 16) ≡ false) × (length items ≢ 16)) → length held + 1 < 16
-    of (inl full) = absurd (both_ways _ open full.0)
+    of (inl full) = absurd (both_ways _ free full.0)
     of (inr apart) = let ne = apart.1 in let more = length_push held look in let same = ap length pushed in omega (arith, ne, few, more, same)
 
 pub looked_on : (scenario : Scenario) (b : ℕ) (seen now_seen : List Entry) (held items : List HeldLook) (look : HeldLook) (was now : Backend) (some_wait : Bool) → IsBetween scenario b seen held was → some_wait ≡ false → Follows backend_of b seen now_seen → (some_wait ≡ false → is_waiting now_seen b ≡ false) → MakesLook was some_wait now
