@@ -66,6 +66,10 @@ pairs_last R [] (z ∷ ys) x y pairs = absurd (not_pair R ys y pairs.1)
 pairs_last R (w ∷ xs) [] x y pairs = absurd (not_pair_left R xs x pairs.1)
 pairs_last R (w ∷ xs) (z ∷ ys) x y pairs = let rest = pairs_last R xs ys x y pairs.1 in ((pairs.0, rest.0), rest.1)
 
+-- the same of lists that were taken apart
+pub pairs_taken : {A B : Type 0} (R : A → B → Type 0) (all xs : List A) (every ys : List B) (x : A) (y : B) → all ≡ xs ++ x ∷ [] → every ≡ ys ++ y ∷ [] → AllPairs R all every → AllPairs R xs ys × R x y
+pairs_taken R all xs every ys x y one two pairs = pairs_last R xs ys x y (subst (λ l. AllPairs R l (ys ++ y ∷ [])) one (subst (AllPairs R all) two pairs))
+
 -- one pair more
 pub pairs_more : {A B : Type 0} (R : A → B → Type 0) (xs : List A) (ys : List B) (x : A) (y : B) → AllPairs R xs ys → R x y → AllPairs R (xs ++ x ∷ []) (ys ++ y ∷ [])
 pairs_more R [] [] x y pairs pair = (pair, tt)
@@ -81,6 +85,13 @@ all_last P (y ∷ xs) x all = let rest = all_last P xs x all.1 in ((all.0, rest.
 pub all_more : {A : Type 0} (P : A → Type 0) (xs : List A) (x : A) → AllByRecursion P xs → P x → AllByRecursion P (xs ++ x ∷ [])
 all_more P [] x all here = (here, tt)
 all_more P (y ∷ xs) x all here = (all.0, all_more P xs x all.1 here)
+
+-- the same of a list that was taken apart, or put together
+pub all_taken : {A : Type 0} (P : A → Type 0) (every xs : List A) (x : A) → every ≡ xs ++ x ∷ [] → AllByRecursion P every → AllByRecursion P xs × P x
+all_taken P every xs x is all = all_last P xs x (subst (AllByRecursion P) is all)
+
+pub all_put : {A : Type 0} (P : A → Type 0) (every xs : List A) (x : A) → every ≡ xs ++ x ∷ [] → AllByRecursion P xs → P x → AllByRecursion P every
+all_put P every xs x is all here = subst (AllByRecursion P) (sym is) (all_more P xs x all here)
 
 -- a last element that goes over from one list to the other, as it is
 pub item_over : {B C : Type 0} (g : B → C) (xs ys : List C) (zs ws : List B) (x : C) (z : B) (all : List C) → xs ≡ ys ++ x ∷ [] → ws ≡ zs ++ z ∷ [] → x ≡ g z → xs ++ from_last g zs ≡ all → ys ++ from_last g ws ≡ all
