@@ -4,4 +4,5 @@ pub mod Between
 pub mod Workers
 pub mod Stopping
 pub mod Seating
+pub mod Gates
 pub mod Ends

@@ -1,5 +1,5 @@
 -- How the work of all ended, and what the gates' counts say of it.
-use Rattle.std.proofs.Common.{◌≡◌, ◌<◌, ◌≤◌, ◌+◌, ◌-◌, ◌∙◌, ◌⊎◌, inl, inr, ℕ, zero, suc, List, [], ◌∷◌, ◌++◌, length, map, take, drop, get_or, refl, sym, ap, subst, arith, Result, Ok, Err, OnOk}
+use Rattle.std.proofs.Common.{◌≡◌, ◌<◌, ◌≤◌, ◌+◌, ◌-◌, ◌∙◌, ◌⊎◌, inl, inr, ℕ, zero, suc, List, [], ◌∷◌, ◌++◌, length, get_or, refl, sym, ap, subst, arith, Result, Ok, Err, OnOk}
 use Rattle.edge_io.specs.Causes.{Rose}
 use Rattle.thread_run.specs.declared.refusal.RunRefusal.{RunRefusal}
 use Rattle.thread_run.specs.declared.refusal.RunRefusal.TheVariants as refusals
@@ -116,3 +116,8 @@ done_more R xs ys x y (Ok done) (Ok well) pairs pair = pairs_more R xs ys x y pa
 -- the same of lists that were put together
 pub done_put : {A B : Type 0} (R : A → B → Type 0) (xs all : List A) (ys every : List B) (x : A) (y : B) (first end : Result (Unit {0}) RunRefusal) → all ≡ xs ++ x ∷ [] → every ≡ ys ++ y ∷ [] → OnOk first (AllPairs R xs ys) → OnOk end (R x y) → OnOk (first_end first end) (AllPairs R all every)
 done_put R xs all ys every x y first end one two pairs pair = subst (λ l. OnOk (first_end first end) (AllPairs R l every)) (sym one) (subst (λ l. OnOk (first_end first end) (AllPairs R (xs ++ x ∷ []) l)) (sym two) (done_more R xs ys x y first end pairs pair))
+
+-- what holds in any case holds where the end is well
+pub any_end : {P : Type 0} (end : Result (Unit {0}) RunRefusal) → P → OnOk end P
+any_end (Ok done) here = here
+any_end (Err refusal) here = tt
