@@ -2,5 +2,7 @@ pub mod Lists
 pub mod Played
 pub mod Between
 pub mod Workers
-pub mod Seats
+pub mod Stopping
+pub mod Seating
+pub mod Gates
 pub mod Ends

@@ -1,6 +1,7 @@
 -- Lists side by side, and lists that are read from the last element on.
-use Rattle.std.proofs.Common.{◌≡◌, ◌<◌, ◌≤◌, ◌+◌, ◌∙◌, ℕ, zero, suc, List, [], ◌∷◌, ◌++◌, length, map, take, drop, get_or, refl, sym, ap, subst, append_assoc, arith}
+use Rattle.std.proofs.Common.{◌≡◌, ◌<◌, ◌≤◌, ◌+◌, ◌∙◌, ℕ, zero, suc, List, [], ◌∷◌, ◌++◌, length, map, get_or, refl, sym, ap, subst, append_assoc, arith}
 use Rattle.std.specs.List.{AllByRecursion}
+use Rattle.std.proofs.lemmas.List.{length_push, map-append}
 use Rattle.thread_run.specs.Seats.{AllPairs, from_last}
 
 -- lists that agree place by place
@@ -18,11 +19,12 @@ from_last_more f (y ∷ xs) x = ap (λ l. l ++ f y ∷ []) (from_last_more f xs 
 -- what is read goes with what is mapped
 pub map_from_last : {A B C : Type 0} (g : B → C) (f : A → B) (xs : List A) → map g (from_last f xs) ≡ from_last (λ x. g (f x)) xs
 map_from_last g f [] = refl
-map_from_last g f (x ∷ xs) = map_more g (from_last f xs) (f x) ∙ ap (λ l. l ++ g (f x) ∷ []) (map_from_last g f xs)
-  where
-    map_more : {B C : Type 0} (g : B → C) (ys : List B) (y : B) → map g (ys ++ y ∷ []) ≡ map g ys ++ g y ∷ []
-    map_more g [] y = refl
-    map_more g (z ∷ ys) y = ap (λ l. g z ∷ l) (map_more g ys y)
+map_from_last g f (x ∷ xs) = map-append g (from_last f xs) (f x ∷ []) ∙ ap (λ l. l ++ g (f x) ∷ []) (map_from_last g f xs)
+
+-- as many are read as there are
+pub length_from_last : {A B : Type 0} (f : A → B) (xs : List A) → length (from_last f xs) ≡ length xs
+length_from_last f [] = refl
+length_from_last f (x ∷ xs) = let rest = length_from_last f xs in let more = length_push (from_last f xs) (f x) in omega (arith, rest, more)
 
 -- lists with the same values, read from the last on
 pub from_last_same : {A : Type 0} (f : A → ℕ) (xs ys : List A) → map f xs ≡ map f ys → from_last f xs ≡ from_last f ys
@@ -66,6 +68,10 @@ pairs_last R [] (z ∷ ys) x y pairs = absurd (not_pair R ys y pairs.1)
 pairs_last R (w ∷ xs) [] x y pairs = absurd (not_pair_left R xs x pairs.1)
 pairs_last R (w ∷ xs) (z ∷ ys) x y pairs = let rest = pairs_last R xs ys x y pairs.1 in ((pairs.0, rest.0), rest.1)
 
+-- the same of lists that were taken apart
+pub pairs_taken : {A B : Type 0} (R : A → B → Type 0) (all xs : List A) (every ys : List B) (x : A) (y : B) → all ≡ xs ++ x ∷ [] → every ≡ ys ++ y ∷ [] → AllPairs R all every → AllPairs R xs ys × R x y
+pairs_taken R all xs every ys x y one two pairs = pairs_last R xs ys x y (subst (λ l. AllPairs R l (ys ++ y ∷ [])) one (subst (AllPairs R all) two pairs))
+
 -- one pair more
 pub pairs_more : {A B : Type 0} (R : A → B → Type 0) (xs : List A) (ys : List B) (x : A) (y : B) → AllPairs R xs ys → R x y → AllPairs R (xs ++ x ∷ []) (ys ++ y ∷ [])
 pairs_more R [] [] x y pairs pair = (pair, tt)
@@ -82,26 +88,16 @@ pub all_more : {A : Type 0} (P : A → Type 0) (xs : List A) (x : A) → AllByRe
 all_more P [] x all here = (here, tt)
 all_more P (y ∷ xs) x all here = (all.0, all_more P xs x all.1 here)
 
+-- the same of a list that was taken apart, or put together
+pub all_taken : {A : Type 0} (P : A → Type 0) (every xs : List A) (x : A) → every ≡ xs ++ x ∷ [] → AllByRecursion P every → AllByRecursion P xs × P x
+all_taken P every xs x is all = all_last P xs x (subst (AllByRecursion P) is all)
+
+pub all_put : {A : Type 0} (P : A → Type 0) (every xs : List A) (x : A) → every ≡ xs ++ x ∷ [] → AllByRecursion P xs → P x → AllByRecursion P every
+all_put P every xs x is all here = subst (AllByRecursion P) (sym is) (all_more P xs x all here)
+
 -- a last element that goes over from one list to the other, as it is
 pub item_over : {B C : Type 0} (g : B → C) (xs ys : List C) (zs ws : List B) (x : C) (z : B) (all : List C) → xs ≡ ys ++ x ∷ [] → ws ≡ zs ++ z ∷ [] → x ≡ g z → xs ++ from_last g zs ≡ all → ys ++ from_last g ws ≡ all
 item_over g xs ys zs ws x z all was now same before = ap (λ l. ys ++ from_last g l) now ∙ ap (λ l. ys ++ l) (from_last_more g zs z) ∙ ap (λ v. ys ++ v ∷ from_last g zs) (sym same) ∙ sym (append_assoc ys (x ∷ []) (from_last g zs)) ∙ ap (λ l. l ++ from_last g zs) (sym was) ∙ before
 
 pub item_back : {B C : Type 0} (g : B → C) (xs ys : List C) (zs ws : List B) (x : C) (z : B) (all : List C) → ys ≡ xs ++ x ∷ [] → zs ≡ ws ++ z ∷ [] → x ≡ g z → xs ++ from_last g zs ≡ all → ys ++ from_last g ws ≡ all
 item_back g xs ys zs ws x z all now was same before = ap (λ l. l ++ from_last g ws) now ∙ append_assoc xs (x ∷ []) (from_last g ws) ∙ ap (λ v. xs ++ v ∷ from_last g ws) same ∙ ap (λ l. xs ++ l) (sym (from_last_more g ws z)) ∙ ap (λ l. xs ++ from_last g l) (sym was) ∙ before
-
--- as many elements as there were are cut off and put before the others, and back
-pub cut_and_back : {A : Type 0} (n : ℕ) (xs : List A) → n ≤ length xs → drop (length (drop n xs)) (drop n xs ++ take n xs) ++ take (length (drop n xs)) (drop n xs ++ take n xs) ≡ xs
-cut_and_back n xs few = ap (λ l. l ++ take (length (drop n xs)) (drop n xs ++ take n xs)) (drop_front (drop n xs) (take n xs)) ∙ ap (λ l. take n xs ++ l) (take_front (drop n xs) (take n xs)) ∙ both n xs
-  where
-    drop_front : {A : Type 0} (xs ys : List A) → drop (length xs) (xs ++ ys) ≡ ys
-    drop_front [] ys = refl
-    drop_front (x ∷ xs) ys = drop_front xs ys
-
-    take_front : {A : Type 0} (xs ys : List A) → take (length xs) (xs ++ ys) ≡ xs
-    take_front [] ys = refl
-    take_front (x ∷ xs) ys = ap (λ l. x ∷ l) (take_front xs ys)
-
-    both : {A : Type 0} (n : ℕ) (xs : List A) → take n xs ++ drop n xs ≡ xs
-    both zero xs = refl
-    both (suc n) [] = refl
-    both (suc n) (x ∷ xs) = ap (λ l. x ∷ l) (both n xs)

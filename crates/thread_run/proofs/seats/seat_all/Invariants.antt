@@ -4,7 +4,7 @@ use Rattle.thread_run.specs.Seats.{AllPairs, MaySit, IsSeated, from_last, number
 use Rattle.thread_run.proofs.seats.seat_all.Given as goal
 
 abbrev pub invariant-loop-pass : goal.invariant-loop-pass
-invariant-loop-pass l = record {
+invariant-loop-pass g l = record {
   may : AllPairs (MaySit l.table) l.passes.items l.backends.items;
   as_many : vec_len l.backends ≡ vec_len l.passes;
   enough : vec_len l.passes ≤ vec_len l.gates;
@@ -19,4 +19,4 @@ invariant-loop-pass l = record {
 }
 
 abbrev pub decreases-loop-pass : goal.decreases-loop-pass
-decreases-loop-pass l = vec_len l.passes
+decreases-loop-pass g l = vec_len l.passes

@@ -4,7 +4,7 @@ use Rattle.thread_run.specs.Seats.{AllPairs, HasDone, HasWorked, from_last, numb
 use Rattle.thread_run.proofs.seats.unseat_all.Given as goal
 
 abbrev pub invariant-loop-seat : goal.invariant-loop-seat
-invariant-loop-seat l = record {
+invariant-loop-seat g l = record {
   worked : AllByRecursion (HasWorked l.table) l.seats.items;
   ended : first_end l.ended (end_of l.seats.items) ≡ end_of l.fn.seats.items;
   done : OnOk l.ended (AllPairs (HasDone l.table) l.passes.items l.backends.items);
@@ -16,4 +16,4 @@ invariant-loop-seat l = record {
 }
 
 abbrev pub decreases-loop-seat : goal.decreases-loop-seat
-decreases-loop-seat l = vec_len l.seats
+decreases-loop-seat g l = vec_len l.seats

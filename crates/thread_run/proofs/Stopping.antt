@@ -1,5 +1,5 @@
 -- How the work of all ended, and what the gates' counts say of it.
-use Rattle.std.proofs.Common.{◌≡◌, ◌<◌, ◌≤◌, ◌+◌, ◌-◌, ◌∙◌, ◌⊎◌, inl, inr, ℕ, zero, suc, List, [], ◌∷◌, ◌++◌, length, map, take, drop, get_or, refl, sym, ap, subst, arith, Result, Ok, Err, OnOk}
+use Rattle.std.proofs.Common.{◌≡◌, ◌<◌, ◌≤◌, ◌+◌, ◌-◌, ◌∙◌, ◌⊎◌, inl, inr, ℕ, zero, suc, List, [], ◌∷◌, ◌++◌, length, get_or, refl, sym, ap, subst, arith, Result, Ok, Err, OnOk}
 use Rattle.edge_io.specs.Causes.{Rose}
 use Rattle.thread_run.specs.declared.refusal.RunRefusal.{RunRefusal}
 use Rattle.thread_run.specs.declared.refusal.RunRefusal.TheVariants as refusals
@@ -8,13 +8,16 @@ use Rattle.thread_run.specs.Seats.{AllPairs, StopsTogether, from_last, first_end
 use Rattle.thread_run.specs.Stops.{StopsBy, NoneFell, OneRose, StopTogether}
 use Rattle.thread_run.proofs.Lists.{pairs_more}
 
-
 -- the gates' counts, place by place
 pub stops_together : {G : Type 0} (stops : G → ℕ) (xs ys : List (Seat G)) → length ys ≡ length xs → ((i : ℕ) (d : Seat G) → i < length xs → StopsBy (stops (get_or xs i d).gate) (stops (get_or ys i d).gate) (get_or ys i d).end) → StopsTogether stops xs ys
 stops_together stops [] [] len each = tt
 stops_together stops [] (y ∷ ys) len each = absurd (omega (arith, len))
 stops_together stops (x ∷ xs) [] len each = absurd (omega (arith, len))
 stops_together stops (x ∷ xs) (y ∷ ys) len each = (each zero x (omega arith), stops_together stops xs ys (omega (arith, len)) (λ k d h. each (suc k) d (omega arith)))
+
+-- the gate of one seat, as it was lent and as it came back
+pub stops_seen : {G : Type 0} (stops : G → ℕ) (lent back x y : Seat G) → lent ≡ x → back ≡ y → StopsBy (stops lent.gate) (stops back.gate) back.end → StopsBy (stops x.gate) (stops y.gate) y.end
+stops_seen stops lent back x y was now seen = subst (λ s. StopsBy (stops x.gate) (stops s.gate) s.end) now (subst (λ s. StopsBy (stops s.gate) (stops back.gate) back.end) was seen)
 
 first_assoc : (a b c : Result (Unit {0}) RunRefusal) → first_end (first_end a b) c ≡ first_end a (first_end b c)
 first_assoc (Ok done) b c = refl
@@ -109,3 +112,12 @@ pub done_more : {A B : Type 0} (R : A → B → Type 0) (xs : List A) (ys : List
 done_more R xs ys x y (Err refusal) end pairs pair = tt
 done_more R xs ys x y (Ok done) (Err refusal) pairs pair = tt
 done_more R xs ys x y (Ok done) (Ok well) pairs pair = pairs_more R xs ys x y pairs pair
+
+-- the same of lists that were put together
+pub done_put : {A B : Type 0} (R : A → B → Type 0) (xs all : List A) (ys every : List B) (x : A) (y : B) (first end : Result (Unit {0}) RunRefusal) → all ≡ xs ++ x ∷ [] → every ≡ ys ++ y ∷ [] → OnOk first (AllPairs R xs ys) → OnOk end (R x y) → OnOk (first_end first end) (AllPairs R all every)
+done_put R xs all ys every x y first end one two pairs pair = subst (λ l. OnOk (first_end first end) (AllPairs R l every)) (sym one) (subst (λ l. OnOk (first_end first end) (AllPairs R (xs ++ x ∷ []) l)) (sym two) (done_more R xs ys x y first end pairs pair))
+
+-- what holds in any case holds where the end is well
+pub any_end : {P : Type 0} (end : Result (Unit {0}) RunRefusal) → P → OnOk end P
+any_end (Ok done) here = here
+any_end (Err refusal) here = tt

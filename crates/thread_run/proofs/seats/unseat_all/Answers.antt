@@ -1,0 +1,28 @@
+use Rattle.std.proofs.Common.{◌≡◌, ◌∷◌, [], refl, sym, ap, subst, arith, MatchOption, OnOk}
+use Rattle.turn_table.specs.Passes.{start_of, seen_by}
+use Rattle.thread_run.specs.Seats.{AllPairs, HasDone, HasWorked, number_in, number_of, first_end, end_of}
+use Rattle.thread_run.proofs.Lists.{all_taken, one_back, item_back}
+use Rattle.thread_run.proofs.Stopping.{ends_so_far, ends_all, done_put}
+use Rattle.thread_run.proofs.Seating.{Worked, done_at}
+use Rattle.thread_run.proofs.seats.unseat_all.Goals as goal
+
+pub loop-seat-preserved : goal.loop-seat-preserved
+loop-seat-preserved g c =
+    let i = c.loop-seat.invariant in
+    let table = c.args.table.now in
+    let s = c.in-Some.ensures in let seat = c.in-Some.seat in let worker = c.in-Some-worker.worker in
+    let e = c.push_reserved.ensures in let p = c.push_reserved-in-Some.ensures in let b = c.push_reserved-in-Some-2.ensures in
+    let worked = all_taken (HasWorked table) c.loop-seat.seats.items c.pop.new.self.items seat s.items i.worked in
+    let here = subst (λ o. Worked table o seat.end) c.in-Some-worker.is worked.1 in
+    record {
+      worked = worked.0;
+      ended = subst (λ x. first_end x (end_of c.pop.new.self.items) ≡ end_of c.args.seats.now.items) (sym c.sooner-ended.ensures)
+          (ends_so_far c.args.seats.now.items c.loop-seat.seats.items c.pop.new.self.items seat c.loop-seat.ended s.items i.ended);
+      done = subst (λ x. OnOk x (AllPairs (HasDone table) c.push_reserved-in-Some.new.self.items c.push_reserved-in-Some-2.new.self.items)) (sym c.sooner-ended.ensures)
+          (done_put (HasDone table) c.loop-seat.passes.items c.push_reserved-in-Some.new.self.items c.loop-seat.backends.items c.push_reserved-in-Some-2.new.self.items worker.pass worker.backend c.loop-seat.ended seat.end p.items b.items i.done (done_at table worker seat.end here));
+      passes = omega arith;
+      backends = omega arith;
+      gates = omega arith;
+      numbers_are = one_back (λ p. p.number) number_of c.loop-seat.passes.items c.push_reserved-in-Some.new.self.items c.loop-seat.seats.items c.pop.new.self.items worker.pass seat _ p.items s.items (sym (ap number_in c.in-Some-worker.is)) i.numbers_are;
+      gates_are = item_back (λ s. s.gate) c.loop-seat.gates.items c.push_reserved.new.self.items c.loop-seat.seats.items c.pop.new.self.items seat.gate seat _ e.items s.items refl i.gates_are;
+    }
