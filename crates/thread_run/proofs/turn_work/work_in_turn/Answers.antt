@@ -22,7 +22,7 @@ returns-then-not-enters-clause-works g c =
     let h = handed c.requires.backend c.requires.few c.requires.run c.requires.holds c.in_ok-promise.ensures.script c.in_ok-promise.ensures.promises c.hand_looks.ensures.script c.hand_looks.ensures.history c.hand_looks.ensures.places in
     let holds = subst (λ e. IsHolding (right_before e) (g.L.Seg.script c.args.seg.now) c.args.b (g.L.Seg.history c.args.seg.now) c.args.looks.now c.args.backend.now) c.if-not-enters.true c.requires.holds in
     handed_turn (g.L.Seg.script seg) c.args.b (g.L.Seg.history seg) (g.L.Seg.promised seg) c.args.backend.now c.requires.holds.id h.run (g.met.L.Seg.short seg) h.backend (omega (arith, h.some))
-        (handed_right AgreesNow (g.L.Seg.script c.args.seg.now) (g.L.Seg.script seg) (g.L.Seg.history c.args.seg.now) (g.L.Seg.history seg) c.args.b c.args.looks.now c.args.backend.now h.script h.is holds)
+    (handed_right AgreesNow (g.L.Seg.script c.args.seg.now) (g.L.Seg.script seg) (g.L.Seg.history c.args.seg.now) (g.L.Seg.history seg) c.args.b c.args.looks.now c.args.backend.now h.script h.is holds)
 
 pub enter_in_turn-requires-clause-legal : goal.enter_in_turn-requires-clause-legal
 enter_in_turn-requires-clause-legal g c =
@@ -34,7 +34,7 @@ returns-clause-run g c =
     let seg = c.hand_looks.new.seg in let now = c.enter_in_turn.new.seg in
     let h = handed c.requires.backend c.requires.few c.requires.run c.requires.holds c.in_ok-promise.ensures.script c.in_ok-promise.ensures.promises c.hand_looks.ensures.script c.hand_looks.ensures.history c.hand_looks.ensures.places in
     made_run (g.L.Seg.script seg) (g.L.Seg.script now) (g.L.Seg.history seg) (g.L.Seg.history now) (g.L.Seg.promised seg) (g.L.Seg.promised now) c.args.backend.now c.enter_in_turn.new.self c.enter_in_turn.result
-        c.enter_in_turn.ensures.script h.run c.enter_in_turn.ensures.makes c.enter_in_turn.ensures.refused
+    c.enter_in_turn.ensures.script h.run c.enter_in_turn.ensures.makes c.enter_in_turn.ensures.refused
 
 pub returns-clause-turn : goal.returns-clause-turn
 returns-clause-turn g c =
@@ -42,11 +42,11 @@ returns-clause-turn g c =
     let h = handed c.requires.backend c.requires.few c.requires.run c.requires.holds c.in_ok-promise.ensures.script c.in_ok-promise.ensures.promises c.hand_looks.ensures.script c.hand_looks.ensures.history c.hand_looks.ensures.places in
     let made = made_or_not (g.L.Seg.script seg) (g.L.Seg.history seg) (g.L.Seg.history now) (g.L.Seg.promised seg) (g.L.Seg.promised now) c.args.backend.now c.enter_in_turn.new.self c.enter_in_turn.result c.enter_in_turn.ensures.makes c.enter_in_turn.ensures.refused in
     takes_turn (g.L.Seg.script first) (g.L.Seg.script seg) (g.L.Seg.script now) c.args.b (g.L.Seg.history first) (g.L.Seg.history seg) (g.L.Seg.history now) (g.L.Seg.promised first) (g.L.Seg.promised seg) (g.L.Seg.promised now)
-        (c.enter_in_turn.ensures.script ∙ h.script) h.grew h.others (subst (λ n. IsRefused (g.L.Seg.script seg) (g.L.Seg.history seg) (g.L.Seg.history now) (g.L.Seg.promised seg) (g.L.Seg.promised now) n) c.requires.holds.id made)
+    (c.enter_in_turn.ensures.script ∙ h.script) h.grew h.others (subst (λ n. IsRefused (g.L.Seg.script seg) (g.L.Seg.history seg) (g.L.Seg.history now) (g.L.Seg.promised seg) (g.L.Seg.promised now) n) c.requires.holds.id made)
 
 pub returns-clause-works : goal.returns-clause-works
 returns-clause-works g c =
     let seg = c.hand_looks.new.seg in let now = c.enter_in_turn.new.seg in
     let h = handed c.requires.backend c.requires.few c.requires.run c.requires.holds c.in_ok-promise.ensures.script c.in_ok-promise.ensures.promises c.hand_looks.ensures.script c.hand_looks.ensures.history c.hand_looks.ensures.places in
     entered_ok (g.L.Seg.script seg) (g.L.Seg.script now) c.args.b (g.L.Seg.history seg) (g.L.Seg.history now) (g.L.Seg.promised seg) (g.L.Seg.promised now) c.args.backend.now c.enter_in_turn.new.self c.enter_in_turn.result
-        c.enter_in_turn.ensures.script c.requires.holds.id h.run (g.met.L.Seg.short now) h.backend (omega (arith, h.some)) c.enter_in_turn.ensures.makes
+    c.enter_in_turn.ensures.script c.requires.holds.id h.run (g.met.L.Seg.short now) h.backend (omega (arith, h.some)) c.enter_in_turn.ensures.makes

@@ -14,8 +14,8 @@ take_turn-requires-clause-may g c = may_hand_all (start_of c.args.table.now).scr
 
 pub returns-clause-underway : goal.returns-clause-underway
 returns-clause-underway g c = elim c.if-some_wait.branch [
-    then-some_wait w ↦ absurd (both_ways _ c.if-hands_over.false (w.hands_over-is ∙ w.if-some_wait.true))
+  | then-some_wait w ↦ absurd (both_ways _ c.if-hands_over.false (w.hands_over-is ∙ w.if-some_wait.true))
   | else-some_wait w ↦ looked_on (start_of c.args.table.now).script c.args.self.pass.number (seen_by c.args.self.pass) (seen_by c.look-some_wait.new.pass) c.args.self.held.items c.push.new.self.items c.look_by_word.result c.args.self.backend c.look_by_word.new.self c.look-some_wait.result
-        c.requires.between w.if-some_wait.false c.look-some_wait.ensures.seen c.look-some_wait.ensures.no c.look_by_word.ensures.looks c.push.ensures.items c.look_by_word.ensures.held
-        (not_full c.args.self.held.items c.push.new.self.items c.look_by_word.result c.push.ensures.items c.requires.between.few (sym w.is_full-hands_over.ensures.value ∙ sym w.hands_over-is ∙ c.if-hands_over.false))
-  ]
+      c.requires.between w.if-some_wait.false c.look-some_wait.ensures.seen c.look-some_wait.ensures.no c.look_by_word.ensures.looks c.push.ensures.items c.look_by_word.ensures.held
+      (not_full c.args.self.held.items c.push.new.self.items c.look_by_word.result c.push.ensures.items c.requires.between.few (sym w.is_full-hands_over.ensures.value ∙ sym w.hands_over-is ∙ c.if-hands_over.false))
+]
