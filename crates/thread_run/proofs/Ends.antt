@@ -135,6 +135,10 @@ has_seat a (suc n) k low high = by_number (eqb_tells a k)
     by_number (inl same) = inl same.1
     by_number (inr apart) = let other = apart.1 in inr (has_seat (a + 1) n k (omega (arith, low, other)) (omega (arith, high)))
 
+-- each backend has a pass
+pub all_seats : (numbers first : List ℕ) (seats n k : ℕ) → numbers ≡ first → first ≡ range_with_len 1 n → seats ≡ n → 0 < k → k ≤ seats → HasSeat k numbers
+all_seats numbers first seats n k same row many low high = subst (HasSeat k) (sym (same ∙ row)) (has_seat 1 n k low (omega (arith, many, high)))
+
 -- a run whose backends have all left
 pub record HasAllEnded (scenario : Scenario) (history : List Entry) (backends : List Backend) : Type 0 where
   pub run : IsRunSoFar scenario history
@@ -194,14 +198,15 @@ pub quiet_first : (history : List Entry) (k : ℕ) → history ≡ [] → is_wai
 quiet_first history k none = ap (λ (h : List Entry). is_waiting h k) none
 
 -- a new table and new backends
-pub prepared : {of : Ghosts Kept Entry Scenario} (scenario : Scenario) (table : Table) (play : Kept) (passes : List (Pass Kept Entry Scenario of)) (backends : List Backend) (n : ℕ) → n ≡ scenario.backends → seats_of table ≡ n → start_of table ≡ play → play.script ≡ scenario → play.history ≡ [] → length passes ≡ n
+pub prepared : {of : Ghosts Kept Entry Scenario} (scenario : Scenario) (table : Table) (play : Kept) (passes : List (Pass Kept Entry Scenario of)) (backends : List Backend) (n : ℕ) → n ≡ scenario.backends → 1 ≤ n → seats_of table ≡ n → start_of table ≡ play → play.script ≡ scenario → play.history ≡ [] → length passes ≡ n
     → AreNumbered (λ v. v.history) places_in table 1 passes → StandTogether scenario [] backends → IsPrepared scenario table passes backends
-prepared {of} scenario table play passes backends n all seats start script none count numbered stand = record {
+prepared {of} scenario table play passes backends n all one seats start script none count numbered stand = record {
   script = ap (λ (v : Kept). v.script) start ∙ script;
   seats = seats ∙ all;
   may = may_all table scenario 1 passes backends (ap (λ (v : Kept). v.script) start ∙ script) (ap (λ (v : Kept). v.history) start ∙ none) numbered (stand.count ∙ sym (count ∙ all))
       (λ i s at. let m : i + 1 ≡ 1 + i = omega arith in subst (λ j. StandsAt scenario [] j s) m (stand.each i s at)) (omega arith) (omega (arith, count, all));
   numbers = numbers_are table (λ v. v.history) places_in 1 passes numbered ∙ ap (range_with_len 1) (count ∙ all);
   count = count ∙ all;
+  some = omega (arith, count, one);
   as_many = stand.count;
 }

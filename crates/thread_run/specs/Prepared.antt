@@ -1,5 +1,5 @@
 -- What a run begins with.
-use Rattle.std.specs.Prelude.{◌≡◌, ℕ, List, map, length}
+use Rattle.std.specs.Prelude.{◌≡◌, ◌<◌, ℕ, List, map, length}
 use Rattle.std.specs.List.{range_with_len}
 use Rattle.base_types.specs.Scenario.{Scenario}
 use Rattle.event_kinds.specs.declared.entry.Entry.{Entry}
@@ -19,4 +19,5 @@ module _ {of : Ghosts Kept Entry Scenario} where
     pub may : AllPairs (MaySit table) passes backends
     pub numbers : map (λ p. p.number) passes ≡ range_with_len 1 scenario.backends
     pub count : length passes ≡ scenario.backends
+  pub some : 0 < length passes
     pub as_many : length backends ≡ scenario.backends
