@@ -9,8 +9,7 @@ use script_text::Script;
 use std::alloc::Global;
 use std::mem::replace;
 
-/// All backends of the script, none of which has joined, in order of their numbers. Condition: the commands
-/// of the script can be run.
+/// All backends of the script, none of which has joined, in order of their numbers.
 pub fn new_backends(alloc: Global, script: &Script) -> Result<Vec<Backend>, NoMemory>
     ensures stand { IfOk result (λ backends. StandTogether script.now [] backends.items) }
     ensures spelled { IfOk result (λ backends. AreSpelled script.now) }

@@ -200,11 +200,15 @@ between_ended scenario b seen held s between left = record {
   id = between.id;
   life = has_stopped_life s.life left;
   stands = stands;
-  coherent = stands_coherent scenario seen s (subst (λ (h : List Entry). IsRunSoFar scenario h) (sym ends.1) between.run).played.sound stands;
+  run = run;
+  coherent = stands_coherent scenario seen s run.played.sound stands;
 }
   where
     ends : (held ≡ []) × (seen ≡ between.last)
     ends = between.ended left
+
+    run : IsRunSoFar scenario seen
+    run = subst (λ (h : List Entry). IsRunSoFar scenario h) (sym ends.1) between.run
 
     here : IsHolding Stands scenario b (between.last ++ []) held s
     here = between.stands scenario (same_script scenario b) [] tt (subst (IsPlayed scenario) (sym (append-nil between.last)) between.run.played) (between.allowed [] tt)

@@ -1,5 +1,5 @@
 -- A worker from step to step.
-use Rattle.std.proofs.Common.{◌≡◌, ◌≤◌, ◌∙◌, ℕ, Bool, true, List, [], ◌∷◌, ◌++◌, refl, sym, ap, subst, append_assoc, append-nil, Result, Ok, Err, OnOk}
+use Rattle.std.proofs.Common.{◌≡◌, ◌≤◌, ◌∙◌, ℕ, Bool, true, false, List, [], ◌∷◌, ◌++◌, refl, sym, ap, subst, append_assoc, append-nil, Result, Ok, Err, OnOk}
 use Rattle.base_types.specs.Scenario.{Scenario, IsBackend}
 use Rattle.event_kinds.specs.declared.entry.Entry.{Entry}
 use Rattle.history_model.specs.Log.{is_waiting}
@@ -8,13 +8,15 @@ use Rattle.turn_table.specs.Histories.{Follows, Grew}
 use Rattle.turn_table.specs.Passes.{seen_by}
 use Rattle.backend_core.specs.declared.backend.Backend.{Backend}
 use Rattle.backend_core.specs.declared.turns.HeldLook.{HeldLook}
-use Rattle.backend_core.specs.Agrees.{IsPlayed}
+use Rattle.backend_core.specs.Agrees.{IsPlayed, AgreesNow}
 use Rattle.backend_core.specs.Apart.{IsHolding}
+use Rattle.backend_core.specs.Looks.{IsOnItsWay, NeedsTurn, ToJoin, ToEnter, GoesWherever}
+use Rattle.backend_core.specs.Words.{has_left}
 use Rattle.thread_run.specs.declared.refusal.RunRefusal.{RunRefusal}
 use Rattle.thread_run.specs.declared.refusal.RunRefusal.TheVariants as refusals
 use Rattle.thread_run.specs.declared.worker.Worker.{Worker}
 use Rattle.thread_run.specs.Stops.{StopsBy}
-use Rattle.thread_run.specs.Turns.{backend_of, right_before, HasTakenTurn, MayTakeTurn, IsUnderway}
+use Rattle.thread_run.specs.Turns.{backend_of, right_before, HasTakenTurn, MayTakeTurn, WaitsWherever, IsUnderway}
 use Rattle.thread_run.specs.Workers.{Table, IsAt, Extends, Goes}
 use Rattle.thread_run.proofs.Between.{turned}
 
@@ -63,3 +65,24 @@ turned_ok script later b seen history held s (Err e) same is none has = tt
 turned_ok script later b seen history held s (Ok x) same is none has =
     subst (λ (l : List HeldLook). IsUnderway script b seen l s) (sym none) (subst (λ (h : List Entry). IsUnderway script b h [] s) (sym is)
     (turned script b history s (subst (λ (k : Scenario). HasTakenTurn k b history s) same has)))
+
+-- in whichever history it agreed it does so still
+abbrev pub AgreesWherever : Backend → Backend → Type 0
+AgreesWherever was now = (scenario : Scenario) (seen : List Entry) → AgreesNow scenario seen was → AgreesNow scenario seen now × (now.progress.id ≡ was.progress.id)
+
+-- so it is on its way still
+pub on_its_way : (was now : Backend) → AgreesWherever was now → IsOnItsWay was → IsOnItsWay now
+on_its_way was now agrees way = record { scenario = way.scenario; seen = way.seen; agrees = (agrees way.scenario way.seen way.agrees).0 }
+
+-- it goes on to its next command
+pub goes_over : (over : Bool) (was now later : Backend) → AgreesWherever was now → GoesWherever over now later → AgreesWherever was later
+goes_over over was now later agrees goes = λ scenario seen is. let at = agrees scenario seen is in let on = goes scenario seen at.0 in (on.agrees, on.id ∙ at.1)
+
+-- or as far as it can
+pub goes_far : (over : Bool) (was now later : Backend) → AgreesWherever was now → GoesWherever over now later → over ≡ false → WaitsWherever was later
+goes_far over was now later agrees goes stays = λ scenario seen is. let at = agrees scenario seen is in let on = goes scenario seen at.0 in (on.waits stays, on.id ∙ at.1)
+
+-- a backend that needs a turn hasn't left
+pub needs_turn : (s : Backend) → NeedsTurn s → has_left s.life ≡ false
+needs_turn s (ToJoin life) = ap has_left life
+needs_turn s (ToEnter life next is want) = ap has_left life

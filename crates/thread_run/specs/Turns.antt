@@ -78,9 +78,10 @@ pub record IsUnderway (scenario : Scenario) (b : ℕ) (seen : List Entry) (held 
   pub waits : has_left s.life ≡ false → (now : Backend) → WaitsWherever s now → IsBetween scenario b seen held now
   pub left : has_left s.life ≡ true → IsBetween scenario b seen held s
 
--- it has left, stands in the history that it has seen, and is coherent with it
+-- it has left; what it has seen was run so far, and it stands in it and is coherent with it
 pub record HasEnded (scenario : Scenario) (b : ℕ) (seen : List Entry) (s : Backend) : Type 0 where
   pub id : s.progress.id ≡ b
   pub life : s.life ≡ lives.Stopped
+  pub run : IsRunSoFar scenario seen
   pub stands : Stands scenario seen s
   pub coherent : IsCoherent scenario seen s

@@ -15,9 +15,9 @@
 //! run is handed out; the gates always come back.
 //!
 //! ```text
-//! if is_built(&script) {
-//!     let ran = run(&rt, alloc, &script, &mut gates)?;
-//! }
+//! // `gates`: a vector with a gate for each backend, as `OpenGate`
+//! let ran = run(&rt, alloc, &script, &mut gates)?;
+//! for entry in ran.entries.as_slice() { .. }
 //! ```
 //!
 //! Nothing is said of how long a turn is waited for, or of the order of turns.

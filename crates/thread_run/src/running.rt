@@ -32,8 +32,10 @@ pub struct Ran {
     pub backends: Listed<Backend>,
 }
 
-/// The run of a script: each backend works in a thread of its own. Conditions: its commands can be run, and
-/// there is a gate for each backend. Afterwards the gates are there in the same order.
+/// The run of a script: each backend works in a thread of its own. Condition: there is a gate for each
+/// backend. As many gates come back, in the same places, none with a lower count. `Stopped`, `NoMemory`: the
+/// refusal of the first backend, by number, whose work failed; the others went on to their stops. `NoMemory`
+/// also before and after the threads.
 pub fn run<R: Threads + Wait + Sync, G: Gate>(
     rt: &R,
     alloc: Global,

@@ -59,16 +59,21 @@ impl Worker {
         ensures ended { OnOk result.1 (HasEnded (start_of table.now).script self.pass.number (seen_by result.0.pass) result.0.backend) }
         ensures stops { StopsBy (G.stops gate.old) (G.stops gate.new) result.1 }
     {
-        let (mut worker, mut done) = self.join(rt, alloc, table, gate);
+        let (mut worker, joined) = self.join(rt, alloc, table, gate);
+        if joined.is_err() {
+            return (worker, joined);
+        }
         'working: for _ in rt.forever() {
-            if done.is_err() || worker.backend.is_stopped() {
-                break;
+            if worker.backend.is_stopped() {
+                return (worker, Ok(()));
             }
             let (next, made) = worker.step(rt, alloc, table, gate);
             worker = next;
-            done = made;
+            if made.is_err() {
+                return (worker, made);
+            }
         }
-        (worker, done)
+        unreachable!()
     }
 
     // It joins, and goes on to its first command.
@@ -114,11 +119,7 @@ impl Worker {
         ensures between { OnOk result.1 (IsBetween (start_of table.now).script self.pass.number (seen_by result.0.pass) result.0.held.items result.0.backend) }
         ensures stops { StopsBy (G.stops gate.old) (G.stops gate.new) result.1 }
     {
-        let (mut worker, made) = match self.backend.wants() {
-            Want::Look(look) => self.look(rt, alloc, table, look),
-            Want::Turn => self.take_turn(rt, alloc, table, true),
-            Want::Ended => return (self, Ok(())),
-        };
+        let (mut worker, made) = self.next(rt, alloc, table);
         if made.is_err() {
             return (worker, Err(RunRefusal::NoMemory));
         }
@@ -127,6 +128,25 @@ impl Worker {
         }
         let done = go_on(rt, alloc, &mut worker.backend, gate);
         (worker, done)
+    }
+
+    // A look or a turn, as it wants; none, if it has left.
+    fn next<R: Wait>(
+        self,
+        rt: &R,
+        alloc: Global,
+        table: &TurnTable<SharedPlay>,
+    ) -> (Worker, Result<(), NoMemory>)
+        requires at { IsAt table.now self }
+        requires between { IsBetween (start_of table.now).script self.pass.number (seen_by self.pass) self.held.items self.backend }
+        ensures goes { Goes table.now self result.0 }
+        ensures underway { OnOk result.1 (IsUnderway (start_of table.now).script self.pass.number (seen_by result.0.pass) result.0.held.items result.0.backend) }
+    {
+        match self.backend.wants() {
+            Want::Look(look) => self.look(rt, alloc, table, look),
+            Want::Turn => self.take_turn(rt, alloc, table, true),
+            Want::Ended => (self, Ok(())),
+        }
     }
 
     // Looks by its word. Only where that says yes, or where it would hold back too many looks, a turn comes
