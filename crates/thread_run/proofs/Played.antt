@@ -1,5 +1,5 @@
 -- What is shared, after looks and after an entry of a backend.
-use Rattle.std.proofs.Common.{◌≡◌, ◌≢◌, ◌≤◌, ◌+◌, ◌∙◌, ◌^◌, ◌⊎◌, inl, inr, ◌==◌, max, ℕ, zero, suc, true, false, List, [], ◌∷◌, ◌++◌, refl, sym, ap, subst, append_assoc, append-nil, length, arith, Result, Ok, Err, OnOk, OnErr}
+use Rattle.std.proofs.Common.{◌≡◌, ◌≢◌, ◌≤◌, ◌+◌, ◌∙◌, ◌^◌, ◌⊎◌, inl, inr, ◌==◌, max, ℕ, zero, suc, Bool, true, false, List, [], ◌∷◌, ◌++◌, refl, sym, ap, subst, append_assoc, append-nil, length, arith, Result, Ok, Err, OnOk, OnErr}
 use Rattle.std.proofs.lemmas.Bool.{both_ways}
 use Rattle.std.proofs.lemmas.Bool.Decides.{eqb_tells}
 use Rattle.base_types.specs.Scenario.{Scenario, IsBackend}
@@ -16,12 +16,12 @@ use Rattle.backend_core.specs.declared.turns.HeldLook.{HeldLook}
 use Rattle.backend_core.specs.Agrees.{AreSpelled, IsPlayed, AgreesNow}
 use Rattle.backend_core.specs.declared.backend.Backend.{Backend}
 use Rattle.backend_core.specs.Apart.{IsHolding}
-use Rattle.backend_core.specs.Looks.{entry_held, entries_of, MayCallAll, TakesPlaces}
+use Rattle.backend_core.specs.Looks.{entry_held, entries_of, TakesPlaces}
 use Rattle.backend_core.specs.Steps.{MakesEntry, IsRefused, Before, After, MakesNext, Remains, Left}
 use Rattle.backend_core.specs.Words.{has_left}
 use Rattle.backend_core.proofs.Played.{IsPlayed-more}
 use Rattle.thread_run.specs.Runs.{IsRunSoFar}
-use Rattle.thread_run.specs.Turns.{backend_of, TakesTurn, HasTakenTurn}
+use Rattle.thread_run.specs.Turns.{backend_of, TakesTurn, EntersInTurn, HasTakenTurn}
 
 -- what holds of each entry holds of looks that come after
 each_looked : (P : List Entry → Entry → Type 0) (history : List Entry) (b : ℕ) (held : List HeldLook) → ((before : List Entry) (look : HeldLook) → P before (entry_held b look)) → EachEntry P history → EachEntry P (history ++ entries_of b held)
@@ -114,10 +114,6 @@ handed_run scenario later old new b held same is run played = subst (λ k. IsRun
 pub handed_right : (Right : Scenario → List Entry → Backend → Type 0) (scenario later : Scenario) (old new : List Entry) (b : ℕ) (held : List HeldLook) (s : Backend) → later ≡ scenario → new ≡ old ++ entries_of b held → IsHolding Right scenario b old held s → Right later new s
 handed_right Right scenario later old new b held s same is holds = subst (λ k. Right k new s) (sym same) (subst (λ h. Right scenario h s) (sym is) holds.right)
 
--- what may be called for may be once places are promised
-pub calls_still : (scenario later : Scenario) (old now entries : List Entry) → later ≡ scenario → now ≡ old → MayCallAll scenario old entries → MayCallAll later now entries
-calls_still scenario later old now entries same is calls = subst (λ k. MayCallAll k now entries) (sym same) (subst (λ (h : List Entry). MayCallAll scenario h entries) (sym is) calls)
-
 -- what the looks that were handed over made of what is shared, once places were promised for them
 pub record Handed (scenario now : Scenario) (b : ℕ) (first old : List Entry) (at_first had : ℕ → ℕ) (held : List HeldLook) : Type 0 where
   pub script : now ≡ scenario
@@ -181,6 +177,16 @@ entered_turn scenario old new had has was now run short number some (Left gone s
   agrees = λ stays. absurd (both_ways _ stays (ap has_left gone));
   left = λ left. steps.stands;
 }
+
+-- the looks that were handed over, and that entry
+pub entered_one : {E : Type 0} (scenario : Scenario) (b : ℕ) (held : List HeldLook) (first old new : List Entry) (had has : ℕ → ℕ) (was now : Backend) (result : Result (Unit {0}) E) (enters : Bool) → enters ≡ true → was.progress.id ≡ b → old ≡ first ++ entries_of b held
+    → OnOk result (MakesNext scenario old new had has was now) → OnOk result (EntersInTurn enters b held first new)
+entered_one scenario b held first old new had has was now (Err e) enters does id is makes = tt
+entered_one scenario b held first old new had has was now (Ok x) enters does id is makes = subst (λ t. EntersInTurn t b held first new) (sym does) (let entry = of makes in record { entry = entry.entry; own = entry.own ∙ id; is = entry.is ∙ ap (λ h. h ++ entry.entry ∷ []) is })
+  where
+    of : MakesNext scenario old new had has was now → MakesEntry scenario old new had has was.progress.id
+    of (Remains enters) = enters.makes
+    of (Left gone steps) = steps.makes
 
 pub entered_ok : {E : Type 0} (scenario later : Scenario) (b : ℕ) (old new : List Entry) (had has : ℕ → ℕ) (was now : Backend) (result : Result (Unit {0}) E) → later ≡ scenario → was.progress.id ≡ b → IsRunSoFar scenario old → length new + all_promised has later.backends ≤ 2 ^ 56 → IsBackend scenario.backends b → 17 ≤ had b
     → OnOk result (MakesNext scenario old new had has was now) → OnOk result (HasTakenTurn later b new now)

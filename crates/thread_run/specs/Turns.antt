@@ -1,5 +1,5 @@
 -- A turn of a backend, and where the backend is between two of them.
-use Rattle.std.specs.Prelude.{◌≡◌, ◌≢◌, ◌≤◌, ◌<◌, ◌+◌, ◌++◌, ◌^◌, ℕ, Bool, true, false, List, [], length}
+use Rattle.std.specs.Prelude.{◌≡◌, ◌≢◌, ◌≤◌, ◌<◌, ◌+◌, ◌++◌, ◌^◌, ℕ, Bool, true, false, List, [], ◌∷◌, length}
 use Rattle.std.specs.List.{AllByRecursion}
 use Rattle.base_types.specs.Scenario.{Scenario}
 use Rattle.event_kinds.specs.declared.entry.Entry.{Entry}
@@ -11,7 +11,7 @@ use Rattle.backend_core.specs.declared.turns.HeldLook.{HeldLook}
 use Rattle.backend_core.specs.Agrees.{IsPlayed, AgreesNow, AwaitsEntry, Stands}
 use Rattle.backend_core.specs.Apart.{AllowsHeld, IsHolding, StandsApart}
 use Rattle.backend_core.specs.Coherent.{IsCoherent}
-use Rattle.backend_core.specs.Looks.{IsOnItsWay}
+use Rattle.backend_core.specs.Looks.{IsOnItsWay, entries_of}
 use Rattle.backend_core.specs.Words.{has_left}
 use Rattle.thread_run.specs.Runs.{IsRunSoFar}
 
@@ -29,6 +29,17 @@ pub record TakesTurn (b : ℕ) (scenario later : Scenario) (old new : List Entry
   pub script : later ≡ scenario
   pub grew : Grew backend_of b old new
   pub others : (a : ℕ) → a ≢ b → has a ≡ had a
+
+-- one entry more, of this backend
+pub record HasOneMore (b : ℕ) (before now : List Entry) : Type 0 where
+  pub entry : Entry
+  pub own : entry.backend ≡ b
+  pub is : now ≡ before ++ entry ∷ []
+
+-- what a backend enters in a turn: exactly the looks that it held back, in order, and where it makes its next entry that one besides
+abbrev pub EntersInTurn : Bool → ℕ → List HeldLook → List Entry → List Entry → Type 0
+EntersInTurn false b held old new = new ≡ old ++ entries_of b held
+EntersInTurn true b held old new = HasOneMore b (old ++ entries_of b held) new
 
 -- what a turn leaves: a history that was run so far, with room for the looks until the next, with which the backend agrees before it goes on without entries; or the backend has left, and stands in it
 pub record HasTakenTurn (scenario : Scenario) (b : ℕ) (history : List Entry) (s : Backend) : Type 0 where

@@ -64,7 +64,7 @@ impl SharedPlay {
     ghost use Rattle.backend_core.specs.Words.{has_left};
     ghost use Rattle.shared_seg.specs.Kept.{places_in};
     ghost use Rattle.thread_run.specs.Runs.{IsRunSoFar};
-    ghost use Rattle.thread_run.specs.Turns.{right_before, TakesTurn, HasTakenTurn};
+    ghost use Rattle.thread_run.specs.Turns.{right_before, TakesTurn, EntersInTurn, HasTakenTurn};
 
     /// An empty history, for this script.
     pub fn new(alloc: Global, script: &Script) -> Result<SharedPlay, NoMemory>
@@ -92,6 +92,7 @@ impl SharedPlay {
         requires alive { enters ≡ true → has_left backend.old.life ≡ false }
         requires holds { IsPlayed self.old.script self.old.history → IsHolding (right_before enters) self.old.script b self.old.history looks.now backend.old }
         ensures turn { TakesTurn b self.old.script self.new.script self.old.history self.new.history (places_in self.old) (places_in self.new) }
+        ensures enters { OnOk result (EntersInTurn enters b looks.now self.old.history self.new.history) }
         ensures works { OnOk result (HasTakenTurn self.new.script b self.new.history backend.new) }
     {
         work_in_turn(&mut self.shared, alloc, b, backend, looks, enters)

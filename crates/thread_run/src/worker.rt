@@ -12,12 +12,17 @@ use std::alloc::Global;
 use std::sync::Wait;
 use turn_table::{Pass, TurnTable};
 
+// How many looks a backend may hold back until its next turn.
+const MOST_HELD: usize = 16;
+
 /// A backend at work. Between two of its turns it holds back the looks that it has made since the last.
 #[derive(Drop)]
 pub struct Worker {
+    /// The right to its turns.
     pub pass: Pass<SharedPlay>,
+    /// The backend, which has the number of the pass.
     pub backend: Backend,
-    pub(crate) held: ArrayVec<HeldLook, 16>,
+    pub(crate) held: ArrayVec<HeldLook, MOST_HELD>,
 }
 
 impl Worker {
