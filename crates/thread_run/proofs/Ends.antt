@@ -6,7 +6,6 @@ use Rattle.base_types.specs.Scenario.{Scenario, IsBackend}
 use Rattle.event_kinds.specs.declared.entry.Entry.{Entry}
 use Rattle.event_kinds.specs.declared.entry.Line.{Line}
 use Rattle.shared_seg.specs.Kept.{Kept, places_in}
-use Rattle.history_model.specs.Log.{is_waiting}
 use Rattle.cacheless.specs.Schedule.{has_stopped}
 use Rattle.turn_table.specs.declared.pass.Pass.{Pass}
 use Rattle.turn_table.specs.declared.turned.Turned.{Ghosts}
@@ -109,7 +108,7 @@ module _ {of : Ghosts Kept Entry Scenario} (table : Table) where
   stopped_all scenario history k [] [] script done follows numbers b low high = absurd (omega (arith, low, high))
   stopped_all scenario history k [] (x ∷ backends) script done follows numbers b low high = absurd done
   stopped_all scenario history k (p ∷ passes) [] script done follows numbers b low high = absurd done
-  stopped_all scenario history k (p ∷ passes) (x ∷ backends) script done follows numbers b low high = by_number (eqb_tells b k)
+  stopped_all scenario history k (p ∷ passes) (x ∷ backends) script done follows numbers b low high = by_number (eqb_tells b k) (λ (other : b ≢ k). stopped_all scenario history (k + 1) passes backends script done.1 follows.1 (ap rest_of numbers) b (omega (arith, low, other)) (omega (arith, high)))
     where
       first_of : ℕ → List ℕ → ℕ
       first_of d [] = d
@@ -119,21 +118,21 @@ module _ {of : Ghosts Kept Entry Scenario} (table : Table) where
       rest_of [] = []
       rest_of (n ∷ ns) = ns
 
-      by_number : (((b == k) ≡ true) × (b ≡ k)) ⊎ (((b == k) ≡ false) × (b ≢ k)) → has_stopped history b ≡ true
-      by_number (inl same) =
+      by_number : (((b == k) ≡ true) × (b ≡ k)) ⊎ (((b == k) ≡ false) × (b ≢ k)) → (b ≢ k → has_stopped history b ≡ true) → has_stopped history b ≡ true
+      by_number (inl same) later =
           let number : p.number ≡ k = ap (first_of p.number) numbers in
           let is : x.progress.id ≡ b = done.0.ended.id ∙ number ∙ sym same.1 in
           ap (has_stopped history) (sym is) ∙ stopped_as scenario history x (stays scenario history p x script done.0 follows.0) ∙ ap has_left done.0.ended.life
-      by_number (inr apart) = let other = apart.1 in stopped_all scenario history (k + 1) passes backends script done.1 follows.1 (ap rest_of numbers) b (omega (arith, low, other)) (omega (arith, high))
+      by_number (inr apart) later = later apart.1
 
 -- a number of a row of numbers is one of them
 pub has_seat : (a n k : ℕ) → a ≤ k → k < a + n → HasSeat k (range_with_len a n)
 has_seat a zero k low high = absurd (omega (arith, low, high))
-has_seat a (suc n) k low high = by_number (eqb_tells a k)
+has_seat a (suc n) k low high = by_number (eqb_tells a k) (λ (other : a ≢ k). has_seat (a + 1) n k (omega (arith, low, other)) (omega (arith, high)))
   where
-    by_number : (((a == k) ≡ true) × (a ≡ k)) ⊎ (((a == k) ≡ false) × (a ≢ k)) → HasSeat k (range_with_len a (suc n))
-    by_number (inl same) = inl same.1
-    by_number (inr apart) = let other = apart.1 in inr (has_seat (a + 1) n k (omega (arith, low, other)) (omega (arith, high)))
+    by_number : (((a == k) ≡ true) × (a ≡ k)) ⊎ (((a == k) ≡ false) × (a ≢ k)) → (a ≢ k → HasSeat k (range_with_len (a + 1) n)) → HasSeat k (range_with_len a (suc n))
+    by_number (inl same) later = inl same.1
+    by_number (inr apart) later = inr (later apart.1)
 
 -- each backend has a pass
 pub all_seats : (numbers first : List ℕ) (seats n k : ℕ) → numbers ≡ first → first ≡ range_with_len 1 n → seats ≡ n → 0 < k → k ≤ seats → HasSeat k numbers
@@ -192,10 +191,6 @@ run_stands scenario history backends ended = stand_each scenario history backend
 
 pub run_coherent : (scenario : Scenario) (history : List Entry) (backends : List Backend) → HasAllEnded scenario history backends → All (IsCoherent scenario history) backends
 run_coherent scenario history backends ended = stand_coherent scenario history backends ended.run.played.sound ended.stand
-
--- nothing waits before the first entry
-pub quiet_first : (history : List Entry) (k : ℕ) → history ≡ [] → is_waiting history k ≡ false
-quiet_first history k none = ap (λ (h : List Entry). is_waiting h k) none
 
 -- a new table and new backends
 pub prepared : {of : Ghosts Kept Entry Scenario} (scenario : Scenario) (table : Table) (play : Kept) (passes : List (Pass Kept Entry Scenario of)) (backends : List Backend) (n : ℕ) → n ≡ scenario.backends → 1 ≤ n → seats_of table ≡ n → start_of table ≡ play → play.script ≡ scenario → play.history ≡ [] → length passes ≡ n
