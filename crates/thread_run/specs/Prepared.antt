@@ -19,5 +19,5 @@ module _ {of : Ghosts Kept Entry Scenario} where
     pub may : AllPairs (MaySit table) passes backends
     pub numbers : map (λ p. p.number) passes ≡ range_with_len 1 scenario.backends
     pub count : length passes ≡ scenario.backends
-  pub some : 0 < length passes
+    pub some : 0 < length passes
     pub as_many : length backends ≡ scenario.backends
