@@ -26,3 +26,8 @@ loop-seat-preserved g c =
       numbers_are = one_back (λ p. p.number) number_of c.loop-seat.passes.items c.push_reserved-in-Some.new.self.items c.loop-seat.seats.items c.pop.new.self.items worker.pass seat _ p.items s.items (sym (ap number_in c.in-Some-worker.is)) i.numbers_are;
       gates_are = item_back (λ s. s.gate) c.loop-seat.gates.items c.push_reserved.new.self.items c.loop-seat.seats.items c.pop.new.self.items seat.gate seat _ e.items s.items refl i.gates_are;
     }
+
+pub unreachable-requires : goal.unreachable-requires
+unreachable-requires g c =
+    let table = c.args.table.now in
+    subst (λ o. Worked table o c.in-Some.seat.end) c.in_default-worker.is (all_taken (HasWorked table) c.loop-seat.seats.items c.pop.new.self.items c.in-Some.seat c.in-Some.ensures.items c.loop-seat.invariant.worked).1
