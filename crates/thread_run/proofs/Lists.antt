@@ -1,5 +1,5 @@
 -- Lists side by side, and lists that are read from the last element on.
-use Rattle.std.proofs.Common.{◌≡◌, ◌<◌, ◌≤◌, ◌+◌, ◌∙◌, ℕ, zero, suc, List, [], ◌∷◌, ◌++◌, length, map, get_or, refl, sym, ap, subst, append_assoc, arith}
+use Rattle.std.proofs.Common.{◌≡◌, ◌<◌, ◌≤◌, ◌+◌, ◌∙◌, ℕ, zero, suc, List, [], ◌∷◌, ◌++◌, length, map, get_or, refl, sym, ap, subst, append_assoc, append-nil, arith}
 use Rattle.std.specs.List.{AllByRecursion}
 use Rattle.std.proofs.lemmas.List.{length_push, map-append}
 use Rattle.thread_run.specs.Seats.{AllPairs, from_last}
@@ -101,3 +101,7 @@ item_over g xs ys zs ws x z all was now same before = ap (λ l. ys ++ from_last 
 
 pub item_back : {B C : Type 0} (g : B → C) (xs ys : List C) (zs ws : List B) (x : C) (z : B) (all : List C) → ys ≡ xs ++ x ∷ [] → zs ≡ ws ++ z ∷ [] → x ≡ g z → xs ++ from_last g zs ≡ all → ys ++ from_last g ws ≡ all
 item_back g xs ys zs ws x z all now was same before = ap (λ l. l ++ from_last g ws) now ∙ append_assoc xs (x ∷ []) (from_last g ws) ∙ ap (λ v. xs ++ v ∷ from_last g ws) same ∙ ap (λ l. xs ++ l) (sym (from_last_more g ws z)) ∙ ap (λ l. xs ++ from_last g l) (sym was) ∙ before
+
+-- where no element is left, all have gone over
+pub nothing_left : {B C : Type 0} (g : B → C) (xs all : List C) (zs : List B) → zs ≡ [] → xs ++ from_last g zs ≡ all → xs ≡ all
+nothing_left g xs all zs none before = sym (append-nil xs) ∙ ap (λ l. xs ++ from_last g l) (sym none) ∙ before

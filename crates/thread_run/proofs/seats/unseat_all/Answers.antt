@@ -1,7 +1,7 @@
-use Rattle.std.proofs.Common.{◌≡◌, ◌∷◌, [], refl, sym, ap, subst, arith, MatchOption, OnOk}
-use Rattle.turn_table.specs.Passes.{start_of, seen_by}
+use Rattle.std.proofs.Common.{◌≡◌, ◌∷◌, [], refl, sym, ap, subst, arith, OnOk}
+use Rattle.turn_table.proofs.Gathering.{no_items}
 use Rattle.thread_run.specs.Seats.{AllPairs, HasDone, HasWorked, number_in, number_of, first_end, end_of}
-use Rattle.thread_run.proofs.Lists.{all_taken, one_back, item_back}
+use Rattle.thread_run.proofs.Lists.{all_taken, one_back, item_back, nothing_left}
 use Rattle.thread_run.proofs.Stopping.{ends_so_far, ends_all, done_put}
 use Rattle.thread_run.proofs.Seating.{Worked, done_at}
 use Rattle.thread_run.proofs.seats.unseat_all.Goals as goal
@@ -31,3 +31,15 @@ pub unreachable-requires : goal.unreachable-requires
 unreachable-requires g c =
     let table = c.args.table.now in
     subst (λ o. Worked table o c.in-Some.seat.end) c.in_default-worker.is (all_taken (HasWorked table) c.loop-seat.seats.items c.pop.new.self.items c.in-Some.seat c.in-Some.ensures.items c.loop-seat.invariant.worked).1
+
+pub returns-clause-end : goal.returns-clause-end
+returns-clause-end g c = let seats = c.loop-seat.seats in
+    ends_all c.args.seats.now.items seats.items c.loop-seat.ended (no_items seats.items _ seats.ok.0 c.in_default.ensures.cases.0) c.loop-seat.invariant.ended
+
+pub returns-clause-numbers : goal.returns-clause-numbers
+returns-clause-numbers g c = let seats = c.loop-seat.seats in
+    nothing_left number_of _ _ seats.items (no_items seats.items _ seats.ok.0 c.in_default.ensures.cases.0) c.loop-seat.invariant.numbers_are
+
+pub returns-clause-gates : goal.returns-clause-gates
+returns-clause-gates g c = let seats = c.loop-seat.seats in
+    nothing_left (λ s. s.gate) _ _ seats.items (no_items seats.items _ seats.ok.0 c.in_default.ensures.cases.0) c.loop-seat.invariant.gates_are
