@@ -1,9 +1,9 @@
 -- A worker from step to step.
-use Rattle.std.proofs.Common.{◌≡◌, ◌≤◌, ◌∙◌, ℕ, Bool, true, false, List, [], ◌∷◌, ◌++◌, refl, sym, ap, subst, append_assoc, append-nil, Result, Ok, Err, OnOk}
+use Rattle.std.proofs.Common.{◌≡◌, ◌≤◌, ◌∙◌, ℕ, Bool, true, false, List, [], ◌∷◌, ◌++◌, refl, sym, ap, subst, append_assoc, append-nil, Result, Ok, Err, OnOk, arith}
 use Rattle.base_types.specs.Scenario.{Scenario, IsBackend}
 use Rattle.event_kinds.specs.declared.entry.Entry.{Entry}
 use Rattle.history_model.specs.Log.{is_waiting}
-use Rattle.shared_seg.specs.Kept.{Kept}
+use Rattle.shared_seg.specs.Kept.{Kept, places_in}
 use Rattle.turn_table.specs.Histories.{Follows, Grew}
 use Rattle.turn_table.specs.Passes.{seen_by}
 use Rattle.backend_core.specs.declared.backend.Backend.{Backend}
@@ -47,6 +47,17 @@ goes_then table a b c first second = record {
 -- a gate that was asked before, and is asked again
 pub stops_then : (before now later : ℕ) (result : Result (Unit {0}) RunRefusal) → now ≡ before → StopsBy now later result → StopsBy before later result
 stops_then before now later result same stops = subst (λ n. StopsBy n later result) same stops
+
+-- what a turn left begins with what the pass had seen before
+pub extends_turn : (b : ℕ) (seen opened at new last : List Entry) → Follows backend_of b seen opened → at ≡ opened → Grew backend_of b at new → last ≡ new → Extends seen last
+extends_turn b seen opened at new last follows same grew is = subst (λ (h : List Entry). Extends seen h) (sym is) (extends_then seen opened new (extends_follows b seen opened follows) (extends_grew b opened new (subst (λ (h : List Entry). Grew backend_of b h new) same grew)))
+
+-- others have the places that they had as the turn was opened
+pub rooms_kept : (opened at new first last : Kept) (k : ℕ) → at ≡ opened → first ≡ opened → last ≡ new → places_in new k ≡ places_in at k → places_in first k ≤ places_in last k
+rooms_kept opened at new first last k same begun ended has =
+    let now = ap (λ (v : Kept). places_in v k) ended ∙ has ∙ ap (λ (v : Kept). places_in v k) same in
+    let then = ap (λ (v : Kept). places_in v k) begun in
+    omega (arith, now, then)
 
 -- what was asked of the value of the table holds of the value in a turn
 pub turn_backend : (now opened : Kept) (script : Scenario) (b : ℕ) → now ≡ opened → opened.script ≡ script → IsBackend script.backends b → IsBackend now.script.backends b
