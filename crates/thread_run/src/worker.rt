@@ -60,18 +60,18 @@ impl Worker {
         ensures stops { StopsBy (G.stops gate.old) (G.stops gate.new) result.1 }
     {
         let (mut worker, joined) = self.join(rt, alloc, table, gate);
-        if joined.is_err() {
+        let Ok(()) = joined else {
             return (worker, joined);
-        }
+        };
         'working: for _ in rt.forever() {
             if worker.backend.is_stopped() {
                 return (worker, Ok(()));
             }
             let (next, made) = worker.step(rt, alloc, table, gate);
             worker = next;
-            if made.is_err() {
+            let Ok(()) = made else {
                 return (worker, made);
-            }
+            };
         }
         unreachable!()
     }
@@ -91,16 +91,16 @@ impl Worker {
         ensures stops { StopsBy (G.stops gate.old) (G.stops gate.new) result.1 }
     {
         let (mut worker, joined) = self.take_turn(rt, alloc, table, true);
-        if joined.is_err() {
+        let Ok(()) = joined else {
             return (worker, Err(RunRefusal::NoMemory));
-        }
+        };
         if worker.backend.is_stopped() {
             return (worker, Ok(()));
         }
         let first = ask(rt, gate, &worker.backend);
-        if first.is_err() {
+        let Ok(()) = first else {
             return (worker, first);
-        }
+        };
         let done = go_on(rt, alloc, &mut worker.backend, gate);
         (worker, done)
     }
@@ -120,9 +120,9 @@ impl Worker {
         ensures stops { StopsBy (G.stops gate.old) (G.stops gate.new) result.1 }
     {
         let (mut worker, made) = self.next(rt, alloc, table);
-        if made.is_err() {
+        let Ok(()) = made else {
             return (worker, Err(RunRefusal::NoMemory));
-        }
+        };
         if worker.backend.is_stopped() {
             return (worker, Ok(()));
         }

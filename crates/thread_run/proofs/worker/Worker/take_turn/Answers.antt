@@ -1,4 +1,5 @@
 use Rattle.std.proofs.Common.{◌∙◌, sym, ap, subst}
+use Rattle.std.specs.declared.snapshot.Snapshot.{Snapshot}
 use Rattle.base_types.specs.Scenario.{IsBackend}
 use Rattle.history_model.specs.Log.{is_waiting}
 use Rattle.shared_seg.specs.Kept.{Kept}
@@ -17,7 +18,7 @@ work-done-requires-clause-holds g c = turn_holds c.value.result.now c.open-turn.
 
 pub close-pass-requires-clause-rooms : goal.close-pass-requires-clause-rooms
 close-pass-requires-clause-rooms g c = λ k apart. rooms_kept c.open-turn.result.opened.value c.value.result.now c.work-done.new.self c.tell.new.self.opened.value c.tell.new.self.value k
-    (c.value.ensures.value ∙ c.open-turn.ensures.value) (cc c.tell.ensures.kept) c.tell.ensures.kept.0 (c.work-done.ensures.turn.others k (λ e. apart (e ∙ sym c.open-turn.ensures.seat ∙ sym c.tell.ensures.kept.2)))
+    (c.value.ensures.value ∙ c.open-turn.ensures.value) (ap (λ (o : Snapshot Kept). o.value) c.tell.ensures.kept.1) c.tell.ensures.kept.0 (c.work-done.ensures.turn.others k (λ e. apart (e ∙ sym c.open-turn.ensures.seat ∙ sym c.tell.ensures.kept.2)))
 
 pub close-pass-requires-clause-words : goal.close-pass-requires-clause-words
 close-pass-requires-clause-words g c = subst (λ (v : Kept). TellExactly is_waiting v.history (words_of c.tell.new.self)) (sym c.tell.ensures.kept.0) c.tell.ensures.words
