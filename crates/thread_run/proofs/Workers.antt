@@ -16,7 +16,7 @@ use Rattle.thread_run.specs.declared.refusal.RunRefusal.{RunRefusal}
 use Rattle.thread_run.specs.declared.refusal.RunRefusal.TheVariants as refusals
 use Rattle.thread_run.specs.declared.worker.Worker.{Worker}
 use Rattle.thread_run.specs.Stops.{StopsBy}
-use Rattle.thread_run.specs.Turns.{backend_of, right_before, HasTakenTurn, MayTakeTurn, WaitsWherever, IsUnderway}
+use Rattle.thread_run.specs.Turns.{backend_of, right_before, HasTakenTurn, MayTakeTurn, IsBetween, WaitsWherever, IsUnderway}
 use Rattle.thread_run.specs.Workers.{Table, IsAt, Extends, Goes}
 use Rattle.thread_run.proofs.Between.{turned}
 
@@ -97,3 +97,34 @@ goes_far over was now later agrees goes stays = λ scenario seen is. let at = ag
 pub needs_turn : (s : Backend) → NeedsTurn s → has_left s.life ≡ false
 needs_turn s (ToJoin life) = ap has_left life
 needs_turn s (ToEnter life next is want) = ap has_left life
+
+-- what is said where work ends well, where it didn't
+pub not_ok : {E : Type 0} (P : Type 0) (result : Result (Unit {0}) E) → ((x : Unit {0}) → result ≡ Ok x → ⊥) → OnOk result P
+not_ok P (Ok x) other = absurd (other x refl)
+not_ok P (Err e) other = tt
+
+-- where work ended well, the gate's count is as it was
+pub stops_ok : (before now : ℕ) (result : Result (Unit {0}) RunRefusal) (x : Unit {0}) → result ≡ Ok x → StopsBy before now result → now ≡ before
+stops_ok before now result x is stops = subst (StopsBy before now) is stops
+
+-- where a step ended well, the worker is between two turns, under the number of its seat
+pub between_ok : {E : Type 0} (scenario : Scenario) (n b : ℕ) (seen : List Entry) (held : List HeldLook) (s : Backend) (result : Result (Unit {0}) E) (x : Unit {0}) → n ≡ b → result ≡ Ok x → OnOk result (IsBetween scenario n seen held s) → IsBetween scenario b seen held s
+between_ok scenario n b seen held s result x same is between = subst (λ m. IsBetween scenario m seen held s) same (subst (λ r. OnOk r (IsBetween scenario n seen held s)) is between)
+
+-- after an entry or a look that was made
+module _ {E : Type 0} (scenario : Scenario) (b : ℕ) (seen : List Entry) (held : List HeldLook) (s : Backend) (result : Result (Unit {0}) E) (x : Unit {0}) (is : result ≡ Ok x) (made : OnOk result (IsUnderway scenario b seen held s)) (stopped : Bool) (told : stopped ≡ has_left s.life) where
+  underway : IsUnderway scenario b seen held s
+  underway = subst (λ r. OnOk r (IsUnderway scenario b seen held s)) is made
+
+  -- a backend that has left is between two turns
+  pub gone_between : stopped ≡ true → IsBetween scenario b seen held s
+  gone_between gone = underway.left (sym told ∙ gone)
+
+  -- one that stays is on its way
+  pub stays_right : stopped ≡ false → IsOnItsWay s
+  stays_right stays = underway.right (sym told ∙ stays)
+
+  -- and it is between two turns once it has gone on
+  pub went_between : (now : Backend) (done : Result (Unit {0}) RunRefusal) → stopped ≡ false → OnOk done (WaitsWherever s now) → OnOk done (IsBetween scenario b seen held now)
+  went_between now (Ok y) stays waits = underway.waits (sym told ∙ stays) now waits
+  went_between now (Err e) stays waits = tt
