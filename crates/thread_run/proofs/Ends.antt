@@ -145,16 +145,16 @@ pub record HasAllEnded (scenario : Scenario) (history : List Entry) (backends : 
   pub stopped : (b : ℕ) → IsBackend scenario.backends b → has_stopped history b ≡ true
 
 -- so it is once all have done their work
-pub all_ended : {of : Ghosts Kept Entry Scenario} (scenario : Scenario) (table : Table) (first passes : List (Pass Kept Entry Scenario of)) (new backends : List Backend) (play : Kept) (history : List Entry) → IsPrepared scenario table first new → AllPairs (HasDone table) passes backends
-    → map (λ p. p.number) passes ≡ map (λ p. p.number) first → play.script ≡ (start_of table).script → AllByRecursion (λ p. Follows backend_of p.number (seen_by p) play.history) passes → history ≡ play.history → IsRunSoFar play.script play.history → HasAllEnded scenario history backends
-all_ended {of} scenario table first passes new backends play history prepared done same script follows is run = record {
+pub all_ended : {of : Ghosts Kept Entry Scenario} (scenario : Scenario) (table : Table) (first passes : List (Pass Kept Entry Scenario of)) (new backends listed : List Backend) (play : Kept) (history : List Entry) → IsPrepared scenario table first new → AllPairs (HasDone table) passes backends
+    → map (λ p. p.number) passes ≡ map (λ p. p.number) first → play.script ≡ (start_of table).script → AllByRecursion (λ p. Follows backend_of p.number (seen_by p) play.history) passes → history ≡ play.history → listed ≡ backends → IsRunSoFar play.script play.history → HasAllEnded scenario history listed
+all_ended {of} scenario table first passes new backends listed play history prepared done same script follows is put run = subst (λ (l : List Backend). HasAllEnded scenario history l) (sym put) (record {
   run = subst (λ (h : List Entry). IsRunSoFar scenario h) (sym is) (subst (λ x. IsRunSoFar x play.history) (script ∙ prepared.script) run);
   stand = record {
     count = as_many table passes backends done ∙ many;
     each = λ i s at. let n : 1 + i ≡ i + 1 = omega arith in subst (λ j. StandsAt scenario history j s) n (stand_all table scenario history 1 passes backends prepared.script done here numbers i s at);
   };
   stopped = λ b number. let m = many in stopped_all table scenario history 1 passes backends prepared.script done here numbers b number.0 (omega (arith, number.1, m));
-}
+})
   where
     row_length : (a n : ℕ) → length (range_with_len a n) ≡ n
     row_length a zero = refl

@@ -136,10 +136,7 @@ pub(crate) fn unseat_all<G>(
 }
 
 // The first of two ends that isn't well.
-fn sooner(
-    first: Result<(), RunRefusal>,
-    second: Result<(), RunRefusal>,
-) -> Result<(), RunRefusal>
+fn sooner(first: Result<(), RunRefusal>, second: Result<(), RunRefusal>) -> Result<(), RunRefusal>
     ensures { result ≡ first_end first second }
 {
     match first {

@@ -16,7 +16,7 @@ rotate_right-requires g c =
     let w = whole c.work_all.new.seats seats.items seats.len seats.ok.0 same in
     let many : length c.work_all.new.seats ≡ seats.len = same ∙ sym seats.ok.0 in
     let enough = gates_enough seats.len c.seat_all.new.gates.items c.unseat_all-ended.new.gates.items c.work_all.new.seats many
-        (c.unseat_all-ended.ensures.gates ∙ ap (λ l. c.seat_all.new.gates.items ++ from_last (λ s. s.gate) l) w) in
+    (c.unseat_all-ended.ensures.gates ∙ ap (λ l. c.seat_all.new.gates.items ++ from_last (λ s. s.gate) l) w) in
     let count = c.seat_all.ensures.count in let len = c.unseat_all-ended.new.gates.ok.0 in
     omega (arith, enough, count, len)
 
