@@ -1,5 +1,5 @@
 -- How the work of all ended, and what the gates' counts say of it.
-use Rattle.std.proofs.Common.{◌≡◌, ◌<◌, ◌≤◌, ◌+◌, ◌-◌, ◌∙◌, ◌⊎◌, inl, inr, ℕ, zero, suc, List, [], ◌∷◌, ◌++◌, length, get_or, refl, sym, ap, subst, arith, Result, Ok, Err, OnOk}
+use Rattle.std.proofs.Common.{◌≡◌, ◌<◌, ◌≤◌, ◌+◌, ◌-◌, ◌∙◌, ◌⊎◌, inl, inr, ℕ, zero, suc, List, [], ◌∷◌, ◌++◌, length, get_or, refl, sym, ap, subst, arith, Result, Ok, Err, OnOk, IfErr, IsErrAnd}
 use Rattle.edge_io.specs.Causes.{Rose}
 use Rattle.thread_run.specs.declared.refusal.RunRefusal.{RunRefusal}
 use Rattle.thread_run.specs.declared.refusal.RunRefusal.TheVariants as refusals
@@ -121,3 +121,8 @@ done_put R xs all ys every x y first end one two pairs pair = subst (λ l. OnOk 
 pub any_end : {P : Type 0} (end : Result (Unit {0}) RunRefusal) → P → OnOk end P
 any_end (Ok done) here = here
 any_end (Err refusal) here = tt
+
+-- a refusal that is handed on
+pub refused_so : {T : Type 0} (before now : List ℕ) (refusal : RunRefusal) (result : Result T RunRefusal) → StopTogether before now (Err refusal) → IsErrAnd result (λ r. r ≡ refusal) → IfErr result (λ r. r ≡ refusals.Stopped → OneRose before now)
+refused_so before now refusal (Ok x) stop failed = absurd failed
+refused_so before now refusal (Err r) stop failed = λ stopped. stop.cause (ap Err (sym failed ∙ stopped))

@@ -2,7 +2,7 @@ use Rattle.std.proofs.Common.{◌∙◌, map, sym, ap, arith}
 use Rattle.std.proofs.lemmas.Result.{IfOk-from_err}
 use Rattle.script_backends.specs.Sessions.{transcripts_of}
 use Rattle.thread_run.proofs.Ends.{all_of, all_seats, all_ended, run_is, run_sessions, run_stands, run_coherent}
-use Rattle.thread_run.proofs.Stopping.{none_fell_same}
+use Rattle.thread_run.proofs.Stopping.{none_fell_same, refused_so}
 use Rattle.thread_run.proofs.running.run.Goals as goal
 
 pub returns-in_default-clause-kept : goal.returns-in_default-clause-kept
@@ -25,6 +25,10 @@ returns-in_err-run_backends-clause-kept g c = c.run_backends.ensures.stops.kept
 
 pub returns-in_err-run_backends-clause-steady : goal.returns-in_err-run_backends-clause-steady
 returns-in_err-run_backends-clause-steady g c = IfOk-from_err c.from_residual.result _ c.from_residual.ensures.0
+
+pub returns-in_err-run_backends-clause-cause : goal.returns-in_err-run_backends-clause-cause
+returns-in_err-run_backends-clause-cause g c = let stops = g.G.Gate.stops in
+    refused_so (map stops c.args.gates.now.items) (map stops c.run_backends.new.gates.items) c.in_err-run_backends.field-0.0 c.from_residual.result c.in_err-run_backends.ensures.stops c.from_residual.ensures.1
 
 pub returns-in_err-run_backends-clause-run : goal.returns-in_err-run_backends-clause-run
 returns-in_err-run_backends-clause-run g c = IfOk-from_err c.from_residual.result _ c.from_residual.ensures.0
