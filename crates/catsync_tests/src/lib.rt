@@ -25,3 +25,5 @@ mod runs;
 mod segments;
 #[cfg(test)]
 mod sessions;
+#[cfg(test)]
+mod threads;

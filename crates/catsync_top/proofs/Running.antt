@@ -11,7 +11,7 @@ use Rattle.cacheless.specs.Lines.{lines_of}
 use Rattle.cacheless.specs.Output.{IsOutput}
 use Rattle.backend_core.specs.Agrees.{AreSpelled}
 use Rattle.backend_core.specs.declared.backend.Backend.{Backend}
-use Rattle.walk_run.specs.Sessions.{AreSessions}
+use Rattle.script_backends.specs.Sessions.{AreSessions}
 use Rattle.out_text.specs.Typed.{IsTyped, IsLine}
 use Rattle.out_text.proofs.OneHistory.{spells_only}
 use Rattle.cacheless.proofs.Written.WritesChange.{allowed_changes}

@@ -9,7 +9,7 @@ use Rattle.base_types.specs.Scenario.{Scenario}
 use Rattle.event_kinds.specs.Entries.{IsEntry}
 use Rattle.history_model.specs.Orderly.{IsSound}
 use Rattle.out_text.specs.Typed.{IsLine, SpellsOnly}
-use Rattle.walk_run.specs.Sessions.{AreSessions}
+use Rattle.script_backends.specs.Sessions.{AreSessions}
 use Rattle.script_text.specs.Grammar.{Reading, script_of}
 use Rattle.script_text.specs.declared.fault.Rest.{Rest}
 use Rattle.script_text.specs.declared.fault.Rest.TheVariants.{Refused, Given}

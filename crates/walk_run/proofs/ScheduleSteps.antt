@@ -14,33 +14,28 @@ use Rattle.event_kinds.specs.declared.entry.Entry.{Entry}
 use Rattle.history_model.specs.Prefixes.{EachEntry}
 use Rattle.history_model.proofs.Prefixes.{EachEntry-more, along-more}
 use Rattle.cacheless.specs.MayEnter.{MayEnter}
-use Rattle.cacheless.specs.Schedule.{FollowsSchedule, IsComplete, is_stopped, has_stopped, pass_stopped, steps_after, turns_by, turns_left}
+use Rattle.cacheless.specs.Schedule.{FollowsSchedule, IsComplete, has_stopped, pass_stopped, steps_after, turns_by, turns_left}
 use Rattle.backend_core.specs.declared.backend.Backend.{Backend}
-use Rattle.backend_core.specs.declared.life.Life.{Life}
-use Rattle.backend_core.specs.declared.life.Life.TheVariants as lives
 use Rattle.backend_core.specs.Words.{has_left}
-use Rattle.backend_core.specs.Agrees.{HasNotJoined, AwaitsEntry, HasLeft, Stands}
+use Rattle.backend_core.specs.Agrees.{AreSpelled, Stands}
 use Rattle.backend_core.specs.Steps.{MakesEntry, Steps}
 use Rattle.backend_core.proofs.Others.{Stands-other}
 use Rattle.by_backend.proofs.Places.{get_of_set, get_beside_set}
-use Rattle.walk_run.specs.Walks.{AllStand, StandsAt, IsDue, Goes, HasSchedule, IsRunning, Makes}
-
--- where a backend is, by its life
-abbrev pub StandsAs : Scenario → List Entry → Backend → Life → Type 0
-StandsAs s h x life = elim life [ lives.Unstarted ↦ HasNotJoined s h x | lives.Alive ↦ AwaitsEntry s h x | lives.Stopped ↦ HasLeft s h x ]
-
--- whether a backend has left, the history says too
-pub stopped_as : (s : Scenario) (h : List Entry) (x : Backend) → Stands s h x → has_stopped h x.progress.id ≡ has_left x.life
-stopped_as s h x stands = of x.life stands
-  where
-    of : (life : Life) → StandsAs s h x life → has_stopped h x.progress.id ≡ has_left life
-    of lives.Unstarted new = ap is_stopped new.life
-    of lives.Alive awaits = ap is_stopped awaits.keeps.life.alive
-    of lives.Stopped left = ap is_stopped left.life
+use Rattle.script_backends.specs.Standing.{StandsAt, StandTogether}
+use Rattle.script_backends.proofs.Sessions.{stopped_as}
+use Rattle.walk_run.specs.Walks.{AllStand, IsDue, Goes, HasSchedule, IsRunning, Makes}
 
 -- the history of one step more
 entered_more : (s : Scenario) (h h' : List Entry) (had has : ℕ → ℕ) (b : ℕ) → EachEntry (MayEnter s) h → MakesEntry s h h' had has b → EachEntry (MayEnter s) h'
 entered_more s h h' had has b entered makes = subst (EachEntry (MayEnter s)) (sym makes.is) (EachEntry-more (MayEnter s) h makes.entry entered makes.may)
+
+-- the backends alone
+pub together : (s : Scenario) (h : List Entry) (bs : List Backend) → AllStand s h bs → StandTogether s h bs
+together s h bs stand = record { count = stand.count; each = stand.each }
+
+-- before the first step
+pub stand_first : (s : Scenario) (bs : List Backend) → AreSpelled s → StandTogether s [] bs → AllStand s [] bs
+stand_first s bs spelled stand = record { spelled = spelled; entered = tt; count = stand.count; each = stand.each }
 
 -- the entry of a step isn't another backend's
 entry_apart : (e : Entry) (was other : Backend) (i j : ℕ) → e.backend ≡ was.progress.id → was.progress.id ≡ i + 1 → other.progress.id ≡ j + 1 → i ≢ j → (e.backend == other.progress.id) ≡ false

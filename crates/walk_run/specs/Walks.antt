@@ -11,8 +11,9 @@ use Rattle.cacheless.specs.Schedule.{FollowsSchedule, AreLooksTrue, IsComplete, 
 use Rattle.cacheless.specs.Lines.{lines_of}
 use Rattle.backend_core.specs.declared.backend.Backend.{Backend}
 use Rattle.backend_core.specs.Words.{has_left}
-use Rattle.backend_core.specs.Agrees.{AreSpelled, Stands}
+use Rattle.backend_core.specs.Agrees.{AreSpelled}
 use Rattle.backend_core.specs.Steps.{Steps}
+use Rattle.script_backends.specs.Standing.{StandsAt}
 
 -- a walk's history is allowed and sound, and the script's commands have forms that lines may have, so that each law of such histories is one of it; it follows the schedule to its end, and its looks see all that was sent; the lines are those of the history
 pub record IsWalk (scenario : Scenario) (history : List Entry) (lines : List Line) : Type 0 where
@@ -23,11 +24,6 @@ pub record IsWalk (scenario : Scenario) (history : List Entry) (lines : List Lin
   pub looks : AreLooksTrue history
   pub complete : IsComplete scenario history
   pub lines_are : lines ≡ lines_of scenario history
-
--- a backend with its number stands in the history
-pub record StandsAt (scenario : Scenario) (history : List Entry) (b : ℕ) (backend : Backend) : Type 0 where
-  pub id : backend.progress.id ≡ b
-  pub stands : Stands scenario history backend
 
 -- the script's commands have forms that lines may have, each entry of the history was one that might be made, and each backend of the script stands in it
 pub record AllStand (scenario : Scenario) (history : List Entry) (backends : List Backend) : Type 0 where

@@ -19,7 +19,6 @@
 //! ```
 #![tactic(auto)]
 
-mod lines;
 mod walking;
 
 pub use walking::{World, walk, walk_on};

@@ -3,19 +3,17 @@ ghost use Rattle.std.specs.List.{All, AllByRecursion};
 ghost use Rattle.base_types.specs.Scenario.{IsBackend, AreTurns, turns_of, schedule_of};
 ghost use Rattle.backend_core.specs.Agrees.{Stands};
 ghost use Rattle.backend_core.specs.Coherent.{IsCoherent};
-ghost use Rattle.walk_run.specs.Sessions.{transcripts_of, AreSessions};
+ghost use Rattle.script_backends.specs.Sessions.{transcripts_of, AreSessions};
 ghost use Rattle.walk_run.specs.Walks.{IsWalk};
 
-use crate::lines::all_lines;
 use backend_core::Backend;
 use base_types::{Listed, NoMemory, Turns};
-use by_backend::commands_by_backend;
 use event_kinds::{Entry, Line};
+use script_backends::{all_lines, new_backends};
 use script_text::Script;
 use seg_calls::Seg;
 use shared_seg::Shared;
 use std::alloc::Global;
-use std::mem::replace;
 
 /// What a walk made.
 #[derive(Drop)]
@@ -86,12 +84,7 @@ impl Walker {
     fn new(alloc: Global, script: &Script) -> Result<Walker, NoMemory>
         ensures { IfOk result (λ walker. AllStand script.now [] walker.backends.items) }
     {
-        let mut lists = commands_by_backend(alloc, script)?;
-        let mut backends = Vec::new(alloc);
-        for number in 0..script.backends() {
-            let commands = replace(&mut lists[number as usize], Listed::new(alloc));
-            backends.push(Backend::new(alloc, number + 1, commands)?)?;
-        }
+        let backends = new_backends(alloc, script)?;
         Ok(Walker { alloc, backends })
     }
 

@@ -1,4 +1,4 @@
--- The backends of a walk before its first step.
+-- The backends of a script before the first entry.
 use Rattle.std.proofs.Common.{◌≡◌, ◌≤◌, ◌<◌, ◌+◌, ◌∙◌, ℕ, Some, None, List, [], ◌∷◌, ◌++◌, refl, sym, ap, subst, length, slice_get, arith, ◌⊎◌, inl, inr}
 use Rattle.std.proofs.lemmas.List.{length_push}
 use Rattle.base_types.specs.declared.command.Command.{Command}
@@ -9,8 +9,8 @@ use Rattle.backend_core.specs.Agrees.{IsNew, Stands}
 use Rattle.backend_core.proofs.NewFacts.{facts_none}
 use Rattle.by_backend.proofs.OwnParts.{few_among}
 use Rattle.by_backend.proofs.Places.{last_or_before}
-use Rattle.walk_run.specs.Walks.{StandsAt}
-use Rattle.walk_run.proofs.ScheduleSteps.{StandsAs}
+use Rattle.script_backends.specs.Standing.{StandsAt}
+use Rattle.script_backends.proofs.Sessions.{StandsAs}
 
 -- so many backends, each of which stands before the first entry
 pub record Begins (s : Scenario) (bs : List Backend) (n : ℕ) : Type 0 where

@@ -1,4 +1,4 @@
--- The backends of a walk, beside its history and lines.
+-- The backends of a script, beside a history and its lines.
 use Rattle.std.specs.Prelude.{◌≡◌, List, map}
 use Rattle.std.specs.List.{All, flat_map, range_with_len}
 use Rattle.base_types.specs.Scenario.{Scenario}

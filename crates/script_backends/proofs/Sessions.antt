@@ -6,20 +6,34 @@ use Rattle.std.proofs.lemmas.List.Elements.{All-nil, All-cons}
 use Rattle.base_types.specs.Scenario.{Scenario}
 use Rattle.event_kinds.specs.declared.entry.Entry.{Entry}
 use Rattle.cacheless.specs.Session.{Finished}
+use Rattle.cacheless.specs.Schedule.{is_stopped, has_stopped}
 use Rattle.cacheless.specs.Sessions.{session_of}
 use Rattle.cacheless.specs.Lines.{lines_from, lines_of_backend, lines_of}
 use Rattle.ddl_effect.specs.Commands.{commands_of}
 use Rattle.backend_core.specs.declared.backend.Backend.{Backend}
 use Rattle.backend_core.specs.declared.life.Life.{Life}
 use Rattle.backend_core.specs.declared.life.Life.TheVariants as lives
-use Rattle.backend_core.specs.Agrees.{Stands}
+use Rattle.backend_core.specs.Agrees.{HasNotJoined, AwaitsEntry, HasLeft, Stands}
 use Rattle.backend_core.specs.Coherent.{IsCoherent}
+use Rattle.backend_core.specs.Words.{has_left}
 use Rattle.backend_core.proofs.Coherent.{stands_coherent}
 use Rattle.backend_core.proofs.Own.{waiting, waiting_is}
-use Rattle.backend_core.proofs.Played.{entered_played}
-use Rattle.walk_run.specs.Sessions.{transcripts_of, AreSessions}
-use Rattle.walk_run.specs.Walks.{AllStand, StandsAt}
-use Rattle.walk_run.proofs.ScheduleSteps.{StandsAs}
+use Rattle.history_model.specs.Orderly.{IsSound}
+use Rattle.script_backends.specs.Sessions.{transcripts_of, AreSessions}
+use Rattle.script_backends.specs.Standing.{StandsAt, StandTogether}
+
+-- where a backend is, by its life
+abbrev pub StandsAs : Scenario → List Entry → Backend → Life → Type 0
+StandsAs s h x life = elim life [ lives.Unstarted ↦ HasNotJoined s h x | lives.Alive ↦ AwaitsEntry s h x | lives.Stopped ↦ HasLeft s h x ]
+
+-- whether a backend has left, the history says too
+pub stopped_as : (s : Scenario) (h : List Entry) (x : Backend) → Stands s h x → has_stopped h x.progress.id ≡ has_left x.life
+stopped_as s h x stands = of x.life stands
+  where
+    of : (life : Life) → StandsAs s h x life → has_stopped h x.progress.id ≡ has_left life
+    of lives.Unstarted new = ap is_stopped new.life
+    of lives.Alive awaits = ap is_stopped awaits.keeps.life.alive
+    of lives.Stopped left = ap is_stopped left.life
 
 -- the lines of a backend with these commands finished
 lines_finished : (s : Scenario) (h : List Entry) (b : ℕ) (finished : List Finished) → option_map_or (λ now. now.finished) (session_of s h b) [] ≡ finished → lines_of_backend s h b ≡ lines_from s h b 1 finished (commands_of s b)
@@ -65,15 +79,15 @@ all_at : {X : Type 0} (P : X → Type 0) (xs : List X) → ((i : ℕ) (x : X) �
 all_at P [] each = All-nil P
 all_at P (x ∷ xs) each = All-cons P x xs (each 0 x refl) (all_at P xs (λ i y is. each (suc i) y is))
 
-from_one : (s : Scenario) (h : List Entry) (bs : List Backend) → AllStand s h bs → (i : ℕ) (backend : Backend) → slice_get bs i ≡ Some backend → StandsAt s h (1 + i) backend
+from_one : (s : Scenario) (h : List Entry) (bs : List Backend) → StandTogether s h bs → (i : ℕ) (backend : Backend) → slice_get bs i ≡ Some backend → StandsAt s h (1 + i) backend
 from_one s h bs stand i backend is = let n : i + 1 ≡ 1 + i = omega arith in subst (λ k. StandsAt s h k backend) n (stand.each i backend is)
 
 -- all transcripts are all lines
-pub transcripts_are : (s : Scenario) (h : List Entry) (bs : List Backend) → AllStand s h bs → transcripts_of bs ≡ lines_of s h
+pub transcripts_are : (s : Scenario) (h : List Entry) (bs : List Backend) → StandTogether s h bs → transcripts_of bs ≡ lines_of s h
 transcripts_are s h bs stand = each_part s h bs 1 (from_one s h bs stand) ∙ ap (λ n. flat_map (lines_of_backend s h) (range_with_len 1 n)) stand.count
 
 -- backends that stand in a history are the sessions of its lines
-pub stand_sessions : (s : Scenario) (h : List Entry) (bs : List Backend) → AllStand s h bs → AreSessions s h (transcripts_of bs) bs
+pub stand_sessions : (s : Scenario) (h : List Entry) (bs : List Backend) → StandTogether s h bs → AreSessions s h (transcripts_of bs) bs
 stand_sessions s h bs stand = record {
   numbers = each_number s h bs 1 (from_one s h bs stand) ∙ ap (range_with_len 1) stand.count;
   parts = all_at (λ x. x.lines ≡ lines_of_backend s h x.progress.id) bs (λ i x is. part_of s h x (stand.each i x is).stands);
@@ -81,9 +95,9 @@ stand_sessions s h bs stand = record {
 }
 
 -- each of them stands in it
-pub stand_each : (s : Scenario) (h : List Entry) (bs : List Backend) → AllStand s h bs → All (Stands s h) bs
+pub stand_each : (s : Scenario) (h : List Entry) (bs : List Backend) → StandTogether s h bs → All (Stands s h) bs
 stand_each s h bs stand = all_at (Stands s h) bs (λ i x is. (stand.each i x is).stands)
 
--- and is coherent with it
-pub stand_coherent : (s : Scenario) (h : List Entry) (bs : List Backend) → AllStand s h bs → All (IsCoherent s h) bs
-stand_coherent s h bs stand = all_at (IsCoherent s h) bs (λ i x is. stands_coherent s h x (entered_played s h stand.spelled stand.entered).sound (stand.each i x is).stands)
+-- and is coherent with it, where it is sound
+pub stand_coherent : (s : Scenario) (h : List Entry) (bs : List Backend) → IsSound h → StandTogether s h bs → All (IsCoherent s h) bs
+stand_coherent s h bs sound stand = all_at (IsCoherent s h) bs (λ i x is. stands_coherent s h x sound (stand.each i x is).stands)

@@ -1,5 +1,5 @@
 ghost use Rattle.std.specs.Prelude.{◌≡◌, IfOk};
-ghost use Rattle.walk_run.specs.Sessions.{transcripts_of};
+ghost use Rattle.script_backends.specs.Sessions.{transcripts_of};
 
 use backend_core::Backend;
 use base_types::NoMemory;
@@ -8,7 +8,7 @@ use event_kinds::Line;
 use std::alloc::Global;
 
 /// The lines of backends, one after another.
-pub(crate) fn all_lines(alloc: Global, backends: &[Backend]) -> Result<Vec<Line>, NoMemory>
+pub fn all_lines(alloc: Global, backends: &[Backend]) -> Result<Vec<Line>, NoMemory>
     ensures { IfOk result (λ lines. lines.items ≡ transcripts_of backends.now) }
 {
     let mut lines = Vec::new(alloc);

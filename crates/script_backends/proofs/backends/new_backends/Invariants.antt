@@ -1,6 +1,6 @@
-use Rattle.walk_run.proofs.NewBackends.{Begins}
+use Rattle.script_backends.proofs.NewBackends.{Begins}
 use Rattle.by_backend.proofs.LeftLists.{AreLeft}
-use Rattle.walk_run.proofs.walking.Walker.new.Given as goal
+use Rattle.script_backends.proofs.backends.new_backends.Given as goal
 
 abbrev pub invariant-loop-number : goal.invariant-loop-number
 invariant-loop-number l = record {

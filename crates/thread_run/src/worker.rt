@@ -1,0 +1,253 @@
+ghost use Rattle.std.specs.Prelude.{◌≡◌, ◌≤◌, ◌<◌, ℕ, [], true, false, length, OnOk};
+ghost use Rattle.backend_core.specs.Looks.{IsOnItsWay};
+ghost use Rattle.thread_run.specs.Turns.{WaitsWherever};
+ghost use Rattle.thread_run.specs.Stops.{StopsBy};
+
+use crate::{RunRefusal, SharedPlay};
+use arrayvec::ArrayVec;
+use backend_core::{Backend, HeldLook, LookFor, Want};
+use base_types::NoMemory;
+use edge_io::{Gate, Go};
+use std::alloc::Global;
+use std::sync::Wait;
+use turn_table::{Pass, TurnTable};
+
+// How many looks a backend may hold back until its next turn.
+const MOST_HELD: usize = 16;
+
+/// A backend at work. Between two of its turns it holds back the looks that it has made since the last.
+#[derive(Drop)]
+pub struct Worker {
+    /// The right to its turns.
+    pub pass: Pass<SharedPlay>,
+    /// The backend, which has the number of the pass.
+    pub backend: Backend,
+    pub(crate) held: ArrayVec<HeldLook, MOST_HELD>,
+}
+
+impl Worker {
+    ghost use Rattle.backend_core.specs.Looks.{Wants};
+    ghost use Rattle.backend_core.specs.Words.{has_left};
+    ghost use Rattle.backend_core.specs.declared.life.Life.TheVariants as lives;
+    ghost use Rattle.turn_table.specs.Passes.{start_of, seen_by, was_told};
+    ghost use Rattle.thread_run.specs.Workers.{IsAt, IsNewAt, Goes};
+    ghost use Rattle.thread_run.specs.Turns.{MayTakeTurn, IsBetween, IsUnderway, HasEnded};
+
+    /// A backend with its pass, before its first turn.
+    pub fn new(pass: Pass<SharedPlay>, backend: Backend) -> Worker
+        ensures { (result.pass ≡ pass) × (result.backend ≡ backend) × (result.held.items ≡ []) }
+    {
+        Worker {
+            pass,
+            backend,
+            held: ArrayVec::new(),
+        }
+    }
+
+    /// Its whole work, from its first entry to its last. It ends early where memory is refused, or where
+    /// the gate stops it.
+    pub fn work<R: Wait, G: Gate>(
+        self,
+        rt: &R,
+        alloc: Global,
+        table: &TurnTable<SharedPlay>,
+        gate: &mut G,
+    ) -> (Worker, Result<(), RunRefusal>)
+        requires at { IsAt table.now self }
+        requires new { IsNewAt table.now self }
+        ensures goes { Goes table.now self result.0 }
+        ensures ended { OnOk result.1 (HasEnded (start_of table.now).script self.pass.number (seen_by result.0.pass) result.0.backend) }
+        ensures stops { StopsBy (G.stops gate.old) (G.stops gate.new) result.1 }
+    {
+        let (mut worker, joined) = self.join(rt, alloc, table, gate);
+        let Ok(()) = joined else {
+            return (worker, joined);
+        };
+        'working: for _ in rt.forever() {
+            if worker.backend.is_stopped() {
+                return (worker, Ok(()));
+            }
+            let (next, made) = worker.step(rt, alloc, table, gate);
+            worker = next;
+            let Ok(()) = made else {
+                return (worker, made);
+            };
+        }
+        unreachable!()
+    }
+
+    // It joins, and goes on to its first command.
+    fn join<R: Wait, G: Gate>(
+        self,
+        rt: &R,
+        alloc: Global,
+        table: &TurnTable<SharedPlay>,
+        gate: &mut G,
+    ) -> (Worker, Result<(), RunRefusal>)
+        requires at { IsAt table.now self }
+        requires new { IsNewAt table.now self }
+        ensures goes { Goes table.now self result.0 }
+        ensures between { OnOk result.1 (IsBetween (start_of table.now).script self.pass.number (seen_by result.0.pass) result.0.held.items result.0.backend) }
+        ensures stops { StopsBy (G.stops gate.old) (G.stops gate.new) result.1 }
+    {
+        let (mut worker, joined) = self.take_turn(rt, alloc, table, true);
+        let Ok(()) = joined else {
+            return (worker, Err(RunRefusal::NoMemory));
+        };
+        if worker.backend.is_stopped() {
+            return (worker, Ok(()));
+        }
+        let first = ask(rt, gate, &worker.backend);
+        let Ok(()) = first else {
+            return (worker, first);
+        };
+        let done = go_on(rt, alloc, &mut worker.backend, gate);
+        (worker, done)
+    }
+
+    // What it wants next, and then what needs neither a look nor a turn.
+    fn step<R: Wait, G: Gate>(
+        self,
+        rt: &R,
+        alloc: Global,
+        table: &TurnTable<SharedPlay>,
+        gate: &mut G,
+    ) -> (Worker, Result<(), RunRefusal>)
+        requires at { IsAt table.now self }
+        requires between { IsBetween (start_of table.now).script self.pass.number (seen_by self.pass) self.held.items self.backend }
+        ensures goes { Goes table.now self result.0 }
+        ensures between { OnOk result.1 (IsBetween (start_of table.now).script self.pass.number (seen_by result.0.pass) result.0.held.items result.0.backend) }
+        ensures stops { StopsBy (G.stops gate.old) (G.stops gate.new) result.1 }
+    {
+        let (mut worker, made) = self.next(rt, alloc, table);
+        let Ok(()) = made else {
+            return (worker, Err(RunRefusal::NoMemory));
+        };
+        if worker.backend.is_stopped() {
+            return (worker, Ok(()));
+        }
+        let done = go_on(rt, alloc, &mut worker.backend, gate);
+        (worker, done)
+    }
+
+    // A look or a turn, as it wants; none, if it has left.
+    fn next<R: Wait>(
+        self,
+        rt: &R,
+        alloc: Global,
+        table: &TurnTable<SharedPlay>,
+    ) -> (Worker, Result<(), NoMemory>)
+        requires at { IsAt table.now self }
+        requires between { IsBetween (start_of table.now).script self.pass.number (seen_by self.pass) self.held.items self.backend }
+        ensures goes { Goes table.now self result.0 }
+        ensures underway { OnOk result.1 (IsUnderway (start_of table.now).script self.pass.number (seen_by result.0.pass) result.0.held.items result.0.backend) }
+    {
+        match self.backend.wants() {
+            Want::Look(look) => self.look(rt, alloc, table, look),
+            Want::Turn => self.take_turn(rt, alloc, table, true),
+            Want::Ended => (self, Ok(())),
+        }
+    }
+
+    // Looks by its word. Only where that says yes, or where it would hold back too many looks, a turn comes
+    // of it, in which it hands them over.
+    fn look<R: Wait>(
+        self,
+        rt: &R,
+        alloc: Global,
+        table: &TurnTable<SharedPlay>,
+        look: LookFor,
+    ) -> (Worker, Result<(), NoMemory>)
+        requires at { IsAt table.now self }
+        requires between { IsBetween (start_of table.now).script self.pass.number (seen_by self.pass) self.held.items self.backend }
+        requires wants { Wants self.backend (Want.Look look) }
+        ensures goes { Goes table.now self result.0 }
+        ensures underway { OnOk result.1 (IsUnderway (start_of table.now).script self.pass.number (seen_by result.0.pass) result.0.held.items result.0.backend) }
+    {
+        let Worker {
+            mut pass,
+            mut backend,
+            mut held,
+        } = self;
+        let some_wait = table.look(&mut pass);
+        held.push(backend.look_by_word(look, some_wait));
+        let hands_over = some_wait || held.is_full();
+        let worker = Worker {
+            pass,
+            backend,
+            held,
+        };
+        if hands_over {
+            return worker.take_turn(rt, alloc, table, false);
+        }
+        (worker, Ok(()))
+    }
+
+    // Takes a turn: hands over the looks that it holds back and, where it `enters`, makes its next entry.
+    fn take_turn<R: Wait>(
+        self,
+        rt: &R,
+        alloc: Global,
+        table: &TurnTable<SharedPlay>,
+        enters: bool,
+    ) -> (Worker, Result<(), NoMemory>)
+        requires at { IsAt table.now self }
+        requires may { MayTakeTurn (start_of table.now).script enters self.pass.number (seen_by self.pass) (was_told self.pass) self.held.items self.backend }
+        ensures goes { Goes table.now self result.0 }
+        ensures underway { OnOk result.1 (IsUnderway (start_of table.now).script self.pass.number (seen_by result.0.pass) result.0.held.items result.0.backend) }
+    {
+        let Worker {
+            pass,
+            mut backend,
+            mut held,
+        } = self;
+        let number = pass.number;
+        let mut turn = table.open(rt, pass);
+        let done = turn
+            .value()
+            .work(alloc, number, &mut backend, held.as_slice(), enters);
+        turn.tell();
+        let pass = table.close(turn);
+        held.clear();
+        (
+            Worker {
+                pass,
+                backend,
+                held,
+            },
+            done,
+        )
+    }
+}
+
+// Goes on as far as it can without a look and without a turn; before each command, and after the last one,
+// the gate is asked.
+fn go_on<R: Wait, G: Gate>(
+    rt: &R,
+    alloc: Global,
+    backend: &mut Backend,
+    gate: &mut G,
+) -> Result<(), RunRefusal>
+    requires right { IsOnItsWay backend.old }
+    ensures waits { OnOk result (WaitsWherever backend.old backend.new) }
+    ensures stops { StopsBy (G.stops gate.old) (G.stops gate.new) result }
+{
+    'going: for _ in rt.forever() {
+        if !backend.go_to_command(alloc)? {
+            return Ok(());
+        }
+        ask(rt, gate, backend)?;
+    }
+    unreachable!()
+}
+
+// Asks the gate whether the backend goes on to its next command.
+fn ask<R: Wait, G: Gate>(rt: &R, gate: &mut G, backend: &Backend) -> Result<(), RunRefusal>
+    ensures stops { StopsBy (G.stops gate.old) (G.stops gate.new) result }
+{
+    let finished = u32::try_from(backend.transcript().len()).unwrap_or(u32::MAX);
+    match gate.pass(rt, backend.id(), finished.saturating_add(1)) {
+        Go::On => Ok(()),
+        Go::Stop => Err(RunRefusal::Stopped),
+    }
+}
