@@ -2,7 +2,7 @@
 
 _catsync_options() {
     case ${1##*/} in
-    catsync) echo walk check make --help --version ;;
+    catsync) echo walk run check make --help --version ;;
     schedule) echo --program --help ;;
     explore)
         echo --most --random --seed --find --interleaved --places --picture --html --jobs --part --out --merge --program --help

@@ -5,8 +5,10 @@ ghost use Rattle.std.specs.Prelude.{◌≤◌, length, IfOk};
 use backend_core::Backend;
 use base_types::NoMemory;
 use catsync_top::{MOST_BACKENDS, Status, catsync};
-use edge_io::{MemorySink, OpenGate, Source};
+use edge_io::{Gate, MemorySink, OpenGate, Source};
 use std::alloc::Global;
+use std::sync::Wait;
+use std::thread::Threads;
 use test_inputs::{Calls, STEADY, sink_of, source_of};
 
 // What a call came to: how it ended, what was written, and the backends that were run.
@@ -29,7 +31,8 @@ impl Outcome {
 }
 
 // The top call with these arguments, over a script and a sink whose calls go so.
-pub(crate) fn called(
+pub(crate) fn called<R: Threads + Wait + Sync>(
+    rt: &R,
     alloc: Global,
     words: &[&str],
     script: &[u8],
@@ -37,31 +40,42 @@ pub(crate) fn called(
     writes: Calls,
 ) -> Result<Outcome, NoMemory> {
     let mut source = source_of(alloc, script, reads)?;
-    called_over(alloc, words, &mut source, writes)
+    called_over(rt, alloc, words, &mut source, writes)
 }
 
 // What `walk` makes of a script.
-pub(crate) fn walked(alloc: Global, script: &[u8]) -> Result<Outcome, NoMemory> {
-    called(alloc, &["walk"], script, STEADY, STEADY)
+pub(crate) fn walked<R: Threads + Wait + Sync>(
+    rt: &R,
+    alloc: Global,
+    script: &[u8],
+) -> Result<Outcome, NoMemory> {
+    called(rt, alloc, &["walk"], script, STEADY, STEADY)
 }
 
 // Whether `walk` ends well with this output.
-pub(crate) fn gives(alloc: Global, script: &[u8], output: &[u8]) -> Result<bool, NoMemory> {
-    Ok(walked(alloc, script)?.gave(output))
+pub(crate) fn gives<R: Threads + Wait + Sync>(
+    rt: &R,
+    alloc: Global,
+    script: &[u8],
+    output: &[u8],
+) -> Result<bool, NoMemory> {
+    Ok(walked(rt, alloc, script)?.gave(output))
 }
 
 // The top call with these arguments, over a sink whose calls go so.
-pub(crate) fn called_over<S: Source>(
+pub(crate) fn called_over<R: Threads + Wait + Sync, S: Source>(
+    rt: &R,
     alloc: Global,
     words: &[&str],
     source: &mut S,
     writes: Calls,
 ) -> Result<Outcome, NoMemory> {
     let arguments = arguments_of(alloc, words)?;
-    called_with(alloc, &arguments, source, writes)
+    called_with(rt, alloc, &arguments, source, writes)
 }
 
-fn called_with<S: Source>(
+fn called_with<R: Threads + Wait + Sync, S: Source>(
+    rt: &R,
     alloc: Global,
     arguments: &[String],
     source: &mut S,
@@ -69,20 +83,46 @@ fn called_with<S: Source>(
 ) -> Result<Outcome, NoMemory> {
     let mut gates = gates_of(alloc)?;
     let sink = sink_of(alloc, writes)?;
-    Ok(ended(alloc, arguments, source, sink, &mut gates))
+    Ok(ended(rt, alloc, arguments, source, sink, &mut gates))
 }
 
-fn ended<S: Source>(
+// The top call with these arguments and gates over a script; out of memory where there are too few gates.
+pub(crate) fn called_at_gates<R: Threads + Wait + Sync, G: Gate>(
+    rt: &R,
+    alloc: Global,
+    words: &[&str],
+    script: &[u8],
+    gates: &mut Vec<G>,
+) -> Result<Outcome, NoMemory> {
+    if gates.len() < MOST_BACKENDS as usize {
+        return Err(NoMemory);
+    }
+    let arguments = arguments_of(alloc, words)?;
+    let mut source = source_of(alloc, script, STEADY)?;
+    let sink = sink_of(alloc, STEADY)?;
+    Ok(ended(rt, alloc, &arguments, &mut source, sink, gates))
+}
+
+fn ended<R: Threads + Wait + Sync, S: Source, G: Gate>(
+    rt: &R,
     alloc: Global,
     arguments: &[String],
     source: &mut S,
     mut sink: MemorySink,
-    gates: &mut Vec<OpenGate>,
+    gates: &mut Vec<G>,
 ) -> Outcome
     requires { MOST_BACKENDS ≤ length gates.old.items }
 {
     let mut sessions = Vec::new(alloc);
-    let status = catsync(alloc, arguments, source, &mut sink, gates, &mut sessions);
+    let status = catsync(
+        rt,
+        alloc,
+        arguments,
+        source,
+        &mut sink,
+        gates,
+        &mut sessions,
+    );
     Outcome {
         status,
         sink,

@@ -4,7 +4,9 @@ use catsync_top::{CheckKind, Status};
 use output_hints::difference;
 use std::alloc::Global;
 use std::fmt::Write;
+use std::sync::Wait;
 use std::test::Fail;
+use std::thread::Threads;
 use test_inputs::{Calls, STEADY};
 
 // A table of 67 columns is made, and another backend, which doesn't look meanwhile, is lapped by a queue of 64.
@@ -152,8 +154,13 @@ const FORGED: &[(&str, &str, u64, &str)] = &[
 ];
 
 // What `check walk` makes of the script with this after it.
-fn checked(alloc: Global, output: &str) -> Result<Outcome, NoMemory> {
+fn checked<R: Threads + Wait + Sync>(
+    rt: &R,
+    alloc: Global,
+    output: &str,
+) -> Result<Outcome, NoMemory> {
     called(
+        rt,
         alloc,
         &["check", "walk"],
         input_of(alloc, output)?.as_bytes(),
@@ -181,8 +188,14 @@ fn changed(alloc: Global, old: &str, new: &str) -> Result<String, NoMemory> {
 }
 
 // Whether an output is refused at this entry, with nothing written, and this said of it.
-fn differs(alloc: Global, output: &str, entry: u64, why: &str) -> Result<bool, NoMemory> {
-    let outcome = checked(alloc, output)?;
+fn differs<R: Threads + Wait + Sync>(
+    rt: &R,
+    alloc: Global,
+    output: &str,
+    entry: u64,
+    why: &str,
+) -> Result<bool, NoMemory> {
+    let outcome = checked(rt, alloc, output)?;
     let Status::Differs { entry: found } = outcome.status else {
         return Ok(false);
     };
@@ -197,7 +210,7 @@ fn differs(alloc: Global, output: &str, entry: u64, why: &str) -> Result<bool, N
 
 #[test]
 fn an_output_is_checked(rt: HostRuntime) -> Result<(), Fail> {
-    let outcome = checked(rt.alloc(), &lapped_output(rt.alloc())?)?;
+    let outcome = checked(&rt, rt.alloc(), &lapped_output(rt.alloc())?)?;
     assert!(rt; outcome.gave(b"checked 22 entries\n") && outcome.sessions.is_empty());
     Ok(())
 }
@@ -206,7 +219,7 @@ fn an_output_is_checked(rt: HostRuntime) -> Result<(), Fail> {
 fn forged_outputs_differ(rt: HostRuntime) -> Result<(), Fail> {
     for &(old, new, entry, why) in FORGED {
         let output = changed(rt.alloc(), old, new)?;
-        assert!(rt; differs(rt.alloc(), &output, entry, why)?, "{old}");
+        assert!(rt; differs(&rt, rt.alloc(), &output, entry, why)?, "{old}");
     }
     Ok(())
 }
@@ -227,7 +240,7 @@ fn outputs_that_are_cut_off_differ(rt: HostRuntime) -> Result<(), Fail> {
     let output = lapped_output(rt.alloc())?;
     for &(from, entry) in CUT_OFF {
         let front = output.as_str().split_once(from).map_or("", |parts| parts.0);
-        let outcome = checked(rt.alloc(), front)?;
+        let outcome = checked(&rt, rt.alloc(), front)?;
         let found = match outcome.status {
             Status::Differs { entry } => entry,
             _ => 0,
@@ -258,6 +271,7 @@ const UNCHECKED: &[(&str, u8)] = &[
 fn the_script_is_read_first(rt: HostRuntime) -> Result<(), Fail> {
     for &(input, status) in UNCHECKED {
         let outcome = called(
+            &rt,
             rt.alloc(),
             &["check", "walk"],
             input.as_bytes(),
@@ -283,6 +297,7 @@ fn a_sink_fails_at_a_check(rt: HostRuntime) -> Result<(), Fail> {
     for &(per_call, failing, sent) in FAILING {
         let writes = Calls { per_call, failing };
         let outcome = called(
+            &rt,
             rt.alloc(),
             &["check", "walk"],
             input.as_bytes(),

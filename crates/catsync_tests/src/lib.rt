@@ -27,3 +27,5 @@ mod segments;
 mod sessions;
 #[cfg(test)]
 mod threads;
+#[cfg(test)]
+mod usages;

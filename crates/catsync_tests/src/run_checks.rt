@@ -1,9 +1,12 @@
-use crate::calls::{Outcome, called};
+use crate::calls::{Outcome, called, called_at_gates};
 use base_types::NoMemory;
-use catsync_top::{CheckKind, Status};
+use catsync_top::{CheckKind, MOST_BACKENDS, Status};
+use edge_io::StopGate;
 use output_hints::difference;
 use std::alloc::Global;
+use std::sync::Wait;
 use std::test::Fail;
+use std::thread::Threads;
 use test_inputs::STEADY;
 
 // A table is made, and another backend lists its columns.
@@ -112,9 +115,21 @@ fn changed(alloc: Global, old: &str, new: &str) -> Result<String, NoMemory> {
 }
 
 // What a check makes of the script with this after it.
-fn checked(alloc: Global, kind: &str, output: &str) -> Result<Outcome, NoMemory> {
+fn checked<R: Threads + Wait + Sync>(
+    rt: &R,
+    alloc: Global,
+    kind: &str,
+    output: &str,
+) -> Result<Outcome, NoMemory> {
     let input = input_of(alloc, output)?;
-    called(alloc, &["check", kind], input.as_bytes(), STEADY, STEADY)
+    called(
+        rt,
+        alloc,
+        &["check", kind],
+        input.as_bytes(),
+        STEADY,
+        STEADY,
+    )
 }
 
 // The entry at which an output differs; 0 where it doesn't.
@@ -133,9 +148,9 @@ fn is_said(alloc: Global, kind: CheckKind, output: &str, why: &str) -> Result<bo
 
 #[test]
 fn an_output_of_a_run_is_one_of_no_walk(rt: HostRuntime) -> Result<(), Fail> {
-    let outcome = checked(rt.alloc(), "run", OUTPUT)?;
+    let outcome = checked(&rt, rt.alloc(), "run", OUTPUT)?;
     assert!(rt; outcome.gave(b"checked 31 entries\n") && outcome.sessions.is_empty());
-    assert!(rt; entry_of(&checked(rt.alloc(), "walk", OUTPUT)?) == 1);
+    assert!(rt; entry_of(&checked(&rt, rt.alloc(), "walk", OUTPUT)?) == 1);
     assert!(rt;
         is_said(
             rt.alloc(),
@@ -151,12 +166,53 @@ fn an_output_of_a_run_is_one_of_no_walk(rt: HostRuntime) -> Result<(), Fail> {
 fn forged_outputs_of_a_run_differ(rt: HostRuntime) -> Result<(), Fail> {
     for &(old, new, entry, why) in FORGED {
         let output = changed(rt.alloc(), old, new)?;
-        let outcome = checked(rt.alloc(), "run", &output)?;
+        let outcome = checked(&rt, rt.alloc(), "run", &output)?;
         assert!(rt;
             entry_of(&outcome) == entry && outcome.sent().is_empty(),
             "{old}"
         );
         assert!(rt; is_said(rt.alloc(), CheckKind::Run, &output, why)?, "{old}");
     }
+    Ok(())
+}
+
+// Whether what a run writes is found to be an output of one.
+fn is_found<R: Threads + Wait + Sync>(rt: &R, alloc: Global) -> Result<bool, NoMemory> {
+    let ran = called(rt, alloc, &["run"], SCRIPT.as_bytes(), STEADY, STEADY)?;
+    let mut input = SCRIPT.as_bytes().to_vec(alloc)?;
+    input.extend_from_slice(ran.sent())?;
+    let found = called(rt, alloc, &["check", "run"], &input, STEADY, STEADY)?;
+    Ok(ran.sessions.len() == 2 && found.status.exit_code() == 0)
+}
+
+#[test]
+fn what_a_run_writes_is_an_output_of_a_run(rt: HostRuntime) -> Result<(), Fail> {
+    assert!(rt; is_found(&rt, rt.alloc())?);
+    Ok(())
+}
+
+// The exit status of a run whose first backend's gate stops at this pass, from 1, and how much it wrote.
+fn stopped_at<R: Threads + Wait + Sync>(
+    rt: &R,
+    alloc: Global,
+    pass: u64,
+) -> Result<(u8, usize), NoMemory> {
+    let mut gates = Vec::new(alloc);
+    gates.push(StopGate::new(pass))?;
+    for _backend in 1..MOST_BACKENDS {
+        gates.push(StopGate::new(0))?;
+    }
+    let outcome = called_at_gates(rt, alloc, &["run"], SCRIPT.as_bytes(), &mut gates)?;
+    Ok((outcome.status.exit_code(), outcome.sent().len()))
+}
+
+// The gate is asked before the one command, and before the stop.
+#[test]
+fn a_gate_stops_a_run(rt: HostRuntime) -> Result<(), Fail> {
+    for pass in 1..3 {
+        assert!(rt; stopped_at(&rt, rt.alloc(), pass)? == (8, 0), "{pass}");
+    }
+    let (code, written) = stopped_at(&rt, rt.alloc(), 3)?;
+    assert!(rt; code == 0 && written > 0);
     Ok(())
 }

@@ -7,7 +7,9 @@ use std::alloc::Global;
 use std::fmt::Write;
 use std::io;
 use std::io::Read;
+use std::sync::Wait;
 use std::test::Fail;
+use std::thread::Threads;
 use test_inputs::{Calls, STEADY};
 
 // A table that isn't there.
@@ -37,7 +39,7 @@ const SPELLINGS: &[&[u8]] = &[ABSENT, b"-- x\n\nBACKENDS 1\r\n\t1 : Show T ;\nEN
 #[test]
 fn an_absent_table_is_shown(rt: HostRuntime) -> Result<(), Fail> {
     for &script in SPELLINGS {
-        assert!(rt; gives(rt.alloc(), script, absent_output())?);
+        assert!(rt; gives(&rt, rt.alloc(), script, absent_output())?);
     }
     Ok(())
 }
@@ -53,20 +55,35 @@ fn ending(outcome: &Outcome, output: &[u8]) -> (u8, usize) {
     (outcome.status.exit_code(), count)
 }
 
-fn ending_of(alloc: Global, reads: Calls, writes: Calls) -> Result<(u8, usize), NoMemory> {
-    let outcome = called(alloc, &["walk"], absent(), reads, writes)?;
+fn ending_of<R: Threads + Wait + Sync>(
+    rt: &R,
+    alloc: Global,
+    reads: Calls,
+    writes: Calls,
+) -> Result<(u8, usize), NoMemory> {
+    let outcome = called(rt, alloc, &["walk"], absent(), reads, writes)?;
     Ok(ending(&outcome, absent_output()))
 }
 
 // The ends of a call whose source or whose sink fails in the call of this number, from 0.
-fn ends_by_reads(alloc: Global, per_call: usize, number: usize) -> Result<(u8, usize), NoMemory> {
+fn ends_by_reads<R: Threads + Wait + Sync>(
+    rt: &R,
+    alloc: Global,
+    per_call: usize,
+    number: usize,
+) -> Result<(u8, usize), NoMemory> {
     let failing = (number as u64).saturating_add(1);
-    ending_of(alloc, Calls { per_call, failing }, STEADY)
+    ending_of(rt, alloc, Calls { per_call, failing }, STEADY)
 }
 
-fn ends_by_writes(alloc: Global, per_call: usize, number: usize) -> Result<(u8, usize), NoMemory> {
+fn ends_by_writes<R: Threads + Wait + Sync>(
+    rt: &R,
+    alloc: Global,
+    per_call: usize,
+    number: usize,
+) -> Result<(u8, usize), NoMemory> {
     let failing = (number as u64).saturating_add(1);
-    ending_of(alloc, STEADY, Calls { per_call, failing })
+    ending_of(rt, alloc, STEADY, Calls { per_call, failing })
 }
 
 // A call reads the script, and then once more to find its end.
@@ -75,15 +92,15 @@ fn a_source_fails_at_each_call_in_turn(rt: HostRuntime) -> Result<(), Fail> {
     let (bytes, all) = (absent().len(), absent_output().len());
     for number in 0..bytes {
         assert!(rt;
-            ends_by_reads(rt.alloc(), 1, number)? == (4, 0),
+            ends_by_reads(&rt, rt.alloc(), 1, number)? == (4, 0),
             "at {number}"
         );
     }
-    assert!(rt; ends_by_reads(rt.alloc(), 1, bytes)? == (4, 0));
-    assert!(rt; ends_by_reads(rt.alloc(), 1, bytes.saturating_add(1))? == (0, all));
+    assert!(rt; ends_by_reads(&rt, rt.alloc(), 1, bytes)? == (4, 0));
+    assert!(rt; ends_by_reads(&rt, rt.alloc(), 1, bytes.saturating_add(1))? == (0, all));
     for (number, wanted) in [(4, 0), (4, 0), (0, all)].iter().enumerate() {
         assert!(rt;
-            ends_by_reads(rt.alloc(), 5000, number)? == *wanted,
+            ends_by_reads(&rt, rt.alloc(), 5000, number)? == *wanted,
             "at {number}"
         );
     }
@@ -95,14 +112,14 @@ fn a_sink_fails_at_each_call_in_turn(rt: HostRuntime) -> Result<(), Fail> {
     let all = absent_output().len();
     for taken in 0..all {
         assert!(rt;
-            ends_by_writes(rt.alloc(), 1, taken)? == (5, taken),
+            ends_by_writes(&rt, rt.alloc(), 1, taken)? == (5, taken),
             "after {taken}"
         );
     }
-    assert!(rt; ends_by_writes(rt.alloc(), 1, all)? == (0, all));
+    assert!(rt; ends_by_writes(&rt, rt.alloc(), 1, all)? == (0, all));
     for (number, wanted) in [(5, 0), (0, all)].iter().enumerate() {
         assert!(rt;
-            ends_by_writes(rt.alloc(), 5000, number)? == *wanted,
+            ends_by_writes(&rt, rt.alloc(), 5000, number)? == *wanted,
             "at {number}"
         );
     }
@@ -111,27 +128,30 @@ fn a_sink_fails_at_each_call_in_turn(rt: HostRuntime) -> Result<(), Fail> {
 
 // Arguments and scripts that are refused, and the exit status and the first word that is said.
 const REFUSED: &[(&[&str], &[u8], u8, &str)] = &[
-    (&[], ABSENT, 1, "usage"),
-    (&[""], ABSENT, 1, "usage"),
-    (&["Walk"], ABSENT, 1, "usage"),
-    (&["run"], ABSENT, 1, "usage"),
-    (&["make"], ABSENT, 1, "usage"),
-    (&["make", ""], ABSENT, 1, "usage"),
-    (&["make", "0"], ABSENT, 1, "usage"),
-    (&["make", "07"], ABSENT, 1, "usage"),
-    (&["make", "+7"], ABSENT, 1, "usage"),
-    (&["make", "7 "], ABSENT, 1, "usage"),
-    (&["make", "1001"], ABSENT, 1, "usage"),
-    (&["make", "4294967303"], ABSENT, 1, "usage"),
-    (&["make", "7", "7"], ABSENT, 1, "usage"),
-    (&["check"], ABSENT, 1, "usage"),
-    (&["check", "make"], ABSENT, 1, "usage"),
-    (&["check", "run", "run"], ABSENT, 1, "usage"),
+    (&[], ABSENT, 1, "the arguments are none"),
+    (&[""], ABSENT, 1, "the arguments are none"),
+    (&["Walk"], ABSENT, 1, "the arguments are none"),
+    (&["run", "run"], ABSENT, 1, "the arguments are none"),
+    (&["make"], ABSENT, 1, "the arguments are none"),
+    (&["make", ""], ABSENT, 1, "the arguments are none"),
+    (&["make", "0"], ABSENT, 1, "the arguments are none"),
+    (&["make", "07"], ABSENT, 1, "the arguments are none"),
+    (&["make", "+7"], ABSENT, 1, "the arguments are none"),
+    (&["make", "7 "], ABSENT, 1, "the arguments are none"),
+    (&["make", "1001"], ABSENT, 1, "the arguments are none"),
+    (&["make", "4294967303"], ABSENT, 1, "the arguments are none"),
+    (&["make", "7", "7"], ABSENT, 1, "the arguments are none"),
+    (&["check"], ABSENT, 1, "the arguments are none"),
     (&["check", "run"], ABSENT, 7, "entry 1 differs"),
-    (&["check", "walk", "walk"], ABSENT, 1, "usage"),
-    (&["walk", "check"], ABSENT, 1, "usage"),
+    (
+        &["check", "walk", "walk"],
+        ABSENT,
+        1,
+        "the arguments are none",
+    ),
+    (&["walk", "check"], ABSENT, 1, "the arguments are none"),
     (&["check", "walk"], ABSENT, 7, "entry 1 differs"),
-    (&["walk", "walk"], ABSENT, 1, "usage"),
+    (&["walk", "walk"], ABSENT, 1, "the arguments are none"),
     (&["walk"], b"", 2, "line 1: NoBackends"),
     (
         &["walk"],
@@ -154,14 +174,15 @@ fn begins(alloc: Global, status: Status, said: &str) -> Result<bool, NoMemory> {
 }
 
 // Whether a call ends with this exit status, says this and writes nothing.
-fn is_refused(
+fn is_refused<R: Threads + Wait + Sync>(
+    rt: &R,
     alloc: Global,
     words: &[&str],
     script: &[u8],
     code: u8,
     said: &str,
 ) -> Result<bool, NoMemory> {
-    let outcome = called(alloc, words, script, STEADY, STEADY)?;
+    let outcome = called(rt, alloc, words, script, STEADY, STEADY)?;
     if !has_ended(&outcome, code) {
         return Ok(false);
     }
@@ -177,7 +198,7 @@ fn has_ended(outcome: &Outcome, code: u8) -> bool {
 fn other_arguments_and_other_scripts_write_nothing(rt: HostRuntime) -> Result<(), Fail> {
     for &(words, script, code, said) in REFUSED {
         assert!(rt;
-            is_refused(rt.alloc(), words, script, code, said)?,
+            is_refused(&rt, rt.alloc(), words, script, code, said)?,
             "{said}"
         );
     }
@@ -188,28 +209,37 @@ fn other_arguments_and_other_scripts_write_nothing(rt: HostRuntime) -> Result<()
 const MADE: &[u8] = b"-- entries 10111 publishes 516 resets 0 errors 587\nring 64\nbackends 4\n";
 
 // Whether a call prints a text that begins so.
-fn prints(alloc: Global, words: &[&str], first: &[u8]) -> Result<bool, NoMemory> {
-    let outcome = called(alloc, words, b"", STEADY, STEADY)?;
+fn prints<R: Threads + Wait + Sync>(
+    rt: &R,
+    alloc: Global,
+    words: &[&str],
+    first: &[u8],
+) -> Result<bool, NoMemory> {
+    let outcome = called(rt, alloc, words, b"", STEADY, STEADY)?;
     Ok(matches!(outcome.status, Status::Done) && outcome.sent().starts_with(first))
 }
 
 #[test]
 fn a_script_is_printed_with_what_came_of_it(rt: HostRuntime) -> Result<(), Fail> {
-    assert!(rt; prints(rt.alloc(), &["make", "7"], MADE)?);
+    assert!(rt; prints(&rt, rt.alloc(), &["make", "7"], MADE)?);
     Ok(())
 }
 
 // The exit status of a walk of an input of so many bytes.
-fn code_of_input(alloc: Global, bytes: usize) -> Result<u8, NoMemory> {
+fn code_of_input<R: Threads + Wait + Sync>(
+    rt: &R,
+    alloc: Global,
+    bytes: usize,
+) -> Result<u8, NoMemory> {
     let mut script = b"backends 1\nend\n".to_vec(alloc)?;
     script.resize(bytes, b' ')?;
-    Ok(walked(alloc, &script)?.status.exit_code())
+    Ok(walked(rt, alloc, &script)?.status.exit_code())
 }
 
 #[test]
 fn the_most_bytes_and_one_more(rt: HostRuntime) -> Result<(), Fail> {
-    assert!(rt; code_of_input(rt.alloc(), MOST_INPUT)? == 0);
-    assert!(rt; code_of_input(rt.alloc(), MOST_INPUT + 1)? == 3);
+    assert!(rt; code_of_input(&rt, rt.alloc(), MOST_INPUT)? == 0);
+    assert!(rt; code_of_input(&rt, rt.alloc(), MOST_INPUT + 1)? == 3);
     Ok(())
 }
 
@@ -227,25 +257,31 @@ impl Read for EndlessReader {
 }
 
 // The exit status of a walk of an input without an end, and how many bytes of it are read.
-fn code_of_endless(alloc: Global) -> Result<(u8, u64), NoMemory> {
+fn code_of_endless<R: Threads + Wait + Sync>(rt: &R, alloc: Global) -> Result<(u8, u64), NoMemory> {
     let mut reader = EndlessReader { given: 0 };
     let mut source = StdSource::new(&mut reader);
-    let outcome = called_over(alloc, &["walk"], &mut source, STEADY)?;
+    let outcome = called_over(rt, alloc, &["walk"], &mut source, STEADY)?;
     let code = outcome.status.exit_code();
     Ok((code, reader.given))
 }
 
 #[test]
 fn an_input_without_an_end_is_read_to_the_limit(rt: HostRuntime) -> Result<(), Fail> {
-    let (code, given) = code_of_endless(rt.alloc())?;
+    let (code, given) = code_of_endless(&rt, rt.alloc())?;
     assert!(rt; code == 3 && given <= (MOST_INPUT + PIECE) as u64);
     Ok(())
 }
 
 // Whether a table of so many columns, and what comes then, is answered so.
-fn is_answered(alloc: Global, columns: u32, then: &str, end: &[u8]) -> Result<bool, NoMemory> {
+fn is_answered<R: Threads + Wait + Sync>(
+    rt: &R,
+    alloc: Global,
+    columns: u32,
+    then: &str,
+    end: &[u8],
+) -> Result<bool, NoMemory> {
     let script = wide_script(alloc, columns, then)?;
-    let outcome = walked(alloc, &script)?;
+    let outcome = walked(rt, alloc, &script)?;
     Ok(matches!(outcome.status, Status::Done) && outcome.sent().ends_with(end))
 }
 
@@ -267,7 +303,10 @@ const WIDE: &[(u32, &str, &[u8])] = &[
 #[test]
 fn the_most_columns_and_one_more(rt: HostRuntime) -> Result<(), Fail> {
     for &(columns, then, end) in WIDE {
-        assert!(rt; is_answered(rt.alloc(), columns, then, end)?, "{columns}");
+        assert!(rt;
+            is_answered(&rt, rt.alloc(), columns, then, end)?,
+            "{columns}"
+        );
     }
     Ok(())
 }
@@ -321,8 +360,12 @@ fn push_steps(script: &mut String) -> Result<(), NoMemory> {
 }
 
 // How many lines are written for a script; none where it isn't done.
-fn lines_of(alloc: Global, script: &[u8]) -> Result<usize, NoMemory> {
-    let outcome = walked(alloc, script)?;
+fn lines_of<R: Threads + Wait + Sync>(
+    rt: &R,
+    alloc: Global,
+    script: &[u8],
+) -> Result<usize, NoMemory> {
+    let outcome = walked(rt, alloc, script)?;
     match outcome.status {
         Status::Done => Ok(lines_in(outcome.sent())),
         _ => Ok(0),
@@ -339,8 +382,8 @@ fn lines_in(text: &[u8]) -> usize {
     count
 }
 
-fn lines_of_largest(alloc: Global) -> Result<usize, NoMemory> {
-    lines_of(alloc, &largest_script(alloc)?)
+fn lines_of_largest<R: Threads + Wait + Sync>(rt: &R, alloc: Global) -> Result<usize, NoMemory> {
+    lines_of(rt, alloc, &largest_script(alloc)?)
 }
 
 // The first backend makes the table in 6 entries, and fetches its own messages in one more; the others start
@@ -348,7 +391,7 @@ fn lines_of_largest(alloc: Global) -> Result<usize, NoMemory> {
 // the name and 6 for the descriptor, each after a look; each backend starts and stops.
 #[test]
 fn the_largest_script_is_walked(rt: HostRuntime) -> Result<(), Fail> {
-    let lines = lines_of_largest(rt.alloc())?;
+    let lines = lines_of_largest(&rt, rt.alloc())?;
     assert!(rt; lines == 6 + 1 + 19_999 * 4 + 64 * (2 + 6 * 2 + 2) + 20_000 + 1);
     Ok(())
 }
@@ -410,7 +453,7 @@ const STATUSES: &[(Status, &str)] = &[
     (Status::Done, "done"),
     (
         Status::Usage,
-        "usage: catsync walk < SCRIPT > OUTPUT, or catsync check walk|run < SCRIPT_AND_OUTPUT, or catsync make N > SCRIPT",
+        "the arguments are none of walk, run, check walk, check run, and make N with N from 1 to 1000",
     ),
     (
         Status::TooLong,
@@ -420,6 +463,7 @@ const STATUSES: &[(Status, &str)] = &[
     (Status::ReadFault, "reading failed"),
     (Status::WriteFault, "writing failed"),
     (Status::NoMemory, "want of memory"),
+    (Status::Stopped, "stopped"),
 ];
 
 // Whether this is said of a status.

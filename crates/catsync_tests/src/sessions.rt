@@ -5,7 +5,9 @@ use base_types::{Listed, NoMemory};
 use event_kinds::Line;
 use script_text::Script;
 use std::alloc::Global;
+use std::sync::Wait;
 use std::test::Fail;
+use std::thread::Threads;
 use test_inputs::script_of;
 use walk_run::walk;
 
@@ -123,8 +125,13 @@ fn segment_gives(alloc: Global, text: &[u8], wanted: Sessions) -> Result<bool, N
     segment_has_sessions(alloc, &script, wanted)
 }
 
-fn top_call_gives(alloc: Global, text: &[u8], wanted: Sessions) -> Result<bool, NoMemory> {
-    Ok(are_sessions(&walked(alloc, text)?.sessions, wanted))
+fn top_call_gives<R: Threads + Wait + Sync>(
+    rt: &R,
+    alloc: Global,
+    text: &[u8],
+    wanted: Sessions,
+) -> Result<bool, NoMemory> {
+    Ok(are_sessions(&walked(rt, alloc, text)?.sessions, wanted))
 }
 
 #[test]
@@ -132,7 +139,7 @@ fn each_call_gives_the_sessions(rt: HostRuntime) -> Result<(), Fail> {
     for &(text, wanted) in SESSIONS {
         assert!(rt; walk_gives(rt.alloc(), text, wanted)?);
         assert!(rt; segment_gives(rt.alloc(), text, wanted)?);
-        assert!(rt; top_call_gives(rt.alloc(), text, wanted)?);
+        assert!(rt; top_call_gives(&rt, rt.alloc(), text, wanted)?);
     }
     Ok(())
 }

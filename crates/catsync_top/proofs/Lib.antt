@@ -1,5 +1,7 @@
 pub mod Words
-pub mod Running
+pub mod Gates
+pub mod Asked
+pub mod Written
 pub mod Readable
 pub mod Checked
 pub mod Numbers

@@ -44,5 +44,5 @@ makes_no_difference status holds ends = tt
 
 -- who asks for a script asks for no word
 pub apart : (arguments : List (List ℕ)) (word : Word) (number : ℕ) → Ask arguments word → AskToMake arguments number → ⊥
-apart arguments words.Walk number asks makes = let k = makes.are in cc
+apart arguments (words.Output kind) number asks makes = let k = makes.are in cc
 apart arguments (words.Check kind) number asks makes = let k = makes.are in cc

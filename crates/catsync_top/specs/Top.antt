@@ -10,6 +10,7 @@ use Rattle.event_kinds.specs.Entries.{IsEntry}
 use Rattle.history_model.specs.Orderly.{IsSound}
 use Rattle.out_text.specs.Typed.{IsLine, SpellsOnly}
 use Rattle.script_backends.specs.Sessions.{AreSessions}
+use Rattle.thread_run.specs.Stops.{OneRose}
 use Rattle.script_text.specs.Grammar.{Reading, script_of}
 use Rattle.script_text.specs.declared.fault.Rest.{Rest}
 use Rattle.script_text.specs.declared.fault.Rest.TheVariants.{Refused, Given}
@@ -29,14 +30,14 @@ use Rattle.catsync_top.specs.declared.arguments.Word.TheVariants as words
 use Rattle.catsync_top.specs.declared.status.Status.{Status}
 use Rattle.catsync_top.specs.declared.status.Status.TheVariants as statuses
 
--- the argument that names what is checked
+-- the argument that names what is written or checked
 abbrev pub argument_of : CheckKind → List ℕ
 argument_of kinds.Walk = codes "walk"
 argument_of kinds.Run = codes "run"
 
 -- the arguments that ask for a word
 abbrev pub arguments_of : Word → List (List ℕ)
-arguments_of words.Walk = codes "walk" ∷ []
+arguments_of (words.Output kind) = argument_of kind ∷ []
 arguments_of (words.Check kind) = codes "check" ∷ argument_of kind ∷ []
 
 -- these arguments ask for the word
@@ -92,12 +93,12 @@ AskSomething arguments = AskWord arguments ⊎ AskScript arguments
 
 -- the most bytes that are read
 abbrev pub most_of : Word → ℕ
-most_of words.Walk = MOST_INPUT
+most_of (words.Output kind) = MOST_INPUT
 most_of (words.Check kind) = MOST_CHECKED
 
 -- whether something may follow the script: the output that is checked
 abbrev pub rest_of : Word → Rest
-rest_of words.Walk = Refused
+rest_of (words.Output kind) = Refused
 rest_of (words.Check kind) = Given
 
 -- the exit status of each status
@@ -110,6 +111,7 @@ exit_code_of statuses.ReadFault = 4
 exit_code_of statuses.WriteFault = 5
 exit_code_of statuses.NoMemory = 6
 exit_code_of (statuses.Differs entry) = 7
+exit_code_of statuses.Stopped = 8
 
 -- the input was read to its end, and is no longer than that of the word may be
 pub record IsInput (word : Word) (left rest : Option (List ℕ)) (input : List ℕ) : Type 0 where
@@ -117,14 +119,14 @@ pub record IsInput (word : Word) (left rest : Option (List ℕ)) (input : List �
   pub ended : IsAtEnd rest
   pub short : length input ≤ most_of word
 
--- the input is a script; an output of `walk` for that script was written, or a prefix of one; its history is sound, and the script's commands have forms that lines may have, so that each law of such histories is one of it; its entries and lines are such as a reader of texts takes, and that output spells them alone; and the sessions are the backends that were run, with their parts of the answers
-pub record Ran (left rest : Option (List ℕ)) (taken now : Option (List ℕ)) (Writes : Option (List ℕ) → Option (List ℕ) → List ℕ → Type 0) (sessions : List Backend) : Type 0 where
+-- the input is a script; an output of `walk` or `run` for that script was written, or a prefix of one; its history is sound, and the script's commands have forms that lines may have, so that each law of such histories is one of it; its entries and lines are such as a reader of texts takes, and that output spells them alone; and the sessions are the backends that were run, with their parts of the answers
+pub record Ran (kind : CheckKind) (left rest : Option (List ℕ)) (taken now : Option (List ℕ)) (Writes : Option (List ℕ) → Option (List ℕ) → List ℕ → Type 0) (sessions : List Backend) : Type 0 where
   pub input : List ℕ
-  pub whole : IsInput words.Walk left rest input
+  pub whole : IsInput (words.Output kind) left rest input
   pub reading : Reading
   pub spelled : script_of Refused input ≡ Ok reading
   pub output : List ℕ
-  pub is : IsOutput kinds.Walk reading.script output
+  pub is : IsOutput kind reading.script output
   pub sound : IsSound is.history
   pub commands : AllByRecursion (λ p. IsCommand p.command) reading.script.commands
   pub entries : All IsEntry is.history
@@ -197,6 +199,11 @@ HasScript word left = IsSomeAnd left (CanBeTaken word)
 -- a count of faults didn't rise
 abbrev pub HadNoFault : ℕ → ℕ → Type 0
 HadNoFault before now = Rose before now → ⊥
+
+-- no gate stopped a backend; `run` alone asks gates
+abbrev pub HadNoStop : Word → List ℕ → List ℕ → Type 0
+HadNoStop (words.Output kinds.Run) before now = OneRose before now → ⊥
+HadNoStop word before now = ⊤
 
 -- the call did its work, or was refused memory; a check may have found something else than an output
 abbrev pub HasEnded : Word → Status → Type 0

@@ -6,11 +6,11 @@ use base_types::LineBuffer;
 use check_tool::CheckKind;
 use make_script::MOST_NUMBER;
 
-/// What the program is asked to read.
+/// What the program is asked to do with what it reads.
 #[derive(Clone, Copy)]
 pub enum Word {
-    /// `walk`: a script, to walk it.
-    Walk,
+    /// `walk`, `run`: a script, to write an output of it.
+    Output(CheckKind),
     /// `check walk`, `check run`: a script and after it an output, to check that.
     Check(CheckKind),
 }
@@ -20,7 +20,7 @@ pub fn word_of(arguments: &[String]) -> Option<Word>
     ensures { MatchOption result (AskNoWord (map string_bytes arguments.now)) (Ask (map string_bytes arguments.now)) }
 {
     match arguments {
-        [word] if word.as_str() == "walk" => Some(Word::Walk),
+        [word] => Some(Word::Output(kind_of(word.as_str())?)),
         [first, second] if first.as_str() == "check" => {
             Some(Word::Check(kind_of(second.as_str())?))
         }

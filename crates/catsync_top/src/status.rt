@@ -10,8 +10,8 @@ pub enum Status {
     /// All was written, and the input was read to its end.
     #[error("done")]
     Done,
-    /// The arguments are none of `walk`, `check walk`, `check run`, and `make` with a number from 1 to 1,000.
-    #[error("usage: catsync walk < SCRIPT > OUTPUT, or catsync check walk|run < SCRIPT_AND_OUTPUT, or catsync make N > SCRIPT")]
+    /// The arguments are none of `walk`, `run`, `check walk`, `check run`, and `make` with a number from 1 to 1,000.
+    #[error("the arguments are none of walk, run, check walk, check run, and make N with N from 1 to 1000")]
     Usage,
     /// The input isn't a script: the first line that breaks a rule, from 1, and the first rule that
     /// it breaks.
@@ -30,11 +30,14 @@ pub enum Status {
     #[error("want of memory")]
     NoMemory,
     /// The bytes after the script are none of its outputs, as far as the entries of these have texts: numbers of
-    /// four bytes, names as they may be, and at least one change in a write. The first entry, from 1, that may not
-    /// come there; the number after the last where all of them may, and one is missing or what follows them
+    /// four bytes, names as they may be, and at least one change in a write. The first entry, from 1, that may
+    /// not come there; the number after the last where all of them may, and one is missing or what follows them
     /// differs.
     #[error("entry {entry} differs")]
     Differs { entry: u64 },
+    /// A gate stopped a backend.
+    #[error("stopped")]
+    Stopped,
 }
 
 impl Status {
@@ -51,6 +54,7 @@ impl Status {
             Status::WriteFault => 5,
             Status::NoMemory => 6,
             Status::Differs { .. } => 7,
+            Status::Stopped => 8,
         }
     }
 }

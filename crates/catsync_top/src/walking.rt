@@ -1,6 +1,7 @@
 ghost use Rattle.std.specs.Prelude.{◌≡◌, ◌≢◌, []};
 ghost use Rattle.edge_io.specs.Causes.{Rose};
 ghost use Rattle.edge_io.specs.Taken.{Grows, GrowsByFront};
+ghost use Rattle.cacheless.specs.declared.check_kind.CheckKind.TheVariants as kinds;
 ghost use Rattle.catsync_top.specs.declared.arguments.Word.TheVariants as words;
 ghost use Rattle.catsync_top.specs.Top.{Ran, IsBad, IsTooLong, HasScript, HadNoFault, IfBadScript, IfDiffers, HasEnded};
 
@@ -22,18 +23,18 @@ pub(crate) fn walk_script<S: Source, K: Sink>(
 ) -> Status
     requires { sessions.old.items ≡ [] }
     ensures accepted { result ≢ Status.Usage }
-    ensures done { result ≡ Status.Done → Ran (S.left source.old) (S.left source.new) (K.taken sink.old) (K.taken sink.new) Grows sessions.new.items }
-    ensures write_front { result ≡ Status.WriteFault → Ran (S.left source.old) (S.left source.new) (K.taken sink.old) (K.taken sink.new) GrowsByFront sessions.new.items }
+    ensures done { result ≡ Status.Done → Ran kinds.Walk (S.left source.old) (S.left source.new) (K.taken sink.old) (K.taken sink.new) Grows sessions.new.items }
+    ensures write_front { result ≡ Status.WriteFault → Ran kinds.Walk (S.left source.old) (S.left source.new) (K.taken sink.old) (K.taken sink.new) GrowsByFront sessions.new.items }
     ensures nothing { result ≢ Status.Done → result ≢ Status.WriteFault → K.taken sink.new ≡ K.taken sink.old }
     ensures no_sessions { result ≢ Status.Done → result ≢ Status.WriteFault → sessions.new.items ≡ [] }
-    ensures bad_script { IfBadScript result (IsBad words.Walk (S.left source.old) (S.left source.new)) }
-    ensures too_long { result ≡ Status.TooLong → IsTooLong words.Walk (S.left source.old) (S.left source.new) }
+    ensures bad_script { IfBadScript result (IsBad (words.Output kinds.Walk) (S.left source.old) (S.left source.new)) }
+    ensures too_long { result ≡ Status.TooLong → IsTooLong (words.Output kinds.Walk) (S.left source.old) (S.left source.new) }
     ensures never_differs { IfDiffers result (λ entry. ⊥) }
     ensures read_fault { result ≡ Status.ReadFault → Rose (S.faults source.old) (S.faults source.new) }
     ensures write_fault { result ≡ Status.WriteFault → Rose (K.faults sink.old) (K.faults sink.new) }
     ensures source_steady { result ≢ Status.ReadFault → S.faults source.new ≡ S.faults source.old }
     ensures sink_steady { result ≢ Status.WriteFault → K.faults sink.new ≡ K.faults sink.old }
-    ensures complete { HasScript words.Walk (S.left source.old) → HadNoFault (S.faults source.old) (S.faults source.new) → HadNoFault (K.faults sink.old) (K.faults sink.new) → HasEnded words.Walk result }
+    ensures complete { HasScript (words.Output kinds.Walk) (S.left source.old) → HadNoFault (S.faults source.old) (S.faults source.new) → HadNoFault (K.faults sink.old) (K.faults sink.new) → HasEnded (words.Output kinds.Walk) result }
 {
     let input = match read_all(alloc, source, MOST_INPUT) {
         Ok(input) => input,

@@ -1,4 +1,4 @@
--- What a run wrote, made of what its steps ensure.
+-- What `walk` or `run` wrote, made of what its steps ensure.
 use Rattle.std.proofs.Common.{◌≡◌, ◌≤◌, ◌∙◌, ℕ, Option, Ok, List, length, sym, ap, subst}
 use Rattle.std.specs.List.{All}
 use Rattle.event_kinds.specs.declared.entry.Line.{Line}
@@ -6,7 +6,7 @@ use Rattle.edge_io.specs.Reads.{ReadsAll}
 use Rattle.script_text.specs.Grammar.{Reading, script_of}
 use Rattle.script_text.specs.declared.fault.Rest.TheVariants.{Refused}
 use Rattle.history_model.specs.Orderly.{IsSound}
-use Rattle.cacheless.specs.declared.check_kind.CheckKind.TheVariants as kinds
+use Rattle.cacheless.specs.declared.check_kind.CheckKind.{CheckKind}
 use Rattle.cacheless.specs.Lines.{lines_of}
 use Rattle.cacheless.specs.Output.{IsOutput}
 use Rattle.backend_core.specs.Agrees.{AreSpelled}
@@ -19,11 +19,11 @@ use Rattle.catsync_top.proofs.Readable.{all_read}
 use Rattle.catsync_top.specs.Top.{Ran}
 
 -- a script that was read, and an output for it that was written, whose entries and lines are typed
-pub has_run : (left rest taken now : Option (List ℕ)) (Writes : Option (List ℕ) → Option (List ℕ) → List ℕ → Type 0) (items input output : List ℕ) (reading : Reading) (answers : List Line) (sessions backends : List Backend)
+pub has_run : (kind : CheckKind) (left rest taken now : Option (List ℕ)) (Writes : Option (List ℕ) → Option (List ℕ) → List ℕ → Type 0) (items input output : List ℕ) (reading : Reading) (answers : List Line) (sessions backends : List Backend)
     → ReadsAll left rest 1048576 items → length items ≤ 1048576 → input ≡ items → script_of Refused input ≡ Ok reading
-    → (is : IsOutput kinds.Walk reading.script output) → IsSound is.history → AreSpelled reading.script → All IsTyped is.history → All IsLine (lines_of reading.script is.history)
-    → AreSessions reading.script is.history answers backends → answers ≡ lines_of reading.script is.history → sessions ≡ backends → Writes taken now output → Ran left rest taken now Writes sessions
-has_run left rest taken now Writes items input output reading answers sessions backends all short same spelled is sound commands entries lines have as_defined handed written = record {
+    → (is : IsOutput kind reading.script output) → IsSound is.history → AreSpelled reading.script → All IsTyped is.history → All IsLine (lines_of reading.script is.history)
+    → AreSessions reading.script is.history answers backends → answers ≡ lines_of reading.script is.history → sessions ≡ backends → Writes taken now output → Ran kind left rest taken now Writes sessions
+has_run kind left rest taken now Writes items input output reading answers sessions backends all short same spelled is sound commands entries lines have as_defined handed written = record {
   input = items;
   whole = record { read = all.consumed; ended = all.ended short; short = short };
   reading = reading;
