@@ -1,5 +1,5 @@
 ghost use Rattle.std.specs.Prelude.{IfOk, All};
-ghost use Rattle.base_types.specs.Scenario.{IsBackend};
+ghost use Rattle.base_types.specs.Scenario.{IsBackend, IsScript};
 ghost use Rattle.history_model.specs.Legal.{IsLegal};
 ghost use Rattle.cacheless.specs.declared.check_kind.CheckKind.TheVariants as kinds;
 ghost use Rattle.check_tool.specs.Reached.{AreInterleaved};
@@ -31,7 +31,8 @@ pub(crate) fn interleaved_prefix(
 ) -> Result<Interleaved, NoMemory>
     requires legal { IsLegal entries.now }
     requires backends { All (λ e. IsBackend script.now.backends e.backend) entries.now }
-    ensures { IfOk result (λ i. AreInterleaved kind script.now entries.now i.entries i.due) }
+    ensures kept { IsScript script.now }
+    ensures come { IfOk result (λ i. AreInterleaved kind script.now entries.now i.entries i.due) }
 {
     match kind {
         CheckKind::Walk => as_walk(alloc, script, entries),
@@ -43,7 +44,8 @@ pub(crate) fn interleaved_prefix(
 fn as_walk(alloc: Global, script: &Script, entries: &[Entry]) -> Result<Interleaved, NoMemory>
     requires legal { IsLegal entries.now }
     requires backends { All (λ e. IsBackend script.now.backends e.backend) entries.now }
-    ensures { IfOk result (λ i. AreInterleaved kinds.Walk script.now entries.now i.entries i.due) }
+    ensures kept { IsScript script.now }
+    ensures come { IfOk result (λ i. AreInterleaved kinds.Walk script.now entries.now i.entries i.due) }
 {
     let looks = true_looks(alloc, script.backends(), entries)?;
     follow(alloc, script, &entries[..looks])
@@ -52,7 +54,8 @@ fn as_walk(alloc: Global, script: &Script, entries: &[Entry]) -> Result<Interlea
 // The same of `run`: they may come in any order.
 fn as_run(alloc: Global, script: &Script, entries: &[Entry]) -> Result<Interleaved, NoMemory>
     requires { All (λ e. IsBackend script.now.backends e.backend) entries.now }
-    ensures { IfOk result (λ i. AreInterleaved kinds.Run script.now entries.now i.entries i.due) }
+    ensures kept { IsScript script.now }
+    ensures come { IfOk result (λ i. AreInterleaved kinds.Run script.now entries.now i.entries i.due) }
 {
     let mut stopped = all_running(alloc, script.backends())?;
     for e in entries {

@@ -20,6 +20,6 @@ loop-e-preserved c =
     (λ seen tell. c.note.ensures.tell seen (subst (TellStopped seen) (sym c.deref_mut.ensures.value) tell))
     (c.note.ensures.count ∙ ap length c.deref_mut.ensures.value))
 
-pub returns : goal.returns
-returns c =
+pub returns-clause-come : goal.returns-clause-come
+returns-clause-come c =
     as_run c.args.script.now c.args.entries.now c.loop-e.e-index c.loop-e.stopped.items c.deref.result.now c.first_running.result (omega (arith, c.loop-e-test.false)) c.loop-e.invariant c.deref.ensures.value c.first_running.ensures.first
