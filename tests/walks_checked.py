@@ -1,13 +1,13 @@
 #!/usr/bin/env python3
 """Walks random scripts, and lets `check walk` judge each output: it is one of its script, and isn't with something after its
 end, without its last byte, or with its last entry twice or left out. `check run` finds the same of them where each backend has
-stopped by then, and takes also the output in which the first of them stops last, whatever the schedule. No second reading of
-the rules is needed.
+stopped by then, and takes also the output in which the first of them stops last, whatever the schedule. Each script is run too,
+and `check run` finds the same of what that prints. No second reading of the rules is needed.
 
     tests/walks_checked.py [--from N] [--to N] [--program FILE]
 
-The scripts are those of the seeds N to N (tests/random_scripts.py). Prints 'N walks, M entries: K differ', after a line for each
-script that differs; the exit status is 0 where none does.
+The scripts are those of the seeds N to N (tests/random_scripts.py). Prints 'N scripts, M entries: K differ', after a line for
+each script that differs; the exit status is 0 where none does.
 """
 import argparse
 import os
@@ -84,6 +84,18 @@ def differences(program, script):
     return found, entries
 
 
+def run_differences(program, script):
+    """What is wrong with the run of a script and the checks of it, and how many entries the run has."""
+    status, output, said = run(program, ["run"], script)
+    if status or said:
+        return ["run: status %d, %s" % (status, said.strip())], 0
+    entries = sum(line.startswith("h ") for line in output.splitlines())
+    found = judged(program, "run", script + output, entries, None)
+    for text, place in forged(output, entries):
+        found += judged(program, "run", script + text, entries, place)
+    return found, entries
+
+
 def main():
     parser = argparse.ArgumentParser(description=__doc__, formatter_class=argparse.RawDescriptionHelpFormatter)
     parser.add_argument("--from", dest="first", type=int, default=1)
@@ -92,12 +104,14 @@ def main():
     options = parser.parse_args()
     total = differ = 0
     for seed in range(options.first, options.last + 1):
-        found, entries = differences(options.program, script_of(seed))
-        total += entries
-        differ += bool(found)
-        for text in found:
+        script = script_of(seed)
+        found, entries = differences(options.program, script)
+        found_of_run, entries_of_run = run_differences(options.program, script)
+        total += entries + entries_of_run
+        differ += bool(found or found_of_run)
+        for text in found + found_of_run:
             print("seed %d: %s" % (seed, text), flush=True)
-    print("%d walks, %d entries: %d differ" % (options.last + 1 - options.first, total, differ))
+    print("%d scripts, %d entries: %d differ" % (options.last + 1 - options.first, total, differ))
     return 1 if differ or options.last < options.first else 0
 
 

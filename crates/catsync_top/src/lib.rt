@@ -4,10 +4,11 @@
 //! is written. Writing comes when all else is done and takes no memory, so an output is cut short
 //! only where the sink fails.
 //!
-//! The promise: after `Done` of `walk` and of `run` the sink took the text of one history that the
-//! script allows, of `walk` complete and by its schedule, of `run` in whatever order its threads made
-//! it, and then exactly the lines that backends without caches print on it. No other
-//! history and lines have such a text, so who reads the bytes reads these. Each other answer has
+//! The promise: after `Done` of `walk` or `run` the sink took the text of one history that the script allows, and then
+//! exactly the lines that backends without caches print on it. The history of `walk` is complete and by its schedule;
+//! that of `run` has the backends' entries in any order, each backend's to its stop. No other history and lines have such
+//! a text, so who reads the bytes reads these. After `Done` of a check the bytes that follow the script are such an output
+//! of `walk`, or one of `run`. Each other answer has
 //! its cause; only `NoMemory` may come at any time. All of this is said of the bytes that the source
 //! and the sink tell. Those over standard input and output tell none: there the clauses fix `Usage`,
 //! and that `ReadFault` and `WriteFault` come exactly where a count of faults rose; for the bytes

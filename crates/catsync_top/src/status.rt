@@ -30,8 +30,8 @@ pub enum Status {
     #[error("want of memory")]
     NoMemory,
     /// The bytes after the script are none of its outputs, as far as the entries of these have texts: numbers of
-    /// four bytes, names as they may be, and at least one change in a write. The first entry, from 1, that may
-    /// not come there; the number after the last where all of them may, and one is missing or what follows them
+    /// four bytes, names as they may be, and at least one change in a write. The first entry, from 1, that may not
+    /// come there; the number after the last where all of them may, and one is missing or what follows them
     /// differs.
     #[error("entry {entry} differs")]
     Differs { entry: u64 },

@@ -52,8 +52,8 @@ pub const MOST_CHECKED: usize = 268_435_456;
 ///   is the first that it breaks.
 /// - `Stopped`: of `run`, only where a gate's count of stops rose.
 /// - `NoMemory`: at any point before writing.
-/// - `Differs`: of a check, exactly where what follows the script isn't an output of it whose
-///   entries have texts.
+/// - `Differs`: of a check, exactly where what follows the script isn't an output of it, of `walk` or
+///   of `run` as asked, whose entries have texts.
 /// - `Done`: the input was read to its end, and the whole output was written; for a check, what
 ///   follows the script is an output of it; for `make`, nothing was read.
 #[tactic(auto, using(crate::proofs::Gates::none_fell))]
