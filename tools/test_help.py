@@ -137,7 +137,7 @@ class Help(unittest.TestCase):
                 own = options_of(call(name, "--help")[1].decode())
                 self.assertEqual(set(in_shell(complete % (tool + " --", 1, tool))), own)
                 self.assertTrue(in_shell(". tools/completion.bash; complete -p " + tool))
-        self.assertEqual(in_shell(complete % ("./catsync ''", 1, "./catsync")), ["walk", "check", "make", "--help", "--version"])
+        self.assertEqual(in_shell(complete % ("./catsync ''", 1, "./catsync")), ["walk", "run", "check", "make", "--help", "--version"])
         self.assertEqual(in_shell(complete % ("tools/explore --picture too", 2, "tools/explore")), ["tools"])
         self.assertEqual(in_shell(complete % ("tools/explore --most ''", 2, "tools/explore")), [])
 
