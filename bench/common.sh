@@ -28,7 +28,7 @@ walk_thrice() {
     seconds=$(awk '/^[0-9.]+ [0-9.]+$/ { sum = $1 + $2; if (least == "" || sum < least) least = sum } END { print least }' <<<"$times")
 }
 
-# Runs the program with arguments on a file: what it writes goes to a second file, and its seconds and megabytes are printed.
+# Runs the program with arguments on a file: what it writes goes to a second file, and its seconds, of the processor and by the clock, and megabytes are printed.
 run_on() {
     local input=$1 written=$2
     shift 2
@@ -36,11 +36,14 @@ run_on() {
 import resource
 import subprocess
 import sys
+import time
 
 source, target, *command = sys.argv[1:]
 with open(source, "rb") as script, open(target, "wb") as written:
+    began = time.monotonic()
     status = subprocess.run(command, stdin=script, stdout=written, check=False).returncode
+    clock = time.monotonic() - began
 used = resource.getrusage(resource.RUSAGE_CHILDREN)
-print(f"status {status}, {used.ru_utime + used.ru_stime:.2f} seconds, {used.ru_maxrss / 1024:.0f} MB")
+print(f"status {status}, {used.ru_utime + used.ru_stime:.2f} seconds of the processor, {clock:.2f} by the clock, {used.ru_maxrss / 1024:.0f} MB")
 PYTHON
 }

@@ -417,12 +417,13 @@ class Maker:
             items += [(backend, MOST_STEPS // backends) for backend in range(1, backends + 1)]
         return ["%d" % b if n == 1 else "%d*%d" % (b, n) for b, n in items]
 
-    def script(self):
+    def script(self, backends):
         """The script as text."""
         lines = []
         if self.laps or self.chance(0.2):
             lines.append("ring 64" if self.chance(0.8) else "ring " + self.draw.choice(("64 from 16777213", "128", "64 from 5")))
-        backends = self.draw.choice((1, 2, 2, 3, 4, 6))
+        drawn = self.draw.choice((1, 2, 2, 3, 4, 6))
+        backends = backends or drawn
         begun = self.beginning()
         sessions = [(b, self.session()) for b in self.draw.sample(range(1, backends + 1), backends)]
         commands = [(1, begun)] + sorted(sessions)
@@ -447,9 +448,9 @@ class Maker:
         return line + self.draw.choice(("", "", " ", "\r"))
 
 
-def script_of(seed):
-    """The script of a seed."""
-    return Maker(seed).script()
+def script_of(seed, backends=None):
+    """The script of a seed, with so many backends; how many is drawn if left out."""
+    return Maker(seed).script(backends)
 
 
 if __name__ == "__main__":
