@@ -43,7 +43,7 @@ fn each_backend_of_a_run_answers_all_its_commands(rt: HostRuntime) -> Result<(),
     if let Some(ran) = made {
         assert!(rt; ran.backends.as_slice().len() == 2 && ran.lines.as_slice().len() == 5);
         for line in ran.lines.as_slice() {
-            assert!(rt; line.text.as_bytes() == b"ok");
+            assert!(rt; line.text.as_bytes() == b"ok".as_slice());
         }
     }
     Ok(())

@@ -1,6 +1,5 @@
 pub mod Words
 pub mod Gates
-pub mod Asked
 pub mod Written
 pub mod Readable
 pub mod Checked

@@ -7,12 +7,6 @@ use Rattle.std.proofs.lemmas.Slice.Eq.{bytes_eq-Decides}
 same_word : (seen wanted given : List ℕ) (same : Bool) → seen ≡ given → same ≡ bytes_eq seen wanted → same ≡ true → given ≡ wanted
 same_word seen wanted given same read test is = sym read ∙ (bytes_eq-Decides seen wanted).0 (sym test ∙ is)
 
--- the one word of a list
-pub the_one : {X : Type 0} (text : X → List ℕ) (words : List X) (word : X) (seen : List ℕ) → 1 ≤ length words → length words < 2 → word ≡ get_or words 0 word → seen ≡ text word → map text words ≡ seen ∷ []
-the_one text [] word seen some few is read = absurd (omega (arith, some))
-the_one text (x ∷ []) word seen some few is read = ap (λ t. t ∷ []) (ap text (sym is) ∙ sym read)
-the_one text (x ∷ y ∷ words) word seen some few is read = absurd (omega (arith, few))
-
 -- a list of two whose first word is the one that is wanted
 pub first_asked : {X : Type 0} (text : X → List ℕ) (words : List X) (first second : X) (seen wanted seen' : List ℕ) (same : Bool) → 2 ≤ length words → length words < 3 → first ≡ get_or words 0 first → second ≡ get_or words 1 second
     → seen ≡ text first → same ≡ bytes_eq seen wanted → same ≡ true → seen' ≡ text second → map text words ≡ wanted ∷ seen' ∷ []

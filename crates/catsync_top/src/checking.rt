@@ -20,6 +20,7 @@ pub(crate) fn check_output<S: Source, K: Sink>(
     sink: &mut K,
 ) -> Status
     ensures accepted { result ≢ Status.Usage }
+    ensures never_stopped { result ≢ Status.Stopped }
     ensures done { result ≡ Status.Done → HasFound kind (S.left source.old) (S.left source.new) (K.taken sink.old) (K.taken sink.new) Grows }
     ensures write_front { result ≡ Status.WriteFault → HasFound kind (S.left source.old) (S.left source.new) (K.taken sink.old) (K.taken sink.new) GrowsByFront }
     ensures differs { IfDiffers result (HasDiffered kind (S.left source.old) (S.left source.new)) }

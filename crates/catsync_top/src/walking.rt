@@ -23,6 +23,7 @@ pub(crate) fn walk_script<S: Source, K: Sink>(
 ) -> Status
     requires { sessions.old.items ≡ [] }
     ensures accepted { result ≢ Status.Usage }
+    ensures never_stopped { result ≢ Status.Stopped }
     ensures done { result ≡ Status.Done → Ran kinds.Walk (S.left source.old) (S.left source.new) (K.taken sink.old) (K.taken sink.new) Grows sessions.new.items }
     ensures write_front { result ≡ Status.WriteFault → Ran kinds.Walk (S.left source.old) (S.left source.new) (K.taken sink.old) (K.taken sink.new) GrowsByFront sessions.new.items }
     ensures nothing { result ≢ Status.Done → result ≢ Status.WriteFault → K.taken sink.new ≡ K.taken sink.old }
