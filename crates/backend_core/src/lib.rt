@@ -45,8 +45,7 @@
 //! ```
 //!
 //! Where backends share their segment by turns, a backend looks between two of its own by its word alone, and
-//! hands these looks over in its next turn (`src/turns.rt`, `specs/Apart.antt`). Nothing calls that yet: it
-//! waits for threads.
+//! hands these looks over in its next turn (`src/turns.rt`, `specs/Apart.antt`).
 //!
 //! Different from the server: a request for a lock never waits, and scans are kept one by one, not a
 //! descriptor as a whole.

@@ -3,7 +3,6 @@
 pub enum CheckKind {
     /// `walk`: the backends' entries come by the script's schedule.
     Walk,
-    /// `run`: the entries come in any order, each backend's to its stop. No word of the program makes
-    /// such an output yet.
+    /// `run`: the entries come in any order, each backend's to its stop.
     Run,
 }
