@@ -158,7 +158,7 @@ module _ {V F E : Type 0} (fixed : V → F) (history : V → List E) (owner : E 
       (passes fixed history owner waiting room setup slots id (opened v (words_in m.0.stage) (noted_in m.0.stage)) p.0 x same (subst (λ n. Grew owner n (history v) (history x)) seat grew)
       (subst (λ n. (k : ℕ) → k ≢ n → room v k ≤ room x k) seat rooms) exact)
 
-  -- the pass that comes back
+  -- the pass that comes back, once a bell rang
   pub record Rested (m : Mine) (x : V) (number : ℕ) (m' : Mine) : Type 0 where
     pub rests : m' ≡ at_rest m'
     pub one : length m'.0.parts ≡ 1
@@ -168,12 +168,12 @@ module _ {V F E : Type 0} (fixed : V → F) (history : V → List E) (owner : E 
     pub room_is : room_in m'.0.parts ≡ room x number
     pub told : told_in m'.0.parts ≡ false
 
-  pub rested : (m m' m'' : Mine) (r : ℕ) (v x : V) (number : ℕ) (one : length m.0.parts ≡ 1) → m ≡ in_turn v m → m' ≡ (m.0, (0, Some x) ∷ rest m.1) → seat_in m.0.parts ≡ number
-      → passed fixed history owner waiting room (step 0 0 0 0 none) m' r m'' → Rested m x number m''
-  rested m m' m'' r v x number one is now at h =
+  pub rested : (m m' m'' after : Mine) (r : ℕ) (v x : V) (number : ℕ) (one : length m.0.parts ≡ 1) → m ≡ in_turn v m → m' ≡ (m.0, (0, Some x) ∷ rest m.1) → seat_in m.0.parts ≡ number
+      → passed fixed history owner waiting room (step 0 0 0 0 none) m' r m'' → after ≡ m'' → Rested m x number after
+  rested m m' m'' after r v x number one is now at h rung =
       let p = single m.0.parts one in
       let seat : p.0.seat ≡ number = ap seat_in (sym p.1) ∙ at in
-      let e = h (opened v (words_in m.0.stage) (noted_in m.0.stage)) p.0 x (hands m m' v x one is now) in
+      let e = rung ∙ h (opened v (words_in m.0.stage) (noted_in m.0.stage)) p.0 x (hands m m' v x one is now) in
       record {
         rests = e ∙ ap at_rest (sym e);
         one = ap (λ (y : Mine). length y.0.parts) e;

@@ -1,7 +1,8 @@
 -- Seats are split before the first turn, and joined after the last.
-use Rattle.std.proofs.Common.{◌≡◌, ◌≢◌, ◌⊎◌, ℕ, zero, suc, ◌+◌, ◌-◌, ◌<◌, ◌≤◌, eqb, cond, Bool, false, List, [], ◌∷◌, ◌++◌, length, map, replicate, get_or, set, sym, refl, ap, ◌∙◌, subst, inl, inr, ⊎_elim, arith, eq-eqb, ne_eqb, length-set, length-append, le_refl, true≢false, Option, Some}
+use Rattle.std.proofs.Common.{◌≡◌, ◌≢◌, ◌⊎◌, ℕ, zero, suc, ◌+◌, ◌*◌, ◌-◌, ◌<◌, ◌≤◌, eqb, cond, Bool, false, List, [], ◌∷◌, ◌++◌, length, map, replicate, get_or, set, sym, refl, ap, ◌∙◌, subst, inl, inr, ⊎_elim, arith, eq-eqb, ne_eqb, length-set, length-append, le_refl, true≢false, Option, Some}
 use mathlib.Core.Option.{some, none, some-ne-none, some-injective}
 use mathlib.Core.Option as maybe
+use Rattle.std.proofs.lemmas.List.{replicate-append-replicate}
 use lib.ListN.{get_elem?, length-replicate, length-map}
 use mathlib.Core.List.{map-append}
 use Rattle.atomic_table.specs.Table.{State, Me, Splits, Joins, opening, Final, Seen}
@@ -107,6 +108,7 @@ module _ {V F E : Type 0} (fixed : V → F) (history : V → List E) (owner : E 
       let sit = ok.sits.0 in
       record {
         core = c';
+        bells = k.bells;
         words_are = k.words_are;
         slot_is = k.slot_is;
         wide = k.wide;
@@ -148,6 +150,7 @@ module _ {V F E : Type 0} (fixed : V → F) (history : V → List E) (owner : E 
       let theirs = k.each_view other w there' in
       record {
         core = c';
+        bells = k.bells;
         words_are = k.words_are;
         slot_is = k.slot_is;
         wide = k.wide;
@@ -224,9 +227,10 @@ module _ {V F E : Type 0} (fixed : V → F) (history : V → List E) (owner : E 
   })
 
   pub starts : (setup : Setup V) → setup.seats ≤ 64 → ((k : ℕ) → 0 < k → k ≤ setup.seats → waiting (history setup.start.value) k ≡ false)
-      → Rule setup (opening (0 ∷ 0 ∷ replicate setup.seats 0) (Some setup.start.value ∷ []) (first_view fixed history owner waiting room setup))
+      → Rule setup (opening (0 ∷ 0 ∷ (replicate setup.seats 0 ++ replicate setup.seats 0)) (Some setup.start.value ∷ []) (first_view fixed history owner waiting room setup))
   starts setup few quiet = record {
     core = starting setup;
+    bells = replicate setup.seats 0;
     words_are = refl;
     slot_is = refl;
     wide = length-replicate setup.seats 0;
@@ -287,11 +291,11 @@ module _ {V F E : Type 0} (fixed : V → F) (history : V → List E) (owner : E 
         seen = each_map (R c.last c.words c.noted) (λ p. Follows owner p.seat p.seen (history c.last) × (p.room ≤ room c.last p.seat)) ps (λ p r. (r.seen, r.roomy)) (k.each_view id (view_of Resting ps) f.1.1).knows;
       }
 
-  pub starts_as : (setup : Setup V) (v : V) (ws : List ℕ) (xs : List (Option V)) → setup.start.value ≡ v → ws ≡ replicate (setup.seats + 2) 0 → xs ≡ Some v ∷ [] → setup.seats ≤ 64
+  pub starts_as : (setup : Setup V) (v : V) (ws : List ℕ) (xs : List (Option V)) → setup.start.value ≡ v → ws ≡ replicate (2 * setup.seats + 2) 0 → xs ≡ Some v ∷ [] → setup.seats ≤ 64
       → ((k : ℕ) → 0 < k → k ≤ setup.seats → waiting (history v) k ≡ false) → Rule setup (opening ws xs (first_view fixed history owner waiting room setup))
   starts_as setup v ws xs is words slots few quiet =
-      let up : setup.seats + 2 ≡ suc (suc setup.seats) = omega arith in
-      let ws' : ws ≡ 0 ∷ 0 ∷ replicate setup.seats 0 = words ∙ ap (λ n. replicate n 0) up in
+      let up : 2 * setup.seats + 2 ≡ suc (suc (setup.seats + setup.seats)) = omega arith in
+      let ws' : ws ≡ 0 ∷ 0 ∷ (replicate setup.seats 0 ++ replicate setup.seats 0) = words ∙ (ap (λ n. replicate n 0) up ∙ ap (λ (l : List ℕ). 0 ∷ 0 ∷ l) (sym (replicate-append-replicate setup.seats setup.seats 0))) in
       let xs' : xs ≡ Some setup.start.value ∷ [] = slots ∙ ap (λ (x : V). Some x ∷ []) (sym is) in
       subst (λ (y : List ℕ × List (Option V)). Rule setup (opening y.0 y.1 (first_view fixed history owner waiting room setup))) (λ i. (sym ws' i, sym xs' i))
       (starts setup few (λ k low high. ap (λ (x : V). waiting (history x) k) is ∙ quiet k low high))

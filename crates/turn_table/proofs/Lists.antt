@@ -1,5 +1,6 @@
 -- Lists of views, words and entries.
 use Rattle.std.proofs.Common.{◌≡◌, ◌≢◌, ℕ, zero, suc, ◌+◌, ◌-◌, ◌<◌, ◌≤◌, Bool, List, [], ◌∷◌, ◌++◌, length, get_or, set, sym, refl, ap, ◌∙◌, subst, ⊎_elim, arith, append_assoc, append-nil, get_or-set_other, get_or-set_same, zero-le}
+use Rattle.std.proofs.lemmas.List.{get_or_append_left, set-append_left, set-append_right}
 use mathlib.Core.Option.{some, some-ne-none, some-injective}
 use lib.ListN.{get_elem?}
 use Rattle.atomic_table.proofs.Lists.{at_set}
@@ -71,14 +72,21 @@ word_here ws k n low high = get_or-set_same ws (k - 1) n 0 (omega arith)
 pub word_else : (ws : List ℕ) (k j n : ℕ) → 0 < k → 0 < j → j ≢ k → word_of (set_word ws k n) j ≡ word_of ws j
 word_else ws k j n low low' apart = get_or-set_other ws (k - 1) (j - 1) n 0 (λ e. apart (omega arith))
 
--- the words of the table are two, and then those of the seats
-pub get_seat : (a b : ℕ) (ws : List ℕ) (k : ℕ) → 0 < k → get_or (a ∷ b ∷ ws) (k + 1) 0 ≡ word_of ws k
-get_seat a b ws zero low = absurd (omega arith)
-get_seat a b ws (suc k) low = let up : suc k + 1 ≡ suc (suc k) = omega arith in let down : suc k - 1 ≡ k = omega arith in rw (up, down) refl
+-- the words of the table are two, then those of the seats, and then the bells
+pub get_seat : (a b : ℕ) (ws bells : List ℕ) (k : ℕ) → 0 < k → k ≤ length ws → get_or (a ∷ b ∷ (ws ++ bells)) (k + 1) 0 ≡ word_of ws k
+get_seat a b ws bells zero low high = absurd (omega arith)
+get_seat a b ws bells (suc k) low high =
+    let up : suc k + 1 ≡ suc (suc k) = omega arith in let down : suc k - 1 ≡ k = omega arith in rw (up, down) (get_or_append_left ws bells 0 k (omega arith))
 
-pub set_seat : (a b : ℕ) (ws : List ℕ) (k n : ℕ) → 0 < k → set (a ∷ b ∷ ws) (k + 1) n ≡ a ∷ b ∷ set_word ws k n
-set_seat a b ws zero n low = absurd (omega arith)
-set_seat a b ws (suc k) n low = let up : suc k + 1 ≡ suc (suc k) = omega arith in let down : suc k - 1 ≡ k = omega arith in rw (up, down) refl
+pub set_seat : (a b : ℕ) (ws bells : List ℕ) (k n : ℕ) → 0 < k → k ≤ length ws → set (a ∷ b ∷ (ws ++ bells)) (k + 1) n ≡ a ∷ b ∷ (set_word ws k n ++ bells)
+set_seat a b ws bells zero n low high = absurd (omega arith)
+set_seat a b ws bells (suc k) n low high =
+    let up : suc k + 1 ≡ suc (suc k) = omega arith in let down : suc k - 1 ≡ k = omega arith in rw (up, down) (ap (λ l. a ∷ b ∷ l) (set-append_left ws bells k n (omega arith)))
+
+pub set_bell : (a b : ℕ) (ws bells : List ℕ) (i n : ℕ) → length ws + 2 ≤ i → (bells' : List ℕ) × (set (a ∷ b ∷ (ws ++ bells)) i n ≡ a ∷ b ∷ (ws ++ bells'))
+set_bell a b ws bells zero n low = absurd (omega arith)
+set_bell a b ws bells (suc zero) n low = absurd (omega arith)
+set_bell a b ws bells (suc (suc i)) n low = (set bells (i - length ws) n, ap (λ l. a ∷ b ∷ l) (set-append_right ws bells (length ws) i n refl (omega arith)))
 
 -- the same of the seats, counted otherwise
 pub told_seats : {E : Type 0} (waiting : List E → ℕ → Bool) (history : List E) (words : List ℕ) (seats : ℕ) → length words ≡ seats → TellExactly waiting history words

@@ -1,5 +1,5 @@
 -- AllByRecursion step keeps the rule.
-use Rattle.std.proofs.Common.{◌≡◌, ◌≢◌, ◌⊎◌, ℕ, ◌+◌, ◌-◌, ◌%◌, ◌^◌, ◌<◌, ◌≤◌, eqb, cond, Bool, true, false, List, [], ◌∷◌, length, get_or, set, sym, refl, ap, ◌∙◌, subst, inl, inr, ⊎_elim, arith, eq-eqb, ne_eqb, length-set, zero-le, le_trans, le_refl, true≢false, Option, Some, None}
+use Rattle.std.proofs.Common.{◌≡◌, ◌≢◌, ◌⊎◌, ℕ, ◌+◌, ◌-◌, ◌%◌, ◌^◌, ◌<◌, ◌≤◌, eqb, cond, Bool, true, false, List, [], ◌∷◌, ◌++◌, length, get_or, set, sym, refl, ap, ◌∙◌, subst, inl, inr, ⊎_elim, arith, eq-eqb, ne_eqb, length-set, zero-le, le_trans, le_refl, true≢false, Option, Some, None}
 use mathlib.Core.Logic.{dite}
 use mathlib.Core.Option.{some, none, some-ne-none, some-injective}
 use mathlib.Core.Option as maybe
@@ -19,8 +19,8 @@ use Rattle.turn_table.specs.Words.{bit, word_of, set_word}
 use Rattle.std.specs.List.{AllByRecursion}
 use Rattle.turn_table.specs.Kept.{Core, home, Noted, Rests, Knows, Sits, ViewOk, Kept}
 use Rattle.turn_table.specs.Views.{view_of, tickets_in, tickets, places, IsInTurn, part, opened}
-use Rattle.turn_table.specs.Plays.{Opens, served, passed, raised, looked, drew, lowered}
-use Rattle.turn_table.proofs.Lists.{set_there, total_set, total_le, stay, each_and, follows_same, follows_more, word_here, word_else, get_seat, set_seat}
+use Rattle.turn_table.specs.Plays.{Opens, served, passed, raised, looked, drew, rang, lowered}
+use Rattle.turn_table.proofs.Lists.{set_there, total_set, total_le, stay, each_and, follows_same, follows_more, word_here, word_else, get_seat, set_seat, set_bell}
 
 -- the function with x at k
 abbrev pub put : (ℕ → ℕ) → ℕ → ℕ → ℕ → ℕ
@@ -110,7 +110,7 @@ module _ {V F E : Type 0} (fixed : V → F) (history : V → List E) (owner : E 
 
   -- a step of the seat me, which leaves the core c and the view w
   moves : (setup : Setup V) (s : St) (k : Rule setup s) (c : Core V E) (words' : List ℕ) (homes' : List (maybe.Option (Option V))) (me : ℕ) (v w : D) → get_elem? s.views me ≡ some v
-      → words' ≡ c.ticket % 2 ^ 64 ∷ c.serving % 2 ^ 64 ∷ c.words → homes' ≡ home c.out c.last ∷ [] → length c.words ≡ setup.seats
+      → words' ≡ c.ticket % 2 ^ 64 ∷ c.serving % 2 ^ 64 ∷ (c.words ++ k.bells) → homes' ≡ home c.out c.last ∷ [] → length c.words ≡ setup.seats
       → c.serving + tickets w + k.core.ticket ≡ c.ticket + tickets v + k.core.serving → places w ≡ places v → fixed c.last ≡ fixed setup.start.value
       → (c.out ≡ none → (j : ℕ) → 0 < j → j ≤ setup.seats → word_of c.words j ≡ bit (waiting (history c.last) j)) → (c.out ≡ none → c.noted ≡ [])
       → ((id : ℕ) → c.out ≡ some id → (d : D) × (get_elem? (set s.views me w) id ≡ some d) × IsInTurn d.stage)
@@ -118,6 +118,7 @@ module _ {V F E : Type 0} (fixed : V → F) (history : V → List E) (owner : E 
       → Rule setup record { words = words'; homes = homes'; views = set s.views me w }
   moves setup s k c words' homes' me v w at ws hs wide balance sits same exact quiet turn mine others = record {
     core = c;
+    bells = k.bells;
     words_are = ws;
     slot_is = hs;
     wide = wide;
@@ -164,7 +165,7 @@ module _ {V F E : Type 0} (fixed : V → F) (history : V → List E) (owner : E 
         keeps,
         tt,
         moves setup s k (drawing c id) _ _ id v w at
-            (ap (λ (l : List ℕ). set l 0 ((get_or l 0 0 + 1) % 2 ^ 64)) k.words_are ∙ ap (λ (x : ℕ). x ∷ c.serving % 2 ^ 64 ∷ c.words) (let e : (c.ticket % 2 ^ 64 + 1) % 2 ^ 64 ≡ (c.ticket + 1) % 2 ^ 64 = omega arith in e))
+            (ap (λ (l : List ℕ). set l 0 ((get_or l 0 0 + 1) % 2 ^ 64)) k.words_are ∙ ap (λ (x : ℕ). x ∷ c.serving % 2 ^ 64 ∷ (c.words ++ k.bells)) (let e : (c.ticket % 2 ^ 64 + 1) % 2 ^ 64 ≡ (c.ticket + 1) % 2 ^ 64 = omega arith in e))
             k.slot_is k.wide (omega arith) refl k.same k.exact k.quiet
             (turn_stays s.views id v w at (λ z. z) c.out k.in_turn)
             (record { sits = ok.sits; distinct = ok.distinct; knows = ((p, refl), ok.knows, omega arith, omega arith, put_here c.drawer c.ticket id) })
@@ -334,12 +335,41 @@ module _ {V F E : Type 0} (fixed : V → F) (history : V → List E) (owner : E 
         gives,
         tt,
         moves setup s k (passing c v) _ _ id u w at
-            (ap (λ (l : List ℕ). set l 1 ((get_or l 1 0 + 1) % 2 ^ 64)) k.words_are ∙ ap (λ (x : ℕ). c.ticket % 2 ^ 64 ∷ x ∷ c.words) (let e : (c.serving % 2 ^ 64 + 1) % 2 ^ 64 ≡ (c.serving + 1) % 2 ^ 64 = omega arith in e))
+            (ap (λ (l : List ℕ). set l 1 ((get_or l 1 0 + 1) % 2 ^ 64)) k.words_are ∙ ap (λ (x : ℕ). c.ticket % 2 ^ 64 ∷ x ∷ (c.words ++ k.bells)) (let e : (c.serving % 2 ^ 64 + 1) % 2 ^ 64 ≡ (c.serving + 1) % 2 ^ 64 = omega arith in e))
             (ap (λ (l : List (maybe.Option (Option V))). set l 0 (some (Some v))) k.slot_is) k.wide (omega arith) refl (stays ∙ (ap fixed is ∙ k.same))
             (λ _. g.exact) (λ _. refl) (λ j e. absurd (some-ne-none j (sym e)))
             (record { sits = (sit, tt); distinct = (tt, tt); knows = (resting setup c.words v p.setup p.seat sit.1 sit.2 g.exact, tt) })
             (λ j d other e x. record { sits = x.sits; distinct = x.distinct; knows = others_pass setup c id j p.seat v d.parts d.stage other kn.1 kn.4 sit.3 g x.sits x.knows }),
         (let f : Mine → Mine = λ m. let q : Part V E = part_or p m.0.parts in let u : V = value_or v m.1 in (view_of Resting (part q.setup q.seat (history u) (room u q.seat) false ∷ []), []) in λ o' p' v' e. ap f e),
+      )
+
+  -- a seat rings a bell
+  pub rings : (setup : Setup V) (slots id : ℕ) (m : Mine) (word : ℕ) → setup.seats + 1 < word
+      → Allows (Rule setup) slots id m word (λ n. (n + 1) % 2 ^ 64) (rang (step slots word 1 0 none) m)
+  rings setup slots id m word high s k _ at fits =
+      let c : Core V E = k.core in
+      let wide = k.wide in
+      let n : ℕ = (get_or s.words word 0 + 1) % 2 ^ 64 in
+      let b = set_bell (c.ticket % 2 ^ 64) (c.serving % 2 ^ 64) c.words k.bells word n (omega (arith, wide, high)) in (
+        m.0,
+        keeps,
+        tt,
+        subst (λ (vs : List D). Rule setup record { words = set s.words word n; homes = s.homes; views = vs }) (sym (set_again s.views id m.0 at)) (record {
+          core = c;
+          bells = b.0;
+          words_are = ap (λ (l : List ℕ). set l word n) k.words_are ∙ b.1;
+          slot_is = k.slot_is;
+          wide = k.wide;
+          few = k.few;
+          queue = k.queue;
+          all_sit = k.all_sit;
+          same = k.same;
+          exact = k.exact;
+          quiet = k.quiet;
+          in_turn = k.in_turn;
+          each_view = k.each_view;
+        }),
+        refl,
       )
 
   -- a seat in turn raises the word of a seat, and notes a history at which something waits for it
@@ -387,7 +417,7 @@ module _ {V F E : Type 0} (fixed : V → F) (history : V → List E) (owner : E 
         keeps,
         tt,
         moves setup s kept (wording c (set_word c.words k 1) (h ∷ c.noted)) _ _ id u w at
-            (ap (λ (l : List ℕ). set l (k + 1) 1) kept.words_are ∙ set_seat (c.ticket % 2 ^ 64) (c.serving % 2 ^ 64) c.words k 1 low)
+            (ap (λ (l : List ℕ). set l (k + 1) 1) kept.words_are ∙ set_seat (c.ticket % 2 ^ 64) (c.serving % 2 ^ 64) c.words kept.bells k 1 low within)
             kept.slot_is (length-set c.words (k - 1) 1 ∙ kept.wide) (omega arith) refl kept.same
             (λ e. absurd (some-ne-none id (sym kn.1 ∙ e))) (λ e. absurd (some-ne-none id (sym kn.1 ∙ e)))
             (turn_stays s.views id u w at (λ _. tt) c.out kept.in_turn)
@@ -441,7 +471,7 @@ module _ {V F E : Type 0} (fixed : V → F) (history : V → List E) (owner : E 
         keeps,
         tt,
         moves setup s kept (wording c (set_word c.words k 0) c.noted) _ _ id u w at
-            (ap (λ (l : List ℕ). set l (k + 1) 0) kept.words_are ∙ set_seat (c.ticket % 2 ^ 64) (c.serving % 2 ^ 64) c.words k 0 low)
+            (ap (λ (l : List ℕ). set l (k + 1) 0) kept.words_are ∙ set_seat (c.ticket % 2 ^ 64) (c.serving % 2 ^ 64) c.words kept.bells k 0 low (subst (λ n. k ≤ n) (sym kept.wide) sit.2))
             kept.slot_is (length-set c.words (k - 1) 0 ∙ kept.wide) (omega arith) refl kept.same
             (λ e. absurd (some-ne-none id (sym kn.1 ∙ e))) (λ e. absurd (some-ne-none id (sym kn.1 ∙ e)))
             (turn_stays s.views id u w at (λ _. tt) c.out kept.in_turn)
@@ -466,7 +496,7 @@ module _ {V F E : Type 0} (fixed : V → F) (history : V → List E) (owner : E 
       let u : D = view_of Resting (p ∷ []) in
       let ok = kept.each_view id u at in
       let r = ok.knows.0 in
-      let found : get_or s.words (p.seat + 1) 0 ≡ word_of c.words p.seat = ap (λ (l : List ℕ). get_or l (p.seat + 1) 0) kept.words_are ∙ get_seat (c.ticket % 2 ^ 64) (c.serving % 2 ^ 64) c.words p.seat ok.sits.0.1 in
+      let found : get_or s.words (p.seat + 1) 0 ≡ word_of c.words p.seat = ap (λ (l : List ℕ). get_or l (p.seat + 1) 0) kept.words_are ∙ get_seat (c.ticket % 2 ^ 64) (c.serving % 2 ^ 64) c.words kept.bells p.seat ok.sits.0.1 (subst (λ n. p.seat ≤ n) (sym kept.wide) ok.sits.0.2) in
       let now : (told : Bool) → (told ≡ true → word_of c.words p.seat ≢ 0) → Rule setup record { words = set s.words (p.seat + 1) (get_or s.words (p.seat + 1) 0); homes = s.homes; views = set s.views id (view_of Resting (part p.setup p.seat (history c.last) p.room told ∷ [])) } =
       λ told is. let w : D = view_of Resting (part p.setup p.seat (history c.last) p.room told ∷ []) in
       moves setup s kept c _ _ id u w at (set-get_or s.words (p.seat + 1) 0 ∙ kept.words_are) kept.slot_is kept.wide (omega arith) refl kept.same kept.exact kept.quiet

@@ -1,5 +1,5 @@
 -- What holds of the table between any two steps.
-use Rattle.std.specs.Prelude.{◌≡◌, ◌≢◌, ◌⊎◌, ℕ, ◌+◌, ◌%◌, ◌^◌, ◌<◌, ◌≤◌, List, [], ◌∷◌, length, Bool, true, false, Option, Some, zero, suc}
+use Rattle.std.specs.Prelude.{◌≡◌, ◌≢◌, ◌⊎◌, ℕ, ◌+◌, ◌%◌, ◌^◌, ◌<◌, ◌≤◌, List, [], ◌∷◌, ◌++◌, length, Bool, true, false, Option, Some, zero, suc}
 use Rattle.std.specs.List.{AllByRecursion}
 use mathlib.Core.Option.{some, none}
 use mathlib.Core.Option as maybe
@@ -71,10 +71,11 @@ module _ {V F E : Type 0} (fixed : V → F) (history : V → List E) (owner : E 
     pub distinct : Distinct d.parts
     pub knows : Knows c id d.parts d.stage
 
-  -- what holds between any two steps; `queue`: the tickets not served yet are those that views have
+  -- what holds between any two steps; `queue`: the tickets not served yet are those that views have; nothing is said of the bells
   pub record Kept (setup : Setup V) (s : State (Option V) (View V E)) : Type 0 where
     pub core : Core V E
-    pub words_are : s.words ≡ core.ticket % 2 ^ 64 ∷ core.serving % 2 ^ 64 ∷ core.words
+    pub bells : List ℕ
+    pub words_are : s.words ≡ core.ticket % 2 ^ 64 ∷ core.serving % 2 ^ 64 ∷ (core.words ++ bells)
     pub slot_is : s.homes ≡ home core.out core.last ∷ []
     pub wide : length core.words ≡ setup.seats
     pub few : setup.seats ≤ 64

@@ -52,6 +52,10 @@ module _ {V E : Type 0} where
   abbrev pub drew : Step (Option V) → Me (Option V) (View V E) → ℕ → Me (Option V) (View V E) → Type 0
   drew st m r m' = (t : ℕ) × (r ≡ t % 2 ^ 64) × (m' ≡ (view_of (Drawn t) m.0.parts, m.1))
 
+  -- a bell rang, and the seat is as it was
+  abbrev pub rang : Step (Option V) → Me (Option V) (View V E) → ℕ → Me (Option V) (View V E) → Type 0
+  rang st m r m' = m' ≡ m
+
   -- the word is 0
   abbrev pub lowered : Step (Option V) → Me (Option V) (View V E) → ℕ → Me (Option V) (View V E) → Type 0
   lowered st m r m' = (o : Opened V E) (ps : List (Part V E)) → m.0 ≡ view_of (InTurn o) ps → m' ≡ (view_of (InTurn (opened o.value (set_word o.words (st.word - 1) 0) o.noted)) ps, m.1)

@@ -1,5 +1,5 @@
 //! What each step tells.
-ghost use Rattle.turn_table.specs.Plays.{drew, served, raised, lowered, passed, looked};
+ghost use Rattle.turn_table.specs.Plays.{drew, served, raised, lowered, passed, rang, looked};
 ghost use Rattle.turn_table.specs.Views.{first_part, other_parts, both_parts, spent};
 
 use crate::turned::Turned;
@@ -22,6 +22,12 @@ pub(crate) struct PassOn;
 
 impl<V: Turned> Play<Option<V>, View<V, V::Entry>> for PassOn {
     ghost then = { passed V.fixed V.history V.owner V.waiting V.room };
+}
+
+pub(crate) struct Ring;
+
+impl<V, E> Play<Option<V>, View<V, E>> for Ring {
+    ghost then = { rang };
 }
 
 pub(crate) struct Raise;

@@ -1,4 +1,5 @@
 //! The rule of the table. Word 0 is the next ticket, word 1 the ticket that is served, and word `k + 1` that of seat `k`.
+//! As many bells come after these; the rule says nothing of them.
 use crate::turned::Turned;
 use crate::view::{Setup, View};
 use atomic_table::TableRule;

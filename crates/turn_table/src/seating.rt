@@ -1,5 +1,5 @@
 //! How the seats of a table are made, dealt out as passes, and gathered in again.
-ghost use Rattle.std.specs.Prelude.{◌≡◌, ℕ, ◌+◌, ◌<◌, ◌≤◌, [], false, IfOk, length, map, vec_len, vec_capacity};
+ghost use Rattle.std.specs.Prelude.{◌≡◌, ℕ, ◌+◌, ◌*◌, ◌<◌, ◌≤◌, [], false, IfOk, length, map, vec_len, vec_capacity};
 ghost use Rattle.std.specs.List.{AllByRecursion};
 ghost use Rattle.turn_table.specs.declared.view.Stage.TheVariants.{Resting};
 ghost use Rattle.turn_table.specs.Views.{view_of, at_rest, AllIn};
@@ -30,14 +30,14 @@ pub(crate) fn lay<V: Turned>(
     requires seats { seats ≤ 64 }
     requires quiet { (k : ℕ) → 0 < k → k ≤ seats → V.waiting (V.history value) k ≡ false }
     ensures told { IfOk result (λ r. (r.0.shared.key.seats ≡ seats) × (r.0.shared.key.start.value ≡ value)) }
-    ensures size { IfOk result (λ r. (r.0.shared.table_id.words ≡ seats + 2) × (r.0.shared.table_id.slots ≡ 1)) }
+    ensures size { IfOk result (λ r. (r.0.shared.table_id.words ≡ 2 * seats + 2) × (r.0.shared.table_id.slots ≡ 1)) }
     ensures seat { IfOk result (λ r. (r.1.table_id ≡ r.0.shared.table_id) × (r.1.me ≡ (first_view V.fixed V.history V.owner V.waiting V.room r.0.shared.key, []))) }
 {
     let setup = Setup {
         start: Snapshot::of(&value),
         seats: seats as u64,
     };
-    let words = Vec::from_elem(alloc, 0u64, seats as usize + 2)?;
+    let words = Vec::from_elem(alloc, 0u64, 2 * seats as usize + 2)?;
     let mut slots = Vec::with_capacity(alloc, 1)?;
     slots.push_reserved(Some(value));
     match Table::new(alloc, words.as_slice(), slots, &setup) {
@@ -54,7 +54,7 @@ pub(crate) fn deal<V: Turned>(
     mut passes: Vec<Pass<V>>,
 ) -> Vec<Pass<V>>
     requires seat { (seat.table_id ≡ shared.now.table_id) × (seat.me ≡ (view_of Resting (parts_from V.fixed V.history V.owner V.waiting V.room shared.now.key 1 seats), [])) }
-    requires size { (shared.now.table_id.words ≡ seats + 2) × (0 < seats) }
+    requires size { (shared.now.table_id.words ≡ 2 * seats + 2) × (0 < seats) }
     requires spare { (passes.items ≡ []) × (vec_len passes ≡ 0) × (seats ≤ vec_capacity passes) }
     ensures { (length result.items ≡ seats) × Numbered V.history V.room shared.now.table_id shared.now.key 1 (map (λ p. (p.number, p.seat)) result.items) }
 {

@@ -1,7 +1,7 @@
-ghost use Rattle.std.specs.Prelude.{◌≡◌, ◌+◌, ◌<◌, ◌≤◌};
+ghost use Rattle.std.specs.Prelude.{◌≡◌, ◌+◌, ◌*◌, ◌%◌, ◌<◌, ◌≤◌};
 
 use crate::pass::Pass;
-use crate::plays::{Draw, Look, PassOn, Serve};
+use crate::plays::{Draw, Look, PassOn, Ring, Serve};
 use crate::rule::Turns;
 use crate::seating::{deal, gather, lay};
 use crate::turn::Turn;
@@ -12,7 +12,7 @@ use std::alloc::{AllocError, Global};
 use std::snapshot::Snapshot;
 use std::sync::Wait;
 
-// The words: the next ticket, the one that is served, and then that of each seat.
+// The words: the next ticket, the one that is served, that of each seat, and then as many bells.
 const TICKET: usize = 0;
 
 const SERVING: usize = 1;
@@ -23,7 +23,7 @@ pub struct TurnTable<V: Turned> {
     pub table: Table<Option<V>, View<V, V::Entry>, Setup<V>, Turns, Global>,
     count: u32,
     ghost counted: { (count ≡ table.shared.key.seats) × (0 < count) × (count ≤ 64) },
-    ghost sized: { (table.shared.table_id.words ≡ table.shared.key.seats + 2) × (table.shared.table_id.slots ≡ 1) × (0 < table.shared.key.seats) },
+    ghost sized: { (table.shared.table_id.words ≡ 2 * table.shared.key.seats + 2) × (table.shared.table_id.slots ≡ 1) × (0 < table.shared.key.seats) },
 }
 
 impl<V: Turned> TurnTable<V> {
@@ -64,6 +64,15 @@ impl<V: Turned> TurnTable<V> {
         self.count
     }
 
+    // The word that is the bell of a ticket. No two tickets that wait share one, since at most as many as there are seats are out.
+    fn bell(&self, ticket: u64) -> usize
+        ensures bell { result ≡ seats_of self.now + 2 + ticket % seats_of self.now }
+        ensures within { (seats_of self.now + 1 < result) × (result < self.now.table.shared.table_id.words) }
+    {
+        let seats = self.count as u64;
+        (seats + 2 + ticket % seats) as usize
+    }
+
     /// Waits until all turns that were asked for before are closed, and gives the value.
     pub fn open<'a, R: Wait>(&'a self, rt: &R, pass: Pass<V>) -> Turn<'a, V>
         requires of { IsPassOf self.now pass }
@@ -79,7 +88,10 @@ impl<V: Turned> TurnTable<V> {
         let Pass { number, mut seat } = pass;
         let shared = &self.table.shared;
         let ticket = shared.fetch_add::<Draw>(&mut seat, TICKET, 1);
+        let bell = self.bell(ticket);
         for _ in rt.forever() {
+            // read before the served ticket: where a close comes between, the bell rings, and the thread doesn't park
+            let heard = shared.peek(bell);
             let serving = shared.load::<Serve>(&mut seat, SERVING);
             if serving == ticket {
                 let value = shared.exchange(&mut seat, 0, None).unwrap();
@@ -93,7 +105,7 @@ impl<V: Turned> TurnTable<V> {
                 };
             }
             // a wait looks at the low 32 bits of a word
-            shared.park(rt, SERVING, (serving % (1 << 32)) as u32);
+            shared.park(rt, bell, (heard % (1 << 32)) as u32);
         }
         unreachable!()
     }
@@ -122,8 +134,10 @@ impl<V: Turned> TurnTable<V> {
         let shared = &self.table.shared;
         let empty = shared.exchange(&mut seat, 0, Some(value));
         let None = empty else { unreachable!() };
-        shared.fetch_add::<PassOn>(&mut seat, SERVING, 1);
-        shared.wake_all(SERVING);
+        let served = shared.fetch_add::<PassOn>(&mut seat, SERVING, 1);
+        let bell = self.bell(served.wrapping_add(1));
+        shared.fetch_add::<Ring>(&mut seat, bell, 1);
+        shared.wake_one(bell);
         Pass { number, seat }
     }
 

@@ -1,4 +1,4 @@
-ghost use Rattle.std.specs.Prelude.{◌≡◌, ◌+◌, ◌<◌, [], ◌∷◌, length};
+ghost use Rattle.std.specs.Prelude.{◌≡◌, ◌+◌, ◌*◌, ◌<◌, [], ◌∷◌, length};
 ghost use Rattle.turn_table.specs.Views.{seat_in, words_in, setups, in_turn};
 
 use crate::plays::{Lower, Raise};
@@ -20,7 +20,7 @@ pub struct Turn<'a, V: Turned> {
     ghost turns: { seat.me ≡ in_turn opened.value seat.me },
     ghost one: { (length seat.me.0.parts ≡ 1) × (seat_in seat.me.0.parts ≡ number) },
     ghost fits: { (0 < number) × (number + 1 < seat.table_id.words) },
-    ghost wide: { length (words_in seat.me.0.stage) + 2 ≡ seat.table_id.words },
+    ghost wide: { 2 * length (words_in seat.me.0.stage) + 2 ≡ seat.table_id.words },
     ghost of: { (seat.table_id ≡ table.now.table.shared.table_id) × (setups seat.me.0.parts ≡ table.now.table.shared.key ∷ []) },
 }
 

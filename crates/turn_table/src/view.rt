@@ -21,8 +21,8 @@ pub struct Part<V, E> {
     pub told: bool,
 }
 
-/// An open turn: the value with which it was opened, the words as they are, and the histories that it
-/// noted as it raised words.
+/// An open turn: the value with which it was opened, the words of the seats as they are, and the histories
+/// that it noted as it raised words.
 pub struct Opened<V, E> {
     pub value: V,
     pub words: LinkedList<u64>,

@@ -1,4 +1,4 @@
-use Rattle.std.proofs.Common.{length, length-set, refl, ◌<◌, ◌+◌, ◌∙◌, sym, ap, subst}
+use Rattle.std.proofs.Common.{length, length-set, refl, ◌<◌, ◌+◌, ◌*◌, ◌∙◌, sym, ap, subst}
 use Rattle.turn_table.specs.Views.{seat_in, setups}
 use Rattle.turn_table.proofs.Calls.{lowers_as, lowered_of}
 use Rattle.turn_table.proofs.turn.Turn.lower.Goals as goal
@@ -14,7 +14,7 @@ invariant_of-self g c = let V = g.V.Turned in let t = c.args.self.now in let e =
       turns = h.is;
       one = (ap (λ ps. length ps) h.parts ∙ t.one.0, ap seat_in h.parts ∙ t.one.1);
       fits = (t.fits.0, subst (λ z. t.number + 1 < z.words) (sym e.0) t.fits.1);
-      wide = ap (λ l. length l + 2) h.words_are ∙ (ap (λ n. n + 2) (length-set _ _ _) ∙ (t.wide ∙ ap (λ z. z.words) (sym e.0)));
+      wide = ap (λ l. 2 * length l + 2) h.words_are ∙ (ap (λ n. 2 * n + 2) (length-set _ _ _) ∙ (t.wide ∙ ap (λ z. z.words) (sym e.0)));
       of = (e.0 ∙ t.of.0, ap setups h.parts ∙ t.of.1);
     }
 
