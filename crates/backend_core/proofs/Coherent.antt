@@ -10,12 +10,13 @@ use Rattle.cacheless.specs.Facts.{facts_of}
 use Rattle.cacheless.specs.Holds.{AreRight, FactsFit}
 use Rattle.cacheless.specs.Locks.{grant_of}
 use Rattle.cacheless.specs.State.{kept_at, is_kept}
+use Rattle.cacheless.specs.Suspects.{lacks}
 use Rattle.cacheless.proofs.HeldLocks.{Follows, locks_of, locks_are_held}
 use Rattle.backend_core.specs.Types.{Purpose, Scenario, Entry, Read, Kept, Opening, Life, Frame, Backend}
 use Rattle.backend_core.specs.declared.life.Life.TheVariants as lives
 use Rattle.backend_core.specs.Agrees.{AreLastScans, HasNotJoined, AwaitsEntry, HasLeft, Stands}
 use Rattle.backend_core.specs.Coherent.{IsCoherentScan, IsCoherentSession, IsCoherent}
-use Rattle.backend_core.specs.Frames.{lacks, IsFound}
+use Rattle.backend_core.specs.Frames.{IsFound}
 use Rattle.backend_core.proofs.Fitting.Rebuilding.{usable_is}
 use Rattle.backend_core.proofs.Own.{waiting, waiting_is}
 use Rattle.cacheless.proofs.Answers.ReadPlaces.{read_at_place}

@@ -17,6 +17,7 @@ use Rattle.cacheless.specs.Sessions.{session_of}
 use Rattle.cacheless.specs.Settled.{settled}
 use Rattle.cacheless.specs.State.{Kept, session_at, kept_at, is_kept, rows_kept}
 use Rattle.cacheless.specs.Types.{Command, OpenRelation}
+use Rattle.cacheless.specs.Suspects.{lacks}
 use Rattle.cacheless.proofs.ProtectedFields.{protected_fresh}
 use Rattle.cacheless.proofs.Resting.{kept_rows}
 use Rattle.cacheless.proofs.Tests.{not_true}
@@ -29,7 +30,6 @@ use Rattle.backend_core.specs.Types.{Field, Scenario, Entry, Purpose, Life, Back
 use Rattle.backend_core.specs.declared.life.Life.TheVariants as lives
 use Rattle.backend_core.specs.Agrees.{AreSpelled, IsPlayed, HasNotJoined, AwaitsEntry, HasLeft, Stands}
 use Rattle.backend_core.specs.Fields.{field_kept, field_now, IsFreshNow}
-use Rattle.backend_core.specs.Frames.{lacks}
 use Rattle.backend_core.proofs.Stacking.Lacking.{whole_each}
 
 -- the kind has the field, and the descriptor is whole

@@ -15,4 +15,5 @@ mod Wanted
 pub mod ByWord
 pub mod Apart
 pub mod HeldLooks
+pub mod CommitPlaces
 pub mod Cutting

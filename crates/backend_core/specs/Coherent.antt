@@ -9,10 +9,11 @@ use Rattle.cacheless.specs.Locks.{grant_of}
 use Rattle.cacheless.specs.Session.{Session}
 use Rattle.cacheless.specs.Sessions.{session_of}
 use Rattle.cacheless.specs.State.{kept_at, is_kept}
+use Rattle.cacheless.specs.Suspects.{lacks}
 use Rattle.backend_core.specs.Types.{Scenario, Entry, Purpose, Read, Opening, Backend}
 use Rattle.backend_core.specs.declared.life.Life.TheVariants as lives
 use Rattle.backend_core.specs.Fits.{keeps_whole}
-use Rattle.backend_core.specs.Frames.{lacks, IsAmong, IsStack}
+use Rattle.backend_core.specs.Frames.{IsAmong, IsStack}
 
 -- what is kept of a scan: it stands at the backend's last such scan, and is what that gave; and a message that covers it is on its way, or it is the answer at each place since
 pub record IsCoherentScan (seen : List Entry) (b : ℕ) (scan : Purpose) (read : Read) : Type 0 where

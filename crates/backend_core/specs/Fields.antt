@@ -8,8 +8,8 @@ use Rattle.cacheless.specs.Protected.{is_protected}
 use Rattle.cacheless.specs.Session.{opening_of}
 use Rattle.cacheless.specs.State.{Kept, kept_at, is_kept, rows_kept}
 use Rattle.cacheless.specs.Types.{OpenRelation}
+use Rattle.cacheless.specs.Suspects.{lacks}
 use Rattle.backend_core.specs.Types.{Field, Scenario, Entry, Backend}
-use Rattle.backend_core.specs.Frames.{lacks}
 
 -- a field by what is kept: where the kind has it, and the descriptor lacks no scan
 abbrev pub field_kept : Kept → Field → OpenRelation → Option (List ℕ)

@@ -3,7 +3,6 @@ use Rattle.std.specs.Prelude.{◌≡◌, ◌≤◌, ◌+◌, ◌*◌, ◌==◌, 
 use Rattle.std.specs.Option.{option_map_or}
 use Rattle.std.specs.List.{list_any}
 use Rattle.base_types.specs.Scans.{same_oid}
-use Rattle.base_types.specs.declared.kind.Kind.TheVariants.{Table, Index}
 use Rattle.base_types.specs.declared.scan.Purpose.TheVariants as scans
 use Rattle.event_kinds.specs.declared.entry.Event.TheVariants as events
 use Rattle.inval_messages.specs.Lists.{has_write_from}
@@ -21,8 +20,9 @@ use Rattle.cacheless.specs.Ends.{Commits, TakesBack, end_of, end_of_all}
 use Rattle.cacheless.specs.Settled.{blocks_after, opens_after}
 use Rattle.cacheless.specs.Types.{OpenRelation}
 use Rattle.cacheless.specs.State.{one_if, is_absent}
-use Rattle.backend_core.specs.Types.{Oid, Kind, Command, Event, OwnLock, Opening, Frame}
-use Rattle.backend_core.specs.Frames.{lacks, IsStack}
+use Rattle.cacheless.specs.Suspects.{lacks, same_kind}
+use Rattle.backend_core.specs.Types.{Oid, Command, Event, OwnLock, Opening, Frame}
+use Rattle.backend_core.specs.Frames.{IsStack}
 use Rattle.backend_core.specs.Words.{relation_named, has_error}
 
 -- 1 if a look is owed in an accept of messages
@@ -180,12 +180,6 @@ pub data IsLookedFor (facts : Facts) (frames : List Frame) (taken : Option Oid) 
   Lacks : lacks_scan facts plan ≡ true → IsLookedFor facts frames taken plan
   Unfound : finds_no_name facts taken plan ≡ true → is_look facts.last ≡ true → frames ≡ [] → IsLookedFor facts frames taken plan
   Said : is_absent plan ≡ true → IsLookedFor facts frames taken plan
-
--- two relations are of one kind
-abbrev pub same_kind : Kind → Kind → Bool
-same_kind Table Table = true
-same_kind Index Index = true
-same_kind kind other = false
 
 -- the descriptor that the next act opens isn't held yet, unless it is held as one of another kind
 abbrev pub IsUnheld : List Opening → Plan → Type 0

@@ -1,9 +1,10 @@
 -- The rebuilds of held descriptors that are on their way, the last one on top: what a message, a reset and a scan make of them. What is kept is given as a test of scans, and what is held as the descriptors that are open.
-use Rattle.std.specs.Prelude.{◌≡◌, ◌-◌, ◌==◌, ◌&&◌, ◌⊎◌, ◌++◌, ◌∷◌, ⊤, Bool, true, false, not, Option, Some, None, List, [], fold, map, length, take, slice_get, slice_set, is_some, nat_le, nat_lt, if◌then◌else◌}
+use Rattle.std.specs.Prelude.{◌≡◌, ◌-◌, ◌==◌, ◌&&◌, ◌⊎◌, ◌++◌, ◌∷◌, ⊤, Bool, true, false, not, Option, Some, None, List, [], fold, map, length, take, slice_get, slice_set, nat_le, nat_lt, if◌then◌else◌}
 use Rattle.std.specs.List.{find, list_any, AllByRecursion}
-use Rattle.base_types.specs.Scans.{same_oid, build_scans}
+use Rattle.base_types.specs.Scans.{same_oid}
 use Rattle.base_types.specs.declared.scan.Purpose.TheVariants as scans
 use Rattle.inval_messages.specs.declared.message.Message.TheVariants.{Cat, Rel}
+use Rattle.cacheless.specs.Suspects.{lacks}
 use Rattle.backend_core.specs.Types.{Oid, Purpose, Message, Opening, Frame}
 
 -- a rebuild is of this relation
@@ -17,10 +18,6 @@ is_rebuilding frames rel = list_any (is_of rel) frames
 -- a reset goes on
 abbrev pub is_resetting : List Frame → Bool
 is_resetting frames = list_any (λ f. f.of_reset) frames
-
--- a descriptor lacks a scan
-abbrev pub lacks : (Purpose → Bool) → Opening → Bool
-lacks has o = is_some (find (λ scan. not (has scan)) (build_scans o.kind o.rel))
 
 -- a rebuild starts over, if its first scan is made: then the look for its next scan doesn't count
 abbrev pub restarted : (Purpose → Bool) → Frame → Frame

@@ -9,5 +9,6 @@ pub mod Coherent
 pub mod Steps
 pub mod Noted
 pub mod Looks
+pub mod Places
 pub mod Apart
 pub mod Halts

@@ -13,6 +13,11 @@ use Rattle.backend_core.specs.Types.{Oid, Message, Purpose, Row, Opening, Life, 
 use Rattle.backend_core.specs.Frames.{unless, top, on_top, with_look, frames_fetched, frames_reset, frames_scanned}
 use Rattle.backend_core.specs.declared.life.Life.TheVariants as lives
 
+-- the backend has joined
+abbrev pub has_joined : Life → Bool
+has_joined lives.Unstarted = false
+has_joined life = true
+
 -- the backend has left
 abbrev pub has_left : Life → Bool
 has_left lives.Stopped = true

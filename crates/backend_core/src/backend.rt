@@ -35,7 +35,7 @@ impl Drop for Backend {
 
 impl Backend {
     ghost use Rattle.std.specs.Prelude.{◌≡◌, ◌<◌, false, OnOk, OnErr, IfOk};
-    ghost use Rattle.backend_core.specs.Words.{has_left};
+    ghost use Rattle.backend_core.specs.Words.{has_joined as is_joined, has_left};
     ghost use Rattle.history_model.specs.Legal.{IsLegal};
     ghost use Rattle.cacheless.specs.Plays.{Plays};
     ghost use Rattle.backend_core.specs.Agrees.{IsNew, AreSpelled, Stands};
@@ -61,6 +61,13 @@ impl Backend {
         ensures { result ≡ self.now.progress.id }
     {
         self.progress.id
+    }
+
+    /// Whether it has joined.
+    pub fn has_joined(&self) -> bool
+        ensures { result ≡ is_joined self.now.life }
+    {
+        !matches!(self.life, Life::Unstarted)
     }
 
     /// Whether it has left.

@@ -15,9 +15,9 @@ use event_kinds::LineText;
 impl Backend {
     ghost use Rattle.history_model.specs.Legal.{IsLegal};
     ghost use Rattle.cacheless.specs.Plays.{Plays};
+    ghost use Rattle.cacheless.specs.Suspects.{lacks};
     ghost use Rattle.backend_core.specs.Agrees.{AreSpelled, Stands};
     ghost use Rattle.backend_core.specs.Fields.{field_now, field_kept, IsFreshNow};
-    ghost use Rattle.backend_core.specs.Frames.{lacks};
 
     /// The text of a field of the latest relation that is open under a name, as its descriptor has it
     /// (`RelationGetDescr` and its like in `src/include/utils/rel.h`). It is the field's text in the whole

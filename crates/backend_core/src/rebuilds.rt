@@ -7,8 +7,8 @@ ghost use Rattle.base_types.specs.Scans.{same_oid};
 ghost use Rattle.local_caches.specs.Caches.{kept_of};
 ghost use Rattle.local_caches.specs.Kept.{is_kept};
 ghost use Rattle.cacheless.specs.State.{kept_at};
-ghost use Rattle.cacheless.specs.Suspects.{ascend};
-ghost use Rattle.backend_core.specs.Frames.{lacks, if_so, left_of, restarted, told_if, lesser};
+ghost use Rattle.cacheless.specs.Suspects.{lacks, ascend};
+ghost use Rattle.backend_core.specs.Frames.{if_so, left_of, restarted, told_if, lesser};
 
 use crate::{Frame, Frames};
 use base_types::{NoMemory, Oid};

@@ -22,13 +22,14 @@ use Rattle.cacheless.specs.Settled.{opened_by}
 use Rattle.cacheless.specs.Session.{held_before, plan_admitted}
 use Rattle.cacheless.specs.Silently.{is_ends, IsAtRest}
 use Rattle.cacheless.specs.State.{kept_at, is_kept, is_absent, is_quiet, act_missing, is_out, end_at}
+use Rattle.cacheless.specs.Suspects.{lacks}
 use Rattle.cacheless.proofs.Answers.OpenedReads.{reads_out, reads_first, reads_after}
 use Rattle.cacheless.proofs.Tests.{both_true, not_both}
 use Rattle.backend_core.specs.Types.{Event, Row, Purpose, Command, CommandError, Opening, Scenario, Entry, Next, Frame, Progress, Backend}
 use Rattle.backend_core.specs.declared.next.Next.TheVariants as nexts
 use Rattle.backend_core.specs.Agrees.{command_at, AwaitsEntry}
 use Rattle.backend_core.specs.Steps.{IsWhole, WaitsForNone, IsFree, IsScanNext, IsLookNext, IsChoiceSound, EndsNext, InCommand, end_event, IsNextOf, ComesOfCommit, ComesOfBack}
-use Rattle.backend_core.specs.Frames.{lacks, top, IsRebuilt}
+use Rattle.backend_core.specs.Frames.{top, IsRebuilt}
 use Rattle.backend_core.specs.Words.{is_looked_for, accepts_again}
 use Rattle.backend_core.proofs.Fitting.Rebuilding.{kept_lacks}
 use Rattle.backend_core.proofs.Own.{waiting, waiting_course}

@@ -11,6 +11,7 @@ use Rattle.cacheless.specs.Settled.{nothing_waits}
 use Rattle.cacheless.specs.Silently.{has_accepted_at}
 use Rattle.cacheless.specs.May.{has_looked_at, has_failed, lacks_opened}
 use Rattle.cacheless.specs.State.{owed_at, is_quiet, one_if, kept_at}
+use Rattle.cacheless.specs.Suspects.{lacks}
 use Rattle.cacheless.proofs.Same.{looked_same}
 use Rattle.backend_core.specs.Types.{Purpose, Command, Scenario, Entry, Event, Backend}
 use Rattle.backend_core.specs.Agrees.{command_at, AwaitsEntry}
@@ -19,7 +20,7 @@ use Rattle.backend_core.specs.Steps.{IsChoiceSound, IsGone, IsWhole}
 use Rattle.backend_core.proofs.Fitting.Sought.{unfound_facts, finds_serves}
 use Rattle.backend_core.proofs.Own.{waiting, unlost}
 use Rattle.backend_core.proofs.Fitting.Rebuilding.{top_rebuilt, usable_is, kept_lacks, none_lacks}
-use Rattle.backend_core.specs.Frames.{lacks, IsStack, IsRebuilt}
+use Rattle.backend_core.specs.Frames.{IsStack, IsRebuilt}
 use Rattle.std.specs.List.{list_any, cons_option}
 use Rattle.seg_calls.specs.Calls.{took_back}
 use Rattle.backend_core.specs.Words.{has_error}

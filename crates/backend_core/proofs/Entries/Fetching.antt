@@ -26,6 +26,8 @@ use Rattle.cacheless.specs.Plays.{MayPlayIn}
 use Rattle.cacheless.specs.Session.{Session, Tally, number_of, Outcome, Well, Badly, Unsettled, outcome_of}
 use Rattle.cacheless.specs.Sessions.{resumed, placed_at, entered}
 use Rattle.cacheless.specs.State.{owed_at, one_if, kept_at, nothing_kept, kept_spared, is_kept}
+use Rattle.cacheless.specs.Suspects.{lacks}
+use Rattle.cacheless.proofs.Lacking.{lacks_more}
 use Rattle.session_laws.specs.Awaiting.{KeepsScans, answer_after}
 use Rattle.backend_core.specs.Types.{Oid, Purpose, Command, Scenario, Entry, Event, Message, OwnLock, Progress, Backend, Opening, Frame}
 use Rattle.backend_core.specs.Agrees.{IsPlayed, command_at, AwaitsEntry}
@@ -46,8 +48,7 @@ use Rattle.backend_core.proofs.Stacking.Looked.{top_most, told_most, after_less,
 use Rattle.backend_core.proofs.Stacking.Stacks.{stack_look, look_empty}
 use Rattle.backend_core.proofs.Stacking.Messages.{stack_after}
 use Rattle.backend_core.proofs.Stacking.Rests.{stack_reset}
-use Rattle.backend_core.proofs.Stacking.Lacking.{lacks_more}
-use Rattle.backend_core.specs.Frames.{lacks, IsStack, on_top, with_look, looked_if, frames_after, frames_fetched, frames_reset, unless, restarted, with_rest}
+use Rattle.backend_core.specs.Frames.{IsStack, on_top, with_look, looked_if, frames_after, frames_fetched, frames_reset, unless, restarted, with_rest}
 use Rattle.std.specs.List.{find, list_any, AllByRecursion}
 use Rattle.base_types.specs.Scans.{is_build_scan, build_scans}
 use Rattle.cacheless.proofs.Same.{builds_of}

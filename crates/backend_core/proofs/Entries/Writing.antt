@@ -38,6 +38,7 @@ use Rattle.cacheless.specs.Plays.{IsWrite, IsClash, MayPlay, MayPlayIn}
 use Rattle.cacheless.specs.Session.{Session, Well, Badly, Unsettled, number_of, outcome_of, is_settled, held_before, held_in}
 use Rattle.cacheless.specs.Sessions.{written, entered}
 use Rattle.cacheless.specs.State.{lists_at, kept_at, kept_spared, is_kept, messages_in, clash_event, error_of, one_if, relation_made, change_makes, locks_made}
+use Rattle.cacheless.specs.Suspects.{lacks}
 use Rattle.cacheless.proofs.Allowed.NamesRead.{read_as_now}
 use Rattle.cacheless.proofs.Allowed.NextKeeps.{spelled_at}
 use Rattle.cacheless.proofs.Plans.ClearLocks.{session_holds}
@@ -64,7 +65,7 @@ use Rattle.backend_core.proofs.Fitting.Sought.{no_look}
 use Rattle.backend_core.proofs.Fitting.Rebuilding.{owed_bare, owed_whole, owed_builds, each_whole}
 use Rattle.backend_core.proofs.Stacking.Looked.{after_less, told_most}
 use Rattle.backend_core.proofs.Stacking.Messages.{stack_after}
-use Rattle.backend_core.specs.Frames.{lacks, frames_after, IsStack}
+use Rattle.backend_core.specs.Frames.{frames_after, IsStack}
 use Rattle.backend_core.specs.Words.{has_error}
 use Rattle.seg_calls.specs.Calls.{took_back}
 use Rattle.inval_messages.specs.Messages.{is_spared}

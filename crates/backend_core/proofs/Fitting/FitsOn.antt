@@ -26,8 +26,8 @@ use Rattle.backend_core.proofs.Fitting.Sought.{no_class, act_serves}
 use Rattle.backend_core.proofs.Fitting.Rebuilding.{bare_fits, builds_bare, owed_whole, owed_builds}
 use Rattle.backend_core.proofs.Fitting.OpenRelations.{held_front, well_none, held_badly, opens_next, since_next}
 use Rattle.cacheless.specs.Types.{OpenRelation}
+use Rattle.cacheless.specs.Suspects.{lacks}
 use Rattle.std.specs.List.{list_any}
-use Rattle.backend_core.specs.Frames.{lacks}
 use Rattle.std.proofs.lemmas.List.Folds.{list_any-append}
 
 -- a look that was made for an act is used, where that is done: then its lookup has found no relation, and the command says so

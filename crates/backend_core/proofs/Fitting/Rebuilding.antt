@@ -10,11 +10,12 @@ use Rattle.cacheless.specs.May.{lacks_opened}
 use Rattle.cacheless.specs.Owed.{OwesScan, owed_at_start, owed_after, unusable, builds_owed, act_owed, scans_owed, owed_of}
 use Rattle.cacheless.specs.Session.{Session, Outcome, Well, Badly, Unsettled, outcome_of}
 use Rattle.cacheless.specs.State.{kept_at, is_kept, is_absent}
+use Rattle.cacheless.specs.Suspects.{lacks}
 use Rattle.cacheless.proofs.Plans.SilentActs.{both_empty}
 use Rattle.backend_core.specs.Types.{Purpose, Command, Opening, Frame, Progress}
 use Rattle.backend_core.specs.Fits.{keeps_whole, FramesFit}
 use Rattle.backend_core.specs.Words.{has_error}
-use Rattle.backend_core.specs.Frames.{lacks, IsAmong, IsFound, IsStack, top, IsRebuilt, on_top, with_look}
+use Rattle.backend_core.specs.Frames.{IsAmong, IsFound, IsStack, top, IsRebuilt, on_top, with_look}
 use Rattle.backend_core.proofs.Stacking.Among.{found_any, any_among}
 use Rattle.backend_core.proofs.Stacking.Stacks.{IsSplit, split, top_push, each_under, stack_look}
 

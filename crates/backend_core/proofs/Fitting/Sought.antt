@@ -21,16 +21,18 @@ use Rattle.cacheless.specs.Settled.{class_oid}
 use Rattle.cacheless.specs.Holds.{FactsFit}
 use Rattle.cacheless.specs.May.{is_missing, is_next_of_act}
 use Rattle.cacheless.specs.State.{is_absent, kept_at, is_kept, row_sought}
+use Rattle.cacheless.specs.Suspects.{lacks, same_kind}
 use Rattle.cacheless.proofs.Resting.{kept_rows}
 use Rattle.cacheless.proofs.Same.{builds_of}
 use Rattle.cacheless.proofs.Plans.SilentActs.{kept_already}
 use Rattle.cacheless.proofs.ReadsBuilds.{ReadsBuilds}
 use Rattle.backend_core.specs.Types.{Oid, Mode, Row, Purpose, OwnLock, Opening, Progress, Frame, Kind}
-use Rattle.backend_core.specs.Fits.{TakesFit, IsLookedFor, Lacks, Unfound, Said, IsUnheld, lacks_scan, finds_no_name, is_look, came_well, same_kind}
-use Rattle.backend_core.specs.Frames.{lacks, IsAmong}
+use Rattle.backend_core.specs.Fits.{TakesFit, IsLookedFor, Lacks, Unfound, Said, IsUnheld, lacks_scan, finds_no_name, is_look, came_well}
+use Rattle.backend_core.specs.Frames.{IsAmong}
 use Rattle.backend_core.proofs.Fitting.Rebuilding.{found_none, usable_is, each_whole}
 use Rattle.backend_core.proofs.Stacking.Among.{find_all, found_any, oid_is, oid_apart, IsWitness, any_among}
 use Rattle.backend_core.proofs.Stacking.Lacking.{with_scan, scan_apart, lacks_same}
+use Rattle.backend_core.proofs.Stacking.Least.{kind_is}
 use Rattle.backend_core.proofs.BuildsBegin.{class_scan, AreBegun}
 use Rattle.backend_core.specs.Words.{relation_named, is_unfound}
 
@@ -135,12 +137,6 @@ next_act facts s scan fits p lacking = by_act p lacking
 -- where a relation's row isn't kept, no other scan for its descriptor is
 unbegun : (has : Purpose → Bool) (scan : Purpose) → AreBegun has → is_build_scan scan ≡ true → has (class_scan scan) ≡ false → has scan ≡ false
 unbegun has scan begun builds lacked = false_from_ne_true (has scan) (λ kept. both_ways _ lacked (begun scan builds kept))
-
--- two kinds are one
-kind_is : (a b : Kind) → same_kind a b ≡ true → a ≡ b
-kind_is Table Table same = refl
-kind_is Index Index same = refl
-kind_is a b same = absurd (cc same)
 
 -- where no held descriptor lacks a scan, one that lacks some isn't held
 pub unheld_lacking : (has : Purpose → Bool) (held : List Opening) (rel : Oid) (kind : Kind) → list_any (lacks has) held ≡ false → lacks has (record { rel = rel; kind = kind }) ≡ true → list_any (λ o. same_oid rel o.rel && same_kind kind o.kind) held ≡ false

@@ -11,26 +11,11 @@ use Rattle.inval_messages.specs.Messages.{covers}
 use Rattle.inval_messages.specs.declared.message.Message.TheVariants.{Cat, Rel}
 use Rattle.inval_messages.specs.Types.{CacheId}
 use Rattle.backend_core.specs.Types.{Oid, Kind, Purpose, Message, Opening}
-use Rattle.backend_core.specs.Frames.{lacks}
+use Rattle.cacheless.specs.Suspects.{lacks}
+use Rattle.cacheless.proofs.Lacking.{lacks_more}
 use Rattle.backend_core.proofs.Stacking.Among.{find_all}
 
-found_more : (has now : Purpose → Bool) (xs : List Purpose) → ((d : Purpose) → has d ≡ false → now d ≡ false) → is_some (find (λ d. not (has d)) xs) ≡ true → is_some (find (λ d. not (now d)) xs) ≡ true
-found_more has now [] spares is = absurd (cc is)
-found_more has now (x ∷ xs) spares is = by_test (has x) refl is (found_more has now xs spares)
-  where
-    by_now : (t : Bool) → is_some (find (λ d. not (now d)) xs) ≡ true → is_some (cond (not t) (Some x) (find (λ d. not (now d)) xs)) ≡ true
-    by_now true more = more
-    by_now false more = refl
-
-    by_test : (t : Bool) → has x ≡ t → is_some (cond (not t) (Some x) (find (λ d. not (has d)) xs)) ≡ true → (is_some (find (λ d. not (has d)) xs) ≡ true → is_some (find (λ d. not (now d)) xs) ≡ true) → is_some (find (λ d. not (now d)) (x ∷ xs)) ≡ true
-    by_test true at later more = by_now (now x) (more later)
-    by_test false at here more = ap (λ t. is_some (cond (not t) (Some x) (find (λ d. not (now d)) xs))) (spares x at)
-
--- with less kept more is lacking
-pub lacks_more : (has now : Purpose → Bool) (o : Opening) → ((d : Purpose) → has d ≡ false → now d ≡ false) → lacks has o ≡ true → lacks now o ≡ true
-lacks_more has now o spares lacking = found_more has now (build_scans o.kind o.rel) spares lacking
-
--- and with more kept what is whole stays so
+-- with more kept what is whole stays so
 pub whole_more : (has now : Purpose → Bool) (o : Opening) → ((d : Purpose) → has d ≡ true → now d ≡ true) → lacks has o ≡ false → lacks now o ≡ false
 whole_more has now o keeps whole = false_from_ne_true (lacks now o) (λ lacking. both_ways _ whole (lacks_more now has o (λ d none. false_from_ne_true (has d) (λ some. both_ways _ none (keeps d some))) lacking))
 

@@ -6,12 +6,13 @@ use Rattle.std.proofs.Math.Bool.{and-false}
 use Rattle.base_types.specs.Scans.{same_oid}
 use Rattle.base_types.specs.declared.kind.Kind.{Kind}
 use Rattle.base_types.specs.declared.kind.Kind.TheVariants.{Table, Index}
-use Rattle.cacheless.specs.Suspects.{same_kind, same_opening, follows, ascend, AreSuspects}
+use Rattle.cacheless.specs.Suspects.{lacks, same_kind, same_opening, follows, ascend, AreSuspects}
 use Rattle.backend_core.specs.Types.{Purpose, Opening, Frame}
-use Rattle.backend_core.specs.Frames.{is_rebuilding, lacks, is_left, lesser, least_left}
+use Rattle.backend_core.specs.Frames.{is_rebuilding, is_left, lesser, least_left}
 use Rattle.backend_core.proofs.Stacking.Among.{oid_is, oid_itself}
 
-kind_is : (kind other : Kind) → same_kind kind other ≡ true → kind ≡ other
+-- two kinds are one
+pub kind_is : (kind other : Kind) → same_kind kind other ≡ true → kind ≡ other
 kind_is Table Table is = refl
 kind_is Table Index is = absurd (cc)
 kind_is Index Table is = absurd (cc)

@@ -6,9 +6,11 @@ use Rattle.base_types.specs.Scans.{same_oid}
 use Rattle.inval_messages.specs.Messages.{covers, is_spared}
 use Rattle.inval_messages.specs.declared.message.Message.TheVariants.{Cat, Rel}
 use Rattle.backend_core.specs.Types.{Oid, Purpose, Message, Opening, Frame}
-use Rattle.backend_core.specs.Frames.{is_of, is_rebuilding, lacks, restarted, told_if, new_frame, with_new, frames_by, frames_after, IsFound, IsRebuilt, IsStack}
+use Rattle.cacheless.specs.Suspects.{lacks}
+use Rattle.cacheless.proofs.Lacking.{lacks_more}
+use Rattle.backend_core.specs.Frames.{is_of, is_rebuilding, restarted, told_if, new_frame, with_new, frames_by, frames_after, IsFound, IsRebuilt, IsStack}
 use Rattle.backend_core.proofs.Stacking.Among.{oid_is, find_is, find_among, none_among}
-use Rattle.backend_core.proofs.Stacking.Lacking.{lacks_more, spared, spared_less, spared_cat, spared_rel, spared_told}
+use Rattle.backend_core.proofs.Stacking.Lacking.{spared, spared_less, spared_cat, spared_rel, spared_told}
 use Rattle.backend_core.proofs.Stacking.Stacks.{KeepsFrames, map_on, map_resets, map_each, map_once, on_push, on_last, resets_push, each_push, once_push, found_to}
 
 -- a message leaves which descriptors are rebuilt, and for which a reset goes on

@@ -4,9 +4,9 @@ use Rattle.std.specs.List.{find, list_any}
 use Rattle.std.specs.List.Sorted.{IsNonDecreasingBy, IsPartitionedBy, IsPartitionPoint}
 use Rattle.std.proofs.lemmas.Bool.{and_parts, le-leb, ltb-true, ltb-false, lt-ltb, eqb-false}
 use Rattle.base_types.specs.Scans.{same_oid}
-use Rattle.cacheless.specs.Suspects.{same_opening, follows, ascend, AreSuspects}
+use Rattle.cacheless.specs.Suspects.{lacks, same_opening, follows, ascend, AreSuspects}
 use Rattle.backend_core.specs.Types.{Oid, Purpose, Opening}
-use Rattle.backend_core.specs.Frames.{lacks, lesser, if_so}
+use Rattle.backend_core.specs.Frames.{lesser, if_so}
 use Rattle.backend_core.proofs.Stacking.Among.{oid_is}
 use Rattle.backend_core.proofs.Stacking.Least.{same_is, least, beyond, alone, none_less, first_least}
 

@@ -3,7 +3,8 @@ use Rattle.std.proofs.Common.{◌≡◌, ◌∙◌, inl, inr, Bool, true, false,
 use Rattle.std.specs.List.{list_any, AllByRecursion}
 use Rattle.std.proofs.lemmas.Bool.{both_ways, and_parts, or_left, or_right}
 use Rattle.backend_core.specs.Types.{Purpose, Opening, Frame}
-use Rattle.backend_core.specs.Frames.{is_rebuilding, lacks, restarted, new_frame, with_new, is_left, lesser, least_left, with_rest, frames_reset, IsAmong, IsFound, IsRebuilt, AreApart, IsStack}
+use Rattle.cacheless.specs.Suspects.{lacks}
+use Rattle.backend_core.specs.Frames.{is_rebuilding, restarted, new_frame, with_new, is_left, lesser, least_left, with_rest, frames_reset, IsAmong, IsFound, IsRebuilt, AreApart, IsStack}
 use Rattle.backend_core.proofs.Stacking.Messages.{each_less}
 use Rattle.backend_core.proofs.Stacking.Stacks.{KeepsFrames, map_each, map_once, resets_last, each_push, once_push}
 use Rattle.cacheless.proofs.Tests.{not_true}

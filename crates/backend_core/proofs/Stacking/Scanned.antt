@@ -4,7 +4,8 @@ use Rattle.std.specs.List.{find, AllByRecursion}
 use Rattle.std.proofs.lemmas.Bool.{both_ways, and_parts, and_from}
 use Rattle.base_types.specs.Scans.{same_oid, build_scans}
 use Rattle.backend_core.specs.Types.{Purpose, Opening, Frame}
-use Rattle.backend_core.specs.Frames.{is_rebuilding, is_resetting, lacks, new_frame, below, left_of, with_rest, scanned_on, frames_scanned, IsAmong, IsFound, IsRebuilt, AreApart, IsStack}
+use Rattle.cacheless.specs.Suspects.{lacks}
+use Rattle.backend_core.specs.Frames.{is_rebuilding, is_resetting, new_frame, below, left_of, with_rest, scanned_on, frames_scanned, IsAmong, IsFound, IsRebuilt, AreApart, IsStack}
 use Rattle.backend_core.proofs.Stacking.Among.{oid_is, oid_apart, oid_itself, find_is, find_among, none_among}
 use Rattle.backend_core.proofs.Stacking.Lacking.{whole_more, with_scan, with_more, scan_apart}
 use Rattle.backend_core.proofs.Stacking.Rests.{rest_stack}

@@ -9,7 +9,8 @@ use Rattle.std.proofs.lemmas.Option.{slice_get-get_or}
 use Rattle.std.proofs.Math.Seq.{take-length}
 use Rattle.base_types.specs.Scans.{same_oid}
 use Rattle.backend_core.specs.Types.{Oid, Purpose, Opening, Frame}
-use Rattle.backend_core.specs.Frames.{is_of, is_rebuilding, is_resetting, top, below, on_top, IsAmong, IsFound, IsRebuilt, AreApart, lacks, IsStack, with_look, looked_if}
+use Rattle.cacheless.specs.Suspects.{lacks}
+use Rattle.backend_core.specs.Frames.{is_of, is_rebuilding, is_resetting, top, below, on_top, IsAmong, IsFound, IsRebuilt, AreApart, IsStack, with_look, looked_if}
 use Rattle.backend_core.proofs.Stacking.Among.{oid_apart}
 
 -- the one on top, and those below it

@@ -4,7 +4,7 @@ use Rattle.std.proofs.lemmas.Iterator.Search.{find_from_yields_List}
 use Rattle.base_types.specs.Scans.{same_oid}
 use Rattle.local_caches.specs.Caches.{kept_of}
 use Rattle.local_caches.specs.Kept.{is_kept}
-use Rattle.backend_core.specs.Frames.{lacks}
+use Rattle.cacheless.specs.Suspects.{lacks}
 use Rattle.backend_core.proofs.rebuilds.lacking_in.Goals as goal
 
 pub returns : goal.returns

@@ -2,8 +2,8 @@ use Rattle.std.proofs.Common.{◌∙◌, sym, rules, tests, nat_lt}
 use Rattle.std.proofs.lemmas.List.Sorted.{IsPartitionPoint-from_clause}
 use Rattle.local_caches.specs.Caches.{kept_of}
 use Rattle.local_caches.specs.Kept.{is_kept}
+use Rattle.cacheless.specs.Suspects.{lacks}
 use Rattle.backend_core.specs.Types.{Opening}
-use Rattle.backend_core.specs.Frames.{lacks}
 use Rattle.backend_core.proofs.Stacking.OfRelation.{ascend_parts, sought_there}
 use Rattle.backend_core.proofs.rebuilds.lacking_noted.Goals as goal
 
