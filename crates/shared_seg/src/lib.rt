@@ -22,6 +22,10 @@
 //! let scanned = shared.scan(1, 1, &purpose)?;
 //! ```
 //!
+//! The script exists in contracts alone. Where what is played turns out to be another one, as where a backend leaves before
+//! its last commands, [`Shared::retell`] makes that of it, by a [`Retold`], and nothing else changes: the history of the one
+//! is a history of the other as far as `Seg` goes.
+//!
 //! It has the meanings that a turn table asks of the value that goes from hand to hand
 //! ([`Turned`](turn_table::Turned)).
 //!
@@ -35,9 +39,12 @@ mod drawing;
 mod grants;
 mod naming;
 mod places;
+mod played_script;
+mod retold;
 mod shared;
 mod transaction;
 mod turns;
 mod write;
 
+pub use retold::Retold;
 pub use shared::Shared;

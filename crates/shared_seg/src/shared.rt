@@ -7,6 +7,8 @@ use crate::announce::announced;
 use crate::drawing::draw;
 use crate::naming::first_taken;
 use crate::places::Places;
+use crate::played_script::PlayedScript;
+use crate::retold::Retold;
 use crate::transaction::{
     add_published, begin, begin_writing, clear, end_from, make_visible, own_xid, reader_in,
 };
@@ -16,7 +18,6 @@ use base_types::{FIRST_OID, Fetched, Mode, NoMemory, Oid, Purpose, Scanned, Xid}
 use catalog_rows::RowStore;
 use ddl_effect::Draft;
 use event_kinds::{Entry, Event};
-use ghost_list::GhostValue;
 use inval_messages::Message;
 use lock_modes::{Granted, LockTable};
 use script_text::Script;
@@ -29,7 +30,7 @@ use txn_blocks::RunningTransaction;
 /// What all backends of a script share.
 pub struct Shared {
     alloc: Global,
-    script: GhostValue<Script>,
+    script: PlayedScript,
     places: Places,
     store: RowStore,
     locks: LockTable,
@@ -65,9 +66,9 @@ impl Model for Shared {
 
     ghost use Rattle.shared_seg.specs.KeepsQueue.{KeepsShared};
 
-    ghost view = { λ s. record { history = s.places.entries; script = s.script.value; promised = s.places.promised; short = s.short } };
+    ghost view = { λ s. record { history = s.places.entries; script = s.script.scenario; promised = s.places.promised; short = s.short } };
 
-    ghost invariant = { λ s. KeepsShared s.script.value s.places.entries s.places.promised s.store s.locks.held s.transactions.items s.next_oid s.last_xid s.queue };
+    ghost invariant = { λ s. KeepsShared s.script.scenario s.places.entries s.places.promised s.store s.locks.held s.transactions.items s.next_oid s.last_xid s.queue };
 }
 
 impl Shared {
@@ -85,7 +86,7 @@ impl Shared {
         add_slots(&mut transactions, backends as usize + 1);
         Ok(Shared {
             alloc,
-            script: GhostValue::of(script),
+            script: PlayedScript::of(script),
             places,
             store: RowStore::new(alloc),
             locks: LockTable::new(alloc),
@@ -101,6 +102,17 @@ impl Shared {
         ensures { result.now ≡ self.now.history }
     {
         self.places.entries()
+    }
+
+    /// From here on contracts see another script, which tells of the same queue and backends; the history and the
+    /// promises stay, and nothing is done when it runs.
+    pub fn retell<R: Retold>(&mut self, by: &R)
+        ensures history { self.new.history ≡ self.old.history }
+        ensures promised { self.new.promised ≡ self.old.promised }
+        ensures script { self.new.script ≡ R.retold by.now self.old.script }
+    {
+        let retold = PlayedScript::retold(&self.script, by);
+        self.script = retold;
     }
 
     /// The history, the rest given up.

@@ -1,5 +1,10 @@
 pub mod Lists
 pub mod Played
+pub mod Scripts
+pub mod CutRuns
+pub mod SharedPlays
+pub mod Counted
+pub mod Halting
 pub mod Between
 pub mod Workers
 pub mod Stopping

@@ -1,6 +1,9 @@
 pub mod Runs
+pub mod CutScripts
+pub mod Scripts
 pub mod Stops
 pub mod Turns
+pub mod Entering
 pub mod Workers
 pub mod Seats
 pub mod Prepared

@@ -1,20 +1,21 @@
 -- The seats of a run: a worker with its gate, and how its work ended.
-use Rattle.std.specs.Prelude.{◌≡◌, ⊤, ℕ, ◌+◌, false, List, [], ◌∷◌, ◌++◌, Option, Some, None, MatchOption, Result, Ok, Err, OnOk}
+use Rattle.std.specs.Prelude.{◌≡◌, ◌≤◌, ⊤, ℕ, ◌+◌, ◌^◌, length, false, List, [], ◌∷◌, ◌++◌, Option, Some, None, MatchOption, Result, Ok, Err, OnOk}
 use Rattle.backend_core.specs.declared.backend.Backend.{Backend}
 use Rattle.backend_core.specs.Agrees.{Stands}
 use Rattle.backend_core.specs.Words.{has_left}
 use Rattle.event_kinds.specs.declared.entry.Entry.{Entry}
 use Rattle.base_types.specs.Scenario.{Scenario, IsBackend}
-use Rattle.shared_seg.specs.Kept.{Kept}
 use Rattle.turn_table.specs.declared.pass.Pass.{Pass}
 use Rattle.turn_table.specs.declared.turned.Turned.{Ghosts}
-use Rattle.turn_table.specs.Passes.{IsPassOf, start_of, seen_by}
+use Rattle.turn_table.specs.Passes.{IsPassOf, start_of, seen_by, room_of}
 use Rattle.thread_run.specs.declared.refusal.RunRefusal.{RunRefusal}
 use Rattle.thread_run.specs.declared.worker.Worker.{Worker}
 use Rattle.thread_run.specs.declared.seats.Seat.{Seat}
+use Rattle.thread_run.specs.Runs.{IsRunSoFar}
+use Rattle.thread_run.specs.Scripts.{Play, HasAll}
 use Rattle.thread_run.specs.Stops.{StopsBy}
 use Rattle.thread_run.specs.Turns.{HasEnded}
-use Rattle.thread_run.specs.Workers.{Table, IsAt, IsNewAt}
+use Rattle.thread_run.specs.Workers.{Table, IsAt, IsNewAt, HasAllAt}
 
 -- it holds of each two elements at the same place of lists that are as long
 abbrev pub AllPairs : {A B : Type 0} → (A → B → Type 0) → List A → List B → Type 0
@@ -27,19 +28,23 @@ abbrev pub from_last : {A B : Type 0} → (A → B) → List A → List B
 from_last f [] = []
 from_last f (x ∷ xs) = from_last f xs ++ f x ∷ []
 
-module _ {of : Ghosts Kept Entry Scenario} (table : Table) where
+module _ {of : Ghosts Play Entry Scenario} (table : Table) where
   -- a pass of the table before its first turn, and its backend, which stands in the history that the pass has seen
-  pub record MaySit (pass : Pass Kept Entry Scenario of) (backend : Backend) : Type 0 where
+  pub record MaySit (pass : Pass Play Entry Scenario of) (backend : Backend) : Type 0 where
     pub of_table : IsPassOf table pass
-    pub number : IsBackend (start_of table).script.backends pass.number
+    pub number : IsBackend (start_of table).whole.backends pass.number
     pub id : backend.progress.id ≡ pass.number
-    pub stands : Stands (start_of table).script (seen_by pass) backend
+    pub stands : Stands (start_of table).whole (seen_by pass) backend
     pub alive : has_left backend.life ≡ false
+    pub run : IsRunSoFar (start_of table).whole (seen_by pass)
+    pub short : length (seen_by pass) + 16 ≤ 2 ^ 56
+    pub all : HasAll (start_of table).whole pass.number (room_of pass)
 
   -- a pass of the table, and its backend, which has left
-  pub record HasDone (pass : Pass Kept Entry Scenario of) (backend : Backend) : Type 0 where
+  pub record HasDone (pass : Pass Play Entry Scenario of) (backend : Backend) : Type 0 where
     pub of_table : IsPassOf table pass
-    pub ended : HasEnded (start_of table).script pass.number (seen_by pass) backend
+    pub ended : HasEnded (start_of table).whole pass.number (seen_by pass) backend
+    pub all : HasAll (start_of table).whole pass.number (room_of pass)
 
 -- a worker at the table, before its first turn
 abbrev pub IsSeated : {G : Type 0} → Table → Seat G → Type 0
@@ -47,7 +52,7 @@ IsSeated table seat = MatchOption seat.worker ⊥ (λ w. IsAt table w × IsNewAt
 
 -- a worker at the table, which has left where its work ended well
 abbrev pub HasWorked : {G : Type 0} → Table → Seat G → Type 0
-HasWorked table seat = MatchOption seat.worker ⊥ (λ w. IsAt table w × OnOk seat.end (HasEnded (start_of table).script w.pass.number (seen_by w.pass) w.backend))
+HasWorked table seat = MatchOption seat.worker ⊥ (λ w. IsAt table w × OnOk seat.end (HasEnded (start_of table).whole w.pass.number (seen_by w.pass) w.backend × HasAllAt table w))
 
 -- the number of the worker
 abbrev pub number_in : Option Worker → ℕ

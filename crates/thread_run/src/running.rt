@@ -8,8 +8,9 @@ ghost use Rattle.thread_run.specs.Seats.{AllPairs, MaySit, HasDone};
 ghost use Rattle.thread_run.specs.Prepared.{IsPrepared};
 ghost use Rattle.thread_run.specs.Stops.{NoneFell, OneRose, StopTogether};
 
+use crate::RunRefusal;
 use crate::seats::{seat_all, unseat_all, work_all};
-use crate::{RunRefusal, SharedPlay};
+use crate::shared_play::SharedPlay;
 use backend_core::Backend;
 use base_types::{Listed, NoMemory};
 use edge_io::Gate;

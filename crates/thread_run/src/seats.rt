@@ -4,7 +4,9 @@ ghost use Rattle.std.specs.List.{AllByRecursion};
 ghost use Rattle.thread_run.specs.Seats.{AllPairs, MaySit, HasDone, IsSeated, HasWorked, from_last, number_of, first_end, end_of, StopsTogether};
 ghost use Rattle.thread_run.specs.Stops.{StopsBy};
 
-use crate::{RunRefusal, SharedPlay, Worker};
+use crate::RunRefusal;
+use crate::shared_play::SharedPlay;
+use crate::worker::Worker;
 use backend_core::Backend;
 use edge_io::Gate;
 use std::alloc::Global;
@@ -126,6 +128,7 @@ pub(crate) fn unseat_all<G>(
             pass,
             backend,
             held: _,
+            turns: _,
         } = worker;
         gates.push_reserved(gate);
         passes.push_reserved(pass);

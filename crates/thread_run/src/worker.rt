@@ -1,9 +1,11 @@
-ghost use Rattle.std.specs.Prelude.{◌≡◌, ◌≤◌, ◌<◌, ℕ, [], true, false, length, OnOk};
+ghost use Rattle.std.specs.Prelude.{◌≡◌, ◌≤◌, ◌<◌, ℕ, [], true, false, length, IfOk, OnOk};
 ghost use Rattle.backend_core.specs.Looks.{IsOnItsWay};
-ghost use Rattle.thread_run.specs.Turns.{WaitsWherever};
+ghost use Rattle.thread_run.specs.Turns.{WaitsWherever, IsAtCommand};
 ghost use Rattle.thread_run.specs.Stops.{StopsBy};
 
-use crate::{RunRefusal, SharedPlay};
+use crate::RunRefusal;
+use crate::halted_at::HaltedAt;
+use crate::shared_play::SharedPlay;
 use arrayvec::ArrayVec;
 use backend_core::{Backend, HeldLook, LookFor, Want};
 use base_types::NoMemory;
@@ -15,38 +17,44 @@ use turn_table::{Pass, TurnTable};
 // How many looks a backend may hold back until its next turn.
 const MOST_HELD: usize = 16;
 
+// How many entries a backend may make in one turn after its first.
+const MOST_ENTRIES: u32 = 8;
+
 /// A backend at work. Between two of its turns it holds back the looks that it has made since the last.
 #[derive(Drop)]
-pub struct Worker {
+pub(crate) struct Worker {
     /// The right to its turns.
-    pub pass: Pass<SharedPlay>,
+    pub(crate) pass: Pass<SharedPlay>,
     /// The backend, which has the number of the pass.
-    pub backend: Backend,
+    pub(crate) backend: Backend,
     pub(crate) held: ArrayVec<HeldLook, MOST_HELD>,
+    // how many turns it has taken, so that they end at different places of a command
+    pub(crate) turns: u32,
 }
 
 impl Worker {
     ghost use Rattle.backend_core.specs.Looks.{Wants};
     ghost use Rattle.backend_core.specs.Words.{has_left};
-    ghost use Rattle.backend_core.specs.declared.life.Life.TheVariants as lives;
+    ghost use Rattle.backend_core.specs.Halts.{HaltsWherever};
     ghost use Rattle.turn_table.specs.Passes.{start_of, seen_by, was_told};
-    ghost use Rattle.thread_run.specs.Workers.{IsAt, IsNewAt, Goes};
-    ghost use Rattle.thread_run.specs.Turns.{MayTakeTurn, IsBetween, IsUnderway, HasEnded};
+    ghost use Rattle.thread_run.specs.Workers.{IsAt, IsNewAt, HasAllAt, Goes};
+    ghost use Rattle.thread_run.specs.Turns.{MayTakeTurn, MayHalt, IsBetween, IsUnderway, HasEnded};
 
     /// A backend with its pass, before its first turn.
-    pub fn new(pass: Pass<SharedPlay>, backend: Backend) -> Worker
+    pub(crate) fn new(pass: Pass<SharedPlay>, backend: Backend) -> Worker
         ensures { (result.pass ≡ pass) × (result.backend ≡ backend) × (result.held.items ≡ []) }
     {
         Worker {
             pass,
             backend,
             held: ArrayVec::new(),
+            turns: 0,
         }
     }
 
-    /// Its whole work, from its first entry to its last. It ends early where memory is refused, or where
-    /// the gate stops it.
-    pub fn work<R: Wait, G: Gate>(
+    /// Its whole work, from its first entry to its last. It ends early where memory is refused; where the gate
+    /// stops it, it takes back what it hasn't committed, and leaves.
+    pub(crate) fn work<R: Wait, G: Gate>(
         self,
         rt: &R,
         alloc: Global,
@@ -56,13 +64,10 @@ impl Worker {
         requires at { IsAt table.now self }
         requires new { IsNewAt table.now self }
         ensures goes { Goes table.now self result.0 }
-        ensures ended { OnOk result.1 (HasEnded (start_of table.now).script self.pass.number (seen_by result.0.pass) result.0.backend) }
+        ensures ended { OnOk result.1 (HasEnded (start_of table.now).whole self.pass.number (seen_by result.0.pass) result.0.backend × HasAllAt table.now result.0) }
         ensures stops { StopsBy (G.stops gate.old) (G.stops gate.new) result.1 }
     {
-        let (mut worker, joined) = self.join(rt, alloc, table, gate);
-        let Ok(()) = joined else {
-            return (worker, joined);
-        };
+        let mut worker = self;
         'working: for _ in rt.forever() {
             if worker.backend.is_stopped() {
                 return (worker, Ok(()));
@@ -76,36 +81,7 @@ impl Worker {
         unreachable!()
     }
 
-    // It joins, and goes on to its first command.
-    fn join<R: Wait, G: Gate>(
-        self,
-        rt: &R,
-        alloc: Global,
-        table: &TurnTable<SharedPlay>,
-        gate: &mut G,
-    ) -> (Worker, Result<(), RunRefusal>)
-        requires at { IsAt table.now self }
-        requires new { IsNewAt table.now self }
-        ensures goes { Goes table.now self result.0 }
-        ensures between { OnOk result.1 (IsBetween (start_of table.now).script self.pass.number (seen_by result.0.pass) result.0.held.items result.0.backend) }
-        ensures stops { StopsBy (G.stops gate.old) (G.stops gate.new) result.1 }
-    {
-        let (mut worker, joined) = self.take_turn(rt, alloc, table, true);
-        let Ok(()) = joined else {
-            return (worker, Err(RunRefusal::NoMemory));
-        };
-        if worker.backend.is_stopped() {
-            return (worker, Ok(()));
-        }
-        let first = ask(rt, gate, &worker.backend);
-        let Ok(()) = first else {
-            return (worker, first);
-        };
-        let done = go_on(rt, alloc, &mut worker.backend, gate);
-        (worker, done)
-    }
-
-    // What it wants next, and then what needs neither a look nor a turn.
+    // What it wants next, and then what needs neither a look nor a turn; its last turn, where the gate stops it.
     fn step<R: Wait, G: Gate>(
         self,
         rt: &R,
@@ -114,38 +90,45 @@ impl Worker {
         gate: &mut G,
     ) -> (Worker, Result<(), RunRefusal>)
         requires at { IsAt table.now self }
-        requires between { IsBetween (start_of table.now).script self.pass.number (seen_by self.pass) self.held.items self.backend }
+        requires all { HasAllAt table.now self }
+        requires between { IsBetween (start_of table.now).whole self.pass.number (seen_by self.pass) self.held.items self.backend }
         ensures goes { Goes table.now self result.0 }
-        ensures between { OnOk result.1 (IsBetween (start_of table.now).script self.pass.number (seen_by result.0.pass) result.0.held.items result.0.backend) }
+        ensures all { OnOk result.1 (HasAllAt table.now result.0) }
+        ensures between { OnOk result.1 (IsBetween (start_of table.now).whole self.pass.number (seen_by result.0.pass) result.0.held.items result.0.backend) }
         ensures stops { StopsBy (G.stops gate.old) (G.stops gate.new) result.1 }
     {
         let (mut worker, made) = self.next(rt, alloc, table);
-        let Ok(()) = made else {
+        let Ok(over) = made else {
             return (worker, Err(RunRefusal::NoMemory));
         };
         if worker.backend.is_stopped() {
             return (worker, Ok(()));
         }
-        let done = go_on(rt, alloc, &mut worker.backend, gate);
-        (worker, done)
+        let done = go_on(rt, alloc, &mut worker.backend, gate, over);
+        let Err(RunRefusal::Stopped) = done else {
+            return (worker, done);
+        };
+        (worker.halt(rt, alloc, table), done)
     }
 
-    // A look or a turn, as it wants; none, if it has left.
+    // A look or a turn, as it wants; none, if it has left. The answer: whether it is at a command.
     fn next<R: Wait>(
         self,
         rt: &R,
         alloc: Global,
         table: &TurnTable<SharedPlay>,
-    ) -> (Worker, Result<(), NoMemory>)
+    ) -> (Worker, Result<bool, NoMemory>)
         requires at { IsAt table.now self }
-        requires between { IsBetween (start_of table.now).script self.pass.number (seen_by self.pass) self.held.items self.backend }
+        requires all { HasAllAt table.now self }
+        requires between { IsBetween (start_of table.now).whole self.pass.number (seen_by self.pass) self.held.items self.backend }
         ensures goes { Goes table.now self result.0 }
-        ensures underway { OnOk result.1 (IsUnderway (start_of table.now).script self.pass.number (seen_by result.0.pass) result.0.held.items result.0.backend) }
+        ensures all { OnOk result.1 (HasAllAt table.now result.0) }
+        ensures underway { IfOk result.1 (λ over. IsUnderway (start_of table.now).whole self.pass.number (seen_by result.0.pass) result.0.held.items over result.0.backend) }
     {
         match self.backend.wants() {
             Want::Look(look) => self.look(rt, alloc, table, look),
             Want::Turn => self.take_turn(rt, alloc, table, true),
-            Want::Ended => (self, Ok(())),
+            Want::Ended => (self, Ok(false)),
         }
     }
 
@@ -157,17 +140,20 @@ impl Worker {
         alloc: Global,
         table: &TurnTable<SharedPlay>,
         look: LookFor,
-    ) -> (Worker, Result<(), NoMemory>)
+    ) -> (Worker, Result<bool, NoMemory>)
         requires at { IsAt table.now self }
-        requires between { IsBetween (start_of table.now).script self.pass.number (seen_by self.pass) self.held.items self.backend }
+        requires all { HasAllAt table.now self }
+        requires between { IsBetween (start_of table.now).whole self.pass.number (seen_by self.pass) self.held.items self.backend }
         requires wants { Wants self.backend (Want.Look look) }
         ensures goes { Goes table.now self result.0 }
-        ensures underway { OnOk result.1 (IsUnderway (start_of table.now).script self.pass.number (seen_by result.0.pass) result.0.held.items result.0.backend) }
+        ensures all { OnOk result.1 (HasAllAt table.now result.0) }
+        ensures underway { IfOk result.1 (λ over. IsUnderway (start_of table.now).whole self.pass.number (seen_by result.0.pass) result.0.held.items over result.0.backend) }
     {
         let Worker {
             mut pass,
             mut backend,
             mut held,
+            turns,
         } = self;
         let some_wait = table.look(&mut pass);
         held.push(backend.look_by_word(look, some_wait));
@@ -176,36 +162,45 @@ impl Worker {
             pass,
             backend,
             held,
+            turns,
         };
         if hands_over {
             return worker.take_turn(rt, alloc, table, false);
         }
-        (worker, Ok(()))
+        (worker, Ok(false))
     }
 
-    // Takes a turn: hands over the looks that it holds back and, where it `enters`, makes its next entry.
+    // Takes a turn: hands over the looks that it holds back and, where it `enters`, makes its next entry and maybe more.
     fn take_turn<R: Wait>(
         self,
         rt: &R,
         alloc: Global,
         table: &TurnTable<SharedPlay>,
         enters: bool,
-    ) -> (Worker, Result<(), NoMemory>)
+    ) -> (Worker, Result<bool, NoMemory>)
         requires at { IsAt table.now self }
-        requires may { MayTakeTurn (start_of table.now).script enters self.pass.number (seen_by self.pass) (was_told self.pass) self.held.items self.backend }
+        requires all { HasAllAt table.now self }
+        requires may { MayTakeTurn (start_of table.now).whole enters self.pass.number (seen_by self.pass) (was_told self.pass) self.held.items self.backend }
         ensures goes { Goes table.now self result.0 }
-        ensures underway { OnOk result.1 (IsUnderway (start_of table.now).script self.pass.number (seen_by result.0.pass) result.0.held.items result.0.backend) }
+        ensures all { HasAllAt table.now result.0 }
+        ensures underway { IfOk result.1 (λ over. IsUnderway (start_of table.now).whole self.pass.number (seen_by result.0.pass) result.0.held.items over result.0.backend) }
     {
         let Worker {
             pass,
             mut backend,
             mut held,
+            turns,
         } = self;
         let number = pass.number;
         let mut turn = table.open(rt, pass);
-        let done = turn
-            .value()
-            .work(alloc, number, &mut backend, held.as_slice(), enters);
+        let done = turn.value().work(
+            alloc,
+            number,
+            &mut backend,
+            held.as_slice(),
+            enters,
+            turns % MOST_ENTRIES,
+        );
         turn.tell();
         let pass = table.close(turn);
         held.clear();
@@ -214,24 +209,65 @@ impl Worker {
                 pass,
                 backend,
                 held,
+                turns: turns.wrapping_add(1),
             },
             done,
         )
     }
+
+    // Its last turn, once the gate has stopped it: it takes back what it hasn't committed, releases, and leaves. Where
+    // memory is refused it ends as it is.
+    fn halt<R: Wait>(self, rt: &R, alloc: Global, table: &TurnTable<SharedPlay>) -> Worker
+        requires at { IsAt table.now self }
+        requires all { HasAllAt table.now self }
+        requires may { (now : Backend) → HaltsWherever self.backend now → MayHalt (start_of table.now).whole self.pass.number (length self.backend.lines) (seen_by self.pass) self.held.items now }
+        ensures goes { Goes table.now self result }
+    {
+        let Worker {
+            pass,
+            mut backend,
+            mut held,
+            turns,
+        } = self;
+        let at = HaltedAt {
+            backend: pass.number,
+            commands: backend.transcript().len(),
+        };
+        backend.halt(alloc);
+        let mut last = table.open(rt, pass);
+        // out of memory, it ends where it is
+        let _ = last
+            .value()
+            .stop(rt, alloc, &at, &mut backend, held.as_slice());
+        last.tell();
+        let pass = table.close(last);
+        held.clear();
+        Worker {
+            pass,
+            backend,
+            held,
+            turns,
+        }
+    }
 }
 
 // Goes on as far as it can without a look and without a turn; before each command, and after the last one,
-// the gate is asked.
+// the gate is asked. It may be at a command already.
 fn go_on<R: Wait, G: Gate>(
     rt: &R,
     alloc: Global,
     backend: &mut Backend,
     gate: &mut G,
+    over: bool,
 ) -> Result<(), RunRefusal>
     requires right { IsOnItsWay backend.old }
     ensures waits { OnOk result (WaitsWherever backend.old backend.new) }
+    ensures command { result ≡ Err RunRefusal.Stopped → IsAtCommand over backend.old backend.new }
     ensures stops { StopsBy (G.stops gate.old) (G.stops gate.new) result }
 {
+    if over {
+        ask(rt, gate, backend)?;
+    }
     'going: for _ in rt.forever() {
         if !backend.go_to_command(alloc)? {
             return Ok(());

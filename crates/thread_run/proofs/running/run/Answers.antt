@@ -60,23 +60,23 @@ returns-clause-steady g c = c.in_ok-run_backends.ensures.stops.steady
 pub returns-clause-run : goal.returns-clause-run
 returns-clause-run g c =
     let ended = all_ended c.args.script.now c.in-Ok.table c.in-Ok.passes.items c.run_backends.new.passes.items c.in-Ok.backends.items c.run_backends.new.backends.items c.from_vec-3.result c.finish.result c.from_vec.result
-    c.in-Ok.ensures c.in_ok-run_backends.ensures.done c.in_ok-run_backends.ensures.numbers c.finish.ensures.fixed c.finish.ensures.seen (c.from_vec.ensures ∙ c.into_history-entries.ensures.history) c.from_vec-3.ensures c.into_history-entries.ensures.run in
+    c.in-Ok.ensures c.in_ok-run_backends.ensures.done c.in_ok-run_backends.ensures.numbers c.finish.ensures.fixed c.finish.ensures.seen c.finish.ensures.room (c.from_vec.ensures ∙ c.into_history-entries.ensures.history) c.from_vec-3.ensures c.into_history-entries.ensures.run c.into_history-entries.ensures.left in
     run_is c.args.script.now c.from_vec.result c.from_vec-3.result c.from_vec-2.result ended (c.from_vec-2.ensures ∙ c.in-Ok-all_lines.ensures ∙ ap transcripts_of (c.deref.ensures.value ∙ sym c.from_vec-3.ensures))
 
 pub returns-clause-sessions : goal.returns-clause-sessions
 returns-clause-sessions g c =
     let ended = all_ended c.args.script.now c.in-Ok.table c.in-Ok.passes.items c.run_backends.new.passes.items c.in-Ok.backends.items c.run_backends.new.backends.items c.from_vec-3.result c.finish.result c.from_vec.result
-    c.in-Ok.ensures c.in_ok-run_backends.ensures.done c.in_ok-run_backends.ensures.numbers c.finish.ensures.fixed c.finish.ensures.seen (c.from_vec.ensures ∙ c.into_history-entries.ensures.history) c.from_vec-3.ensures c.into_history-entries.ensures.run in
+    c.in-Ok.ensures c.in_ok-run_backends.ensures.done c.in_ok-run_backends.ensures.numbers c.finish.ensures.fixed c.finish.ensures.seen c.finish.ensures.room (c.from_vec.ensures ∙ c.into_history-entries.ensures.history) c.from_vec-3.ensures c.into_history-entries.ensures.run c.into_history-entries.ensures.left in
     run_sessions c.args.script.now c.from_vec.result c.from_vec-3.result c.from_vec-2.result ended (c.from_vec-2.ensures ∙ c.in-Ok-all_lines.ensures ∙ ap transcripts_of (c.deref.ensures.value ∙ sym c.from_vec-3.ensures))
 
 pub returns-clause-stand : goal.returns-clause-stand
 returns-clause-stand g c =
     let ended = all_ended c.args.script.now c.in-Ok.table c.in-Ok.passes.items c.run_backends.new.passes.items c.in-Ok.backends.items c.run_backends.new.backends.items c.from_vec-3.result c.finish.result c.from_vec.result
-    c.in-Ok.ensures c.in_ok-run_backends.ensures.done c.in_ok-run_backends.ensures.numbers c.finish.ensures.fixed c.finish.ensures.seen (c.from_vec.ensures ∙ c.into_history-entries.ensures.history) c.from_vec-3.ensures c.into_history-entries.ensures.run in
+    c.in-Ok.ensures c.in_ok-run_backends.ensures.done c.in_ok-run_backends.ensures.numbers c.finish.ensures.fixed c.finish.ensures.seen c.finish.ensures.room (c.from_vec.ensures ∙ c.into_history-entries.ensures.history) c.from_vec-3.ensures c.into_history-entries.ensures.run c.into_history-entries.ensures.left in
     run_stands c.args.script.now c.from_vec.result c.from_vec-3.result ended
 
 pub returns-clause-coherent : goal.returns-clause-coherent
 returns-clause-coherent g c =
     let ended = all_ended c.args.script.now c.in-Ok.table c.in-Ok.passes.items c.run_backends.new.passes.items c.in-Ok.backends.items c.run_backends.new.backends.items c.from_vec-3.result c.finish.result c.from_vec.result
-    c.in-Ok.ensures c.in_ok-run_backends.ensures.done c.in_ok-run_backends.ensures.numbers c.finish.ensures.fixed c.finish.ensures.seen (c.from_vec.ensures ∙ c.into_history-entries.ensures.history) c.from_vec-3.ensures c.into_history-entries.ensures.run in
+    c.in-Ok.ensures c.in_ok-run_backends.ensures.done c.in_ok-run_backends.ensures.numbers c.finish.ensures.fixed c.finish.ensures.seen c.finish.ensures.room (c.from_vec.ensures ∙ c.into_history-entries.ensures.history) c.from_vec-3.ensures c.into_history-entries.ensures.run c.into_history-entries.ensures.left in
     run_coherent c.args.script.now c.from_vec.result c.from_vec-3.result ended

@@ -1,4 +1,4 @@
-use Rattle.std.proofs.Common.{◌≡◌, [], ◌∷◌, ◌++◌, refl, sym, ap, subst, arith}
+use Rattle.std.proofs.Common.{refl, sym, ap, subst, arith}
 use Rattle.thread_run.specs.Seats.{MaySit, IsSeated, number_of}
 use Rattle.thread_run.proofs.Lists.{pairs_taken, all_put, one_over, item_over}
 use Rattle.thread_run.proofs.Seating.{sits}

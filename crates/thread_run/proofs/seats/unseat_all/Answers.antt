@@ -1,4 +1,4 @@
-use Rattle.std.proofs.Common.{◌≡◌, ◌∷◌, [], refl, sym, ap, subst, arith, OnOk}
+use Rattle.std.proofs.Common.{◌≡◌, refl, sym, ap, subst, arith, OnOk}
 use Rattle.turn_table.proofs.Gathering.{no_items}
 use Rattle.thread_run.specs.Seats.{AllPairs, HasDone, HasWorked, number_in, number_of, first_end, end_of}
 use Rattle.thread_run.proofs.Lists.{all_taken, one_back, item_back, nothing_left}

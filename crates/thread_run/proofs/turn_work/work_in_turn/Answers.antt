@@ -1,64 +1,80 @@
-use Rattle.std.proofs.Common.{◌∙◌, sym, subst, arith}
-use Rattle.history_model.proofs.Sound.{sound_is_legal}
-use Rattle.backend_core.specs.Agrees.{AgreesNow}
-use Rattle.backend_core.specs.Apart.{IsHolding}
-use Rattle.backend_core.specs.Steps.{IsRefused}
+use Rattle.std.proofs.Common.{◌∙◌, ◌++◌, sym, subst}
+use Rattle.std.proofs.lemmas.Bool.{both_ways}
+use Rattle.backend_core.specs.Agrees.{AgreesNow, Stands}
+use Rattle.backend_core.specs.Looks.{entries_of}
 use Rattle.thread_run.specs.Turns.{right_before, EntersInTurn}
-use Rattle.thread_run.proofs.Played.{handed, handed_turn, handed_right, made_or_not, made_run, takes_turn, entered_one, entered_ok}
+use Rattle.thread_run.proofs.Played.{none_over, grew_not, grew_then, plays_same, plays_looks, handed_turn, handed_right, backend_still, enters_more, comes_taken, comes_number, comes_first}
 use Rattle.thread_run.proofs.turn_work.work_in_turn.Goals as goal
 
-pub returns-then-not-enters-clause-run : goal.returns-then-not-enters-clause-run
-returns-then-not-enters-clause-run g c =
-    (handed c.requires.backend c.requires.few c.requires.run c.requires.holds c.in_ok-promise.ensures.script c.in_ok-promise.ensures.promises c.hand_looks.ensures.script c.hand_looks.ensures.history c.hand_looks.ensures.places).run
+pub hand_over-requires-clause-id : goal.hand_over-requires-clause-id
+hand_over-requires-clause-id g c = c.requires.holds.id
 
-pub returns-then-not-enters-clause-turn : goal.returns-then-not-enters-clause-turn
-returns-then-not-enters-clause-turn g c =
-    let h = handed c.requires.backend c.requires.few c.requires.run c.requires.holds c.in_ok-promise.ensures.script c.in_ok-promise.ensures.promises c.hand_looks.ensures.script c.hand_looks.ensures.history c.hand_looks.ensures.places in
-    record { script = h.script; grew = h.grew; others = h.others }
+pub hand_over-requires-clause-calls : goal.hand_over-requires-clause-calls
+hand_over-requires-clause-calls g c = c.requires.holds.calls
+
+pub returns-in_err-hand_over-clause-run : goal.returns-in_err-hand_over-clause-run
+returns-in_err-hand_over-clause-run g c = (plays_same {b = c.args.b} c.in_err-hand_over.ensures.script c.in_err-hand_over.ensures.refused c.requires.run c.in_err-hand_over.ensures.others).run
+
+pub returns-in_err-hand_over-clause-grew : goal.returns-in_err-hand_over-clause-grew
+returns-in_err-hand_over-clause-grew g c = grew_not c.args.b (g.L.Seg.history c.args.seg.now) (g.L.Seg.history c.hand_over.new.seg) c.in_err-hand_over.ensures.refused
+
+pub returns-then-not-enters-clause-run : goal.returns-then-not-enters-clause-run
+returns-then-not-enters-clause-run g c = (plays_looks {b = c.args.b} c.args.looks.now c.in_ok-hand_over.ensures.script c.in_ok-hand_over.ensures.hands c.requires.run c.requires.holds.played c.in_ok-hand_over.ensures.others).run
+
+pub returns-then-not-enters-clause-grew : goal.returns-then-not-enters-clause-grew
+returns-then-not-enters-clause-grew g c = (plays_looks {b = c.args.b} c.args.looks.now c.in_ok-hand_over.ensures.script c.in_ok-hand_over.ensures.hands c.requires.run c.requires.holds.played c.in_ok-hand_over.ensures.others).grew
 
 pub returns-then-not-enters-clause-enters : goal.returns-then-not-enters-clause-enters
-returns-then-not-enters-clause-enters g c =
-    let h = handed c.requires.backend c.requires.few c.requires.run c.requires.holds c.in_ok-promise.ensures.script c.in_ok-promise.ensures.promises c.hand_looks.ensures.script c.hand_looks.ensures.history c.hand_looks.ensures.places in
-    subst (λ e. EntersInTurn e c.args.b c.args.looks.now (g.L.Seg.history c.args.seg.now) (g.L.Seg.history c.hand_looks.new.seg)) (sym c.if-not-enters.true) h.is
+returns-then-not-enters-clause-enters g c = subst (λ e. EntersInTurn e c.args.b c.args.looks.now (g.L.Seg.history c.args.seg.now) (g.L.Seg.history c.hand_over.new.seg)) (sym c.if-not-enters.true) c.in_ok-hand_over.ensures.hands
 
 pub returns-then-not-enters-clause-works : goal.returns-then-not-enters-clause-works
 returns-then-not-enters-clause-works g c =
-    let seg = c.hand_looks.new.seg in
-    let h = handed c.requires.backend c.requires.few c.requires.run c.requires.holds c.in_ok-promise.ensures.script c.in_ok-promise.ensures.promises c.hand_looks.ensures.script c.hand_looks.ensures.history c.hand_looks.ensures.places in
-    let holds = subst (λ e. IsHolding (right_before e) (g.L.Seg.script c.args.seg.now) c.args.b (g.L.Seg.history c.args.seg.now) c.args.looks.now c.args.backend.now) c.if-not-enters.true c.requires.holds in
-    handed_turn (g.L.Seg.script seg) c.args.b (g.L.Seg.history seg) (g.L.Seg.promised seg) c.args.backend.now c.requires.holds.id h.run (g.met.L.Seg.short seg) h.backend (omega (arith, h.some))
-    (handed_right AgreesNow (g.L.Seg.script c.args.seg.now) (g.L.Seg.script seg) (g.L.Seg.history c.args.seg.now) (g.L.Seg.history seg) c.args.b c.args.looks.now c.args.backend.now h.script h.is holds)
+    let seg = c.hand_over.new.seg in let hands = c.in_ok-hand_over.ensures in
+    let right = subst (λ e. right_before e (g.L.Seg.script c.args.seg.now) (g.L.Seg.history c.args.seg.now ++ entries_of c.args.b c.args.looks.now) c.args.backend.now) c.if-not-enters.true c.requires.holds.right in
+    handed_turn (g.L.Seg.promised seg) c.requires.holds.id (plays_looks {b = c.args.b} c.args.looks.now hands.script hands.hands c.requires.run c.requires.holds.played c.in_ok-hand_over.ensures.others).run (g.met.L.Seg.short seg) (backend_still hands.script c.requires.backend) hands.room
+    (handed_right AgreesNow c.args.b (g.L.Seg.history c.args.seg.now) c.args.looks.now hands.script hands.hands right)
 
-pub enter_in_turn-requires-clause-legal : goal.enter_in_turn-requires-clause-legal
-enter_in_turn-requires-clause-legal g c =
-    let h = handed c.requires.backend c.requires.few c.requires.run c.requires.holds c.in_ok-promise.ensures.script c.in_ok-promise.ensures.promises c.hand_looks.ensures.script c.hand_looks.ensures.history c.hand_looks.ensures.places in
-    sound_is_legal (g.L.Seg.history c.hand_looks.new.seg) h.run.played.sound
+pub returns-then-not-enters-clause-number : goal.returns-then-not-enters-clause-number
+returns-then-not-enters-clause-number g c = λ joined. none_over c.args.backend.now.progress.finished
+
+pub returns-then-not-enters-clause-first : goal.returns-then-not-enters-clause-first
+returns-then-not-enters-clause-first g c = λ does starts. absurd (both_ways _ c.if-not-enters.true does)
+
+pub enter_all-requires : goal.enter_all-requires
+enter_all-requires g c =
+    let hands = c.in_ok-hand_over.ensures in
+    let right = subst (λ e. right_before e (g.L.Seg.script c.args.seg.now) (g.L.Seg.history c.args.seg.now ++ entries_of c.args.b c.args.looks.now) c.args.backend.now) c.if-not-enters.false c.requires.holds.right in
+    record {
+      may = record {
+        backend = backend_still hands.script c.requires.backend;
+        id = c.requires.holds.id;
+        run = (plays_looks {b = c.args.b} c.args.looks.now hands.script hands.hands c.requires.run c.requires.holds.played c.in_ok-hand_over.ensures.others).run;
+        stands = handed_right Stands c.args.b (g.L.Seg.history c.args.seg.now) c.args.looks.now hands.script hands.hands right;
+        alive = c.requires.alive c.if-not-enters.false;
+      };
+    }
+
+pub returns-clause-script : goal.returns-clause-script
+returns-clause-script g c = c.enter_all.ensures.plays.script ∙ c.in_ok-hand_over.ensures.script
 
 pub returns-clause-run : goal.returns-clause-run
-returns-clause-run g c =
-    let seg = c.hand_looks.new.seg in let now = c.enter_in_turn.new.seg in
-    let h = handed c.requires.backend c.requires.few c.requires.run c.requires.holds c.in_ok-promise.ensures.script c.in_ok-promise.ensures.promises c.hand_looks.ensures.script c.hand_looks.ensures.history c.hand_looks.ensures.places in
-    made_run (g.L.Seg.script seg) (g.L.Seg.script now) (g.L.Seg.history seg) (g.L.Seg.history now) (g.L.Seg.promised seg) (g.L.Seg.promised now) c.args.backend.now c.enter_in_turn.new.self c.enter_in_turn.result
-    c.enter_in_turn.ensures.script h.run c.enter_in_turn.ensures.makes c.enter_in_turn.ensures.refused
+returns-clause-run g c = c.enter_all.ensures.plays.run
 
-pub returns-clause-turn : goal.returns-clause-turn
-returns-clause-turn g c =
-    let first = c.args.seg.now in let seg = c.hand_looks.new.seg in let now = c.enter_in_turn.new.seg in
-    let h = handed c.requires.backend c.requires.few c.requires.run c.requires.holds c.in_ok-promise.ensures.script c.in_ok-promise.ensures.promises c.hand_looks.ensures.script c.hand_looks.ensures.history c.hand_looks.ensures.places in
-    let made = made_or_not (g.L.Seg.script seg) (g.L.Seg.history seg) (g.L.Seg.history now) (g.L.Seg.promised seg) (g.L.Seg.promised now) c.args.backend.now c.enter_in_turn.new.self c.enter_in_turn.result c.enter_in_turn.ensures.makes c.enter_in_turn.ensures.refused in
-    takes_turn (g.L.Seg.script first) (g.L.Seg.script seg) (g.L.Seg.script now) c.args.b (g.L.Seg.history first) (g.L.Seg.history seg) (g.L.Seg.history now) (g.L.Seg.promised first) (g.L.Seg.promised seg) (g.L.Seg.promised now)
-    (c.enter_in_turn.ensures.script ∙ h.script) h.grew h.others (subst (λ n. IsRefused (g.L.Seg.script seg) (g.L.Seg.history seg) (g.L.Seg.history now) (g.L.Seg.promised seg) (g.L.Seg.promised now) n) c.requires.holds.id made)
+pub returns-clause-grew : goal.returns-clause-grew
+returns-clause-grew g c = grew_then c.args.b (g.L.Seg.history c.args.seg.now) (g.L.Seg.history c.hand_over.new.seg) (g.L.Seg.history c.enter_all.new.seg)
+    (plays_looks {b = c.args.b} c.args.looks.now c.in_ok-hand_over.ensures.script c.in_ok-hand_over.ensures.hands c.requires.run c.requires.holds.played c.in_ok-hand_over.ensures.others).grew c.enter_all.ensures.plays.grew
+
+pub returns-clause-others : goal.returns-clause-others
+returns-clause-others g c = λ a apart. c.enter_all.ensures.plays.others a apart ∙ c.in_ok-hand_over.ensures.others a apart
 
 pub returns-clause-enters : goal.returns-clause-enters
-returns-clause-enters g c =
-    let first = c.args.seg.now in let seg = c.hand_looks.new.seg in let now = c.enter_in_turn.new.seg in
-    let h = handed c.requires.backend c.requires.few c.requires.run c.requires.holds c.in_ok-promise.ensures.script c.in_ok-promise.ensures.promises c.hand_looks.ensures.script c.hand_looks.ensures.history c.hand_looks.ensures.places in
-    entered_one (g.L.Seg.script seg) c.args.b c.args.looks.now (g.L.Seg.history first) (g.L.Seg.history seg) (g.L.Seg.history now) (g.L.Seg.promised seg) (g.L.Seg.promised now) c.args.backend.now c.enter_in_turn.new.self c.enter_in_turn.result c.args.enters
-    c.if-not-enters.false c.requires.holds.id h.is c.enter_in_turn.ensures.makes
+returns-clause-enters g c = enters_more c.args.b (g.L.Seg.history c.args.seg.now) (g.L.Seg.history c.enter_all.new.seg) c.args.looks.now c.enter_all.result c.if-not-enters.false c.in_ok-hand_over.ensures.hands c.enter_all.ensures.more
 
 pub returns-clause-works : goal.returns-clause-works
-returns-clause-works g c =
-    let seg = c.hand_looks.new.seg in let now = c.enter_in_turn.new.seg in
-    let h = handed c.requires.backend c.requires.few c.requires.run c.requires.holds c.in_ok-promise.ensures.script c.in_ok-promise.ensures.promises c.hand_looks.ensures.script c.hand_looks.ensures.history c.hand_looks.ensures.places in
-    entered_ok (g.L.Seg.script seg) (g.L.Seg.script now) c.args.b (g.L.Seg.history seg) (g.L.Seg.history now) (g.L.Seg.promised seg) (g.L.Seg.promised now) c.args.backend.now c.enter_in_turn.new.self c.enter_in_turn.result
-    c.enter_in_turn.ensures.script c.requires.holds.id h.run (g.met.L.Seg.short now) h.backend (omega (arith, h.some)) c.enter_in_turn.ensures.makes
+returns-clause-works g c = comes_taken (g.L.Seg.script c.enter_all.new.seg) c.args.b (g.L.Seg.history c.enter_all.new.seg) c.args.backend.now c.enter_all.new.backend c.enter_all.result c.enter_all.ensures.comes
+
+pub returns-clause-number : goal.returns-clause-number
+returns-clause-number g c = comes_number (g.L.Seg.script c.enter_all.new.seg) c.args.b (g.L.Seg.history c.enter_all.new.seg) c.args.backend.now c.enter_all.new.backend c.enter_all.result c.enter_all.ensures.comes
+
+pub returns-clause-first : goal.returns-clause-first
+returns-clause-first g c = comes_first (g.L.Seg.script c.enter_all.new.seg) c.args.b (g.L.Seg.history c.enter_all.new.seg) c.args.backend.now c.enter_all.new.backend c.args.enters c.enter_all.result c.enter_all.ensures.comes

@@ -13,22 +13,22 @@ fetch-fetched-requires-clause-active c = active_needs _ _ c.args.b c.args.c (Fet
 pub invariant_of-self : goal.invariant_of-self
 invariant_of-self c =
     let alive = fetch_alive _ _ c.args.b c.args.c _ c.self.view_is c.requires.call in
-    let due = fetch_due c.self.inside.script.value _ _ c.args.b c.fetch-fetched.result c.self.invariant.queued alive c.fetch-fetched.ensures.answer in
+    let due = fetch_due c.self.inside.script.scenario _ _ c.args.b c.fetch-fetched.result c.self.invariant.queued alive c.fetch-fetched.ensures.answer in
     let call = fetch_call _ _ c.args.b c.args.c c.fetch-fetched.result c.self.view_is c.requires.call due in
     let inside = call_inside _ _ (entry_of c.args.b c.args.c (event_of_fetch c.fetch-fetched.result)) c.self.view_is call in
     let entries : c.append.new.self.entries ≡ c.self.inside.places.entries ++ entry_of c.args.b c.args.c (event_of_fetch c.fetch-fetched.result) ∷ [] =
     c.append.ensures.entries ∙ ap (λ event. c.self.inside.places.entries ++ entry_of c.args.b c.args.c event ∷ []) c.fetch_event.ensures in
     record {
       folds = fetch_folds _ _ _ _ c.args.b c.args.c c.fetch-fetched.result _ _ _ _ _ _ c.self.view_is c.self.invariant.folds call entries c.append.ensures.promised c.begin.ensures;
-      queued = placed_queued c.self.inside.script.value _ _ (entry_of c.args.b c.args.c (event_of_fetch c.fetch-fetched.result)) _ _ entries c.fetch-fetched.ensures.queue
-          (fetch_queued c.self.inside.script.value _ c.args.b c.args.c c.fetch-fetched.result _ (within c.self.inside.script.value c.args.b _ inside.backend c.self.invariant.queued.slots) c.self.invariant.queued alive due);
+      queued = placed_queued c.self.inside.script.scenario _ _ (entry_of c.args.b c.args.c (event_of_fetch c.fetch-fetched.result)) _ _ entries c.fetch-fetched.ensures.queue
+          (fetch_queued c.self.inside.script.scenario _ c.args.b c.args.c c.fetch-fetched.result _ (within c.self.inside.script.scenario c.args.b _ inside.backend c.self.invariant.queued.slots) c.self.invariant.queued alive due);
     }
 
 pub returns-clause-fetches : goal.returns-clause-fetches
 returns-clause-fetches c =
     let alive = fetch_alive _ _ c.args.b c.args.c _ c.self.view_is c.requires.call in
-    let due = fetch_due c.self.inside.script.value _ _ c.args.b c.fetch-fetched.result c.self.invariant.queued alive c.fetch-fetched.ensures.answer in
+    let due = fetch_due c.self.inside.script.scenario _ _ c.args.b c.fetch-fetched.result c.self.invariant.queued alive c.fetch-fetched.ensures.answer in
     let entries : c.append.new.self.entries ≡ c.self.inside.places.entries ++ entry_of c.args.b c.args.c (event_of_fetch c.fetch-fetched.result) ∷ [] =
     c.append.ensures.entries ∙ ap (λ event. c.self.inside.places.entries ++ entry_of c.args.b c.args.c event ∷ []) c.fetch_event.ensures in
     fetches_due _ _ _ _ c.args.b c.args.c c.fetch-fetched.result _ c.self.view_is (fetch_call _ _ c.args.b c.args.c c.fetch-fetched.result c.self.view_is c.requires.call due) c.self.invariant.folds.backends due
-    (fetch_given c.self.inside.script.value _ _ c.args.b _ c.self.invariant.queued alive c.fetch-fetched.ensures.given) entries c.append.ensures.promised
+    (fetch_given c.self.inside.script.scenario _ _ c.args.b _ c.self.invariant.queued alive c.fetch-fetched.ensures.given) entries c.append.ensures.promised

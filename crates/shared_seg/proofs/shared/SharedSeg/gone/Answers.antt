@@ -11,7 +11,7 @@ invariant_of-self c = record {
   folds =
       let call = call_inside _ _ (entry_of c.args.b c.args.c (Gone c.args.from)) c.self.view_is c.requires.call in
       placed_keeps _ _ _ _ (entry_of c.args.b c.args.c (Gone c.args.from)) _ _ _ _ _ _ _ _ _ _ c.self.view_is c.self.invariant.folds c.requires.call tt c.append.ensures.entries c.append.ensures.promised
-      (gone_steps _ c.args.b c.args.c c.args.from _ _ _ _ _ _ _ (c.self.invariant.folds.own c.args.b) (search rules) (within c.self.inside.script.value c.args.b _ call.backend c.self.invariant.folds.slots) c.begin.ensures);
+      (gone_steps _ c.args.b c.args.c c.args.from _ _ _ _ _ _ _ (c.self.invariant.folds.own c.args.b) (search rules) (within c.self.inside.script.scenario c.args.b _ call.backend c.self.invariant.folds.slots) c.begin.ensures);
   queued = placed_still _ _ _ (entry_of c.args.b c.args.c (Gone c.args.from)) _ c.self.view_is c.self.invariant.queued c.requires.call refl c.append.ensures.entries;
 }
 

@@ -20,7 +20,7 @@ invariant_of-self c =
     let next = subst (λ (x : Kept). ArePublishedNext x.history c.args.b c.args.messages.now) (sym c.self.view_is) c.requires.next in
     record {
       folds = quiet_keeps _ _ _ _ c.args.b c.args.c (Publish (length c.args.messages.now)) _ _ _ _ _ _ _ c.self.view_is c.self.invariant.folds c.requires.call tt c.append.ensures.entries c.append.ensures.promised refl refl refl (λ x. refl) (λ x. refl) refl c.add_published.ensures;
-      queued = subst (λ h. KeepsQueue c.self.inside.script.value h c.insert-cleaned.new.self) (sym c.append.ensures.entries) (publish_queued c.self.inside.script.value _ c.args.b c.args.c c.args.messages.now _ _ c.self.invariant.queued call.follows next c.insert-cleaned.ensures.queue c.insert-cleaned.ensures.lapped);
+      queued = subst (λ h. KeepsQueue c.self.inside.script.scenario h c.insert-cleaned.new.self) (sym c.append.ensures.entries) (publish_queued c.self.inside.script.scenario _ c.args.b c.args.c c.args.messages.now _ _ c.self.invariant.queued call.follows next c.insert-cleaned.ensures.queue c.insert-cleaned.ensures.lapped);
     }
 
 pub returns-clause-appends : goal.returns-clause-appends

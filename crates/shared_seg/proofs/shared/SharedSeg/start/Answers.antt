@@ -6,7 +6,7 @@ use Rattle.shared_seg.proofs.Queue.{placed_queued, start_needs, start_queued}
 use Rattle.shared_seg.proofs.shared.SharedSeg.start.Goals as goal
 
 pub start-requires-clause-backend : goal.start-requires-clause-backend
-start-requires-clause-backend c = let call = call_inside _ _ (entry_of c.args.b 0 Start) c.self.view_is c.requires.call in (call.backend.0, within c.self.inside.script.value c.args.b _ call.backend c.self.invariant.queued.slots)
+start-requires-clause-backend c = let call = call_inside _ _ (entry_of c.args.b 0 Start) c.self.view_is c.requires.call in (call.backend.0, within c.self.inside.script.scenario c.args.b _ call.backend c.self.invariant.queued.slots)
 
 pub start-requires-clause-inactive : goal.start-requires-clause-inactive
 start-requires-clause-inactive c = start_needs _ _ c.args.b _ c.self.view_is c.self.invariant.queued c.requires.call
@@ -16,7 +16,7 @@ invariant_of-self c = record {
   folds =
       quiet_keeps _ _ _ _ c.args.b 0 Start _ _ _ _ _ _ _ c.self.view_is c.self.invariant.folds c.requires.call tt c.append.ensures.entries c.append.ensures.promised refl refl refl (λ x. refl) (λ x. refl) refl c.clear.ensures;
   queued = let call = call_inside _ _ (entry_of c.args.b 0 Start) c.self.view_is c.requires.call in
-      placed_queued c.self.inside.script.value _ _ (entry_of c.args.b 0 Start) _ _ c.append.ensures.entries c.start.ensures (start_queued c.self.inside.script.value _ c.args.b _ (within c.self.inside.script.value c.args.b _ call.backend c.self.invariant.queued.slots) c.self.invariant.queued);
+      placed_queued c.self.inside.script.scenario _ _ (entry_of c.args.b 0 Start) _ _ c.append.ensures.entries c.start.ensures (start_queued c.self.inside.script.scenario _ c.args.b _ (within c.self.inside.script.scenario c.args.b _ call.backend c.self.invariant.queued.slots) c.self.invariant.queued);
 }
 
 pub returns-clause-appends : goal.returns-clause-appends

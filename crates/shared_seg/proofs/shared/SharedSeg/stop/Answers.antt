@@ -16,7 +16,7 @@ invariant_of-self c = record {
       placed_keeps _ _ _ _ (entry_of c.args.b c.args.c Stop) _ _ _ _ _ _ _ _ _ _ c.self.view_is c.self.invariant.folds c.requires.call tt c.append.ensures.entries c.append.ensures.promised
       (quiet_steps _ c.args.b c.args.c Stop _ _ _ _ _ _ _ refl refl refl (λ x. refl) (λ x. refl) refl refl (kept_same c.args.b c.args.c _));
   queued = let call = call_inside _ _ (entry_of c.args.b c.args.c Stop) c.self.view_is c.requires.call in
-      placed_queued c.self.inside.script.value _ _ (entry_of c.args.b c.args.c Stop) _ _ c.append.ensures.entries c.stop.ensures (stop_queued c.self.inside.script.value _ c.args.b c.args.c _ (within c.self.inside.script.value c.args.b _ call.backend c.self.invariant.queued.slots) c.self.invariant.queued);
+      placed_queued c.self.inside.script.scenario _ _ (entry_of c.args.b c.args.c Stop) _ _ c.append.ensures.entries c.stop.ensures (stop_queued c.self.inside.script.scenario _ c.args.b c.args.c _ (within c.self.inside.script.scenario c.args.b _ call.backend c.self.invariant.queued.slots) c.self.invariant.queued);
 }
 
 pub returns-clause-appends : goal.returns-clause-appends

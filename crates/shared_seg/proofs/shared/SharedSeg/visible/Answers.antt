@@ -11,7 +11,7 @@ invariant_of-self c = record {
   folds =
       let call = call_inside _ _ (entry_of c.args.b c.args.c (Visible c.args.xid)) c.self.view_is c.requires.call in
       placed_keeps _ _ _ _ (entry_of c.args.b c.args.c (Visible c.args.xid)) _ _ _ _ _ _ _ _ _ _ c.self.view_is c.self.invariant.folds c.requires.call tt c.append.ensures.entries c.append.ensures.promised
-      (visible_steps _ c.args.b c.args.c c.args.xid _ _ _ _ _ _ _ c.commit.ensures (c.self.invariant.folds.places c.args.b c.args.xid.0 call.follows.event.0) (within c.self.inside.script.value c.args.b _ call.backend c.self.invariant.folds.slots) c.make_visible.ensures);
+      (visible_steps _ c.args.b c.args.c c.args.xid _ _ _ _ _ _ _ c.commit.ensures (c.self.invariant.folds.places c.args.b c.args.xid.0 call.follows.event.0) (within c.self.inside.script.scenario c.args.b _ call.backend c.self.invariant.folds.slots) c.make_visible.ensures);
   queued = placed_still _ _ _ (entry_of c.args.b c.args.c (Visible c.args.xid)) _ c.self.view_is c.self.invariant.queued c.requires.call refl c.append.ensures.entries;
 }
 

@@ -4,7 +4,7 @@ use Rattle.thread_run.proofs.Workers.{needs_turn}
 use Rattle.thread_run.proofs.worker.Worker.next.Goals as goal
 
 pub wants-requires : goal.wants-requires
-wants-requires g c = record { right = between_right (start_of c.args.table.now).script c.args.self.pass.number (seen_by c.args.self.pass) c.args.self.held.items c.args.self.backend c.requires.between }
+wants-requires g c = record { right = between_right (start_of c.args.table.now).whole c.args.self.pass.number (seen_by c.args.self.pass) c.args.self.held.items c.args.self.backend c.requires.between }
 
 pub take_turn-requires-clause-may : goal.take_turn-requires-clause-may
-take_turn-requires-clause-may g c = may_enter (start_of c.args.table.now).script c.args.self.pass.number (seen_by c.args.self.pass) (was_told c.args.self.pass) c.args.self.held.items c.args.self.backend c.requires.between (needs_turn c.args.self.backend c.in-Turn.ensures)
+take_turn-requires-clause-may g c = may_enter (start_of c.args.table.now).whole c.args.self.pass.number (seen_by c.args.self.pass) (was_told c.args.self.pass) c.args.self.held.items c.args.self.backend c.requires.between (needs_turn c.args.self.backend c.in-Turn.ensures)

@@ -1,31 +1,24 @@
 use Rattle.std.proofs.Common.{◌∙◌, refl, sym, subst}
 use Rattle.turn_table.specs.Passes.{start_of, seen_by}
 use Rattle.thread_run.specs.Turns.{IsBetween}
-use Rattle.thread_run.proofs.Between.{between_ended}
-use Rattle.thread_run.proofs.Workers.{goes_then, stops_then, stops_ok, not_ok, between_ok}
+use Rattle.thread_run.specs.Workers.{HasAllAt}
+use Rattle.thread_run.proofs.Between.{between_new, between_ended}
+use Rattle.thread_run.proofs.Workers.{goes_nowhere, goes_then, stops_then, stops_ok, not_ok, where_ok, between_ok}
 use Rattle.thread_run.proofs.worker.Worker.work.Goals as goal
 
-pub returns-in_default-clause-goes : goal.returns-in_default-clause-goes
-returns-in_default-clause-goes g c = c.join-worker.ensures.goes
-
-pub returns-in_default-clause-ended : goal.returns-in_default-clause-ended
-returns-in_default-clause-ended g c = not_ok _ c.join-worker.result.1 c.in_default.not-Ok
-
-pub returns-in_default-clause-stops : goal.returns-in_default-clause-stops
-returns-in_default-clause-stops g c = c.join-worker.ensures.stops
-
 pub working-init : goal.working-init
-working-init g c = let worker = c.join-worker.result.0 in let stops = g.G.Gate.stops in record {
-  goes = c.join-worker.ensures.goes;
-  between = between_ok (start_of c.args.table.now).script c.args.self.pass.number c.args.self.pass.number (seen_by worker.pass) worker.held.items worker.backend c.join-worker.result.1 c.in-Ok.field-0 refl c.in-Ok.is c.join-worker.ensures.between;
-  steady = stops_ok (stops c.args.gate.now) (stops c.join-worker.new.gate) c.join-worker.result.1 c.in-Ok.field-0 c.in-Ok.is c.join-worker.ensures.stops;
+working-init g c = let new = c.requires.new in record {
+  goes = goes_nowhere c.args.table.now c.args.self c.requires.at;
+  all = new.all;
+  between = between_new (start_of c.args.table.now).whole c.args.self.pass.number (seen_by c.args.self.pass) c.args.self.held.items c.args.self.backend new.id new.held new.run new.short new.stands;
+  steady = refl;
 }
 
 pub returns-then-is_stopped-clause-goes : goal.returns-then-is_stopped-clause-goes
 returns-then-is_stopped-clause-goes g c = c.working.invariant.goes
 
 pub returns-then-is_stopped-clause-ended : goal.returns-then-is_stopped-clause-ended
-returns-then-is_stopped-clause-ended g c = between_ended (start_of c.args.table.now).script c.args.self.pass.number (seen_by c.working.worker.pass) c.working.worker.held.items c.working.worker.backend c.working.invariant.between (sym c.is_stopped.ensures ∙ c.if-is_stopped.true)
+returns-then-is_stopped-clause-ended g c = (between_ended (start_of c.args.table.now).whole c.args.self.pass.number (seen_by c.working.worker.pass) c.working.worker.held.items c.working.worker.backend c.working.invariant.between (sym c.is_stopped.ensures ∙ c.if-is_stopped.true), c.working.invariant.all)
 
 pub returns-then-is_stopped-clause-stops : goal.returns-then-is_stopped-clause-stops
 returns-then-is_stopped-clause-stops g c = c.working.invariant.steady
@@ -33,23 +26,27 @@ returns-then-is_stopped-clause-stops g c = c.working.invariant.steady
 pub step-next-requires-clause-at : goal.step-next-requires-clause-at
 step-next-requires-clause-at g c κs within = c.working.invariant.goes.at
 
+pub step-next-requires-clause-all : goal.step-next-requires-clause-all
+step-next-requires-clause-all g c κs within = c.working.invariant.all
+
 pub step-next-requires-clause-between : goal.step-next-requires-clause-between
 step-next-requires-clause-between g c κs within = let worker = c.working.worker in
-    subst (λ n. IsBetween (start_of c.args.table.now).script n (seen_by worker.pass) worker.held.items worker.backend) (sym c.working.invariant.goes.number) c.working.invariant.between
+    subst (λ n. IsBetween (start_of c.args.table.now).whole n (seen_by worker.pass) worker.held.items worker.backend) (sym c.working.invariant.goes.number) c.working.invariant.between
 
 pub working-preserved : goal.working-preserved
 working-preserved g c = let i = c.working.invariant in let next = c.step-next.result.0 in let stops = g.G.Gate.stops in record {
   goes = goes_then c.args.table.now c.args.self c.working.worker next i.goes c.step-next.ensures.goes;
-  between = between_ok (start_of c.args.table.now).script c.working.worker.pass.number c.args.self.pass.number (seen_by next.pass) next.held.items next.backend c.step-next.result.1 c.in-Ok-made.field-0 i.goes.number c.in-Ok-made.is c.step-next.ensures.between;
-  steady = stops_ok (stops c.working.gate) (stops c.step-next.new.gate) c.step-next.result.1 c.in-Ok-made.field-0 c.in-Ok-made.is c.step-next.ensures.stops ∙ i.steady;
+  all = where_ok (HasAllAt c.args.table.now next) c.step-next.result.1 c.in-Ok.field-0 c.in-Ok.is c.step-next.ensures.all;
+  between = between_ok (start_of c.args.table.now).whole c.working.worker.pass.number c.args.self.pass.number (seen_by next.pass) next.held.items next.backend c.step-next.result.1 c.in-Ok.field-0 i.goes.number c.in-Ok.is c.step-next.ensures.between;
+  steady = stops_ok (stops c.working.gate) (stops c.step-next.new.gate) c.step-next.result.1 c.in-Ok.field-0 c.in-Ok.is c.step-next.ensures.stops ∙ i.steady;
 }
 
-pub returns-in_default-made-clause-goes : goal.returns-in_default-made-clause-goes
-returns-in_default-made-clause-goes g c = goes_then c.args.table.now c.args.self c.working.worker c.step-next.result.0 c.working.invariant.goes c.step-next.ensures.goes
+pub returns-in_default-clause-goes : goal.returns-in_default-clause-goes
+returns-in_default-clause-goes g c = goes_then c.args.table.now c.args.self c.working.worker c.step-next.result.0 c.working.invariant.goes c.step-next.ensures.goes
 
-pub returns-in_default-made-clause-ended : goal.returns-in_default-made-clause-ended
-returns-in_default-made-clause-ended g c = not_ok _ c.step-next.result.1 c.in_default-made.not-Ok
+pub returns-in_default-clause-ended : goal.returns-in_default-clause-ended
+returns-in_default-clause-ended g c = not_ok _ c.step-next.result.1 c.in_default.not-Ok
 
-pub returns-in_default-made-clause-stops : goal.returns-in_default-made-clause-stops
-returns-in_default-made-clause-stops g c = let stops = g.G.Gate.stops in
+pub returns-in_default-clause-stops : goal.returns-in_default-clause-stops
+returns-in_default-clause-stops g c = let stops = g.G.Gate.stops in
     stops_then (stops c.args.gate.now) (stops c.working.gate) (stops c.step-next.new.gate) c.step-next.result.1 c.working.invariant.steady c.step-next.ensures.stops

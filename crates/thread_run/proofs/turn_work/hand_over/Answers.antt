@@ -1,0 +1,19 @@
+use Rattle.std.proofs.Common.{◌∙◌, ◌++◌, ap}
+use Rattle.backend_core.specs.Looks.{entries_of}
+use Rattle.thread_run.proofs.Played.{renewed_calls, looks_fit, looks_left}
+use Rattle.thread_run.proofs.turn_work.hand_over.Goals as goal
+
+pub hand_looks-requires-clause-calls : goal.hand_looks-requires-clause-calls
+hand_looks-requires-clause-calls g c = renewed_calls c.args.looks.now c.in_ok-renew.ensures.script c.in_ok-renew.ensures.history c.requires.id c.requires.calls
+
+pub hand_looks-requires-clause-places : goal.hand_looks-requires-clause-places
+hand_looks-requires-clause-places g c = looks_fit (g.L.Seg.promised c.renew.new.seg) c.requires.id c.requires.few c.in_ok-renew.ensures.room
+
+pub returns-clause-hands : goal.returns-clause-hands
+returns-clause-hands g c = c.hand_looks.ensures.history ∙ ap (λ h. h ++ entries_of c.args.backend.now.progress.id c.args.looks.now) c.in_ok-renew.ensures.history ∙ ap (λ n. g.L.Seg.history c.args.seg.now ++ entries_of n c.args.looks.now) c.requires.id
+
+pub returns-clause-room : goal.returns-clause-room
+returns-clause-room g c = looks_left c.requires.id c.requires.few c.in_ok-renew.ensures.room c.hand_looks.ensures.places
+
+pub returns-clause-others : goal.returns-clause-others
+returns-clause-others g c = λ a apart. c.hand_looks.ensures.places.others a (λ same. apart (same ∙ c.requires.id)) ∙ c.in_ok-renew.ensures.others a apart
