@@ -6,17 +6,10 @@ use Rattle.cacheless.specs.declared.check_kind.CheckKind.{CheckKind}
 use Rattle.check_tool.specs.Verdicts.{IsOutputOf, DiffersAt}
 use Rattle.script_text.specs.Grammar.{Reading, script_of}
 use Rattle.script_text.specs.declared.fault.Rest.TheVariants.{Given}
-use Rattle.catsync_top.specs.Top.{IsChecked, HasFound, HasDiffered, checked_text}
+use Rattle.catsync_top.specs.declared.arguments.Word.TheVariants as words
+use Rattle.catsync_top.specs.Top.{HasFound, HasDiffered, checked_text}
+use Rattle.catsync_top.proofs.Inputs.{has_read}
 use Rattle.catsync_top.proofs.Readable.{output_only}
-
--- a script that was read
-abbrev is_checked : (kind : CheckKind) (left rest : Option (List ℕ)) (items input : List ℕ) (reading : Reading) → ReadsAll left rest 268435456 items → length items ≤ 268435456 → input ≡ items → script_of Given input ≡ Ok reading → IsChecked kind left rest
-is_checked kind left rest items input reading all short same spelled = record {
-  input = items;
-  whole = record { read = all.consumed; ended = all.ended short; short = short };
-  reading = reading;
-  spelled = ap (script_of Given) (sym same) ∙ spelled;
-}
 
 -- what is left after the script
 left_over : (items input : List ℕ) (at size from : ℕ) → input ≡ items → size ≡ length items → from ≡ min at size → take (length input - from) (drop from input) ≡ drop at items
@@ -30,7 +23,7 @@ pub has_found : (kind : CheckKind) (left rest taken now : Option (List ℕ)) (Wr
 has_found kind left rest taken now Writes items input reading size from count all short same spelled long at output written =
     let found : IsOutputOf kind reading.script (drop reading.rest_at items) count = subst (λ text. IsOutputOf kind reading.script text count) (left_over items input reading.rest_at size from same long at) output in
     record {
-      is = is_checked kind left rest items input reading all short same spelled;
+      is = has_read (words.Check kind) left rest items input reading all short same spelled;
       count = count;
       output = found;
       only = output_only kind reading.script (drop reading.rest_at items) count found;
@@ -42,6 +35,6 @@ pub has_differed : (kind : CheckKind) (left rest : Option (List ℕ)) (items inp
     → ReadsAll left rest 268435456 items → length items ≤ 268435456 → input ≡ items → script_of Given input ≡ Ok reading → size ≡ length items → from ≡ min reading.rest_at size
     → DiffersAt kind reading.script (take (length input - from) (drop from input)) entry → HasDiffered kind left rest entry
 has_differed kind left rest items input reading size from entry all short same spelled long at differs = record {
-  is = is_checked kind left rest items input reading all short same spelled;
+  is = has_read (words.Check kind) left rest items input reading all short same spelled;
   differs = subst (λ text. DiffersAt kind reading.script text entry) (left_over items input reading.rest_at size from same long at) differs;
 }

@@ -1,5 +1,6 @@
 pub mod Words
-pub mod Gates
+pub mod Inputs
+pub mod Asked
 pub mod Written
 pub mod Readable
 pub mod Checked

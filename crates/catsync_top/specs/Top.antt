@@ -119,6 +119,13 @@ pub record IsInput (word : Word) (left rest : Option (List ℕ)) (input : List �
   pub ended : IsAtEnd rest
   pub short : length input ≤ most_of word
 
+-- the input was read to its end and is a script; for a check, a script and what follows it
+pub record HasRead (word : Word) (left rest : Option (List ℕ)) : Type 0 where
+  pub input : List ℕ
+  pub whole : IsInput word left rest input
+  pub reading : Reading
+  pub spelled : script_of (rest_of word) input ≡ Ok reading
+
 -- the input is a script; an output of `walk` or `run` for that script was written, or a prefix of one; its history is sound, and the script's commands have forms that lines may have, so that each law of such histories is one of it; its entries and lines are such as a reader of texts takes, and that output spells them alone; and the sessions are the backends that were run, with their parts of the answers
 pub record Ran (kind : CheckKind) (left rest : Option (List ℕ)) (taken now : Option (List ℕ)) (Writes : Option (List ℕ) → Option (List ℕ) → List ℕ → Type 0) (sessions : List Backend) : Type 0 where
   pub input : List ℕ
@@ -139,16 +146,9 @@ pub record Ran (kind : CheckKind) (left rest : Option (List ℕ)) (taken now : O
 abbrev pub checked_text : ℕ → List ℕ
 checked_text entries = codes "checked " ++ decimal entries ++ codes " entries\n"
 
--- the input is a script, and after it something that may be an output
-pub record IsChecked (kind : CheckKind) (left rest : Option (List ℕ)) : Type 0 where
-  pub input : List ℕ
-  pub whole : IsInput (words.Check kind) left rest input
-  pub reading : Reading
-  pub spelled : script_of Given input ≡ Ok reading
-
 -- what follows the script is an output of `walk` or `run` of it, of a sound history, and spells that history and its answer lines alone (`IsOutputOf` has the rest of what `Ran` says of a history); and the number of its entries was written, or a prefix of that line
 pub record HasFound (kind : CheckKind) (left rest : Option (List ℕ)) (taken now : Option (List ℕ)) (Writes : Option (List ℕ) → Option (List ℕ) → List ℕ → Type 0) : Type 0 where
-  pub is : IsChecked kind left rest
+  pub is : HasRead (words.Check kind) left rest
   pub count : ℕ
   pub output : IsOutputOf kind is.reading.script (drop is.reading.rest_at is.input) count
   pub only : SpellsOnly (drop is.reading.rest_at is.input) output.is.is.history (lines_of is.reading.script output.is.is.history)
@@ -156,7 +156,7 @@ pub record HasFound (kind : CheckKind) (left rest : Option (List ℕ)) (taken no
 
 -- what follows the script is no output of `walk` or `run` of it, and that may make the entries before this one and not one more
 pub record HasDiffered (kind : CheckKind) (left rest : Option (List ℕ)) (entry : ℕ) : Type 0 where
-  pub is : IsChecked kind left rest
+  pub is : HasRead (words.Check kind) left rest
   pub differs : DiffersAt kind is.reading.script (drop is.reading.rest_at is.input) entry
 
 -- a check was asked for, and came to that entry
@@ -211,6 +211,13 @@ HasEnded word statuses.Done = ⊤
 HasEnded word statuses.NoMemory = ⊤
 HasEnded (words.Check kind) (statuses.Differs entry) = ⊤
 HasEnded word status = ⊥
+
+-- the input was refused, before anything was run
+abbrev pub IsRefusalOfInput : Status → Type 0
+IsRefusalOfInput statuses.ReadFault = ⊤
+IsRefusalOfInput statuses.TooLong = ⊤
+IsRefusalOfInput (statuses.BadScript line cause) = ⊤
+IsRefusalOfInput status = ⊥
 
 -- how the making of a script may end
 abbrev pub IsEndOfMaking : Status → Type 0

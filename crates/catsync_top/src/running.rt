@@ -4,7 +4,8 @@ ghost use Rattle.edge_io.specs.Taken.{Grows, GrowsByFront};
 ghost use Rattle.thread_run.specs.Stops.{NoneFell, OneRose};
 ghost use Rattle.cacheless.specs.declared.check_kind.CheckKind.TheVariants as kinds;
 ghost use Rattle.catsync_top.specs.declared.arguments.Word.TheVariants as words;
-ghost use Rattle.catsync_top.specs.Top.{Ran, IsBad, IsTooLong, HasScript, HadNoFault, HadNoStop, IfBadScript, IfDiffers, HasEnded};
+ghost use Rattle.catsync_top.specs.Sessions.{RanCoherently};
+ghost use Rattle.catsync_top.specs.Top.{HasRead, IsBad, IsTooLong, HasScript, HadNoFault, HadNoStop, IfBadScript, IfDiffers, HasEnded, IsRefusalOfInput};
 
 use crate::Status;
 use crate::top::MOST_INPUT;
@@ -18,7 +19,7 @@ use std::thread::Threads;
 use thread_run::{RunRefusal, run};
 
 // Runs the script that the source gives, each backend on a thread of its own, and writes its output.
-#[tactic(auto, using(crate::proofs::Gates::none_fell))]
+#[tactic(auto, using(thread_run::proofs::Stopping::none_fell_same))]
 pub(crate) fn run_script<R: Threads + Wait + Sync, S: Source, K: Sink, G: Gate>(
     rt: &R,
     alloc: Global,
@@ -30,8 +31,8 @@ pub(crate) fn run_script<R: Threads + Wait + Sync, S: Source, K: Sink, G: Gate>(
     requires gates { MOST_BACKENDS ≤ length gates.old.items }
     requires sessions { sessions.old.items ≡ [] }
     ensures accepted { result ≢ Status.Usage }
-    ensures done { result ≡ Status.Done → Ran kinds.Run (S.left source.old) (S.left source.new) (K.taken sink.old) (K.taken sink.new) Grows sessions.new.items }
-    ensures write_front { result ≡ Status.WriteFault → Ran kinds.Run (S.left source.old) (S.left source.new) (K.taken sink.old) (K.taken sink.new) GrowsByFront sessions.new.items }
+    ensures done { result ≡ Status.Done → RanCoherently kinds.Run (S.left source.old) (S.left source.new) (K.taken sink.old) (K.taken sink.new) Grows sessions.new.items }
+    ensures write_front { result ≡ Status.WriteFault → RanCoherently kinds.Run (S.left source.old) (S.left source.new) (K.taken sink.old) (K.taken sink.new) GrowsByFront sessions.new.items }
     ensures nothing { result ≢ Status.Done → result ≢ Status.WriteFault → K.taken sink.new ≡ K.taken sink.old }
     ensures no_sessions { result ≢ Status.Done → result ≢ Status.WriteFault → sessions.new.items ≡ [] }
     ensures bad_script { IfBadScript result (IsBad (words.Output kinds.Run) (S.left source.old) (S.left source.new)) }
@@ -42,7 +43,9 @@ pub(crate) fn run_script<R: Threads + Wait + Sync, S: Source, K: Sink, G: Gate>(
     ensures source_steady { result ≢ Status.ReadFault → S.faults source.new ≡ S.faults source.old }
     ensures sink_steady { result ≢ Status.WriteFault → K.faults sink.new ≡ K.faults sink.old }
     ensures stopped { result ≡ Status.Stopped → OneRose (map G.stops gates.old.items) (map G.stops gates.new.items) }
+    ensures stopped_read { result ≡ Status.Stopped → HasRead (words.Output kinds.Run) (S.left source.old) (S.left source.new) }
     ensures gates_kept { NoneFell (map G.stops gates.old.items) (map G.stops gates.new.items) }
+    ensures refused_unasked { IsRefusalOfInput result → gates.new ≡ gates.old }
     ensures gates_steady { result ≢ Status.Stopped → result ≢ Status.NoMemory → map G.stops gates.new.items ≡ map G.stops gates.old.items }
     ensures complete { HasScript (words.Output kinds.Run) (S.left source.old) → HadNoFault (S.faults source.old) (S.faults source.new) → HadNoFault (K.faults sink.old) (K.faults sink.new) → HadNoStop (words.Output kinds.Run) (map G.stops gates.old.items) (map G.stops gates.new.items) → HasEnded (words.Output kinds.Run) result }
 {

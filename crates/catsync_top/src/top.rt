@@ -8,7 +8,8 @@ ghost use Rattle.cacheless.specs.declared.check_kind.CheckKind.{CheckKind};
 ghost use Rattle.cacheless.specs.declared.check_kind.CheckKind.TheVariants as kinds;
 ghost use Rattle.catsync_top.specs.declared.arguments.Word.{Word};
 ghost use Rattle.catsync_top.specs.declared.arguments.Word.TheVariants as words;
-ghost use Rattle.catsync_top.specs.Top.{Ask, AskToMake, AskNothing, AskSomething, Ran, HasFound, HasDifferedAsAsked, HasMade, IsBad, IsTooLong, HasScript, HadNoFault, HadNoStop, IfBadScript, IfDiffers, HasEnded, IsEndOfMaking};
+ghost use Rattle.catsync_top.specs.Sessions.{RanCoherently};
+ghost use Rattle.catsync_top.specs.Top.{Ask, AskToMake, AskNothing, AskSomething, Ran, HasFound, HasDifferedAsAsked, HasMade, HasRead, IsBad, IsTooLong, HasScript, HadNoFault, HadNoStop, IfBadScript, IfDiffers, HasEnded, IsEndOfMaking, IsRefusalOfInput};
 
 use crate::Status;
 use crate::arguments::{Word, made_of, word_of};
@@ -50,13 +51,14 @@ pub const MOST_CHECKED: usize = 268_435_456;
 ///   `walk` and `run`, [`MOST_CHECKED`] for a check.
 /// - `BadScript`: exactly where that line is the first that breaks a rule of scripts, and that rule
 ///   is the first that it breaks.
-/// - `Stopped`: of `run`, only where a gate's count of stops rose.
+/// - `Stopped`: of `run`, only where the input was read to its end and is a script, and a gate's count of
+///   stops rose.
 /// - `NoMemory`: at any point before writing.
 /// - `Differs`: of a check, exactly where what follows the script isn't an output of it, of `walk` or
 ///   of `run` as asked, whose entries have texts.
 /// - `Done`: the input was read to its end, and the whole output was written; for a check, what
 ///   follows the script is an output of it; for `make`, nothing was read.
-#[tactic(auto, using(crate::proofs::Gates::none_fell))]
+#[tactic(auto, using(thread_run::proofs::Stopping::none_fell_same))]
 pub fn catsync<R: Threads + Wait + Sync, S: Source, K: Sink, G: Gate>(
     rt: &R,
     alloc: Global,
@@ -85,6 +87,10 @@ pub fn catsync<R: Threads + Wait + Sync, S: Source, K: Sink, G: Gate>(
     ensures none_made { (number : ℕ) → AskToMake (map string_bytes arguments.now) number → sessions.new.items ≡ [] }
     ensures none_checked { (kind : CheckKind) → Ask (map string_bytes arguments.now) (words.Check kind) → sessions.new.items ≡ [] }
 
+    // The sessions of a script that was walked or run.
+    ensures coherent { (kind : CheckKind) → Ask (map string_bytes arguments.now) (words.Output kind) → result ≡ Status.Done → RanCoherently kind (S.left source.old) (S.left source.new) (K.taken sink.old) (K.taken sink.new) Grows sessions.new.items }
+    ensures coherent_front { (kind : CheckKind) → Ask (map string_bytes arguments.now) (words.Output kind) → result ≡ Status.WriteFault → RanCoherently kind (S.left source.old) (S.left source.new) (K.taken sink.old) (K.taken sink.new) GrowsByFront sessions.new.items }
+
     // When each refusal comes.
     ensures differs { IfDiffers result (HasDifferedAsAsked (map string_bytes arguments.now) (S.left source.old) (S.left source.new)) }
     ensures bad_script { (word : Word) → Ask (map string_bytes arguments.now) word → IfBadScript result (IsBad word (S.left source.old) (S.left source.new)) }
@@ -99,10 +105,12 @@ pub fn catsync<R: Threads + Wait + Sync, S: Source, K: Sink, G: Gate>(
     ensures unread { result ≡ Status.Usage → S.left source.new ≡ S.left source.old }
     ensures made_unread { (number : ℕ) → AskToMake (map string_bytes arguments.now) number → S.left source.new ≡ S.left source.old }
 
-    // The gates: `run` alone asks them, and where one stopped a backend the status is `Stopped` or `NoMemory`.
+    // The gates: `run` alone asks them, once it has read a script, and where one stopped a backend the status is `Stopped` or `NoMemory`.
     ensures gates { NoneFell (map G.stops gates.old.items) (map G.stops gates.new.items) }
     ensures unasked { (Ask (map string_bytes arguments.now) (words.Output kinds.Run) → ⊥) → gates.new ≡ gates.old }
+    ensures refused_unasked { IsRefusalOfInput result → gates.new ≡ gates.old }
     ensures stopped { result ≡ Status.Stopped → Ask (map string_bytes arguments.now) (words.Output kinds.Run) × OneRose (map G.stops gates.old.items) (map G.stops gates.new.items) }
+    ensures stopped_read { result ≡ Status.Stopped → HasRead (words.Output kinds.Run) (S.left source.old) (S.left source.new) }
     ensures gates_steady { result ≢ Status.Stopped → result ≢ Status.NoMemory → map G.stops gates.new.items ≡ map G.stops gates.old.items }
 
     // A script is walked or run, and what follows it is checked, where neither source nor sink fails and no gate stops.

@@ -3,7 +3,8 @@ ghost use Rattle.edge_io.specs.Causes.{Rose};
 ghost use Rattle.edge_io.specs.Taken.{Grows, GrowsByFront};
 ghost use Rattle.cacheless.specs.declared.check_kind.CheckKind.TheVariants as kinds;
 ghost use Rattle.catsync_top.specs.declared.arguments.Word.TheVariants as words;
-ghost use Rattle.catsync_top.specs.Top.{Ran, IsBad, IsTooLong, HasScript, HadNoFault, IfBadScript, IfDiffers, HasEnded};
+ghost use Rattle.catsync_top.specs.Sessions.{RanCoherently};
+ghost use Rattle.catsync_top.specs.Top.{IsBad, IsTooLong, HasScript, HadNoFault, IfBadScript, IfDiffers, HasEnded};
 
 use crate::Status;
 use crate::top::MOST_INPUT;
@@ -24,8 +25,8 @@ pub(crate) fn walk_script<S: Source, K: Sink>(
     requires { sessions.old.items ≡ [] }
     ensures accepted { result ≢ Status.Usage }
     ensures never_stopped { result ≢ Status.Stopped }
-    ensures done { result ≡ Status.Done → Ran kinds.Walk (S.left source.old) (S.left source.new) (K.taken sink.old) (K.taken sink.new) Grows sessions.new.items }
-    ensures write_front { result ≡ Status.WriteFault → Ran kinds.Walk (S.left source.old) (S.left source.new) (K.taken sink.old) (K.taken sink.new) GrowsByFront sessions.new.items }
+    ensures done { result ≡ Status.Done → RanCoherently kinds.Walk (S.left source.old) (S.left source.new) (K.taken sink.old) (K.taken sink.new) Grows sessions.new.items }
+    ensures write_front { result ≡ Status.WriteFault → RanCoherently kinds.Walk (S.left source.old) (S.left source.new) (K.taken sink.old) (K.taken sink.new) GrowsByFront sessions.new.items }
     ensures nothing { result ≢ Status.Done → result ≢ Status.WriteFault → K.taken sink.new ≡ K.taken sink.old }
     ensures no_sessions { result ≢ Status.Done → result ≢ Status.WriteFault → sessions.new.items ≡ [] }
     ensures bad_script { IfBadScript result (IsBad (words.Output kinds.Walk) (S.left source.old) (S.left source.new)) }
