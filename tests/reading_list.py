@@ -2,8 +2,9 @@
 """reading_list.py [--write]: holds the list "What must be read" of docs/DEFINITIONS.md beside the definitions.
 
 The list has each module of crates/*/specs that the clauses of the top call cite, directly or through others, with its number
-of lines; but for the modules named Types and Events, which only give types their names. Says what is wrong and ends with
-status 1, or with --write puts it right (a module that is new comes last in its crate's row).
+of lines; but for the modules named Types and Events, which only give types their names, and for what Sessions of catsync_top
+alone cites: of that the page has the number of all lines. Says what is wrong and ends with status 1, or with --write puts it
+right (a module that is new comes last in its crate's row).
 """
 import os
 import re
@@ -13,6 +14,8 @@ TOP = os.path.dirname(os.path.dirname(os.path.abspath(__file__)))
 PAGE = os.path.join(TOP, "docs", "DEFINITIONS.md")
 CITES = re.compile(r"^\s*(?:pub |ghost )?use Rattle\.(\w+)\.specs\.(\w+)\b", re.MULTILINE)
 COUNT = re.compile(r"these ([\d,]+) lines")
+BESIDES = re.compile(r"rest on ([\d,]+) lines besides")
+SESSIONS = ("catsync_top", "Sessions")
 
 
 def text_of(*parts):
@@ -20,9 +23,10 @@ def text_of(*parts):
         return file.read()
 
 
-def cited():
-    """The modules that the top call cites, with their lines."""
+def cited(less=()):
+    """The modules that the top call cites, but for these and what they alone cite, with their lines."""
     found, left = {}, CITES.findall(text_of("catsync_top", "src", "top.rt"))
+    left = [module for module in left if module not in less]
     while left:
         crate, module = left.pop()
         path = (crate, "specs", module + ".antt")
@@ -41,7 +45,8 @@ def row_of(crate, listed, modules):
 
 
 def mended(page):
-    modules = cited()
+    modules = cited(less=(SESSIONS,))
+    besides = sum(cited().values()) - sum(modules.values())
     before, after = page.split("## What must be read", 1)
     listed = set()
 
@@ -51,6 +56,7 @@ def mended(page):
 
     after = re.sub(r"^\| (\w+) \| ([A-Z]\w* \d[^|]*) \|", row, after, flags=re.MULTILINE)
     after = COUNT.sub("these {:,} lines".format(sum(modules.values())), after, count=1)
+    after = BESIDES.sub("rest on {:,} lines besides".format(besides), after, count=1)
     lacking = sorted({crate for crate, _ in modules} - listed)
     return before + "## What must be read" + after, lacking
 
