@@ -1,6 +1,7 @@
 -- What is shared, after looks and after entries of a backend.
 use Rattle.std.proofs.Common.{◌≡◌, ◌≢◌, ◌≤◌, ◌<◌, ◌+◌, ◌∙◌, ◌^◌, ◌⊎◌, inl, inr, ◌==◌, ℕ, zero, suc, Bool, true, false, not, List, [], ◌∷◌, ◌++◌, refl, sym, ap, subst, append_assoc, append-nil, length, Result, Ok, Err, OnOk, OnErr, IfOk, arith}
 use Rattle.std.proofs.lemmas.Bool.{both_ways}
+use Rattle.std.proofs.lemmas.List.{length-append}
 use Rattle.std.proofs.lemmas.Bool.Decides.{eqb_tells}
 use Rattle.base_types.specs.Scenario.{Scenario, IsBackend}
 use Rattle.event_kinds.specs.declared.entry.Entry.{Entry}
@@ -184,6 +185,14 @@ entry_refused same is may others then refused = plays_then (plays_same same is m
 -- one that was made
 pub entry_plays : {b : ℕ} {scenario later last : Scenario} {old now new : List Entry} {first had has : ℕ → ℕ} {was s : Backend} → later ≡ scenario → now ≡ old → MayEnterNext scenario b old was → ((a : ℕ) → a ≢ b → had a ≡ first a) → last ≡ later → MakesNext later now new had has was s → PlaysOn b scenario last old new first has
 entry_plays same is may others then makes = entry_refused same is may others then (After (next_made makes))
+
+-- by which at most one entry came
+pub refused_few : {scenario : Scenario} {first old new : List Entry} {had has : ℕ → ℕ} {b : ℕ} → old ≡ first → IsRefused scenario old new had has b → length new ≤ length first + 1
+refused_few {scenario} {first} {old} {new} is (Before same) = let e = ap length (same.entries ∙ is) in omega (arith, e)
+refused_few {scenario} {first} {old} {new} is (After makes) = let e = ap length makes.is in let f = ap length is in omega (arith, e, f, length-append old (makes.entry ∷ []))
+
+pub entry_few : {later : Scenario} {first now new : List Entry} {had has : ℕ → ℕ} {was s : Backend} → now ≡ first → MakesNext later now new had has was s → length new ≤ length first + 1
+entry_few is makes = refused_few is (After (next_made makes))
 
 pub entry_more : {b : ℕ} {scenario later : Scenario} {old now new : List Entry} {had has : ℕ → ℕ} {was s : Backend} → now ≡ old → MayEnterNext scenario b old was → MakesNext later now new had has was s → HasMore b old new
 entry_more {b} {scenario} {later} {old} {now} {new} {had} {has} {was} {s} is may makes =

@@ -15,7 +15,6 @@ use Rattle.backend_core.specs.Halts.{HaltsWherever}
 use Rattle.backend_core.specs.Looks.{IsOnItsWay, NeedsTurn, ToJoin, ToEnter, GoesWherever}
 use Rattle.backend_core.specs.Words.{has_left}
 use Rattle.thread_run.specs.declared.refusal.RunRefusal.{RunRefusal}
-use Rattle.thread_run.specs.declared.refusal.RunRefusal.TheVariants as refusals
 use Rattle.thread_run.specs.declared.worker.Worker.{Worker}
 use Rattle.thread_run.specs.Scripts.{Play, HasAll, IsLeft, commands_left}
 use Rattle.thread_run.specs.Stops.{StopsBy}
@@ -156,13 +155,9 @@ not_ok P (Err e) other = tt
 pub where_ok : {T E : Type 0} (P : Type 0) (result : Result T E) (x : T) → result ≡ Ok x → OnOk result P → P
 where_ok P result x is here = subst (λ r. OnOk r P) is here
 
--- what is said where it ended well, where it was refused
-pub where_refused : {T E : Type 0} (P : Type 0) (result : Result T E) (e : E) → result ≡ Err e → OnOk result P
-where_refused P result e is = subst (λ r. OnOk r P) (sym is) tt
-
--- a gate's refusal
-pub was_stopped : (result : Result (Unit {0}) RunRefusal) (refusal : RunRefusal) → result ≡ Err refusal → refusal ≡ refusals.Stopped → result ≡ Err refusals.Stopped
-was_stopped result refusal is stopped = is ∙ ap Err stopped
+-- which refusal it was
+pub was_refused : (result : Result (Unit {0}) RunRefusal) (found refusal : RunRefusal) → result ≡ Err found → found ≡ refusal → result ≡ Err refusal
+was_refused result found refusal is which = is ∙ ap Err which
 
 -- where work ended well, the gate's count is as it was
 pub stops_ok : (before now : ℕ) (result : Result (Unit {0}) RunRefusal) (x : Unit {0}) → result ≡ Ok x → StopsBy before now result → now ≡ before
@@ -186,9 +181,8 @@ module _ {E : Type 0} (whole : Scenario) (b : ℕ) (seen : List Entry) (held : L
   stays_right stays = underway.right (sym told ∙ stays)
 
   -- and it is between two turns once it has gone on
-  pub went_between : (now : Backend) (done : Result (Unit {0}) RunRefusal) → stopped ≡ false → OnOk done (WaitsWherever s now) → OnOk done (IsBetween whole b seen held now)
-  went_between now (Ok y) stays waits = underway.waits (sym told ∙ stays) now waits
-  went_between now (Err e) stays waits = tt
+  pub went_between : (now : Backend) → stopped ≡ false → WaitsWherever s now → IsBetween whole b seen held now
+  went_between now stays waits = underway.waits (sym told ∙ stays) now waits
 
   -- where a gate stops it at a command, it may be halted
   pub stopped_may : (at : Backend) → stopped ≡ false → IsAtCommand over s at → (now : Backend) → HaltsWherever at now → MayHalt whole b (length at.lines) seen held now

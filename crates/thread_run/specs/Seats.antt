@@ -1,5 +1,5 @@
 -- The seats of a run: a worker with its gate, and how its work ended.
-use Rattle.std.specs.Prelude.{◌≡◌, ◌≤◌, ⊤, ℕ, ◌+◌, ◌^◌, length, false, List, [], ◌∷◌, ◌++◌, Option, Some, None, MatchOption, Result, Ok, Err, OnOk}
+use Rattle.std.specs.Prelude.{◌≡◌, ◌≤◌, ⊤, ℕ, ◌+◌, ◌^◌, length, true, false, List, [], ◌∷◌, ◌++◌, Option, Some, None, MatchOption, Result, Ok, Err, OnOk}
 use Rattle.backend_core.specs.declared.backend.Backend.{Backend}
 use Rattle.backend_core.specs.Agrees.{Stands}
 use Rattle.backend_core.specs.Words.{has_left}
@@ -9,6 +9,7 @@ use Rattle.turn_table.specs.declared.pass.Pass.{Pass}
 use Rattle.turn_table.specs.declared.turned.Turned.{Ghosts}
 use Rattle.turn_table.specs.Passes.{IsPassOf, start_of, seen_by, room_of}
 use Rattle.thread_run.specs.declared.refusal.RunRefusal.{RunRefusal}
+use Rattle.thread_run.specs.declared.refusal.RunRefusal.TheVariants as refusals
 use Rattle.thread_run.specs.declared.worker.Worker.{Worker}
 use Rattle.thread_run.specs.declared.seats.Seat.{Seat}
 use Rattle.thread_run.specs.Runs.{IsRunSoFar}
@@ -50,9 +51,15 @@ module _ {of : Ghosts Play Entry Scenario} (table : Table) where
 abbrev pub IsSeated : {G : Type 0} → Table → Seat G → Type 0
 IsSeated table seat = MatchOption seat.worker ⊥ (λ w. IsAt table w × IsNewAt table w)
 
--- a worker at the table, which has left where its work ended well
+-- a worker after its work, by how that ended: it has left where it ended well, and where its gate stopped it, unless memory was refused in its last turn
+pub record WorkEnded (table : Table) (end : Result (Unit {0}) RunRefusal) (w : Worker) : Type 0 where
+  pub at : IsAt table w
+  pub ended : OnOk end (HasEnded (start_of table).whole w.pass.number (seen_by w.pass) w.backend × HasAllAt table w)
+  pub halted : end ≡ Err refusals.Stopped → w.halt_refused ≡ false → has_left w.backend.life ≡ true
+
+-- a seat after its worker's work
 abbrev pub HasWorked : {G : Type 0} → Table → Seat G → Type 0
-HasWorked table seat = MatchOption seat.worker ⊥ (λ w. IsAt table w × OnOk seat.end (HasEnded (start_of table).whole w.pass.number (seen_by w.pass) w.backend × HasAllAt table w))
+HasWorked table seat = MatchOption seat.worker ⊥ (WorkEnded table seat.end)
 
 -- the number of the worker
 abbrev pub number_in : Option Worker → ℕ

@@ -35,7 +35,7 @@ pub struct Ran {
 
 /// The run of a script: each backend works in a thread of its own. Condition: there is a gate for each
 /// backend. As many gates come back, in the same places, none with a lower count. `Stopped`, `NoMemory`: the
-/// refusal of the first backend, by number, whose work failed; the others went on to their stops. `NoMemory`
+/// refusal of the first backend, by number, whose work failed; the work of the others went on. `NoMemory`
 /// also before and after the threads.
 pub fn run<R: Threads + Wait + Sync, G: Gate>(
     rt: &R,

@@ -129,6 +129,7 @@ pub(crate) fn unseat_all<G>(
             backend,
             held: _,
             turns: _,
+            halt_refused: _,
         } = worker;
         gates.push_reserved(gate);
         passes.push_reserved(pass);

@@ -126,6 +126,7 @@ impl SharedPlay {
         ensures script { self.new.shared.script ≡ self.old.shared.script }
         ensures left { IsLeft self.new.whole self.new.shared.script }
         ensures grew { Grew backend_of b self.old.shared.history self.new.shared.history }
+        ensures few { length self.new.shared.history ≤ length self.old.shared.history + length looks.now + (1 + most) }
         ensures enters { OnOk result (EntersInTurn enters b looks.now self.old.shared.history self.new.shared.history) }
         ensures works { IfOk result (λ over. HasTakenTurn self.new.shared.script b self.new.shared.history over backend.new) }
         ensures number { IfOk result (λ over. has_joined backend.old.life ≡ true → backend.new.progress.finished ≡ backend.old.progress.finished + one_if over) }

@@ -47,6 +47,7 @@ pub(crate) fn work_in_turn<L: Seg>(
     ensures run { IsRunSoFar (L.script seg.new) (L.history seg.new) }
     ensures grew { Grew backend_of b (L.history seg.old) (L.history seg.new) }
     ensures others { (a : ℕ) → a ≢ b → L.promised seg.new a ≡ L.promised seg.old a }
+    ensures few { length (L.history seg.new) ≤ length (L.history seg.old) + length looks.now + (1 + most) }
     ensures enters { OnOk result (EntersInTurn enters b looks.now (L.history seg.old) (L.history seg.new)) }
     ensures works { IfOk result (λ over. HasTakenTurn (L.script seg.new) b (L.history seg.new) over backend.new) }
     ensures number { IfOk result (λ over. has_joined backend.old.life ≡ true → backend.new.progress.finished ≡ backend.old.progress.finished + one_if over) }
@@ -109,6 +110,7 @@ fn enter_all<L: Seg>(
 ) -> Result<bool, NoMemory>
     requires may { MayEnterNext (L.script seg.old) b (L.history seg.old) backend.old }
     ensures plays { PlaysOn b (L.script seg.old) (L.script seg.new) (L.history seg.old) (L.history seg.new) (L.promised seg.old) (L.promised seg.new) }
+    ensures few { length (L.history seg.new) ≤ length (L.history seg.old) + (1 + most) }
     ensures more { OnOk result (HasMore b (L.history seg.old) (L.history seg.new)) }
     ensures comes { IfOk result (λ over. ComesTo (L.script seg.new) b (L.history seg.new) over backend.old backend.new) }
 {
@@ -128,6 +130,7 @@ fn enter_one<L: Seg>(
 ) -> Result<bool, NoMemory>
     requires may { MayEnterNext (L.script seg.old) b (L.history seg.old) backend.old }
     ensures plays { PlaysOn b (L.script seg.old) (L.script seg.new) (L.history seg.old) (L.history seg.new) (L.promised seg.old) (L.promised seg.new) }
+    ensures few { length (L.history seg.new) ≤ length (L.history seg.old) + 1 }
     ensures more { OnOk result (HasMore b (L.history seg.old) (L.history seg.new)) }
     ensures comes { IfOk result (λ over. ComesTo (L.script seg.new) b (L.history seg.new) over backend.old backend.new) }
 {
@@ -148,9 +151,10 @@ fn enter_more<L: Seg>(
     requires backend { IsBackend (L.script seg.old).backends b }
     requires taken { HasTakenTurn (L.script seg.old) b (L.history seg.old) false backend.old }
     ensures plays { PlaysOn b (L.script seg.old) (L.script seg.new) (L.history seg.old) (L.history seg.new) (L.promised seg.old) (L.promised seg.new) }
+    ensures few { length (L.history seg.new) ≤ length (L.history seg.old) + most }
     ensures comes { IfOk result (λ over. ComesTo (L.script seg.new) b (L.history seg.new) over backend.old backend.new) }
 {
-    'entering: for _ in 0..most {
+    'entering: for _made in 0..most {
         if backend.is_stopped() {
             return Ok(false);
         }

@@ -17,8 +17,17 @@ use turn_table::{Pass, TurnTable};
 // How many looks a backend may hold back until its next turn.
 const MOST_HELD: usize = 16;
 
-// How many entries a backend may make in one turn after its first.
-const MOST_ENTRIES: u32 = 8;
+// The most entries of a turn after its first. It ends sooner where the backend is at its next command, or has left.
+const MORE_ENTRIES: u32 = 63;
+
+// Some turns are short, so that others' entries come between those of one command: so many first turns of a backend,
+// and then each whose number is a multiple of the other.
+const FIRST_SHORT: u32 = 64;
+
+const SHORT_EVERY: u32 = 16;
+
+// A short turn makes fewer entries than this after its first: none, one, two and so on, and then none again.
+const SHORT_ENTRIES: u32 = 8;
 
 /// A backend at work. Between two of its turns it holds back the looks that it has made since the last.
 #[derive(Drop)]
@@ -28,8 +37,10 @@ pub(crate) struct Worker {
     /// The backend, which has the number of the pass.
     pub(crate) backend: Backend,
     pub(crate) held: ArrayVec<HeldLook, MOST_HELD>,
-    // how many turns it has taken, so that they end at different places of a command
+    // how many turns it has taken in which it made its next entry, by which `more_entries` goes
     pub(crate) turns: u32,
+    // whether memory was refused in its last turn, which it takes where its gate has stopped it
+    pub(crate) halt_refused: bool,
 }
 
 impl Worker {
@@ -49,11 +60,13 @@ impl Worker {
             backend,
             held: ArrayVec::new(),
             turns: 0,
+            halt_refused: false,
         }
     }
 
-    /// Its whole work, from its first entry to its last. It ends early where memory is refused; where the gate
-    /// stops it, it takes back what it hasn't committed, and leaves.
+    /// Its whole work, from its first entry to its last. It ends early where memory is refused (`NoMemory`); where
+    /// the gate stops it (`Stopped`), it takes back what it hasn't committed, and leaves, or says that memory was
+    /// refused for that.
     pub(crate) fn work<R: Wait, G: Gate>(
         self,
         rt: &R,
@@ -65,6 +78,7 @@ impl Worker {
         requires new { IsNewAt table.now self }
         ensures goes { Goes table.now self result.0 }
         ensures ended { OnOk result.1 (HasEnded (start_of table.now).whole self.pass.number (seen_by result.0.pass) result.0.backend × HasAllAt table.now result.0) }
+        ensures halted { result.1 ≡ Err RunRefusal.Stopped → result.0.halt_refused ≡ false → has_left result.0.backend.life ≡ true }
         ensures stops { StopsBy (G.stops gate.old) (G.stops gate.new) result.1 }
     {
         let mut worker = self;
@@ -95,6 +109,7 @@ impl Worker {
         ensures goes { Goes table.now self result.0 }
         ensures all { OnOk result.1 (HasAllAt table.now result.0) }
         ensures between { OnOk result.1 (IsBetween (start_of table.now).whole self.pass.number (seen_by result.0.pass) result.0.held.items result.0.backend) }
+        ensures halted { result.1 ≡ Err RunRefusal.Stopped → result.0.halt_refused ≡ false → has_left result.0.backend.life ≡ true }
         ensures stops { StopsBy (G.stops gate.old) (G.stops gate.new) result.1 }
     {
         let (mut worker, made) = self.next(rt, alloc, table);
@@ -104,11 +119,13 @@ impl Worker {
         if worker.backend.is_stopped() {
             return (worker, Ok(()));
         }
-        let done = go_on(rt, alloc, &mut worker.backend, gate, over);
-        let Err(RunRefusal::Stopped) = done else {
-            return (worker, done);
-        };
-        (worker.halt(rt, alloc, table), done)
+        match go_on(rt, alloc, &mut worker.backend, gate, over) {
+            Ok(()) => (worker, Ok(())),
+            Err(RunRefusal::NoMemory) => (worker, Err(RunRefusal::NoMemory)),
+            Err(RunRefusal::Stopped) => {
+                (worker.halt(rt, alloc, table), Err(RunRefusal::Stopped))
+            }
+        }
     }
 
     // A look or a turn, as it wants; none, if it has left. The answer: whether it is at a command.
@@ -154,6 +171,7 @@ impl Worker {
             mut backend,
             mut held,
             turns,
+            halt_refused,
         } = self;
         let some_wait = table.look(&mut pass);
         held.push(backend.look_by_word(look, some_wait));
@@ -163,6 +181,7 @@ impl Worker {
             backend,
             held,
             turns,
+            halt_refused,
         };
         if hands_over {
             return worker.take_turn(rt, alloc, table, false);
@@ -190,6 +209,7 @@ impl Worker {
             mut backend,
             mut held,
             turns,
+            halt_refused,
         } = self;
         let number = pass.number;
         let mut turn = table.open(rt, pass);
@@ -199,7 +219,7 @@ impl Worker {
             &mut backend,
             held.as_slice(),
             enters,
-            turns % MOST_ENTRIES,
+            more_entries(turns),
         );
         turn.tell();
         let pass = table.close(turn);
@@ -209,25 +229,28 @@ impl Worker {
                 pass,
                 backend,
                 held,
-                turns: turns.wrapping_add(1),
+                turns: turns.wrapping_add(u32::from(enters)),
+                halt_refused,
             },
             done,
         )
     }
 
-    // Its last turn, once the gate has stopped it: it takes back what it hasn't committed, releases, and leaves. Where
-    // memory is refused it ends as it is.
+    // Its last turn, once the gate has stopped it: it takes back what it hasn't committed, releases, and leaves. Out of
+    // memory, it may not have left.
     fn halt<R: Wait>(self, rt: &R, alloc: Global, table: &TurnTable<SharedPlay>) -> Worker
         requires at { IsAt table.now self }
         requires all { HasAllAt table.now self }
         requires may { (now : Backend) → HaltsWherever self.backend now → MayHalt (start_of table.now).whole self.pass.number (length self.backend.lines) (seen_by self.pass) self.held.items now }
         ensures goes { Goes table.now self result }
+        ensures left { result.halt_refused ≡ false → has_left result.backend.life ≡ true }
     {
         let Worker {
             pass,
             mut backend,
             mut held,
             turns,
+            halt_refused: _,
         } = self;
         let at = HaltedAt {
             backend: pass.number,
@@ -235,8 +258,7 @@ impl Worker {
         };
         backend.halt(alloc);
         let mut last = table.open(rt, pass);
-        // out of memory, it ends where it is
-        let _ = last
+        let done = last
             .value()
             .stop(rt, alloc, &at, &mut backend, held.as_slice());
         last.tell();
@@ -247,8 +269,22 @@ impl Worker {
             backend,
             held,
             turns,
+            halt_refused: done.is_err(),
         }
     }
+}
+
+// The most entries that a backend's next turn makes after its first, by how many such turns it has taken.
+fn more_entries(turns: u32) -> u32
+    ensures few { result ≤ 63 }
+{
+    if turns < FIRST_SHORT {
+        return turns % SHORT_ENTRIES;
+    }
+    if turns % SHORT_EVERY == 0 {
+        return turns / SHORT_EVERY % SHORT_ENTRIES;
+    }
+    MORE_ENTRIES
 }
 
 // Goes on as far as it can without a look and without a turn; before each command, and after the last one,

@@ -1,9 +1,9 @@
-use Rattle.std.proofs.Common.{◌≡◌, refl, sym, ap, subst, arith, OnOk}
+use Rattle.std.proofs.Common.{◌≡◌, refl, sym, ap, subst, arith, MatchOption, OnOk}
 use Rattle.turn_table.proofs.Gathering.{no_items}
-use Rattle.thread_run.specs.Seats.{AllPairs, HasDone, HasWorked, number_in, number_of, first_end, end_of}
+use Rattle.thread_run.specs.Seats.{AllPairs, HasDone, HasWorked, WorkEnded, number_in, number_of, first_end, end_of}
 use Rattle.thread_run.proofs.Lists.{all_taken, one_back, item_back, nothing_left}
 use Rattle.thread_run.proofs.Stopping.{ends_so_far, ends_all, done_put}
-use Rattle.thread_run.proofs.Seating.{Worked, done_at}
+use Rattle.thread_run.proofs.Seating.{done_at}
 use Rattle.thread_run.proofs.seats.unseat_all.Goals as goal
 
 pub loop-seat-preserved : goal.loop-seat-preserved
@@ -13,7 +13,7 @@ loop-seat-preserved g c =
     let s = c.in-Some.ensures in let seat = c.in-Some.seat in let worker = c.in-Some-worker.worker in
     let e = c.push_reserved.ensures in let p = c.push_reserved-in-Some.ensures in let b = c.push_reserved-in-Some-2.ensures in
     let worked = all_taken (HasWorked table) c.loop-seat.seats.items c.pop.new.self.items seat s.items i.worked in
-    let here = subst (λ o. Worked table o seat.end) c.in-Some-worker.is worked.1 in
+    let here = subst (λ o. MatchOption o ⊥ (WorkEnded table seat.end)) c.in-Some-worker.is worked.1 in
     record {
       worked = worked.0;
       ended = subst (λ x. first_end x (end_of c.pop.new.self.items) ≡ end_of c.args.seats.now.items) (sym c.sooner-ended.ensures)
@@ -30,7 +30,7 @@ loop-seat-preserved g c =
 pub unreachable-requires : goal.unreachable-requires
 unreachable-requires g c =
     let table = c.args.table.now in
-    subst (λ o. Worked table o c.in-Some.seat.end) c.in_default-worker.is (all_taken (HasWorked table) c.loop-seat.seats.items c.pop.new.self.items c.in-Some.seat c.in-Some.ensures.items c.loop-seat.invariant.worked).1
+    subst (λ o. MatchOption o ⊥ (WorkEnded table c.in-Some.seat.end)) c.in_default-worker.is (all_taken (HasWorked table) c.loop-seat.seats.items c.pop.new.self.items c.in-Some.seat c.in-Some.ensures.items c.loop-seat.invariant.worked).1
 
 pub returns-clause-end : goal.returns-clause-end
 returns-clause-end g c = let seats = c.loop-seat.seats in

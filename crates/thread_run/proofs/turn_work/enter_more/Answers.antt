@@ -1,9 +1,9 @@
-use Rattle.std.proofs.Common.{◌∙◌, refl, sym}
+use Rattle.std.proofs.Common.{◌∙◌, refl, sym, arith}
 use Rattle.thread_run.proofs.Played.{plays_same, plays_then, comes_here, comes_over, comes_then, taken_right, goes_to, goes_far, goes_may, backend_still}
 use Rattle.thread_run.proofs.turn_work.enter_more.Goals as goal
 
 pub entering-init : goal.entering-init
-entering-init g c = record { plays = plays_same refl refl c.requires.taken.run (λ a apart. refl); comes = comes_here c.requires.taken }
+entering-init g c = record { plays = plays_same refl refl c.requires.taken.run (λ a apart. refl); few = omega arith; comes = comes_here c.requires.taken }
 
 pub returns-then-is_stopped-clause-plays : goal.returns-then-is_stopped-clause-plays
 returns-then-is_stopped-clause-plays g c = c.entering.invariant.plays
@@ -41,6 +41,7 @@ returns-then-branch-2-clause-comes g c = let i = c.entering.invariant in
 pub entering-preserved : goal.entering-preserved
 entering-preserved g c = let i = c.entering.invariant in record {
   plays = plays_then i.plays c.in_ok-enter_one.ensures.plays;
+  few = let few = i.few in let one = c.in_ok-enter_one.ensures.few in omega (arith, few, one);
   comes = comes_then (comes_then i.comes (goes_far i.comes.taken (sym c.is_stopped.ensures ∙ c.if-is_stopped.false) c.in_ok-go_to_command.ensures c.if-branch.false)) (comes_over c.if-branch-2.false c.in_ok-enter_one.ensures.comes);
 }
 

@@ -1,6 +1,6 @@
-use Rattle.std.proofs.Common.{refl}
+use Rattle.std.proofs.Common.{refl, ap, length, arith}
 use Rattle.history_model.proofs.Sound.{sound_is_legal}
-use Rattle.thread_run.proofs.Played.{plays_same, renewed_may, enters_right, has_place, entry_refused, entry_plays, entry_more, entry_comes}
+use Rattle.thread_run.proofs.Played.{plays_same, renewed_may, enters_right, has_place, entry_refused, entry_plays, entry_more, refused_few, entry_few, entry_comes}
 use Rattle.thread_run.proofs.turn_work.enter_one.Goals as goal
 
 pub places_wanted-requires : goal.places_wanted-requires
@@ -11,6 +11,9 @@ renew-requires-clause-backend g c = c.requires.may.backend
 
 pub returns-in_err-renew-clause-plays : goal.returns-in_err-renew-clause-plays
 returns-in_err-renew-clause-plays g c = plays_same c.in_err-renew.ensures.script c.in_err-renew.ensures.history c.requires.may.run c.in_err-renew.ensures.others
+
+pub returns-in_err-renew-clause-few : goal.returns-in_err-renew-clause-few
+returns-in_err-renew-clause-few g c = let e = ap length c.in_err-renew.ensures.history in omega (arith, e)
 
 pub enter_in_turn-requires-clause-stands : goal.enter_in_turn-requires-clause-stands
 enter_in_turn-requires-clause-stands g c = (renewed_may c.in_ok-renew.ensures.script c.in_ok-renew.ensures.history c.requires.may).stands
@@ -33,8 +36,14 @@ enter_in_turn-requires-clause-alive g c = c.requires.may.alive
 pub returns-in_err-enter_in_turn-clause-plays : goal.returns-in_err-enter_in_turn-clause-plays
 returns-in_err-enter_in_turn-clause-plays g c = entry_refused c.in_ok-renew.ensures.script c.in_ok-renew.ensures.history c.requires.may c.in_ok-renew.ensures.others c.in_err-enter_in_turn.ensures.script c.in_err-enter_in_turn.ensures.refused
 
+pub returns-in_err-enter_in_turn-clause-few : goal.returns-in_err-enter_in_turn-clause-few
+returns-in_err-enter_in_turn-clause-few g c = refused_few c.in_ok-renew.ensures.history c.in_err-enter_in_turn.ensures.refused
+
 pub returns-clause-plays : goal.returns-clause-plays
 returns-clause-plays g c = entry_plays c.in_ok-renew.ensures.script c.in_ok-renew.ensures.history c.requires.may c.in_ok-renew.ensures.others c.in_ok-enter_in_turn.ensures.script c.in_ok-enter_in_turn.ensures.makes
+
+pub returns-clause-few : goal.returns-clause-few
+returns-clause-few g c = entry_few c.in_ok-renew.ensures.history c.in_ok-enter_in_turn.ensures.makes
 
 pub returns-clause-more : goal.returns-clause-more
 returns-clause-more g c = entry_more c.in_ok-renew.ensures.history c.requires.may c.in_ok-enter_in_turn.ensures.makes

@@ -8,31 +8,29 @@ use Rattle.thread_run.specs.Scripts.{Play}
 use Rattle.thread_run.proofs.Workers.{turn_backend, turn_halts, extends_turn, rooms_kept, whole_kept}
 use Rattle.thread_run.proofs.worker.Worker.halt.Goals as goal
 
-pub stop-requires-clause-backend : goal.stop-requires-clause-backend
-stop-requires-clause-backend g c = turn_backend c.value.result.now c.open-last.result.opened.value (start_of c.args.table.now).whole c.args.self.pass.number
+pub stop-done-requires-clause-backend : goal.stop-done-requires-clause-backend
+stop-done-requires-clause-backend g c = turn_backend c.value.result.now c.open-last.result.opened.value (start_of c.args.table.now).whole c.args.self.pass.number
     (c.value.ensures.value ∙ c.open-last.ensures.value) c.open-last.ensures.fixed c.requires.at.backend
 
-pub stop-requires-clause-halts : goal.stop-requires-clause-halts
-stop-requires-clause-halts g c = turn_halts c.value.result.now c.open-last.result.opened.value (start_of c.args.table.now).whole c.args.self.pass.number (length c.transcript.result.now) (length c.args.self.backend.lines) (room_of c.args.self.pass) (seen_by c.args.self.pass) c.args.self.held.items c.as_slice.result.now c.halt.new.self
+pub stop-done-requires-clause-halts : goal.stop-done-requires-clause-halts
+stop-done-requires-clause-halts g c = turn_halts c.value.result.now c.open-last.result.opened.value (start_of c.args.table.now).whole c.args.self.pass.number (length c.transcript.result.now) (length c.args.self.backend.lines) (room_of c.args.self.pass) (seen_by c.args.self.pass) c.args.self.held.items c.as_slice.result.now c.halt.new.self
     (c.value.ensures.value ∙ c.open-last.ensures.value) c.open-last.ensures.fixed c.as_slice.ensures.value (ap length c.transcript.ensures) c.requires.all c.open-last.ensures.room (c.requires.may c.halt.new.self c.halt.ensures.halts) c.open-last.ensures.seen
 
 pub close-pass-requires-clause-fixed : goal.close-pass-requires-clause-fixed
-close-pass-requires-clause-fixed g c = whole_kept c.open-last.result.opened.value c.value.result.now c.stop.new.self c.tell.new.self.opened.value c.tell.new.self.value
-    (c.value.ensures.value ∙ c.open-last.ensures.value) (ap (λ (o : Snapshot Play). o.value) c.tell.ensures.kept.1) c.tell.ensures.kept.0 c.stop.ensures.whole
+close-pass-requires-clause-fixed g c = whole_kept c.open-last.result.opened.value c.value.result.now c.stop-done.new.self c.tell.new.self.opened.value c.tell.new.self.value
+    (c.value.ensures.value ∙ c.open-last.ensures.value) (ap (λ (o : Snapshot Play). o.value) c.tell.ensures.kept.1) c.tell.ensures.kept.0 c.stop-done.ensures.whole
 
 pub close-pass-requires-clause-rooms : goal.close-pass-requires-clause-rooms
-close-pass-requires-clause-rooms g c = λ k apart. rooms_kept c.open-last.result.opened.value c.value.result.now c.stop.new.self c.tell.new.self.opened.value c.tell.new.self.value k
-    (c.value.ensures.value ∙ c.open-last.ensures.value) (ap (λ (o : Snapshot Play). o.value) c.tell.ensures.kept.1) c.tell.ensures.kept.0 (c.stop.ensures.others k (λ e. apart (e ∙ sym c.open-last.ensures.seat ∙ sym c.tell.ensures.kept.2)))
+close-pass-requires-clause-rooms g c = λ k apart. rooms_kept c.open-last.result.opened.value c.value.result.now c.stop-done.new.self c.tell.new.self.opened.value c.tell.new.self.value k
+    (c.value.ensures.value ∙ c.open-last.ensures.value) (ap (λ (o : Snapshot Play). o.value) c.tell.ensures.kept.1) c.tell.ensures.kept.0 (c.stop-done.ensures.others k (λ e. apart (e ∙ sym c.open-last.ensures.seat ∙ sym c.tell.ensures.kept.2)))
 
 pub close-pass-requires-clause-words : goal.close-pass-requires-clause-words
 close-pass-requires-clause-words g c = subst (λ (v : Play). TellExactly is_waiting v.shared.history (words_of c.tell.new.self)) (sym c.tell.ensures.kept.0) c.tell.ensures.words
 
-pub returns : goal.returns
-returns g c = let number = c.close-pass.ensures.seat ∙ c.tell.ensures.kept.2 ∙ c.open-last.ensures.seat in record {
-  goes = record {
-    at = record { of = c.close-pass.ensures.of; backend = subst (IsBackend (start_of c.args.table.now).whole.backends) (sym number) c.requires.at.backend };
-    number = number;
-    seen = extends_turn c.args.self.pass.number (seen_by c.args.self.pass) c.open-last.result.opened.value.shared.history c.value.result.now.shared.history c.stop.new.self.shared.history (seen_by c.close-pass.result)
-        c.open-last.ensures.seen (ap (λ (v : Play). v.shared.history) (c.value.ensures.value ∙ c.open-last.ensures.value)) c.stop.ensures.grew (c.close-pass.ensures.seen ∙ ap (λ (v : Play). v.shared.history) c.tell.ensures.kept.0);
-  };
+pub returns-clause-goes : goal.returns-clause-goes
+returns-clause-goes g c = let number = c.close-pass.ensures.seat ∙ c.tell.ensures.kept.2 ∙ c.open-last.ensures.seat in record {
+  at = record { of = c.close-pass.ensures.of; backend = subst (IsBackend (start_of c.args.table.now).whole.backends) (sym number) c.requires.at.backend };
+  number = number;
+  seen = extends_turn c.args.self.pass.number (seen_by c.args.self.pass) c.open-last.result.opened.value.shared.history c.value.result.now.shared.history c.stop-done.new.self.shared.history (seen_by c.close-pass.result)
+      c.open-last.ensures.seen (ap (λ (v : Play). v.shared.history) (c.value.ensures.value ∙ c.open-last.ensures.value)) c.stop-done.ensures.grew (c.close-pass.ensures.seen ∙ ap (λ (v : Play). v.shared.history) c.tell.ensures.kept.0);
 }
