@@ -1,4 +1,3 @@
-use crate::readers::CountingSink;
 use crate::values::name;
 use base_types::{ColType, Field, Kind, Listed, Mode, Name, NoMemory, Oid, Xid, field_text};
 use command_answers::{Answer, Column, CommandError, Shown};
@@ -11,30 +10,30 @@ use test_inputs::{Calls, STEADY, sink_of};
 
 // The text of each error, by the numbers of `error`.
 const ERROR_TEXTS: &[&str] = &[
-    "25P02 the transaction block has failed",
-    "25P01 no transaction block",
-    "3B001 savepoint x does not exist",
-    "55000 x is not open",
-    "42P01 relation x does not exist as of 4",
-    "42704 index x does not exist as of 5",
-    "42704 constraint x does not exist",
-    "42704 trigger x does not exist",
-    "55P03 relation 16384 is locked by backend 1 in ax",
-    "55P03 name x is in use by transaction 3",
-    "42P07 relation x already exists",
-    "42809 x is not a table",
-    "42809 x is not an index",
-    "42809 x has no field valid",
-    "55006 relation 16385 is open in this session",
-    "2BP01 other objects depend on relation x",
-    "0A000 column x is used by an index or constraint",
-    "42701 column x already exists",
-    "42703 column x does not exist",
-    "42710 constraint x already exists",
-    "42710 trigger x already exists",
-    "22023 value -2 is out of range",
-    "54011 too many columns",
-    "53200 want of memory",
+    "error 25P02 the transaction block has failed",
+    "error 25P01 no transaction block",
+    "error 3B001 savepoint x does not exist",
+    "error 55000 x is not open",
+    "error 42P01 relation x does not exist as of 4",
+    "error 42704 index x does not exist as of 5",
+    "error 42704 constraint x does not exist",
+    "error 42704 trigger x does not exist",
+    "error 55P03 relation 16384 is locked by backend 1 in ax",
+    "error 55P03 name x is in use by transaction 3",
+    "error 42P07 relation x already exists",
+    "error 42809 x is not a table",
+    "error 42809 x is not an index",
+    "error 42809 x has no field valid",
+    "error 55006 relation 16385 is open in this session",
+    "error 2BP01 other objects depend on relation x",
+    "error 0A000 column x is used by an index or constraint",
+    "error 42701 column x already exists",
+    "error 42703 column x does not exist",
+    "error 42710 constraint x already exists",
+    "error 42710 trigger x already exists",
+    "error 22023 value -2 is out of range",
+    "error 54011 too many columns",
+    "error 53200 want of memory",
 ];
 
 // The error of this number.
@@ -124,15 +123,14 @@ fn relation(alloc: Global, kind: Kind, rel: Oid, more: Option<Field>) -> Result<
     Ok(Answer::Shown { kind, rel, fields })
 }
 
-fn columns(alloc: Global, types: &[ColType]) -> Result<Answer, NoMemory> {
-    let mut columns = Listed::new(alloc);
-    for col_type in types {
-        columns.push(Column {
-            name: name(b"x"),
-            col_type: *col_type,
-        })?;
-    }
-    Ok(Answer::Columns(columns))
+fn columns(alloc: Global, columns: &[Column]) -> Result<Answer, NoMemory> {
+    Ok(Answer::Columns(Listed::from_vec(columns.to_vec(alloc)?)))
+}
+
+// A column `x` of this type.
+fn column(col_type: ColType) -> Column {
+    let name = name(b"x");
+    Column { name, col_type }
 }
 
 fn regclass(found: Option<Name>, at: u64) -> Answer {
@@ -152,7 +150,10 @@ fn answer(alloc: Global, number: usize) -> Result<Answer, NoMemory> {
         3 => relation(alloc, Kind::Index, Oid(16385), None),
         4 => Ok(Answer::One(shown(alloc, Field::Fillfactor, Some(5))?)),
         5 => columns(alloc, &[]),
-        6 => columns(alloc, &[ColType::Int4, ColType::Timestamptz]),
+        6 => columns(
+            alloc,
+            &[column(ColType::Int4), column(ColType::Timestamptz)],
+        ),
         7 => Ok(Answer::Column {
             num: 2,
             col_type: ColType::Int8,
@@ -166,38 +167,21 @@ fn answer(alloc: Global, number: usize) -> Result<Answer, NoMemory> {
 fn has_text(alloc: Global, answer: &Answer, want: &str) -> Result<bool, NoMemory> {
     let mut out = b"> ".to_vec(alloc)?;
     answer_text(answer, &mut out)?;
-    Ok(follows_mark(&out, want.as_bytes()))
-}
-
-fn follows_mark(text: &[u8], want: &[u8]) -> bool {
-    match text {
-        [b'>', b' ', rest @ ..] => rest == want,
-        _ => false,
+    match out.as_slice() {
+        [b'>', b' ', text @ ..] => Ok(text == want.as_bytes()),
+        _ => Ok(false),
     }
 }
 
-fn error_has_text(alloc: Global, number: usize, want: &str) -> Result<bool, NoMemory> {
-    let want = format!(in alloc; "error {want}")?;
-    let answer = Answer::Error(error(number, name(b"x")));
-    has_text(alloc, &answer, want.as_str())
-}
-
-fn answer_has_text(alloc: Global, number: usize, want: &str) -> Result<bool, NoMemory> {
-    has_text(alloc, &answer(alloc, number)?, want)
-}
-
 #[test]
-fn each_error_has_its_text(rt: HostRuntime) -> Result<(), Fail> {
+fn each_answer_has_its_text(rt: HostRuntime) -> Result<(), Fail> {
     for (number, text) in ERROR_TEXTS.iter().enumerate() {
-        assert!(rt; error_has_text(rt.alloc(), number, text)?, "{text}");
+        let answer = Answer::Error(error(number, name(b"x")));
+        assert!(rt; has_text(rt.alloc(), &answer, text)?, "{text}");
     }
-    Ok(())
-}
-
-#[test]
-fn each_kind_of_answer_has_its_text(rt: HostRuntime) -> Result<(), Fail> {
     for (number, text) in ANSWER_TEXTS.iter().enumerate() {
-        assert!(rt; answer_has_text(rt.alloc(), number, text)?, "{text}");
+        let answer = answer(rt.alloc(), number)?;
+        assert!(rt; has_text(rt.alloc(), &answer, text)?, "{text}");
     }
     Ok(())
 }
@@ -232,73 +216,52 @@ fn ok_line(alloc: Global) -> Result<Line, NoMemory> {
 }
 
 // An entry, a line, and an output of both.
-fn put_all(sink: &mut MemorySink, line: Line) -> Result<(), Failed> {
+fn put_all(sink: &mut MemorySink, lines: &[Line; 1]) -> Result<(), Failed> {
     put_entry(sink, &GRANT)?;
-    put_line(sink, &line)?;
-    put_output(sink, &[GRANT], &[line])
+    put_line(sink, &lines[0])?;
+    put_output(sink, &[GRANT], lines)
 }
 
-fn all_written() -> &'static [u8] {
-    b"h 1 1 lock 16384 as ok\nl 2 7 ok\nh 1 1 lock 16384 as ok\nl 2 7 ok\nend\n"
-}
+// What `put_all` writes.
+const ALL_WRITTEN: &[u8] =
+    b"h 1 1 lock 16384 as ok\nl 2 7 ok\nh 1 1 lock 16384 as ok\nl 2 7 ok\nend\n";
 
 fn are_written(alloc: Global) -> Result<bool, NoMemory> {
-    let line = ok_line(alloc)?;
+    let lines = [ok_line(alloc)?];
     let mut sink = sink_of(alloc, STEADY)?;
-    let is_put = put_all(&mut sink, line).is_ok();
-    Ok(is_put && sink.sent() == all_written())
+    let is_put = put_all(&mut sink, &lines).is_ok();
+    Ok(is_put && sink.sent() == ALL_WRITTEN)
 }
 
-#[test]
-fn entries_and_lines_are_written(rt: HostRuntime) -> Result<(), Fail> {
-    assert!(rt; are_written(rt.alloc())?);
-    Ok(())
-}
-
-// How many calls and how many bytes the output of so many grants is.
-fn cost(alloc: Global, count: u32) -> Result<(u32, usize), NoMemory> {
-    let history = grants(alloc, count)?;
-    let mut sink = CountingSink { calls: 0, bytes: 0 };
-    match put_output(&mut sink, &history, &[]) {
-        Ok(()) => Ok((sink.calls, sink.bytes)),
-        Err(_) => Ok((0, 0)),
-    }
-}
-
-#[test]
-fn a_history_costs_few_writes(rt: HostRuntime) -> Result<(), Fail> {
-    assert!(rt; cost(rt.alloc(), 200)? == (2, 200 * LOCK_LINE.len() + 4));
-    Ok(())
-}
-
-// Whether a sink that fails in its second write has the bytes of the first.
-fn is_cut(alloc: Global) -> Result<bool, NoMemory> {
+// Whether the output of 200 grants comes out well where the write of this number fails, how many bytes the sink
+// has then, and how many of them are lines of a grant.
+fn output_of_grants(alloc: Global, failing: u64) -> Result<(bool, usize, usize), NoMemory> {
     let history = grants(alloc, 200)?;
     let writes = Calls {
         per_call: MEMORY_SINK_ROOM,
-        failing: 2,
+        failing,
     };
     let mut sink = sink_of(alloc, writes)?;
-    let is_failed = put_output(&mut sink, &history, &[]).is_err();
-    Ok(is_failed && sink.sent().len() == 4096 && are_lock_lines(sink.sent()))
+    let is_put = put_output(&mut sink, &history, &[]).is_ok();
+    Ok((is_put, sink.sent().len(), count_of_lock_bytes(sink.sent())))
 }
 
-#[test]
-fn a_sink_fails_within_a_history(rt: HostRuntime) -> Result<(), Fail> {
-    assert!(rt; is_cut(rt.alloc())?);
-    Ok(())
-}
-
-// Whether a text begins with the line of a grant again and again.
-fn are_lock_lines(text: &[u8]) -> bool {
+// How many bytes at the beginning of a text are the line of a grant, again and again.
+fn count_of_lock_bytes(text: &[u8]) -> usize {
     for (i, byte) in text.iter().enumerate() {
-        if !is_lock_byte(i, *byte) {
-            return false;
+        if *byte != LOCK_LINE[i % LOCK_LINE.len()] {
+            return i;
         }
     }
-    true
+    text.len()
 }
 
-fn is_lock_byte(i: usize, byte: u8) -> bool {
-    byte == LOCK_LINE[i % LOCK_LINE.len()]
+// A history takes two writes: it fails in the second, and has no third that could fail.
+#[test]
+fn entries_lines_and_histories_are_written(rt: HostRuntime) -> Result<(), Fail> {
+    assert!(rt; are_written(rt.alloc())?);
+    let all = 200 * LOCK_LINE.len();
+    assert!(rt; output_of_grants(rt.alloc(), 2)? == (false, 4096, 4096));
+    assert!(rt; output_of_grants(rt.alloc(), 3)? == (true, all + 4, all));
+    Ok(())
 }

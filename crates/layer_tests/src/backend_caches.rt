@@ -10,6 +10,9 @@ const REL: Oid = Oid(16384);
 
 const OTHER: Oid = Oid(16385);
 
+// A message for the relation.
+const OF_REL: Message = Message::Rel { rel: REL };
+
 // A name, the cache and the hash of a message, and at which entry a scan for the name is kept after it, or 0; two names
 // have one hash.
 const NAMES: &[(&[u8], CacheId, u32, u64)] = &[
@@ -17,6 +20,12 @@ const NAMES: &[(&[u8], CacheId, u32, u64)] = &[
     (b"c0", CacheId::RelName, 4078, 0),
     (b"an", CacheId::RelName, 4079, 4),
     (b"an", CacheId::RelOid, 4078, 4),
+];
+
+// The same of a column of the relation.
+const COLUMN: &[(CacheId, u32, u64)] = &[
+    (CacheId::RelName, 85949054, 4),
+    (CacheId::AttName, 85949054, 0),
 ];
 
 // The texts of a table's fields where its own row and its columns are kept; the empty text stands for none.
@@ -28,40 +37,21 @@ const TEXTS: &[(Field, &[u8])] = &[
     (Field::Triggers, b""),
 ];
 
-fn cat(cache: CacheId, hash: u32) -> Message {
-    Message::Cat { cache, hash }
+// A message for all columns of a cache, or for the hash 0.
+fn any_of(cache: CacheId) -> Message {
+    Message::Cat { cache, hash: 0 }
 }
 
-fn rel(rel: Oid) -> Message {
-    Message::Rel { rel }
-}
-
-fn by_name(text: &[u8]) -> Purpose {
-    Purpose::RelName(name(text))
-}
-
-fn by_column(text: &[u8]) -> Purpose {
-    Purpose::AttName(REL, name(text))
-}
-
-// At which entry a scan was made that is kept, or 0.
-fn at(caches: &LocalCaches, scan: &Purpose) -> u64 {
-    match caches.at(scan) {
-        Some(at) => at,
-        None => 0,
-    }
-}
-
-// At which entry a scan is kept before it is put, after it, and after a message; it gave nothing at entry 4.
+// At which entry a scan is kept before it is put, after it, and after a message, or 0; it gave nothing at entry 4.
 fn left(alloc: Global, scan: Purpose, message: Message) -> [u64; 3] {
     let mut caches = LocalCaches::new(alloc);
-    let before = at(&caches, &scan);
+    let before = caches.at(&scan).unwrap_or(0);
     let Ok(()) = caches.put(&scan, Vec::new(alloc), 4) else {
         return [9; 3];
     };
-    let after = at(&caches, &scan);
+    let after = caches.at(&scan).unwrap_or(0);
     caches.execute(&[message]);
-    [before, after, at(&caches, &scan)]
+    [before, after, caches.at(&scan).unwrap_or(0)]
 }
 
 // The row that a scan gave.
@@ -138,7 +128,7 @@ fn built_anew(alloc: Global) -> [bool; 3] {
     let Ok(()) = caches.pin(REL) else {
         return [false; 3];
     };
-    caches.execute(&[rel(REL)]);
+    caches.execute(&[OF_REL]);
     let gone = !caches.has(&Purpose::Class(REL)) && !caches.has(&Purpose::Attribute(REL));
     let anew = put_again(&mut caches, alloc);
     [gone, anew, caches.has(&Purpose::Attribute(REL))]
@@ -174,7 +164,7 @@ fn kept_texts(alloc: Global) -> [bool; 3] {
     let mut caches = with_texts(alloc);
     let there = has_texts(&caches);
     let others = has_none(&caches, OTHER);
-    caches.execute(&[rel(REL)]);
+    caches.execute(&[OF_REL]);
     [there, others, has_none(&caches, REL)]
 }
 
@@ -224,45 +214,42 @@ fn has_none(caches: &LocalCaches, rel: Oid) -> bool {
 }
 
 #[test]
-fn a_message_for_a_hash_takes_out_what_has_it(rt: HostRuntime) {
+fn a_message_takes_out_what_it_covers(rt: HostRuntime) {
     for &(text, cache, hash, there) in NAMES {
-        assert!(rt; left(rt.alloc(), by_name(text), cat(cache, hash)) == [0, 4, there]);
+        let by_name = Purpose::RelName(name(text));
+        let left = left(rt.alloc(), by_name, Message::Cat { cache, hash });
+        assert!(rt; left == [0, 4, there]);
     }
-    assert!(rt; left(rt.alloc(), by_column(b"a"), cat(CacheId::RelName, 85949054)) == [0, 4, 4]);
-    assert!(rt; left(rt.alloc(), by_column(b"a"), cat(CacheId::AttName, 85949054)) == [0, 4, 0]);
-}
-
-#[test]
-fn a_message_for_any_column_takes_out_lists(rt: HostRuntime) {
-    assert!(rt; left(rt.alloc(), Purpose::AttList(REL), cat(CacheId::AttName, 0)) == [0, 4, 0]);
-    assert!(rt; left(rt.alloc(), Purpose::AttList(REL), cat(CacheId::RelName, 0)) == [0, 4, 4]);
-    assert!(rt; left(rt.alloc(), Purpose::Class(REL), cat(CacheId::RelOid, 0)) == [0, 4, 4]);
-}
-
-#[test]
-fn a_message_for_a_relation_takes_out_its_descriptor(rt: HostRuntime) {
-    assert!(rt; left(rt.alloc(), Purpose::Class(REL), rel(REL)) == [0, 4, 0]);
-    assert!(rt; left(rt.alloc(), Purpose::Trigger(REL), rel(REL)) == [0, 4, 0]);
-    assert!(rt; left(rt.alloc(), Purpose::IndexRow(REL), rel(OTHER)) == [0, 4, 4]);
-    assert!(rt; left(rt.alloc(), Purpose::RelOid(REL), rel(REL)) == [0, 4, 4]);
-    assert!(rt; left(rt.alloc(), by_name(b"an"), rel(REL)) == [0, 4, 4]);
+    for &(cache, hash, there) in COLUMN {
+        let by_column = Purpose::AttName(REL, name(b"a"));
+        let left = left(rt.alloc(), by_column, Message::Cat { cache, hash });
+        assert!(rt; left == [0, 4, there]);
+    }
+    for (scan, message, there) in [
+        (Purpose::AttList(REL), any_of(CacheId::AttName), 0),
+        (Purpose::AttList(REL), any_of(CacheId::RelName), 4),
+        (Purpose::Class(REL), any_of(CacheId::RelOid), 4),
+        (Purpose::Class(REL), OF_REL, 0),
+        (Purpose::Trigger(REL), OF_REL, 0),
+        (Purpose::IndexRow(REL), Message::Rel { rel: OTHER }, 4),
+        (Purpose::RelOid(REL), OF_REL, 4),
+        (Purpose::RelName(name(b"an")), OF_REL, 4),
+    ] {
+        assert!(rt; left(rt.alloc(), scan, message) == [0, 4, there]);
+    }
 }
 
 #[test]
 fn what_scans_gave_is_kept_until_a_reset(rt: HostRuntime) {
-    assert!(rt; row_counts(rt.alloc(), by_name(b"an")) == [1, 0]);
+    assert!(rt; row_counts(rt.alloc(), Purpose::RelName(name(b"an"))) == [1, 0]);
     assert!(rt; row_counts(rt.alloc(), Purpose::RelOid(REL)) == [1, 0]);
     assert!(rt; row_counts(rt.alloc(), Purpose::AttList(REL)) == [1, 0]);
     assert!(rt; row_counts(rt.alloc(), Purpose::Class(REL)) == [1, 0]);
 }
 
 #[test]
-fn descriptors_are_built_scan_by_scan(rt: HostRuntime) {
+fn descriptors_are_built_scan_by_scan_and_have_texts(rt: HostRuntime) {
     assert!(rt; missing(rt.alloc()) == [true, true]);
     assert!(rt; built_anew(rt.alloc()) == [true, true, false]);
-}
-
-#[test]
-fn fields_have_the_texts_of_what_scans_gave(rt: HostRuntime) {
     assert!(rt; kept_texts(rt.alloc()) == [true, true, true]);
 }

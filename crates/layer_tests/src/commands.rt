@@ -1,9 +1,8 @@
 use crate::events::text_of;
 use crate::row_texts::rows_of;
 use crate::scripts::text_of_command;
-use base_types::{
-    Change, Command, Kind, Listed, Mode, Name, NoMemory, Oid, Placed, Purpose, Row, Xid,
-};
+use crate::values::name as name_of;
+use base_types::{Change, Command, Kind, Listed, Mode, NoMemory, Oid, Purpose, Row, Xid};
 use command_answers::{Answer, CommandError, answer_text};
 use ddl_effect::{Draft, EffectRefusal, Exec, Facts, OpenRelation, Told, Want, effect};
 use event_kinds::{Entry, Event, Item};
@@ -65,15 +64,7 @@ fn is_said_of(
 // Whether this is said of the one command of a script.
 fn is_admitted(alloc: Global, command: &str, wanted: [&'static str; 3]) -> Result<bool, NoMemory> {
     let script = script_of_command(alloc, command)?;
-    is_one_admitted(alloc, script.commands(), wanted)
-}
-
-fn is_one_admitted(
-    alloc: Global,
-    commands: &[Placed],
-    wanted: [&'static str; 3],
-) -> Result<bool, NoMemory> {
-    match commands {
+    match script.commands() {
         [placed] => is_said_of(alloc, &placed.command, wanted),
         _ => Ok(false),
     }
@@ -210,19 +201,7 @@ const PLANS: &[(&str, bool, [&str; 3])] = &[
     ("begin", false, ["done", "done", "done"]),
 ];
 
-// Whether the one command of a script wants these in turn, where its lookup finds these rows.
-fn has_turns(
-    alloc: Global,
-    commands: &[Placed],
-    rows: &[Row],
-    turns: [&'static str; 3],
-) -> Result<bool, NoMemory> {
-    match commands {
-        [placed] => wants_in_turn(alloc, begun(alloc, &placed.command)?, rows, turns),
-        _ => Ok(false),
-    }
-}
-
+// Whether a command wants these in turn, where its lookup finds these rows.
 fn wants_in_turn(
     alloc: Global,
     mut exec: Exec,
@@ -234,11 +213,6 @@ fn wants_in_turn(
     let second = wanted(&exec) == turns[1];
     exec.give(alloc, &[], rows)?;
     Ok(first && second && wanted(&exec) == turns[2])
-}
-
-// A command at its beginning.
-fn begun(alloc: Global, command: &Command) -> Result<Exec, NoMemory> {
-    Exec::new(alloc, &[], command)
 }
 
 // What a command wants next.
@@ -278,6 +252,7 @@ fn code_of(error: CommandError) -> &'static str {
     }
 }
 
+// The same of the one command of a script, whose lookup finds a table or nothing.
 fn follows_plan(
     alloc: Global,
     command: &str,
@@ -286,25 +261,19 @@ fn follows_plan(
 ) -> Result<bool, NoMemory> {
     let rows = rows_of(alloc, if finds { b"+class(16384,t,r,-)" } else { b"" })?;
     let script = script_of_command(alloc, command)?;
-    has_turns(alloc, script.commands(), &rows, turns)
-}
-
-#[test]
-fn commands_follow_their_plans(rt: HostRuntime) -> Result<(), Fail> {
-    for &(command, finds, turns) in PLANS {
-        assert!(rt;
-            follows_plan(rt.alloc(), command, finds, turns)?,
-            "{command}"
-        );
+    match script.commands() {
+        [placed] => {
+            let exec = Exec::new(alloc, &[], &placed.command)?;
+            wants_in_turn(alloc, exec, &rows, turns)
+        }
+        _ => Ok(false),
     }
-    Ok(())
 }
 
 // A table with a live column, another one that has a default, and a dropped one; its index; and a table with a dropped column
 // and a live one.
-fn catalog() -> &'static [u8] {
-    b"+class(16384,t,r,-) +att(16384,1,a,int4,100,l) +att(16384,2,b,text,-1,l) +att(16384,3,........pg.dropped.3........,int4,-1,d) +def(16385,16384,2,x) +class(16386,i,i,-) +ind(16386,16384,v,1) +att(16387,2,a,text,-1,l) +class(16387,e,r,70) +att(16387,1,........pg.dropped.1........,int4,-1,d)"
-}
+const CATALOG: &[u8] =
+    b"+class(16384,t,r,-) +att(16384,1,a,int4,100,l) +att(16384,2,b,text,-1,l) +att(16384,3,........pg.dropped.3........,int4,-1,d) +def(16385,16384,2,x) +class(16386,i,i,-) +ind(16386,16384,v,1) +att(16387,2,a,text,-1,l) +class(16387,e,r,70) +att(16387,1,........pg.dropped.1........,int4,-1,d)";
 
 // Commands, and what each changes of this catalog, as a write with the number of its new oids in place of the Xid;
 // or why it changes nothing. A greater statistics target than 10,000 is written as 10,000.
@@ -508,9 +477,8 @@ const EFFECTS_OPEN: &[(&str, &[u8])] = &[
 
 // A table `u`, to which a table `t` refers by its column `a`; `t` has a check, a reference to itself, two defaults,
 // two triggers and an index on `b` and `a`.
-fn dependents() -> &'static [u8] {
-    b"+class(16384,u,r,-) +att(16384,1,x,int4,-1,l) +att(16384,2,z,text,-1,l) +class(16385,t,r,-) +att(16385,1,a,int4,-1,l) +att(16385,2,b,text,-1,l) +att(16385,3,c,int4,-1,l) +def(16386,16385,3,seven) +def(16388,16385,1,two) +class(16389,i,i,-) +ind(16389,16385,v,2+1) +con(16392,16385,s,f,v,3,16385,2) +con(16390,16385,k,c,v,a>0) +con(16391,16385,f,f,n,1,16384,1) +trg(16393,16385,h,e) +trg(16394,16385,g,d)"
-}
+const DEPENDENTS: &[u8] =
+    b"+class(16384,u,r,-) +att(16384,1,x,int4,-1,l) +att(16384,2,z,text,-1,l) +class(16385,t,r,-) +att(16385,1,a,int4,-1,l) +att(16385,2,b,text,-1,l) +att(16385,3,c,int4,-1,l) +def(16386,16385,3,seven) +def(16388,16385,1,two) +class(16389,i,i,-) +ind(16389,16385,v,2+1) +con(16392,16385,s,f,v,3,16385,2) +con(16390,16385,k,c,v,a>0) +con(16391,16385,f,f,n,1,16384,1) +trg(16393,16385,h,e) +trg(16394,16385,g,d)";
 
 // What commands change of that catalog, or why they change nothing.
 const DEPENDENT_EFFECTS: &[(&str, &[u8])] = &[
@@ -686,51 +654,41 @@ fn open_relations(
 ) -> Result<Listed<OpenRelation>, NoMemory> {
     let mut list = Listed::new(alloc);
     for &(name, rel) in opens {
-        if let Ok(name) = Name::new(name.as_bytes()) {
-            list.push(OpenRelation {
-                name,
-                rel: Oid(rel),
-                kind: Kind::Table,
-                command: 2,
-            })?;
-        }
+        list.push(OpenRelation {
+            name: name_of(name.as_bytes()),
+            rel: Oid(rel),
+            kind: Kind::Table,
+            command: 2,
+        })?;
     }
     Ok(list)
 }
 
-// What a command changes by these facts, or why it changes nothing.
-fn changed(alloc: Global, command: &Command, facts: &Facts) -> Result<Vec<u8>, NoMemory> {
-    match effect(alloc, command, facts) {
-        Ok(draft) => draft_text(alloc, &draft),
-        Err(refusal) => refusal_text(alloc, &refusal),
-    }
-}
-
 fn refusal_text(alloc: Global, refusal: &EffectRefusal) -> Result<Vec<u8>, NoMemory> {
-    match refusal {
-        EffectRefusal::Cause(error) => error_text(alloc, error),
-        EffectRefusal::Absent(name) => absent_text(alloc, name),
-        EffectRefusal::NoMemory => Err(NoMemory),
-    }
-}
-
-fn error_text(alloc: Global, error: &CommandError) -> Result<Vec<u8>, NoMemory> {
     let mut text = Vec::new(alloc);
-    answer_text(&Answer::Error(*error), &mut text)?;
-    Ok(text)
-}
-
-fn absent_text(alloc: Global, name: &Name) -> Result<Vec<u8>, NoMemory> {
-    let mut text = b"absent ".to_vec(alloc)?;
-    text.extend_from_slice(name.as_bytes())?;
+    match refusal {
+        EffectRefusal::Cause(error) => answer_text(&Answer::Error(*error), &mut text)?,
+        EffectRefusal::Absent(name) => {
+            text.extend_from_slice(b"absent ")?;
+            text.extend_from_slice(name.as_bytes())?;
+        }
+        EffectRefusal::NoMemory => return Err(NoMemory),
+    }
     Ok(text)
 }
 
 // A draft as a write, with the number of its new oids in place of the Xid.
 fn draft_text(alloc: Global, draft: &Draft) -> Result<Vec<u8>, NoMemory> {
     let items = items_of(alloc, draft)?;
-    let xid = Xid(draft.new_oids);
-    write_text(alloc, Event::Write { xid, items })
+    let entry = Entry {
+        backend: 1,
+        command: 1,
+        event: Event::Write {
+            xid: Xid(draft.new_oids),
+            items,
+        },
+    };
+    text_of(alloc, &entry)
 }
 
 fn items_of(alloc: Global, draft: &Draft) -> Result<Listed<Item>, NoMemory> {
@@ -752,26 +710,16 @@ fn item_of(change: &Change) -> Item {
     }
 }
 
-fn write_text(alloc: Global, event: Event) -> Result<Vec<u8>, NoMemory> {
-    let entry = Entry {
-        backend: 1,
-        command: 1,
-        event,
-    };
-    text_of(alloc, &entry)
-}
-
-// The same of the one command of a script.
-fn effect_of(alloc: Global, commands: &[Placed], facts: &Facts) -> Result<Vec<u8>, NoMemory> {
-    match commands {
-        [placed] => changed(alloc, &placed.command, facts),
-        _ => Ok(Vec::new(alloc)),
-    }
-}
-
+// What the one command of a script changes by these facts, or why it changes nothing.
 fn effect_among(alloc: Global, command: &str, facts: &Facts) -> Result<Vec<u8>, NoMemory> {
     let script = script_of_command(alloc, command)?;
-    effect_of(alloc, script.commands(), facts)
+    match script.commands() {
+        [placed] => match effect(alloc, &placed.command, facts) {
+            Ok(draft) => draft_text(alloc, &draft),
+            Err(refusal) => refusal_text(alloc, &refusal),
+        },
+        _ => Ok(Vec::new(alloc)),
+    }
 }
 
 // Whether a command changes this where there are the rows of a text, and these relations are open.
@@ -790,13 +738,6 @@ fn has_effect(
 }
 
 // What a command that the program runs wants to write at first; nothing where it wants something else.
-fn drafted(alloc: Global, commands: &[Placed]) -> Result<Vec<u8>, NoMemory> {
-    match commands {
-        [placed] => first_draft(alloc, begun(alloc, &placed.command)?),
-        _ => Ok(Vec::new(alloc)),
-    }
-}
-
 fn first_draft(alloc: Global, exec: Exec) -> Result<Vec<u8>, NoMemory> {
     match exec.next() {
         Want::Write => draft_text(alloc, &exec.into_draft(alloc)?),
@@ -807,7 +748,13 @@ fn first_draft(alloc: Global, exec: Exec) -> Result<Vec<u8>, NoMemory> {
 // Whether this is the draft of a command.
 fn has_draft(alloc: Global, command: &str, wanted: &[u8]) -> Result<bool, NoMemory> {
     let script = script_of_command(alloc, command)?;
-    Ok(drafted(alloc, script.commands())?.as_slice() == wanted)
+    match script.commands() {
+        [placed] => {
+            let exec = Exec::new(alloc, &[], &placed.command)?;
+            Ok(first_draft(alloc, exec)?.as_slice() == wanted)
+        }
+        _ => Ok(false),
+    }
 }
 
 const DRAFTS: &[(&str, &[u8])] = &[
@@ -819,43 +766,36 @@ const DRAFTS: &[(&str, &[u8])] = &[
 ];
 
 #[test]
-fn new_tables_are_drafted(rt: HostRuntime) -> Result<(), Fail> {
+fn commands_follow_their_plans(rt: HostRuntime) -> Result<(), Fail> {
+    for &(command, finds, turns) in PLANS {
+        assert!(rt;
+            follows_plan(rt.alloc(), command, finds, turns)?,
+            "{command}"
+        );
+    }
     for &(command, wanted) in DRAFTS {
         assert!(rt; has_draft(rt.alloc(), command, wanted)?, "{command}");
     }
     Ok(())
 }
 
-#[test]
-fn commands_have_their_effects(rt: HostRuntime) -> Result<(), Fail> {
-    for &(command, wanted) in EFFECTS {
-        assert!(rt;
-            has_effect(rt.alloc(), catalog(), &[], command, wanted)?,
-            "{command}"
-        );
-    }
-    for &(command, wanted) in EFFECTS_OPEN {
-        assert!(rt;
-            has_effect(rt.alloc(), catalog(), OPEN, command, wanted)?,
-            "{command} where t is open"
-        );
-    }
-    Ok(())
-}
+// The rows of a catalog, the relations that the session has open, and what commands change then.
+const TABLES_OF_EFFECTS: &[(&[u8], &[(&str, u32)], &[(&str, &[u8])])] = &[
+    (CATALOG, &[], EFFECTS),
+    (CATALOG, OPEN, EFFECTS_OPEN),
+    (DEPENDENTS, &[], DEPENDENT_EFFECTS),
+    (DEPENDENTS, &[("u", 16384)], DEPENDENT_EFFECTS_OPEN),
+];
 
 #[test]
-fn constraints_triggers_and_indexes_have_their_effects(rt: HostRuntime) -> Result<(), Fail> {
-    for &(command, wanted) in DEPENDENT_EFFECTS {
-        assert!(rt;
-            has_effect(rt.alloc(), dependents(), &[], command, wanted)?,
-            "{command}"
-        );
-    }
-    for &(command, wanted) in DEPENDENT_EFFECTS_OPEN {
-        assert!(rt;
-            has_effect(rt.alloc(), dependents(), &[("u", 16384)], command, wanted)?,
-            "{command}"
-        );
+fn commands_have_their_effects(rt: HostRuntime) -> Result<(), Fail> {
+    for &(rows, opens, effects) in TABLES_OF_EFFECTS {
+        for &(command, wanted) in effects {
+            assert!(rt;
+                has_effect(rt.alloc(), rows, opens, command, wanted)?,
+                "{command}"
+            );
+        }
     }
     Ok(())
 }

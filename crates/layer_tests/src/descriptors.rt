@@ -1,7 +1,7 @@
 ghost use Rattle.std.specs.Prelude.{◌≡◌, true};
 ghost use Rattle.std.specs.List.{list_all};
 ghost use Rattle.base_types.specs.Scans.{selects as is_asked_for};
-ghost use Rattle.rel_desc.specs.Descriptors.{is_own_row, IsGiven};
+ghost use Rattle.rel_desc.specs.Descriptors.{IsGiven};
 
 use crate::row_texts::rows_of;
 use base_types::{Field, NoMemory, Oid, Purpose, Row, selects};
@@ -59,20 +59,11 @@ fn are_asked_for(scan: &Purpose, rows: &[Row]) -> bool
     rows.iter().all(|row| selects(scan, row))
 }
 
-// Whether a scan is of the relation's own row.
-fn is_own(scan: &Purpose) -> bool
-    ensures { result ≡ is_own_row scan.now }
-{
-    match scan {
-        Purpose::Class(_) => true,
-        _ => false,
-    }
-}
-
+// Whether a scan may give these rows: a scan of the relation's own row gives one.
 fn is_given(scan: &Purpose, rows: &[Row]) -> bool
     ensures { result ≡ true → IsGiven scan.now rows.now }
 {
-    are_asked_for(scan, rows) && (!is_own(scan) || rows.len() == 1)
+    are_asked_for(scan, rows) && (!matches!(scan, Purpose::Class(_)) || rows.len() == 1)
 }
 
 // Whether the build wants a scan that gives these rows, and takes them.

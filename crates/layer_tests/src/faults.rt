@@ -36,13 +36,6 @@ const HINTS: &[(&[u8], u32, ScriptCause, &str)] = &[
 ];
 
 // Whether this is said; nothing where the text is empty.
-fn is_said(said: Option<String>, text: &str) -> bool {
-    match said {
-        Some(said) => said.as_str() == text,
-        None => text.is_empty(),
-    }
-}
-
 fn is_hint(
     alloc: Global,
     script: &[u8],
@@ -50,13 +43,22 @@ fn is_hint(
     cause: ScriptCause,
     text: &str,
 ) -> Result<bool, NoMemory> {
-    Ok(is_said(hint(alloc, script, line, cause)?, text))
+    match hint(alloc, script, line, cause)? {
+        Some(said) => Ok(said.as_str() == text),
+        None => Ok(text.is_empty()),
+    }
 }
 
 #[test]
-fn faulty_lines_have_hints(rt: HostRuntime) -> Result<(), Fail> {
+fn faulty_lines_have_hints_and_commands_of_each_form_have_none(
+    rt: HostRuntime,
+) -> Result<(), Fail> {
     for &(script, line, cause, text) in HINTS {
         assert!(rt; is_hint(rt.alloc(), script, line, cause, text)?, "{text}");
+    }
+    // the hints know each form of a command
+    for &(command, _) in COMMANDS {
+        assert!(rt; has_no_hint(rt.alloc(), command)?, "{command}");
     }
     Ok(())
 }
@@ -65,15 +67,6 @@ fn faulty_lines_have_hints(rt: HostRuntime) -> Result<(), Fail> {
 fn has_no_hint(alloc: Global, command: &str) -> Result<bool, NoMemory> {
     let script = format!(in alloc; "backends 1\n1: {command}\nend\n")?;
     is_hint(alloc, script.as_bytes(), 2, ScriptCause::BadCommand, "")
-}
-
-// The hints know each form of a command.
-#[test]
-fn commands_of_each_form_have_no_hint(rt: HostRuntime) -> Result<(), Fail> {
-    for &(command, _) in COMMANDS {
-        assert!(rt; has_no_hint(rt.alloc(), command)?, "{command}");
-    }
-    Ok(())
 }
 
 // How many bytes are kept of a source whose calls go so.

@@ -5,10 +5,10 @@
 //! the definitions against tables from outside, that a call with ample memory succeeds, the texts
 //! that are printed, and what happens where a reader, a writer or a call in its middle fails.
 //!
-//! Each test is proved before it runs, so most are tables: of calls and what each is answered, or of
-//! texts and what they come to. A helper tries one row. What a proof costs is the steps of a function
-//! times what is alive at each, so nothing that owns memory lives beside an `assert!` or a second `?`,
-//! and a long literal outside a table has a function of its own.
+//! Each test is proved before it runs, and a test costs more than a row of its table. So most are tables: of calls and
+//! what each is answered, or of texts and what they come to. A helper tries one row. What a proof costs is the steps of
+//! a function times what is alive at each, so little that owns memory lives beside an `assert!` or a second `?`, and a
+//! long literal is a constant.
 #![tactic(auto)]
 
 #[cfg(test)]

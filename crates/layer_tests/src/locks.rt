@@ -160,10 +160,7 @@ fn a_table_answers_its_calls(rt: HostRuntime) {
 // A table of no locks in which those of two new relations are prepared.
 fn prepared_table(alloc: Global) -> Result<LockTable, NoMemory> {
     let mut table = LockTable::new(alloc);
-    let mut grants = Vec::new(alloc);
-    grants.push(new_grant(REL))?;
-    grants.push(new_grant(OTHER))?;
-    table.prepare(grants)?;
+    table.prepare(Vec::from_slice(alloc, &[new_grant(REL), new_grant(OTHER)])?)?;
     Ok(table)
 }
 
@@ -213,7 +210,8 @@ fn own_answer(own: &mut OwnLocks, call: OwnCall) -> &'static str {
         OwnCall::Clear(rel, mode) => cleared(own, rel, mode),
         OwnCall::Remove(rel, mode) => removed(own, rel, mode),
         OwnCall::State(rel, mode) => state(own, rel, mode),
-        OwnCall::KeepsOut(rel, mode) => kept_out(own, rel, mode),
+        OwnCall::KeepsOut(rel, mode) if own.keeps_out(rel, mode) => "out",
+        OwnCall::KeepsOut(..) => "in",
         OwnCall::ClearAll => {
             own.clear_all();
             "done"
@@ -269,14 +267,6 @@ fn state(own: &OwnLocks, rel: Oid, mode: Mode) -> &'static str {
     }
 }
 
-fn kept_out(own: &OwnLocks, rel: Oid, mode: Mode) -> &'static str {
-    if own.keeps_out(rel, mode) {
-        "out"
-    } else {
-        "in"
-    }
-}
-
 // Calls on the locks of a backend that has none, and what each is answered.
 const OWN_CALLS: &[(OwnCall, &str)] = &[
     (OwnCall::Add(REL, Mode::Share, 1), "done"),
@@ -303,14 +293,6 @@ const OWN_CALLS: &[(OwnCall, &str)] = &[
     (OwnCall::Release(0), "done"),
 ];
 
-#[test]
-fn own_locks_are_marked(rt: HostRuntime) {
-    let mut own = OwnLocks::new(rt.alloc());
-    for &(call, wanted) in OWN_CALLS {
-        assert!(rt; own_answer(&mut own, call) == wanted);
-    }
-}
-
 // Whether so many relations are locked by one backend.
 fn lock_many(own: &mut OwnLocks, count: u32) -> bool {
     let mut all = true;
@@ -321,7 +303,10 @@ fn lock_many(own: &mut OwnLocks, count: u32) -> bool {
 }
 
 #[test]
-fn own_locks_are_many(rt: HostRuntime) {
+fn own_locks_are_marked_and_many(rt: HostRuntime) {
     let mut own = OwnLocks::new(rt.alloc());
+    for &(call, wanted) in OWN_CALLS {
+        assert!(rt; own_answer(&mut own, call) == wanted);
+    }
     assert!(rt; lock_many(&mut own, 200));
 }

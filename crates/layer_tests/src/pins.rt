@@ -1,17 +1,21 @@
 use pin_pool::Pool;
 use std::alloc::Global;
 
-// The pins of an entry with one user, with two, and with one again, and its value.
-fn pinned_twice(alloc: Global) -> [u32; 4] {
+// The pins of an entry with one user, with two, and with one again, and its value; what comes out as that is
+// replaced, and what is there then.
+fn pinned_twice(alloc: Global) -> ([u32; 4], [u32; 3]) {
     let mut pool = Pool::new(alloc);
     let Ok(r) = pool.add(7u32) else {
-        return [0; 4];
+        return ([0; 4], [0; 3]);
     };
     let first = pool.pins(&r);
     pool.pin(&r);
     let second = pool.pins(&r);
+    let old = pool.replace(&r, 8);
+    let replaced = [old, *pool.get(&r), pool.pins(&r)];
+    let _ = pool.replace(&r, 7);
     let _ = pool.unpin(&r);
-    [first, second, pool.pins(&r), *pool.get(&r)]
+    ([first, second, pool.pins(&r), *pool.get(&r)], replaced)
 }
 
 // What comes out of a pinned entry that is marked, and as its pins go.
@@ -26,27 +30,6 @@ fn marked(alloc: Global) -> [Option<u32>; 3] {
     [at_mark, at_first, pool.unpin(&r)]
 }
 
-// What comes out as the only pin goes, and as the entry is marked then.
-fn unpinned(alloc: Global) -> [Option<u32>; 2] {
-    let mut pool = Pool::new(alloc);
-    let Ok(r) = pool.add(7u32) else {
-        return [None; 2];
-    };
-    let at_unpin = pool.unpin(&r);
-    [at_unpin, pool.mark_dead(&r)]
-}
-
-// What comes out as a value is replaced, what is there then, and the pins.
-fn replaced(alloc: Global) -> [u32; 3] {
-    let mut pool = Pool::new(alloc);
-    let Ok(r) = pool.add(7u32) else {
-        return [0; 3];
-    };
-    pool.pin(&r);
-    let old = pool.replace(&r, 8);
-    [old, *pool.get(&r), pool.pins(&r)]
-}
-
 // The values of an entry, and of one that is added after it.
 fn two(alloc: Global) -> [u32; 2] {
     let mut pool = Pool::new(alloc);
@@ -59,30 +42,25 @@ fn two(alloc: Global) -> [u32; 2] {
     [*pool.get(&r), *pool.get(&s)]
 }
 
-// What comes out of an entry that goes, and the value and the pins of one that is added in its place.
-fn added_again(alloc: Global) -> (Option<u32>, [u32; 2]) {
+// What comes out as the only pin of an entry goes, and as the entry is marked then; and the value and the pins of one
+// that is added in its place.
+fn added_again(alloc: Global) -> ([Option<u32>; 2], [u32; 2]) {
     let mut pool = Pool::new(alloc);
     let Ok(r) = pool.add(7u32) else {
-        return (None, [0; 2]);
+        return ([None; 2], [0; 2]);
     };
-    let _ = pool.unpin(&r);
+    let at_unpin = pool.unpin(&r);
     let gone = pool.mark_dead(&r);
     let Ok(s) = pool.add(8u32) else {
-        return (None, [0; 2]);
+        return ([None; 2], [0; 2]);
     };
-    (gone, [*pool.get(&s), pool.pins(&s)])
+    ([at_unpin, gone], [*pool.get(&s), pool.pins(&s)])
 }
 
 #[test]
-fn values_stay_while_they_are_pinned(rt: HostRuntime) {
-    assert!(rt; pinned_twice(rt.alloc()) == [1, 2, 1, 7]);
+fn values_stay_in_places_of_their_own_while_they_are_pinned(rt: HostRuntime) {
+    assert!(rt; pinned_twice(rt.alloc()) == ([1, 2, 1, 7], [7, 8, 2]));
     assert!(rt; marked(rt.alloc()) == [None, None, Some(7)]);
-    assert!(rt; unpinned(rt.alloc()) == [None, Some(7)]);
-    assert!(rt; replaced(rt.alloc()) == [7, 8, 2]);
-}
-
-#[test]
-fn values_have_places_of_their_own(rt: HostRuntime) {
     assert!(rt; two(rt.alloc()) == [7, 8]);
-    assert!(rt; added_again(rt.alloc()) == (Some(7), [8, 1]));
+    assert!(rt; added_again(rt.alloc()) == ([None, Some(7)], [8, 1]));
 }

@@ -49,10 +49,6 @@ fn of_cleaned(cleaned: Cleaned) -> Answer {
     }
 }
 
-fn of_has(has: bool) -> Answer {
-    if has { Answer::Yes } else { Answer::No }
-}
-
 // The number of the first of messages, if the others have the next numbers.
 fn first_number(messages: &[Message]) -> Option<u32> {
     let mut first = None;
@@ -141,7 +137,8 @@ impl Numbered {
             Call::Insert(count) => self.insert(count),
             Call::Clean(min_free) => self.clean(min_free),
             Call::Fetch(b) => self.fetch(b),
-            Call::Has(b) => of_has(self.ring.has(b)),
+            Call::Has(b) if self.ring.has(b) => Answer::Yes,
+            Call::Has(_) => Answer::No,
             Call::Number => Answer::Number(self.ring.number()),
         }
     }

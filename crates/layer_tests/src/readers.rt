@@ -1,25 +1,13 @@
-use edge_io::{Failed, Sink};
 use std::io;
 use std::io::{ErrorKind, Read, Write};
 
 // A reader of so many bytes, one in each call, whose call of one number fails.
 #[derive(Drop)]
 pub(crate) struct FailingReader {
-    left: u32,
-    calls: u32,
-    failing: u32,
-    kind: ErrorKind,
-}
-
-impl FailingReader {
-    pub(crate) fn new(left: u32, failing: u32, kind: ErrorKind) -> FailingReader {
-        FailingReader {
-            left,
-            calls: 0,
-            failing,
-            kind,
-        }
-    }
+    pub(crate) left: u32,
+    pub(crate) calls: u32,
+    pub(crate) failing: u32,
+    pub(crate) kind: ErrorKind,
 }
 
 impl Read for FailingReader {
@@ -42,20 +30,9 @@ impl Read for FailingReader {
 #[derive(Drop)]
 pub(crate) struct FailingWriter {
     pub(crate) taken: u32,
-    calls: u32,
-    failing: u32,
-    kind: Option<ErrorKind>,
-}
-
-impl FailingWriter {
-    pub(crate) fn new(failing: u32, kind: Option<ErrorKind>) -> FailingWriter {
-        FailingWriter {
-            taken: 0,
-            calls: 0,
-            failing,
-            kind,
-        }
-    }
+    pub(crate) calls: u32,
+    pub(crate) failing: u32,
+    pub(crate) kind: Option<ErrorKind>,
 }
 
 impl Write for FailingWriter {
@@ -76,26 +53,5 @@ impl Write for FailingWriter {
 
     fn flush(&mut self) -> io::Result<()> {
         Ok(())
-    }
-}
-
-// A sink that counts its calls and its bytes.
-#[derive(Drop)]
-pub(crate) struct CountingSink {
-    pub(crate) calls: u32,
-    pub(crate) bytes: usize,
-}
-
-impl Sink for CountingSink {
-    ghost use Rattle.std.specs.Prelude.{None};
-
-    ghost taken = { λ _. None };
-
-    ghost faults = { λ _. 0 };
-
-    fn write(&mut self, from: &[u8]) -> Result<usize, Failed> {
-        self.calls = self.calls.saturating_add(1);
-        self.bytes = self.bytes.saturating_add(from.len());
-        Ok(from.len())
     }
 }

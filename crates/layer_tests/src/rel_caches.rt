@@ -68,16 +68,6 @@ fn found(alloc: Global, rel: Oid) -> [&'static str; 4] {
     [before, after, told, opened(cache.open(rel))]
 }
 
-// What a message for a relation whose descriptor is in use needs, and how the descriptor is found then.
-fn told(alloc: Global, rel: Oid) -> [&'static str; 2] {
-    let mut cache = RelCache::new(alloc);
-    let Ok(_) = cache.insert(rel, 7u32) else {
-        return ["no memory"; 2];
-    };
-    let told = need(cache.note_message(rel));
-    [told, opened(cache.open(rel))]
-}
-
 // What comes out as a marked descriptor is built anew, what is there then, and how it is found.
 fn built_anew(alloc: Global, rel: Oid) -> (u32, u32, &'static str) {
     let mut cache = RelCache::new(alloc);
@@ -97,16 +87,18 @@ fn number(rel: Option<Oid>) -> u32 {
     }
 }
 
-// The relations that are to be built anew, in order: before a message for one of two, and after it.
-fn waiting(alloc: Global, rel: Oid) -> [u32; 3] {
+// The relations that are to be built anew, in order, before a message for one whose descriptor is in use, and after
+// it; what the message needs, and how the descriptor is found then.
+fn told(alloc: Global, rel: Oid) -> ([u32; 3], [&'static str; 2]) {
     let mut cache = RelCache::new(alloc);
     let Ok(_) = cache.insert(rel, 8u32) else {
-        return [0; 3];
+        return ([0; 3], ["no memory"; 2]);
     };
     let before = number(cache.least_invalid(None));
-    let _ = cache.note_message(rel);
+    let told = need(cache.note_message(rel));
     let after = number(cache.least_invalid(None));
-    [before, after, number(cache.least_invalid(Some(rel)))]
+    let next = number(cache.least_invalid(Some(rel)));
+    ([before, after, next], [told, opened(cache.open(rel))])
 }
 
 // Those of two relations that are to be built anew after a reset, in order.
@@ -142,15 +134,11 @@ fn reset_unused(alloc: Global, rel: Oid) -> &'static str {
 }
 
 #[test]
-fn descriptors_are_kept_by_relation(rt: HostRuntime) {
+fn descriptors_are_kept_until_messages_and_resets_mark_them(rt: HostRuntime) {
     assert!(rt; found(rt.alloc(), REL) == ["unknown", "valid", "nothing", "unknown"]);
-    assert!(rt; told(rt.alloc(), REL) == ["rebuild", "invalid"]);
-    assert!(rt; built_anew(rt.alloc(), REL) == (7, 8, "valid"));
-}
 
-#[test]
-fn messages_and_resets_mark_descriptors(rt: HostRuntime) {
-    assert!(rt; waiting(rt.alloc(), REL) == [0, 16384, 0]);
+    assert!(rt; built_anew(rt.alloc(), REL) == (7, 8, "valid"));
+    assert!(rt; told(rt.alloc(), REL) == ([0, 16384, 0], ["rebuild", "invalid"]));
     assert!(rt; reset(rt.alloc(), REL, OTHER) == [16384, 16385, 0]);
     assert!(rt; reset_unused(rt.alloc(), REL) == "unknown");
 }

@@ -4,9 +4,9 @@ use std::alloc::Global;
 use std::test::Fail;
 use test_inputs::read;
 
-// A text that is read and written; nothing for one that is no script.
-fn written(alloc: Global, text: &[u8]) -> Result<Vec<u8>, NoMemory> {
-    match read(alloc, text, Rest::Refused) {
+// A text that is read and written again, without its rest; nothing for one that is no script.
+fn written(alloc: Global, text: &[u8], rest: Rest) -> Result<Vec<u8>, NoMemory> {
+    match read(alloc, text, rest) {
         Ok(read) => write_script(alloc, &read.script),
         Err(_) => Ok(Vec::new(alloc)),
     }
@@ -124,21 +124,13 @@ pub(crate) fn text_of_command(alloc: Global, command: &str) -> Result<String, No
 
 // Whether a text is read, and written again so.
 fn is_written(alloc: Global, text: &str, wanted: &str) -> Result<bool, NoMemory> {
-    Ok(written(alloc, text.as_bytes())?.as_slice() == wanted.as_bytes())
+    Ok(written(alloc, text.as_bytes(), Rest::Refused)?.as_slice() == wanted.as_bytes())
 }
 
 fn is_command_written(alloc: Global, given: &str, want: &str) -> Result<bool, NoMemory> {
     let text = text_of_command(alloc, given)?;
     let wanted = text_of_command(alloc, want)?;
     is_written(alloc, text.as_str(), wanted.as_str())
-}
-
-#[test]
-fn each_command_is_read_and_written(rt: HostRuntime) -> Result<(), Fail> {
-    for &(given, want) in COMMANDS {
-        assert!(rt; is_command_written(rt.alloc(), given, want)?, "{given}");
-    }
-    Ok(())
 }
 
 // Whole scripts as they may be given, and as they are written.
@@ -162,7 +154,10 @@ const SCRIPTS: &[(&str, &str)] = &[
 ];
 
 #[test]
-fn whole_scripts_are_read_and_written(rt: HostRuntime) -> Result<(), Fail> {
+fn commands_and_whole_scripts_are_read_and_written(rt: HostRuntime) -> Result<(), Fail> {
+    for &(given, want) in COMMANDS {
+        assert!(rt; is_command_written(rt.alloc(), given, want)?, "{given}");
+    }
     for &(given, want) in SCRIPTS {
         assert!(rt; is_written(rt.alloc(), given, want)?, "{given}");
     }
@@ -222,26 +217,21 @@ const LONG_ONES: &[(&str, &str)] = &[
     ("alter table t add constraint k check (", ")"),
 ];
 
-// The text of a script of one command that holds 63 bytes, and these after them.
-fn long_command(alloc: Global, before: &str, after: &str) -> Result<String, NoMemory> {
-    Ok(format!(in alloc; "backends 1\n1: {before}{BYTES_63}{after}\nend\n")?)
+// The text of a script of one command that holds 63 bytes, and more after them.
+fn long_command(alloc: Global, before: &str, more: &str, after: &str) -> Result<String, NoMemory> {
+    Ok(format!(in alloc; "backends 1\n1: {before}{BYTES_63}{more}{after}\nend\n")?)
 }
 
 // Whether a command may hold 63 bytes there.
 fn may_be_long(alloc: Global, before: &str, after: &str) -> Result<bool, NoMemory> {
-    let text = long_command(alloc, before, after)?;
+    let text = long_command(alloc, before, "", after)?;
     is_written(alloc, text.as_str(), text.as_str())
 }
 
 // What is wrong with it where it holds 64.
 fn fault_of_64(alloc: Global, before: &str, after: &str) -> Result<(u32, &'static str), NoMemory> {
-    let longer = format!(in alloc; "4{after}")?;
-    let text = long_command(alloc, before, longer.as_str())?;
+    let text = long_command(alloc, before, "4", after)?;
     Ok(fault(alloc, text.as_bytes()))
-}
-
-fn may_not_be_longer(alloc: Global, before: &str, after: &str) -> Result<bool, NoMemory> {
-    Ok(fault_of_64(alloc, before, after)? == (2, "BadCommand"))
 }
 
 // A name, a word and a text of 63 bytes are read, and of 64 they are not.
@@ -249,28 +239,17 @@ fn may_not_be_longer(alloc: Global, before: &str, after: &str) -> Result<bool, N
 fn names_have_63_bytes_at_most(rt: HostRuntime) -> Result<(), Fail> {
     for &(before, after) in LONG_ONES {
         assert!(rt; may_be_long(rt.alloc(), before, after)?, "{before}");
-        assert!(rt; may_not_be_longer(rt.alloc(), before, after)?, "{before}");
+        let fault = fault_of_64(rt.alloc(), before, after)?;
+        assert!(rt; fault == (2, "BadCommand"), "{before}");
     }
     Ok(())
 }
 
-// The text of a script of so many commands.
-fn many_commands(alloc: Global, count: u32) -> Result<Vec<u8>, NoMemory> {
-    let mut text = b"backends 64\n".to_vec(alloc)?;
-    push_many(&mut text, count)?;
-    Ok(text)
-}
-
-fn push_many(text: &mut Vec<u8>, count: u32) -> Result<(), NoMemory> {
-    for _ in 0..count {
-        text.extend_from_slice(b"64: begin\n")?;
-    }
-    text.extend_from_slice(b"steps 1*999999 64\nend\n")?;
-    Ok(())
-}
-
-fn fault_of_many(alloc: Global, count: u32) -> Result<(u32, &'static str), NoMemory> {
-    Ok(fault(alloc, &many_commands(alloc, count)?))
+// The line that breaks a rule first in a script of so many commands, and the rule.
+fn fault_of_many(alloc: Global, count: usize) -> Result<(u32, &'static str), NoMemory> {
+    let commands = "64: begin\n".repeat(alloc, count)?;
+    let text = format!(in alloc; "backends 64\n{commands}steps 1*999999 64\nend\n")?;
+    Ok(fault(alloc, text.as_bytes()))
 }
 
 #[test]
@@ -298,19 +277,11 @@ fn rest(alloc: Global, text: &[u8], rest: Rest) -> usize {
     }
 }
 
-// The script before a rest, as it is written.
-fn written_before(alloc: Global, text: &[u8]) -> Result<Vec<u8>, NoMemory> {
-    match read(alloc, text, Rest::Given) {
-        Ok(read) => write_script(alloc, &read.script),
-        Err(_) => Ok(Vec::new(alloc)),
-    }
-}
-
 #[test]
 fn a_rest_begins_after_the_end(rt: HostRuntime) -> Result<(), Fail> {
     for &(text, rest_at, wanted) in RESTS {
         assert!(rt; rest(rt.alloc(), text, Rest::Given) == rest_at);
-        assert!(rt; written_before(rt.alloc(), text)?.as_slice() == wanted);
+        assert!(rt; written(rt.alloc(), text, Rest::Given)?.as_slice() == wanted);
     }
     // blank lines and comments may follow also where there is to be no rest
     assert!(rt; rest(rt.alloc(), b"backends 1\nend\n-- x\n", Rest::Refused) == 15);

@@ -8,7 +8,7 @@ use std::alloc::Global;
 use std::test::Fail;
 
 // The table of the PostgreSQL manual, "Explicit Locking".
-const CONFLICTS: &[&[u8; 8]] = &[
+const CONFLICTS: [&[u8; 8]; 8] = [
     b".......x",
     b"......xx",
     b"....xxxx",
@@ -121,33 +121,18 @@ fn the_first_fault_of_a_name(rt: HostRuntime) {
 
 // Whether a mode conflicts with those that are marked in its row.
 fn conflicts_so(mode: Mode, row: &[u8; 8]) -> bool {
-    for (i, other) in Mode::ALL.iter().enumerate() {
-        if conflicts(mode, *other) != is_marked(row, i) {
+    for (other, mark) in Mode::ALL.iter().zip(row) {
+        if conflicts(mode, *other) != (*mark == b'x') {
             return false;
         }
     }
     true
 }
 
-fn is_marked(row: &[u8; 8], i: usize) -> bool {
-    match row.get(i) {
-        Some(mark) => *mark == b'x',
-        None => false,
-    }
-}
-
-// The same of the row of this number, from 0.
-fn has_row(mode: Mode, number: usize) -> bool {
-    match CONFLICTS.get(number) {
-        Some(row) => conflicts_so(mode, row),
-        None => false,
-    }
-}
-
 #[test]
 fn conflict_table(rt: HostRuntime) {
-    for (number, mode) in Mode::ALL.iter().enumerate() {
-        assert!(rt; has_row(*mode, number));
+    for (mode, row) in Mode::ALL.iter().zip(&CONFLICTS) {
+        assert!(rt; conflicts_so(*mode, row));
     }
 }
 
@@ -165,19 +150,12 @@ fn writers_line(kind: Kind, field: Field) -> LineBuffer {
     line
 }
 
-// Whether these are the writers of a field, and whether the kind has the field where a writer locks all others out.
-fn has_writers(kind: Kind, field: Field, text: &[u8]) -> bool {
-    writers_line(kind, field).as_bytes() == text
-}
-
-fn is_locked_field(kind: Kind, field: Field) -> bool {
-    has_field(kind, field) == writers(kind, field).has(Mode::AccessExclusive)
-}
-
+// A kind has the fields of which a writer locks all others out.
 #[test]
 fn writers_table(rt: HostRuntime) {
     for &(kind, field, text) in WRITERS {
-        assert!(rt; has_writers(kind, field, text) && is_locked_field(kind, field));
+        assert!(rt; writers_line(kind, field).as_bytes() == text);
+        assert!(rt; has_field(kind, field) == writers(kind, field).has(Mode::AccessExclusive));
     }
 }
 
@@ -227,15 +205,11 @@ const FIELDS: &[(&[u8], Field, u32, &str)] = &[
     (INDEX, Field::Valid, 16400, "v"),
 ];
 
-// The text of a field of a relation by these rows.
-fn shown(alloc: Global, rows: &[u8], field: Field, rel: u32) -> Result<Vec<u8>, NoMemory> {
-    field_text(alloc, field, Oid(rel), &rows_of(alloc, rows)?)
-}
-
 #[test]
 fn fields_have_their_texts(rt: HostRuntime) -> Result<(), Fail> {
     for &(rows, field, rel, want) in FIELDS {
-        let text = shown(rt.alloc(), rows, field, rel)?;
+        let rows = rows_of(rt.alloc(), rows)?;
+        let text = field_text(rt.alloc(), field, Oid(rel), &rows)?;
         assert!(rt; text.as_slice() == want.as_bytes(), "{want}");
     }
     Ok(())
@@ -262,6 +236,7 @@ const CATALOGS: &[(&[u8], &str)] = &[
     (b"+trg(16389,16384,g,e)", "pg_trigger"),
 ];
 
+// Whether a row is in the catalog of this name.
 fn is_in_catalog(alloc: Global, row: &[u8], wanted: &str) -> Result<bool, NoMemory> {
     match rows_of(alloc, row)?.first() {
         Some(row) => Ok(catalog_name(row) == wanted),
