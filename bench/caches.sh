@@ -6,14 +6,14 @@ set -u
 
 cd "$(dirname "${BASH_SOURCE[0]}")/.." || exit 1
 . bench/common.sh
-need_program cache_bench
+need_program speed_bench
 count=${1:-20000000}
 
 # The seconds that a word takes for so many.
 seconds() {
     local begun ended
     begun=$(now)
-    "$program" "$1" "$2" || exit 1
+    "$program" caches "$1" "$2" || exit 1
     ended=$(now)
     awk -v begun="$begun" -v ended="$ended" 'BEGIN { printf "%.6f", ended - begun }'
 }

@@ -1,6 +1,6 @@
 #!/usr/bin/env bash
 # Measures `lines` of history_lines on the outputs of long walks, beside these walks: the least processor time of three runs
-# each. No text counts: the walk is text_bench's, which writes none, and what it takes to read the entries (lines_replay
+# each. No text counts: the walk is speed_bench's, which writes none, and what it takes to read the entries (lines_replay
 # read) is taken off the time of reading them and asking `lines` (lines_replay count). It decides nothing.
 # usage: bench/lines.sh [COMMANDS]; 20000 if left out
 set -u
@@ -9,19 +9,19 @@ cd "$(dirname "${BASH_SOURCE[0]}")/.." || exit 1
 . bench/common.sh
 need_program lines_replay
 replay=$program
-need_program text_bench
+need_program speed_bench
 walk=$program
 need_program catsync ' -- walk < ../../examples/two_backends.script'
 catsync=$program
 commands=${1:-20000}
 
-# The least processor seconds of three runs of a program with an argument on an input, in $seconds; what it prints is in
-# $temp/said.
+# The least processor seconds of three runs of a command on an input, in $seconds; what it prints is in $temp/said.
 thrice() {
-    local run times
+    local input=$1 run times
+    shift
     times=$(for ((run = 0; run < 3; run++)); do
         TIMEFORMAT='%U %S'
-        time "$1" "$2" 2>&1 >"$temp/said" <"$3" || echo failed >&2
+        time "$@" 2>&1 >"$temp/said" <"$input" || echo failed >&2
     done 2>&1)
     seconds=$(awk '/failed/ { bad = 1 } /^[0-9.]+ [0-9.]+$/ { sum = $1 + $2; if (least == "" || sum < least) least = sum } END { print bad ? "failed" : least }' <<<"$times")
 }
@@ -30,11 +30,11 @@ measure() {
     local walked reading
     "$catsync" walk <"$temp/script" >"$temp/output" || exit 1
     cat "$temp/script" "$temp/output" >"$temp/case"
-    thrice "$walk" walk "$temp/script"
+    thrice "$temp/script" "$walk" texts walk
     walked=$seconds
-    thrice "$replay" read "$temp/case"
+    thrice "$temp/case" "$replay" read
     reading=$seconds
-    thrice "$replay" count "$temp/case"
+    thrice "$temp/case" "$replay" count
     awk -v name="$1" -v walked="$walked" -v reading="$reading" -v both="$seconds" '
         {
             lines = both - reading

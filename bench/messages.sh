@@ -6,7 +6,7 @@ set -u
 
 cd "$(dirname "${BASH_SOURCE[0]}")/.." || exit 1
 . bench/common.sh
-need_program text_bench
+need_program speed_bench
 bench=$program
 need_program catsync ' -- walk < stdin'
 tables=${1:-1000}
@@ -38,7 +38,7 @@ least() {
     local begun run
     for ((run = 0; run < runs; run++)); do
         begun=$(now)
-        "$bench" walk <"$temp/$1" || exit 1
+        "$bench" texts walk <"$temp/$1" || exit 1
         echo "$begun $(now)"
     done | awk 'NR == 1 || $2 - $1 < least { least = $2 - $1 } END { print least }'
 }

@@ -6,14 +6,14 @@ set -u
 
 cd "$(dirname "${BASH_SOURCE[0]}")/.." || exit 1
 . bench/common.sh
-need_program ring_bench
+need_program speed_bench
 messages=${1:-10000000}
 
 # The time for each message of a word's, of which each inserted one counts so many times.
 measure() {
     local begun ended status
     begun=$(now)
-    "$program" "$2" "$messages"
+    "$program" ring "$2" "$messages"
     status=$?
     ended=$(now)
     awk -v name="$1" -v status="$status" -v count="$messages" -v times="$3" -v begun="$begun" -v ended="$ended" 'BEGIN {

@@ -6,14 +6,14 @@ set -u
 
 cd "$(dirname "${BASH_SOURCE[0]}")/.." || exit 1
 . bench/common.sh
-need_program text_bench
+need_program speed_bench
 lines=${1:-1000000}
 
 # The seconds of an argument on an input, and whether it wrote what is wanted.
 measure() {
     local begun ended status
     begun=$(now)
-    "$program" "$2" <"$temp/$3" | cat >"$temp/output"
+    "$program" texts "$2" <"$temp/$3" | cat >"$temp/output"
     status=${PIPESTATUS[0]}
     ended=$(now)
     local same=yes

@@ -1,17 +1,12 @@
 //! What `bench/queue.sh` measures of the queue of messages, with room for 4,096 and 64 backends, the last of which never
 //! reads: so many messages inserted 64 at a time (`batches`) or one at a time (`singles`), or inserted and fetched by
-//! each of the other backends (`fetches`). Its exit status is 0, or 1 where an argument or memory fails or a fetch gives
-//! anything but 32 messages.
-#![tactic(auto)]
+//! each of the other backends (`fetches`). It fails where memory does or a fetch gives anything but 32 messages.
 
 use arrayvec::ArrayVec;
 use base_types::{Fetched, Oid};
 use inval_messages::Message;
 use sinval_ring::Ring;
 use std::alloc::Global;
-use std::env;
-use std::process::ExitCode;
-use std::rt::Env;
 
 // The most messages that are inserted.
 const MOST_MESSAGES: u64 = 1 << 40;
@@ -24,24 +19,34 @@ const KEPT_BEHIND: u64 = 2048;
 
 const MESSAGE: Message = Message::Rel { rel: Oid(16384) };
 
-fn main(rt: HostRuntime) -> ExitCode {
-    match run(&rt, rt.alloc()) {
-        Some(()) => ExitCode::SUCCESS,
-        None => ExitCode::from(1),
+/// What is done with the messages.
+#[derive(Clone, Copy)]
+pub(crate) enum Task {
+    Batches,
+    Singles,
+    Fetches,
+}
+
+impl Task {
+    /// The task that an argument names.
+    pub fn named(word: &str) -> Option<Task> {
+        match word {
+            "batches" => Some(Task::Batches),
+            "singles" => Some(Task::Singles),
+            "fetches" => Some(Task::Fetches),
+            _ => None,
+        }
     }
 }
 
-fn run<R: Env + AllocGlobal>(rt: &R, alloc: Global) -> Option<()> {
-    let mut arguments = env::args(rt).ok()?.skip(1);
-    let word = arguments.next()?;
-    let count = arguments.next()?.parse::<u64>().ok()?;
+/// Does a task with so many messages.
+pub(crate) fn run(alloc: Global, task: Task, count: u64) -> Option<()> {
     let mut queue = new_queue(alloc)?;
     queue.start_all();
-    match word.as_str() {
-        "batches" => queue.insert_all(count / KEPT_BEHIND, KEPT_BEHIND / 64, &[MESSAGE; 64]),
-        "singles" => queue.insert_all(count / KEPT_BEHIND, KEPT_BEHIND, &[MESSAGE; 1]),
-        "fetches" => queue.fetch_all(count),
-        _ => None,
+    match task {
+        Task::Batches => queue.insert_all(count / KEPT_BEHIND, KEPT_BEHIND / 64, &[MESSAGE; 64]),
+        Task::Singles => queue.insert_all(count / KEPT_BEHIND, KEPT_BEHIND, &[MESSAGE; 1]),
+        Task::Fetches => queue.fetch_all(count),
     }
 }
 

@@ -1,39 +1,49 @@
-//! What the scripts of `bench` measure beside the program: a script read and written back (`script`),
+//! What the scripts of `bench` measure of texts, from standard input: a script read and written back (`script`),
 //! the lines of a history read (`read`), and read and written back (`copy`); a script walked, and no text
-//! written of it (`walk`). Its exit status is 0, or 1 where an argument, a text, memory or the outside fails.
-#![tactic(auto)]
+//! written of it (`walk`). It fails where a text, memory or the outside does.
 
 use edge_io::{Sink, StdSink, StdSource, read_all, send};
 use event_kinds::{Entry, read_entry};
 use out_text::put_output;
 use script_text::{Rest, read_script, write_script};
 use std::alloc::Global;
-use std::env;
-use std::process::ExitCode;
-use std::rt::Env;
 use walk_run::walk;
 
 // The most bytes that are read.
 const MOST_INPUT: usize = 268_435_456;
 
-fn main(rt: HostRuntime) -> ExitCode {
-    match run(&rt, rt.alloc()) {
-        Some(()) => ExitCode::SUCCESS,
-        None => ExitCode::from(1),
+/// What is done with standard input.
+#[derive(Clone, Copy)]
+pub(crate) enum Task {
+    Script,
+    Read,
+    Copy,
+    Walk,
+}
+
+impl Task {
+    /// The task that an argument names.
+    pub fn named(word: &str) -> Option<Task> {
+        match word {
+            "script" => Some(Task::Script),
+            "read" => Some(Task::Read),
+            "copy" => Some(Task::Copy),
+            "walk" => Some(Task::Walk),
+            _ => None,
+        }
     }
 }
 
-fn run<R: Env + AllocGlobal + Input + Print>(rt: &R, alloc: Global) -> Option<()> {
-    let argument = env::args(rt).ok()?.nth(1)?;
+/// Does a task with standard input.
+pub(crate) fn run<R: Input + Print>(rt: &R, alloc: Global, task: Task) -> Option<()> {
     let mut source = StdSource::new(rt.reader());
     let mut sink = StdSink::new(std::io::writer(rt));
     let input = read_all(alloc, &mut source, MOST_INPUT).ok()?;
-    match argument.as_str() {
-        "script" => copy_script(alloc, &input, &mut sink),
-        "read" => read_entries(alloc, &input).map(|_| ()),
-        "copy" => put_output(&mut sink, &read_entries(alloc, &input)?, &[]).ok(),
-        "walk" => walk_script(alloc, &input),
-        _ => None,
+    match task {
+        Task::Script => copy_script(alloc, &input, &mut sink),
+        Task::Read => read_entries(alloc, &input).map(|_| ()),
+        Task::Copy => put_output(&mut sink, &read_entries(alloc, &input)?, &[]).ok(),
+        Task::Walk => walk_script(alloc, &input),
     }
 }
 

@@ -1,7 +1,6 @@
 //! What `bench/caches.sh` measures of a backend's caches that have 10,000 names: so many lookups of these names in turn where
 //! no name has a row (`absent`) or each has one (`present`), or so many messages that take out none of 10,000 absent names
-//! (`messages`), of each kind in turn. Its exit status is 0, or 1 where an argument or memory fails or a lookup is wrong.
-#![tactic(auto)]
+//! (`messages`), of each kind in turn. It fails where memory does or a lookup is wrong.
 
 ghost use Rattle.std.specs.Prelude.{◌≤◌, length, IfSome};
 
@@ -9,9 +8,6 @@ use base_types::{CacheId, Kind, Name, Oid, Purpose, Row};
 use inval_messages::Message;
 use local_caches::LocalCaches;
 use std::alloc::Global;
-use std::env;
-use std::process::ExitCode;
-use std::rt::Env;
 
 // How many names are cached.
 const NAMES: u32 = 10_000;
@@ -33,24 +29,34 @@ const MESSAGES: [Message; 4] = [
     Message::Rel { rel: Oid(7) },
 ];
 
-fn main(rt: HostRuntime) -> ExitCode {
-    match run(&rt, rt.alloc()) {
-        Some(()) => ExitCode::SUCCESS,
-        None => ExitCode::from(1),
+/// What is done with the caches.
+#[derive(Clone, Copy)]
+pub(crate) enum Task {
+    Absent,
+    Present,
+    Messages,
+}
+
+impl Task {
+    /// The task that an argument names.
+    pub fn named(word: &str) -> Option<Task> {
+        match word {
+            "absent" => Some(Task::Absent),
+            "present" => Some(Task::Present),
+            "messages" => Some(Task::Messages),
+            _ => None,
+        }
     }
 }
 
-fn run<R: Env + AllocGlobal>(rt: &R, alloc: Global) -> Option<()> {
-    let mut arguments = env::args(rt).ok()?.skip(1);
-    let word = arguments.next()?;
-    let count = arguments.next()?.parse::<u64>().ok()?;
+/// Does a task with so many lookups or messages.
+pub(crate) fn run(alloc: Global, task: Task, count: u64) -> Option<()> {
     let scans = all_scans(alloc)?;
-    let present = word.as_str() == "present";
+    let present = matches!(task, Task::Present);
     let mut caches = filled(alloc, scans.as_slice(), present);
-    let done = match word.as_str() {
-        "absent" | "present" => look_up(&caches, scans.as_slice(), present, count),
-        "messages" => execute(&mut caches, count),
-        _ => None,
+    let done = match task {
+        Task::Absent | Task::Present => look_up(&caches, scans.as_slice(), present, count),
+        Task::Messages => execute(&mut caches, count),
     };
     // the program ends here, so nothing is freed
     std::mem::forget(caches);

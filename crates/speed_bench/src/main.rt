@@ -1,0 +1,69 @@
+//! What the scripts of `bench` measure beside the program: the queue of messages (`ring`), a backend's caches
+//! (`caches`), or texts (`texts`). The exit status is 0, or 1 where the arguments are none of the usage's or the
+//! task fails.
+#![tactic(auto)]
+
+mod caches;
+mod ring;
+mod texts;
+
+use std::alloc::Global;
+use std::env;
+use std::process::ExitCode;
+use std::rt::Env;
+
+const USAGE: &str = "\
+usage: speed_bench ring batches|singles|fetches MESSAGES
+       speed_bench caches absent|present LOOKUPS
+       speed_bench caches messages MESSAGES
+       speed_bench texts script|walk < SCRIPT
+       speed_bench texts read|copy < HISTORY
+";
+
+// What the arguments ask for.
+#[derive(Clone, Copy)]
+enum Asked {
+    Ring(ring::Task, u64),
+    Caches(caches::Task, u64),
+    Texts(texts::Task),
+}
+
+fn main(rt: HostRuntime) -> ExitCode {
+    let done = match read_arguments(&rt) {
+        Some(asked) => run(&rt, rt.alloc(), asked),
+        None => {
+            let _ = eprint!(rt; "{USAGE}");
+            None
+        }
+    };
+    match done {
+        Some(()) => ExitCode::SUCCESS,
+        None => ExitCode::from(1),
+    }
+}
+
+fn run<R: Input + Print>(rt: &R, alloc: Global, asked: Asked) -> Option<()> {
+    match asked {
+        Asked::Ring(task, count) => ring::run(alloc, task, count),
+        Asked::Caches(task, count) => caches::run(alloc, task, count),
+        Asked::Texts(task) => texts::run(rt, alloc, task),
+    }
+}
+
+fn read_arguments<R: Env + AllocGlobal>(rt: &R) -> Option<Asked> {
+    let mut arguments = env::args(rt).ok()?.skip(1);
+    let part = arguments.next()?;
+    let word = arguments.next()?;
+    match part.as_str() {
+        "ring" => {
+            let task = ring::Task::named(word.as_str())?;
+            Some(Asked::Ring(task, arguments.next()?.parse::<u64>().ok()?))
+        }
+        "caches" => {
+            let task = caches::Task::named(word.as_str())?;
+            Some(Asked::Caches(task, arguments.next()?.parse::<u64>().ok()?))
+        }
+        "texts" => Some(Asked::Texts(texts::Task::named(word.as_str())?)),
+        _ => None,
+    }
+}
