@@ -1,6 +1,6 @@
 #!/usr/bin/env bash
-# Measures runs on threads: a script of many commands over 64 backends, walked and run; then 63 backends that look while one
-# writes, two backends that show a table again and again in a block, which takes no entry, and two that begin and end blocks,
+# Measures runs on threads: a script of many commands over 64 backends, walked and run, the walk without a schedule and with one; then 63
+# backends that look while one writes, two backends that show a table again and again in a block, which takes no entry, and two that begin and end blocks,
 # which takes a look and a release each. Of each the processor time, the time by the clock and the most memory of one run, how
 # many entries it made, and how often one came from another backend than the one before: it took at least so many turns, and
 # one. It decides nothing.
@@ -27,7 +27,9 @@ measure() {
 }
 
 awk -v tables=$((commands / 2)) -v schedule=0 -f bench/script.awk >"$temp/script" || exit 1
-measure "$commands commands, half create table and half show"
+measure "$commands commands, half create table and half show, where the walk takes one backend after another"
+awk -v tables=$((commands / 2)) -v schedule=1 -f bench/script.awk >"$temp/script" || exit 1
+measure "the same commands, where the walk goes by a schedule"
 awk -v commands="$commands" -f bench/entries.awk >"$temp/script" || exit 1
 measure "$commands commands, most of them show of one table that changes"
 {
