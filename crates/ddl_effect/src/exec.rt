@@ -25,7 +25,6 @@ use std::alloc::Global;
 use std::mem::replace;
 
 /// How far a command is: what is left of it.
-#[derive(Drop)]
 pub enum Exec {
     /// It has done what it says, and answers this.
     Done(Told),
@@ -120,6 +119,29 @@ pub enum Exec {
     Writing(Draft),
     /// It alters a table.
     Altering(Altering),
+}
+
+// Written out, and not derived: so it is proved here, and not again wherever one is dropped.
+impl Drop for Exec {
+    #[rattlefmt::skip]
+    fn drop(self) {
+        match self {
+            Exec::Done(_) | Exec::Failing(_) | Exec::Missing(_) | Exec::Finding(_) | Exec::FindingOid(_) => (),
+            Exec::MissingIndexed(_) | Exec::FindingIndexed(_) | Exec::Writing(_) | Exec::Altering(_) => (),
+            Exec::Opening { rel: _, kind: _, field: _ } => (),
+            Exec::ListingColumns { rel: _ } => (),
+            Exec::FindingColumn { rel: _, column: _ } => (),
+            Exec::OpeningToKeep { rel: _, kind: _ } => (),
+            Exec::OpeningToDrop { rel: _, name: _ } | Exec::DroppingTable { rel: _, name: _ } => (),
+            Exec::DroppingIndexes { rel: _, constraints: _ } => (),
+            Exec::DroppingDefaults { rel: _, constraints: _, indexes: _ } => (),
+            Exec::DroppingTriggers { rel: _, constraints: _, indexes: _, defaults: _ } => (),
+            Exec::DroppingColumns { rel: _, constraints: _, indexes: _, defaults: _, triggers: _ } => (),
+            Exec::OpeningIndexed { rel: _, index: _ } => (),
+            Exec::NumberingIndex { rel: _, name: _, columns: _ } => (),
+            Exec::Locking { rel: _, rels: _, at: _, draft: _ } => (),
+        }
+    }
 }
 
 impl Exec {
@@ -366,12 +388,20 @@ impl Exec {
     pub fn search_again(&mut self)
         ensures { (opens : List OpenRelation) → plan_at opens self.new ≡ plan_again opens self.old }
     {
-        *self = match replace(self, Exec::Done(Told::Ok)) {
+        let stage = replace(self, Exec::Done(Told::Ok));
+        self.put(stage.again());
+    }
+
+    // The same of a command by value.
+    fn again(self) -> Exec
+        ensures { (opens : List OpenRelation) → plan_at opens result ≡ plan_again opens self }
+    {
+        match self {
             Exec::Missing(finding) => Exec::Finding(finding),
             Exec::MissingIndexed(index) => Exec::FindingIndexed(index),
             Exec::Altering(altering) => Exec::Altering(altering.again()),
             other => other,
-        };
+        }
     }
 
     /// The draft that it wants written, the command given up. Condition: it wants that.
