@@ -18,13 +18,9 @@ pub mod LockedColumns
 pub mod RenamedIndex
 pub mod AlteredTable
 pub mod DroppedTable
-pub mod TableMadeAgain
-pub mod TableRenamed
 pub mod ProtectedColumns
 pub mod CatalogCaches
-pub mod OpenTable
 pub mod SavedBlock
-pub mod RebuiltTable
 pub mod WrongEntries
 pub mod WrongPlays
 pub mod WrongResets
