@@ -194,9 +194,12 @@ refused_few {scenario} {first} {old} {new} is (After makes) = let e = ap length 
 pub entry_few : {later : Scenario} {first now new : List Entry} {had has : ℕ → ℕ} {was s : Backend} → now ≡ first → MakesNext later now new had has was s → length new ≤ length first + 1
 entry_few is makes = refused_few is (After (next_made makes))
 
+one_more : {b : ℕ} {scenario later : Scenario} {old now new : List Entry} {had has : ℕ → ℕ} {was : Backend} → now ≡ old → MayEnterNext scenario b old was → MakesEntry later now new had has was.progress.id → HasMore b old new
+one_more {b} {scenario} {later} {old} {now} {new} {had} {has} {was} is may makes =
+    subst (λ n. HasMore n old new) may.id (subst (λ (h : List Entry). HasMore was.progress.id h new) is (more_made later now new had has was.progress.id makes))
+
 pub entry_more : {b : ℕ} {scenario later : Scenario} {old now new : List Entry} {had has : ℕ → ℕ} {was s : Backend} → now ≡ old → MayEnterNext scenario b old was → MakesNext later now new had has was s → HasMore b old new
-entry_more {b} {scenario} {later} {old} {now} {new} {had} {has} {was} {s} is may makes =
-    subst (λ n. HasMore n old new) may.id (subst (λ (h : List Entry). HasMore was.progress.id h new) is (more_made later now new had has was.progress.id (next_made makes)))
+entry_more is may makes = one_more is may (next_made makes)
 
 -- one that is to join hasn't yet
 to_join : (life : Life) (joins : Bool) → joins ≡ not (has_joined life) → joins ≡ true → life ≡ lives.Unstarted
@@ -374,6 +377,10 @@ pub step_plays : {E : Type 0} {b : ℕ} {scenario later last : Scenario} {old no
     → OnOk result (Steps later now new had has was s) → OnErr result (IsRefused later now new had has was.progress.id) → PlaysOn b scenario last old new first has
 step_plays new had has s (Ok x) same is may others then steps refused = entry_refused same is may others then (After steps.makes)
 step_plays new had has s (Err e) same is may others then steps refused = entry_refused same is may others then refused
+
+pub step_more : {E : Type 0} {b : ℕ} {scenario : Scenario} {old now : List Entry} {was : Backend} (later : Scenario) (new : List Entry) (had has : ℕ → ℕ) (s : Backend) (result : Result (Unit {0}) E) → now ≡ old → MayEnterNext scenario b old was → OnOk result (Steps later now new had has was s) → OnOk result (HasMore b old new)
+step_more later new had has s (Ok x) is may steps = one_more is may steps.makes
+step_more later new had has s (Err e) is may steps = tt
 
 pub step_id : {E : Type 0} {b : ℕ} {scenario : Scenario} {old : List Entry} {was : Backend} (later : Scenario) (now new : List Entry) (had has : ℕ → ℕ) (s : Backend) (result : Result (Unit {0}) E) → MayEnterNext scenario b old was → OnOk result (Steps later now new had has was s) → OnOk result (s.progress.id ≡ b)
 step_id later now new had has s (Ok x) may steps = steps.id ∙ may.id

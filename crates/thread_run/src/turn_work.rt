@@ -206,6 +206,7 @@ fn step_in_turn<L: Seg>(
 ) -> Result<(), NoMemory>
     requires may { MayEnterNext (L.script seg.old) b (L.history seg.old) backend.old }
     ensures plays { PlaysOn b (L.script seg.old) (L.script seg.new) (L.history seg.old) (L.history seg.new) (L.promised seg.old) (L.promised seg.new) }
+    ensures more { OnOk result (HasMore b (L.history seg.old) (L.history seg.new)) }
     ensures id { OnOk result (backend.new.progress.id ≡ b) }
     ensures stands { OnOk result (Stands (L.script seg.new) (L.history seg.new) backend.new) }
 {

@@ -1,5 +1,5 @@
 use Rattle.history_model.proofs.Sound.{sound_is_legal}
-use Rattle.thread_run.proofs.Played.{plays_same, renewed_may, enters_right, has_place, step_plays, step_id, step_stands}
+use Rattle.thread_run.proofs.Played.{plays_same, renewed_may, enters_right, has_place, step_plays, step_more, step_id, step_stands}
 use Rattle.thread_run.proofs.turn_work.step_in_turn.Goals as goal
 
 pub places_wanted-requires : goal.places_wanted-requires
@@ -31,6 +31,9 @@ step-requires-clause-alive g c = c.requires.may.alive
 
 pub returns-clause-plays : goal.returns-clause-plays
 returns-clause-plays g c = step_plays (g.L.Seg.history c.step.new.seg) (g.L.Seg.promised c.renew.new.seg) (g.L.Seg.promised c.step.new.seg) c.step.new.self c.step.result c.in_ok-renew.ensures.script c.in_ok-renew.ensures.history c.requires.may c.in_ok-renew.ensures.others c.step.ensures.script c.step.ensures.steps c.step.ensures.refused
+
+pub returns-clause-more : goal.returns-clause-more
+returns-clause-more g c = step_more (g.L.Seg.script c.renew.new.seg) (g.L.Seg.history c.step.new.seg) (g.L.Seg.promised c.renew.new.seg) (g.L.Seg.promised c.step.new.seg) c.step.new.self c.step.result c.in_ok-renew.ensures.history c.requires.may c.step.ensures.steps
 
 pub returns-clause-id : goal.returns-clause-id
 returns-clause-id g c = step_id (g.L.Seg.script c.renew.new.seg) (g.L.Seg.history c.renew.new.seg) (g.L.Seg.history c.step.new.seg) (g.L.Seg.promised c.renew.new.seg) (g.L.Seg.promised c.step.new.seg) c.step.new.self c.step.result c.requires.may c.step.ensures.steps
