@@ -5,7 +5,7 @@ ghost use Rattle.std.specs.Prelude.{◌≤◌, length, IfOk};
 use backend_core::Backend;
 use base_types::NoMemory;
 use catsync_top::{MOST_BACKENDS, Status, catsync};
-use edge_io::{Gate, MemorySink, OpenGate, Source};
+use edge_io::{Gate, MemorySink, MemorySource, OpenGate};
 use std::alloc::Global;
 use std::sync::Wait;
 use std::thread::Threads;
@@ -39,8 +39,11 @@ pub(crate) fn called<R: Threads + Wait + Sync>(
     reads: Calls,
     writes: Calls,
 ) -> Result<Outcome, NoMemory> {
+    let mut gates = gates_of(alloc)?;
+    let arguments = arguments_of(alloc, words)?;
     let mut source = source_of(alloc, script, reads)?;
-    called_over(rt, alloc, words, &mut source, writes)
+    let sink = sink_of(alloc, writes)?;
+    Ok(ended(rt, alloc, &arguments, &mut source, sink, &mut gates))
 }
 
 // What `walk` makes of a script.
@@ -52,62 +55,27 @@ pub(crate) fn walked<R: Threads + Wait + Sync>(
     called(rt, alloc, &["walk"], script, STEADY, STEADY)
 }
 
-// Whether `walk` ends well with this output.
-pub(crate) fn gives<R: Threads + Wait + Sync>(
+// A run of a script with these gates; out of memory where there are too few.
+pub(crate) fn run_at_gates<R: Threads + Wait + Sync, G: Gate>(
     rt: &R,
     alloc: Global,
-    script: &[u8],
-    output: &[u8],
-) -> Result<bool, NoMemory> {
-    Ok(walked(rt, alloc, script)?.gave(output))
-}
-
-// The top call with these arguments, over a sink whose calls go so.
-pub(crate) fn called_over<R: Threads + Wait + Sync, S: Source>(
-    rt: &R,
-    alloc: Global,
-    words: &[&str],
-    source: &mut S,
-    writes: Calls,
-) -> Result<Outcome, NoMemory> {
-    let arguments = arguments_of(alloc, words)?;
-    called_with(rt, alloc, &arguments, source, writes)
-}
-
-fn called_with<R: Threads + Wait + Sync, S: Source>(
-    rt: &R,
-    alloc: Global,
-    arguments: &[String],
-    source: &mut S,
-    writes: Calls,
-) -> Result<Outcome, NoMemory> {
-    let mut gates = gates_of(alloc)?;
-    let sink = sink_of(alloc, writes)?;
-    Ok(ended(rt, alloc, arguments, source, sink, &mut gates))
-}
-
-// The top call with these arguments and gates over a script; out of memory where there are too few gates.
-pub(crate) fn called_at_gates<R: Threads + Wait + Sync, G: Gate>(
-    rt: &R,
-    alloc: Global,
-    words: &[&str],
     script: &[u8],
     gates: &mut Vec<G>,
 ) -> Result<Outcome, NoMemory> {
     if gates.len() < MOST_BACKENDS as usize {
         return Err(NoMemory);
     }
-    let arguments = arguments_of(alloc, words)?;
+    let arguments = arguments_of(alloc, &["run"])?;
     let mut source = source_of(alloc, script, STEADY)?;
     let sink = sink_of(alloc, STEADY)?;
     Ok(ended(rt, alloc, &arguments, &mut source, sink, gates))
 }
 
-fn ended<R: Threads + Wait + Sync, S: Source, G: Gate>(
+fn ended<R: Threads + Wait + Sync, G: Gate>(
     rt: &R,
     alloc: Global,
     arguments: &[String],
-    source: &mut S,
+    source: &mut MemorySource,
     mut sink: MemorySink,
     gates: &mut Vec<G>,
 ) -> Outcome

@@ -113,11 +113,7 @@ fn legal_with(alloc: Global, line: &[u8], other: &[u8]) -> Result<u64, NoMemory>
 }
 
 // Its entries; no more after a line of no entry.
-pub(crate) fn entries_with(
-    alloc: Global,
-    line: &[u8],
-    other: &[u8],
-) -> Result<Vec<Entry>, NoMemory> {
+fn entries_with(alloc: Global, line: &[u8], other: &[u8]) -> Result<Vec<Entry>, NoMemory> {
     let mut entries = Vec::new(alloc);
     for own in history().split(|byte| *byte == b'\n') {
         let taken = if own == line { other } else { own };

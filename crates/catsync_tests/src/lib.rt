@@ -1,8 +1,8 @@
 //! The tests of what plays, runs and judges a script: backends, walks, histories and the top call.
 //!
-//! `layer_tests` has those of the crates below, and says how tests are written. Whole
-//! outputs of the program aren't here: they are files, in tests/runs and examples, which `./prove`
-//! compares with what the proved executable prints.
+//! `layer_tests` has those of the crates below, and says how tests are written. What arguments and standard input can
+//! tell is mostly compared by `./prove` with files: whole outputs, forged ones and refusals. That costs no proof. The
+//! texts of causes and statuses are here.
 #![tactic(auto)]
 
 #[cfg(test)]
@@ -12,17 +12,11 @@ mod calls;
 #[cfg(test)]
 mod checks;
 #[cfg(test)]
-mod judged;
+mod gates;
 #[cfg(test)]
 mod ledgers;
 #[cfg(test)]
-mod made;
-#[cfg(test)]
 mod open_fields;
-#[cfg(test)]
-mod run_checks;
-#[cfg(test)]
-mod runs;
 #[cfg(test)]
 mod segments;
 #[cfg(test)]
@@ -30,4 +24,4 @@ mod sessions;
 #[cfg(test)]
 mod threads;
 #[cfg(test)]
-mod usages;
+mod top_calls;

@@ -76,10 +76,7 @@ end
 }
 
 // A segment after the walk of a script, and the backends that were run.
-pub(crate) fn walked_segment(
-    alloc: Global,
-    script: &Script,
-) -> Result<(Shared, Vec<Backend>), NoMemory> {
+fn walked_segment(alloc: Global, script: &Script) -> Result<(Shared, Vec<Backend>), NoMemory> {
     let mut seg = Shared::new(alloc, script)?;
     let backends = walk_on(alloc, script, &mut seg)?;
     Ok((seg, backends))

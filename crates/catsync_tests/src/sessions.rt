@@ -1,7 +1,6 @@
 use crate::calls::walked;
-use crate::segments::walked_segment;
 use backend_core::Backend;
-use base_types::{Listed, NoMemory};
+use base_types::NoMemory;
 use event_kinds::Line;
 use script_text::Script;
 use std::alloc::Global;
@@ -100,29 +99,15 @@ fn is_answer(line: &Line, backend: u32, i: usize, answers: &[&[u8]]) -> bool {
     }
 }
 
-// Whether a walk of a script has these sessions, its backends being made by it or over a segment.
+// Whether a walk of a script has these sessions.
 fn walk_has_sessions(alloc: Global, script: &Script, wanted: Sessions) -> Result<bool, NoMemory> {
     Ok(are_sessions(walk(alloc, script)?.backends.as_slice(), wanted))
-}
-
-fn segment_has_sessions(
-    alloc: Global,
-    script: &Script,
-    wanted: Sessions,
-) -> Result<bool, NoMemory> {
-    let (_seg, backends) = walked_segment(alloc, script)?;
-    Ok(are_sessions(&backends, wanted))
 }
 
 // The same of the script of a text, and of the top call.
 fn walk_gives(alloc: Global, text: &[u8], wanted: Sessions) -> Result<bool, NoMemory> {
     let script = script_of(alloc, text)?;
     walk_has_sessions(alloc, &script, wanted)
-}
-
-fn segment_gives(alloc: Global, text: &[u8], wanted: Sessions) -> Result<bool, NoMemory> {
-    let script = script_of(alloc, text)?;
-    segment_has_sessions(alloc, &script, wanted)
 }
 
 fn top_call_gives<R: Threads + Wait + Sync>(
@@ -138,23 +123,7 @@ fn top_call_gives<R: Threads + Wait + Sync>(
 fn each_call_gives_the_sessions(rt: HostRuntime) -> Result<(), Fail> {
     for &(text, wanted) in SESSIONS {
         assert!(rt; walk_gives(rt.alloc(), text, wanted)?);
-        assert!(rt; segment_gives(rt.alloc(), text, wanted)?);
         assert!(rt; top_call_gives(&rt, rt.alloc(), text, wanted)?);
     }
-    Ok(())
-}
-
-// Whether a new backend has its number and hasn't answered.
-fn is_new(alloc: Global) -> Result<bool, NoMemory> {
-    Ok(has_not_answered(&Backend::new(alloc, 7, Listed::new(alloc))?, 7))
-}
-
-fn has_not_answered(backend: &Backend, number: u32) -> bool {
-    backend.id() == number && !backend.is_stopped() && backend.transcript().is_empty()
-}
-
-#[test]
-fn a_new_backend_has_not_answered(rt: HostRuntime) -> Result<(), Fail> {
-    assert!(rt; is_new(rt.alloc())?);
     Ok(())
 }

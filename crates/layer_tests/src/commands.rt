@@ -2,13 +2,12 @@ use crate::events::text_of;
 use crate::row_texts::rows_of;
 use crate::scripts::text_of_command;
 use crate::values::name as name_of;
-use base_types::{Change, Command, Kind, Listed, Mode, NoMemory, Oid, Purpose, Row, Xid};
-use command_answers::{Answer, CommandError, answer_text};
-use ddl_effect::{Draft, EffectRefusal, Exec, Facts, OpenRelation, Told, Want, effect};
+use base_types::{Change, Command, Kind, Listed, NoMemory, Oid, Xid};
+use command_answers::{Answer, answer_text};
+use ddl_effect::{Draft, EffectRefusal, Facts, OpenRelation, effect};
 use event_kinds::{Entry, Event, Item};
 use script_text::Script;
 use std::alloc::Global;
-use std::fmt::Write;
 use std::test::Fail;
 use test_inputs::script_of;
 use txn_blocks::{BlockCause, TxnBlocks};
@@ -162,112 +161,6 @@ fn a_rollback_to_a_savepoint_mends(rt: HostRuntime) -> Result<(), Fail> {
     end_well(rt.alloc(), &mut blocks, 3, "rollback to s")?;
     assert!(rt; state(&blocks) == (true, false, 2));
     Ok(())
-}
-
-// Commands, whether a lookup finds a table, and what each wants in turn.
-const PLANS: &[(&str, bool, [&str; 3])] = &[
-    (
-        "create table x (a int4, b text)",
-        false,
-        ["write", "done", "done"],
-    ),
-    (
-        "create table x (a int4, a text)",
-        false,
-        ["42701", "42701", "42701"],
-    ),
-    ("show t", true, ["lookup", "open", "done"]),
-    ("show t columns", true, ["lookup", "open", "done"]),
-    ("show t of", true, ["lookup", "42809", "42809"]),
-    ("show u", false, ["lookup", "absent", "absent"]),
-    ("show u of", false, ["lookup", "absent", "absent"]),
-    ("lock table t in share mode", true, ["lock", "done", "done"]),
-    (
-        "lock table u in share mode",
-        false,
-        ["lock", "absent", "absent"],
-    ),
-    ("drop table t", true, ["alter", "open", "constraints"]),
-    ("drop table u", false, ["alter", "absent", "absent"]),
-    ("alter table t rename to u", true, ["alter", "open", "row"]),
-    (
-        "alter table u rename to t",
-        false,
-        ["alter", "absent", "absent"],
-    ),
-    ("open t", true, ["lookup", "open", "done"]),
-    ("open u", false, ["lookup", "absent", "absent"]),
-    ("peek t", true, ["another", "another", "another"]),
-    ("begin", false, ["done", "done", "done"]),
-];
-
-// Whether a command wants these in turn, where its lookup finds these rows.
-fn wants_in_turn(
-    alloc: Global,
-    mut exec: Exec,
-    rows: &[Row],
-    turns: [&'static str; 3],
-) -> Result<bool, NoMemory> {
-    let first = wanted(&exec) == turns[0];
-    exec.give(alloc, &[], rows)?;
-    let second = wanted(&exec) == turns[1];
-    exec.give(alloc, &[], rows)?;
-    Ok(first && second && wanted(&exec) == turns[2])
-}
-
-// What a command wants next.
-fn wanted(exec: &Exec) -> &'static str {
-    match exec.next() {
-        Want::Done(_) => "done",
-        Want::Fails(error) => code_of(error),
-        Want::Absent(_) => "absent",
-        Want::Lookup {
-            mode: Mode::AccessShare,
-            ..
-        } => "lookup",
-        Want::Lookup {
-            mode: Mode::Share,
-            ..
-        } => "lock",
-        Want::Lookup {
-            mode: Mode::AccessExclusive,
-            ..
-        } => "alter",
-        Want::Read(Purpose::Constraint(Oid(16384))) => "constraints",
-        Want::Read(Purpose::Class(Oid(16384))) => "row",
-        Want::Open {
-            rel: Oid(16384),
-            kind: Kind::Table,
-        } => "open",
-        Want::Write => "write",
-        _ => "another",
-    }
-}
-
-fn code_of(error: CommandError) -> &'static str {
-    match error {
-        CommandError::NoField { .. } => "42809",
-        CommandError::ColumnExists { .. } => "42701",
-        _ => "another",
-    }
-}
-
-// The same of the one command of a script, whose lookup finds a table or nothing.
-fn follows_plan(
-    alloc: Global,
-    command: &str,
-    finds: bool,
-    turns: [&'static str; 3],
-) -> Result<bool, NoMemory> {
-    let rows = rows_of(alloc, if finds { b"+class(16384,t,r,-)" } else { b"" })?;
-    let script = script_of_command(alloc, command)?;
-    match script.commands() {
-        [placed] => {
-            let exec = Exec::new(alloc, &[], &placed.command)?;
-            wants_in_turn(alloc, exec, &rows, turns)
-        }
-        _ => Ok(false),
-    }
 }
 
 // A table with a live column, another one that has a default, and a dropped one; its index; and a table with a dropped column
@@ -737,48 +630,6 @@ fn has_effect(
     Ok(effect_among(alloc, command, &facts)?.as_slice() == wanted)
 }
 
-// What a command that the program runs wants to write at first; nothing where it wants something else.
-fn first_draft(alloc: Global, exec: Exec) -> Result<Vec<u8>, NoMemory> {
-    match exec.next() {
-        Want::Write => draft_text(alloc, &exec.into_draft(alloc)?),
-        _ => Ok(Vec::new(alloc)),
-    }
-}
-
-// Whether this is the draft of a command.
-fn has_draft(alloc: Global, command: &str, wanted: &[u8]) -> Result<bool, NoMemory> {
-    let script = script_of_command(alloc, command)?;
-    match script.commands() {
-        [placed] => {
-            let exec = Exec::new(alloc, &[], &placed.command)?;
-            Ok(first_draft(alloc, exec)?.as_slice() == wanted)
-        }
-        _ => Ok(false),
-    }
-}
-
-const DRAFTS: &[(&str, &[u8])] = &[
-    (
-        "create table x (a int4, b text)",
-        b"h 1 1 write 1 +class(1,x,r,-) +att(1,1,a,int4,-1,l) +att(1,2,b,text,-1,l)",
-    ),
-    ("show t", b""),
-];
-
-#[test]
-fn commands_follow_their_plans(rt: HostRuntime) -> Result<(), Fail> {
-    for &(command, finds, turns) in PLANS {
-        assert!(rt;
-            follows_plan(rt.alloc(), command, finds, turns)?,
-            "{command}"
-        );
-    }
-    for &(command, wanted) in DRAFTS {
-        assert!(rt; has_draft(rt.alloc(), command, wanted)?, "{command}");
-    }
-    Ok(())
-}
-
 // The rows of a catalog, the relations that the session has open, and what commands change then.
 const TABLES_OF_EFFECTS: &[(&[u8], &[(&str, u32)], &[(&str, &[u8])])] = &[
     (CATALOG, &[], EFFECTS),
@@ -796,59 +647,6 @@ fn commands_have_their_effects(rt: HostRuntime) -> Result<(), Fail> {
                 "{command}"
             );
         }
-    }
-    Ok(())
-}
-
-// Columns of a table, and what a command changes of it.
-const WIDE: &[(u32, &str, &[u8])] = &[
-    (
-        1599,
-        "alter table t add column z int4",
-        b"h 1 1 write 0 +att(16384,1600,z,int4,-1,l)",
-    ),
-    (
-        1600,
-        "alter table t add column z int4",
-        b"error 54011 too many columns",
-    ),
-    (
-        1600,
-        "alter table t add column c7 int4",
-        b"error 42701 column c7 already exists",
-    ),
-];
-
-// The rows of a table of so many columns.
-fn wide_table(alloc: Global, columns: u32) -> Result<String, NoMemory> {
-    let mut rows = String::from_str(alloc, "+class(16384,t,r,-)")?;
-    push_columns(&mut rows, columns)?;
-    Ok(rows)
-}
-
-fn push_columns(rows: &mut String, columns: u32) -> Result<(), NoMemory> {
-    for i in 0..columns {
-        let num = i.saturating_add(1);
-        write!(rows, " +att(16384,{num},c{num},int4,-1,l)")?;
-    }
-    Ok(())
-}
-
-fn has_wide_effect(
-    alloc: Global,
-    columns: u32,
-    command: &str,
-    wanted: &[u8],
-) -> Result<bool, NoMemory> {
-    let rows = wide_table(alloc, columns)?;
-    has_effect(alloc, rows.as_bytes(), &[], command, wanted)
-}
-
-#[test]
-fn a_table_has_at_most_1600_columns(rt: HostRuntime) -> Result<(), Fail> {
-    for &(columns, command, wanted) in WIDE {
-        let is_so = has_wide_effect(rt.alloc(), columns, command, wanted)?;
-        assert!(rt; is_so, "{command} of {columns}");
     }
     Ok(())
 }
