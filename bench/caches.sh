@@ -6,7 +6,7 @@ set -u
 
 cd "$(dirname "${BASH_SOURCE[0]}")/.." || exit 1
 . bench/common.sh
-need_program speed_bench
+need_program layer_runs
 count=${1:-20000000}
 
 # The seconds that a word takes for so many.

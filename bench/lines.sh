@@ -1,16 +1,14 @@
 #!/usr/bin/env bash
 # Measures `lines` of history_lines on the outputs of long walks, beside these walks: the least processor time of three runs
-# each. No text counts: the walk is speed_bench's, which writes none, and what it takes to read the entries (lines_replay
-# read) is taken off the time of reading them and asking `lines` (lines_replay count). It decides nothing.
+# each. No text counts: `layer_runs texts walk` writes none, and what it takes to read the entries (`lines read`) is taken
+# off the time of reading them and asking `lines` (`lines count`). It decides nothing.
 # usage: bench/lines.sh [COMMANDS]; 20000 if left out
 set -u
 
 cd "$(dirname "${BASH_SOURCE[0]}")/.." || exit 1
 . bench/common.sh
-need_program lines_replay
-replay=$program
-need_program speed_bench
-walk=$program
+need_program layer_runs
+layers=$program
 need_program catsync ' -- walk < ../../examples/two_backends.script'
 catsync=$program
 commands=${1:-20000}
@@ -30,11 +28,11 @@ measure() {
     local walked reading
     "$catsync" walk <"$temp/script" >"$temp/output" || exit 1
     cat "$temp/script" "$temp/output" >"$temp/case"
-    thrice "$temp/script" "$walk" texts walk
+    thrice "$temp/script" "$layers" texts walk
     walked=$seconds
-    thrice "$temp/case" "$replay" read
+    thrice "$temp/case" "$layers" lines read
     reading=$seconds
-    thrice "$temp/case" "$replay" count
+    thrice "$temp/case" "$layers" lines count
     awk -v name="$1" -v walked="$walked" -v reading="$reading" -v both="$seconds" '
         {
             lines = both - reading

@@ -6,7 +6,7 @@ set -u
 
 cd "$(dirname "${BASH_SOURCE[0]}")/.." || exit 1
 . bench/common.sh
-need_program speed_bench
+need_program layer_runs
 messages=${1:-10000000}
 
 # The time for each message of a word's, of which each inserted one counts so many times.

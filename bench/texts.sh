@@ -6,7 +6,7 @@ set -u
 
 cd "$(dirname "${BASH_SOURCE[0]}")/.." || exit 1
 . bench/common.sh
-need_program speed_bench
+need_program layer_runs
 lines=${1:-1000000}
 
 # The seconds of an argument on an input, and whether it wrote what is wanted.

@@ -1,5 +1,5 @@
 #!/usr/bin/env python3
-"""Compares what crates/lines_replay answers of histories with a second reading of the rules: how many of their entries a
+"""Compares what `layer_runs lines` answers of histories with a second reading of the rules: how many of their entries a
 script allows, from the first on, and the answer lines by these. CATSYNC_ORACLE names the folder with that reading.
 
     tests/lines_agree.py [--seed N] [--walks N] [--changed N] [--program FILE] [--keep FILE]
@@ -31,7 +31,8 @@ sys.dont_write_bytecode = True
 from random_scripts import script_of
 
 TOP = os.path.dirname(os.path.dirname(os.path.abspath(__file__)))
-CRATE = os.path.join(TOP, "crates", "lines_replay")
+CRATE = os.path.join(TOP, "crates", "layer_runs")
+ASKED = ["lines", "answers"]
 FLAGS = re.search(r"--stage (\d+)", os.environ.get("CATSYNC_ORACLE_FLAGS", ""))
 STAGE = int(FLAGS[1]) if FLAGS else 10      # of the second reading
 SIZES = ("small", "small", "medium")
@@ -394,7 +395,7 @@ def run_tried(folder, texts):
     for number, text in enumerate(texts):
         with open(os.path.join(folder, "b%05d" % number), "w", encoding="latin-1") as file:
             file.write(text)
-    done = subprocess.run(["rt", "try", "--cases", folder], cwd=CRATE, capture_output=True, encoding="latin-1", check=False)
+    done = subprocess.run(["rt", "try", "--cases", folder, "--", *ASKED], cwd=CRATE, capture_output=True, encoding="latin-1", check=False)
     parts = re.split(r"^== (b\d{5})\n", done.stdout, flags=re.MULTILINE)
     said = dict(zip(parts[1::2], parts[2::2]))
     if not said:
@@ -405,7 +406,7 @@ def run_tried(folder, texts):
 def run_built(program, texts):
     """What an executable says of each text."""
     for text in texts:
-        done = subprocess.run([program], input=text, capture_output=True, encoding="latin-1", check=False)
+        done = subprocess.run([program, *ASKED], input=text, capture_output=True, encoding="latin-1", check=False)
         yield done.stdout if done.returncode == 0 else done.stdout + "status %d\n" % done.returncode
 
 
@@ -454,7 +455,7 @@ def main():
     parser.add_argument("--seed", type=int, default=1, help="the first script's")
     parser.add_argument("--walks", type=int, default=50, help="scripts, each with one walk and one played history")
     parser.add_argument("--changed", type=int, default=500, help="changed histories")
-    parser.add_argument("--program", help="an executable of lines_replay, in place of one that is built without proof")
+    parser.add_argument("--program", help="an executable of layer_runs, in place of one that is built without proof")
     parser.add_argument("--keep", default=os.path.join(tempfile.gettempdir(), "lines_agree.cases"), help="the file for cases that differ")
     parser.add_argument("--write", metavar="NAME", help="write the cases and what the rules say of them, and compare nothing")
     parser.add_argument("--only", metavar="CHANGES", help="names of changes, with commas between; of outputs that are given")

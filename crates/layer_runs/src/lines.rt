@@ -1,4 +1,19 @@
-use edge_io::StdSink;
+//! Asks `history_lines` how much of a history each script allows, whoever made it, and what the backends
+//! answer by that: `tests/lines_agree.py` compares this with a second reading of the rules, `bench/lines.sh` measures it.
+//!
+//! Standard input has cases, one after another: a script with its `end` line, and then the lines of an output
+//! until one more `end` line. The entries of the output are the lines from the first on that are texts of
+//! entries; what follows them is passed over.
+//!
+//! Each case is answered by `N of M entries`, where M is the number of the entries and N that of the longest
+//! prefix of them that the script allows, and by the answer lines of the commands that these N finish; or by
+//! `N/A of M entries` where memory is short, or a number can't be counted.
+//!
+//! With `count` the answer lines are left out, with `read` nothing is asked: a case is answered by `M entries`. It fails
+//! where a text, memory or the outside does.
+
+use crate::MOST_INPUT;
+use edge_io::{StdSink, StdSource, read_all};
 use event_kinds::{Entry, read_entry};
 use history_lines::lines;
 use out_text::put_line;
@@ -10,15 +25,38 @@ const MOST_SCRIPT: usize = 1_048_576;
 
 /// What is asked of each case.
 #[derive(Clone, Copy)]
-pub(crate) enum Wanted {
-    Lines,
+pub(crate) enum Task {
+    Answers,
     Count,
-    Entries,
+    Read,
 }
 
-/// How far a case is: its script, its entries, and whether these are over.
+impl Task {
+    /// The task that an argument names.
+    pub fn named(word: &str) -> Option<Task> {
+        match word {
+            "answers" => Some(Task::Answers),
+            "count" => Some(Task::Count),
+            "read" => Some(Task::Read),
+            _ => None,
+        }
+    }
+}
+
+/// Answers the cases of standard input.
+pub(crate) fn run<R: Input + Print>(rt: &R, alloc: Global, task: Task) -> Option<()> {
+    let mut source = StdSource::new(rt.reader());
+    let input = read_all(alloc, &mut source, MOST_INPUT).ok()?;
+    let mut case = Case::new(alloc);
+    for line in input.split(|byte| *byte == b'\n') {
+        case.take(rt, alloc, task, line)?;
+    }
+    Some(())
+}
+
+// How far a case is: its script, its entries, and whether these are over.
 #[derive(Drop)]
-pub(crate) struct Case {
+struct Case {
     text: Vec<u8>,
     script: Option<Script>,
     entries: Vec<Entry>,
@@ -26,8 +64,8 @@ pub(crate) struct Case {
 }
 
 impl Case {
-    /// Before its first line.
-    pub fn new(alloc: Global) -> Case {
+    // Before its first line.
+    fn new(alloc: Global) -> Case {
         Case {
             text: Vec::new(alloc),
             script: None,
@@ -36,19 +74,19 @@ impl Case {
         }
     }
 
-    /// Takes the next line, and answers the case at its end; none where a text, memory or the outside fails.
-    pub fn take<R: Print>(
+    // Takes the next line, and answers the case at its end; none where a text, memory or the outside fails.
+    fn take<R: Print>(
         &mut self,
         rt: &R,
         alloc: Global,
-        wanted: Wanted,
+        task: Task,
         line: &[u8],
     ) -> Option<()> {
         match &self.script {
             None => self.take_script(alloc, line),
             Some(script) => {
                 if line == b"end".as_slice() {
-                    answer(rt, alloc, wanted, script, &self.entries)?;
+                    answer(rt, alloc, task, script, &self.entries)?;
                     *self = Case::new(alloc);
                     Some(())
                 } else {
@@ -88,19 +126,19 @@ impl Case {
 fn answer<R: Print>(
     rt: &R,
     alloc: Global,
-    wanted: Wanted,
+    task: Task,
     script: &Script,
     entries: &[Entry],
 ) -> Option<()> {
     let count = entries.len();
-    if matches!(wanted, Wanted::Entries) {
+    if matches!(task, Task::Read) {
         return println!(rt; "{count} entries").ok();
     }
     let Ok(answered) = lines(alloc, script, entries) else {
         return println!(rt; "N/A of {count} entries").ok();
     };
     println!(rt; "{} of {count} entries", answered.entries).ok()?;
-    if matches!(wanted, Wanted::Lines) {
+    if matches!(task, Task::Answers) {
         let mut sink = StdSink::new(std::io::writer(rt));
         for line in answered.lines.as_slice() {
             put_line(&mut sink, line).ok()?;

@@ -2,15 +2,13 @@
 //! the lines of a history read (`read`), and read and written back (`copy`); a script walked, and no text
 //! written of it (`walk`). It fails where a text, memory or the outside does.
 
+use crate::MOST_INPUT;
 use edge_io::{Sink, StdSink, StdSource, read_all, send};
 use event_kinds::{Entry, read_entry};
 use out_text::put_output;
 use script_text::{Rest, read_script, write_script};
 use std::alloc::Global;
 use walk_run::walk;
-
-// The most bytes that are read.
-const MOST_INPUT: usize = 268_435_456;
 
 /// What is done with standard input.
 #[derive(Clone, Copy)]

@@ -1,9 +1,10 @@
-//! What the scripts of `bench` measure beside the program: the queue of messages (`ring`), a backend's caches
-//! (`caches`), or texts (`texts`). The exit status is 0, or 1 where the arguments are none of the usage's or the
-//! task fails.
+//! Runs of single layers, beside the program: what a script allows of a history (`lines`), which tests ask too; and what the
+//! scripts of `bench` measure of the queue of messages (`ring`), of a backend's caches (`caches`) and of texts (`texts`). The exit
+//! status is 0, or 1 where the arguments are none of the usage's or the task fails.
 #![tactic(auto)]
 
 mod caches;
+mod lines;
 mod ring;
 mod texts;
 
@@ -12,17 +13,22 @@ use std::env;
 use std::process::ExitCode;
 use std::rt::Env;
 
+// The most bytes that are read of standard input.
+const MOST_INPUT: usize = 268_435_456;
+
 const USAGE: &str = "\
-usage: speed_bench ring batches|singles|fetches MESSAGES
-       speed_bench caches absent|present LOOKUPS
-       speed_bench caches messages MESSAGES
-       speed_bench texts script|walk < SCRIPT
-       speed_bench texts read|copy < HISTORY
+usage: layer_runs lines answers|count|read < CASES
+       layer_runs ring batches|singles|fetches MESSAGES
+       layer_runs caches absent|present LOOKUPS
+       layer_runs caches messages MESSAGES
+       layer_runs texts script|walk < SCRIPT
+       layer_runs texts read|copy < HISTORY
 ";
 
 // What the arguments ask for.
 #[derive(Clone, Copy)]
 enum Asked {
+    Lines(lines::Task),
     Ring(ring::Task, u64),
     Caches(caches::Task, u64),
     Texts(texts::Task),
@@ -44,6 +50,7 @@ fn main(rt: HostRuntime) -> ExitCode {
 
 fn run<R: Input + Print>(rt: &R, alloc: Global, asked: Asked) -> Option<()> {
     match asked {
+        Asked::Lines(task) => lines::run(rt, alloc, task),
         Asked::Ring(task, count) => ring::run(alloc, task, count),
         Asked::Caches(task, count) => caches::run(alloc, task, count),
         Asked::Texts(task) => texts::run(rt, alloc, task),
@@ -55,6 +62,7 @@ fn read_arguments<R: Env + AllocGlobal>(rt: &R) -> Option<Asked> {
     let part = arguments.next()?;
     let word = arguments.next()?;
     match part.as_str() {
+        "lines" => Some(Asked::Lines(lines::Task::named(word.as_str())?)),
         "ring" => {
             let task = ring::Task::named(word.as_str())?;
             Some(Asked::Ring(task, arguments.next()?.parse::<u64>().ok()?))
