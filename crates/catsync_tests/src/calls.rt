@@ -2,6 +2,7 @@
 
 ghost use Rattle.std.specs.Prelude.{◌≤◌, length, IfOk};
 
+use crate::inputs::{Calls, STEADY, sink_of, source_of};
 use backend_core::Backend;
 use base_types::NoMemory;
 use catsync_top::{MOST_BACKENDS, Status, catsync};
@@ -9,7 +10,6 @@ use edge_io::{Gate, MemorySink, MemorySource, OpenGate};
 use std::alloc::Global;
 use std::sync::Wait;
 use std::thread::Threads;
-use test_inputs::{Calls, STEADY, sink_of, source_of};
 
 // What a call came to: how it ended, what was written, and the backends that were run.
 #[derive(Drop)]

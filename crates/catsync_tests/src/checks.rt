@@ -1,4 +1,5 @@
 use crate::calls::{Outcome, called};
+use crate::inputs::{Calls, STEADY};
 use crate::top_calls::{ABSENT, ABSENT_OUTPUT};
 use base_types::NoMemory;
 use catsync_top::Status;
@@ -6,7 +7,6 @@ use std::alloc::Global;
 use std::sync::Wait;
 use std::test::Fail;
 use std::thread::Threads;
-use test_inputs::{Calls, STEADY};
 
 // What a check of this kind makes of a script and its output, where the calls of its sink go so.
 fn checked<R: Threads + Wait + Sync>(

@@ -1,12 +1,12 @@
 use crate::boards::{Board, BoardGate, Plan, gates_on};
 use crate::calls::{called, run_at_gates};
+use crate::inputs::STEADY;
 use base_types::NoMemory;
 use catsync_top::MOST_BACKENDS;
 use std::alloc::Global;
 use std::sync::Wait;
 use std::test::Fail;
 use std::thread::Threads;
-use test_inputs::STEADY;
 
 // Backends of two commands, of one, and of none.
 const UNEQUAL: &str = "backends 3\n1: begin\n1: show t\n2: create table t (a int4)\nend\n";

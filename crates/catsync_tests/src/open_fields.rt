@@ -1,10 +1,10 @@
+use crate::inputs::script_of;
 use backend_core::Backend;
 use base_types::{Field, Name, NoMemory};
 use event_kinds::LineText;
 use script_text::Script;
 use std::alloc::Global;
 use std::test::Fail;
-use test_inputs::script_of;
 use walk_run::walk;
 
 // A name, a field, and what is shown of it.

@@ -3,6 +3,7 @@ ghost use Rattle.event_kinds.specs.declared.entry.Event.TheVariants.{Start};
 ghost use Rattle.seg_calls.specs.Calls.{entry_of};
 ghost use Rattle.shared_seg.specs.Places.{promised_in};
 
+use crate::inputs::{STEADY, script_of, sink_of};
 use backend_core::Backend;
 use base_types::{Mode, NoMemory, Oid};
 use event_kinds::Entry;
@@ -12,7 +13,6 @@ use seg_calls::Seg;
 use shared_seg::Shared;
 use std::alloc::Global;
 use std::test::Fail;
-use test_inputs::{STEADY, script_of, sink_of};
 use walk_run::walk_on;
 
 // The calls of a segment that make an entry have conditions on the whole history before them, which

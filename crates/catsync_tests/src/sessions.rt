@@ -1,4 +1,5 @@
 use crate::calls::walked;
+use crate::inputs::script_of;
 use backend_core::Backend;
 use base_types::NoMemory;
 use event_kinds::Line;
@@ -7,7 +8,6 @@ use std::alloc::Global;
 use std::sync::Wait;
 use std::test::Fail;
 use std::thread::Threads;
-use test_inputs::script_of;
 use walk_run::walk;
 
 // Of each backend its answers in order, and whether it stops.

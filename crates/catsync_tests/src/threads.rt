@@ -1,4 +1,5 @@
 use crate::boards::{Board, Plan, gates_on};
+use crate::inputs::script_of;
 use base_types::NoMemory;
 use edge_io::{Gate, OpenGate, StopGate};
 use event_kinds::{Entry, Event};
@@ -6,7 +7,6 @@ use std::alloc::Global;
 use std::sync::Wait;
 use std::test::Fail;
 use std::thread::Threads;
-use test_inputs::script_of;
 use thread_run::{Ran, RunRefusal, run};
 
 // Two backends, which answer the same in whatever order they work.

@@ -1,4 +1,5 @@
 use crate::calls::{Outcome, called, walked};
+use crate::inputs::{Calls, STEADY};
 use base_types::NoMemory;
 use catsync_top::Status;
 use script_text::ScriptCause;
@@ -6,7 +7,6 @@ use std::alloc::Global;
 use std::sync::Wait;
 use std::test::Fail;
 use std::thread::Threads;
-use test_inputs::{Calls, STEADY};
 
 // A table that isn't there.
 pub(crate) const ABSENT: &[u8] = b"backends 1\n1: show t\nend\n";

@@ -75,13 +75,7 @@ impl Case {
     }
 
     // Takes the next line, and answers the case at its end; none where a text, memory or the outside fails.
-    fn take<R: Print>(
-        &mut self,
-        rt: &R,
-        alloc: Global,
-        task: Task,
-        line: &[u8],
-    ) -> Option<()> {
+    fn take<R: Print>(&mut self, rt: &R, alloc: Global, task: Task, line: &[u8]) -> Option<()> {
         match &self.script {
             None => self.take_script(alloc, line),
             Some(script) => {

@@ -1,5 +1,0 @@
-use Rattle.std.proofs.Common.{refl, arith}
-use Rattle.layer_tests.proofs.queues.two_backends.Goals as goal
-
-pub new-requires-clause-size : goal.new-requires-clause-size
-new-requires-clause-size c = record { power = 7; is = refl; least = omega arith; most = omega arith }

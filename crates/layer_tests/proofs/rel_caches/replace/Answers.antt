@@ -1,4 +1,0 @@
-use Rattle.layer_tests.proofs.rel_caches.replace.Goals as goal
-
-pub replace-old-requires : goal.replace-old-requires
-replace-old-requires c = (c.args.rel, c.requires)

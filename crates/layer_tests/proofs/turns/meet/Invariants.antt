@@ -1,5 +1,0 @@
-use Rattle.turn_table.specs.Passes.{IsPassOf}
-use Rattle.layer_tests.proofs.turns.meet.Given as goal
-
-abbrev pub invariant-loop : goal.invariant-loop
-invariant-loop g l = IsPassOf l.table l.pass

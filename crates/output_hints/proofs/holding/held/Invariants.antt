@@ -1,6 +1,0 @@
-use Rattle.std.proofs.Common.{take}
-use Rattle.history_ledger.specs.Reads.{Reads}
-use Rattle.output_hints.proofs.holding.held.Given as goal
-
-abbrev pub invariant-loop-e : goal.invariant-loop-e
-invariant-loop-e l = Reads (take l.e-index l.entries) l.ledger
