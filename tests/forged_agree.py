@@ -19,7 +19,7 @@ import sys
 import tempfile
 from typing import NamedTuple, Optional
 
-sys.dont_write_bytecode = True
+sys.dont_write_bytecode = sys.pycache_prefix is None
 
 import lines_agree
 

@@ -26,7 +26,7 @@ import sys
 import tempfile
 from typing import List, NamedTuple
 
-sys.dont_write_bytecode = True
+sys.dont_write_bytecode = sys.pycache_prefix is None
 
 from random_scripts import script_of
 

@@ -7,7 +7,7 @@ import importlib.util
 import os
 import sys
 
-sys.dont_write_bytecode = True
+sys.dont_write_bytecode = sys.pycache_prefix is None
 
 from random_scripts import script_of
 

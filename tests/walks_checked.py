@@ -15,7 +15,7 @@ import re
 import subprocess
 import sys
 
-sys.dont_write_bytecode = True
+sys.dont_write_bytecode = sys.pycache_prefix is None
 
 from random_scripts import script_of
 

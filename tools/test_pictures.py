@@ -18,7 +18,7 @@ import time
 import unittest
 import xml.etree.ElementTree as ElementTree
 
-sys.dont_write_bytecode = True
+sys.dont_write_bytecode = sys.pycache_prefix is None
 sys.path.insert(0, os.path.dirname(os.path.abspath(__file__)))
 
 from testing import TOOLS, TOP, call, content_of

@@ -1,6 +1,6 @@
 """Draws a story as an SVG: bars, arrows, and a mark and a text for each entry."""
+from html import escape
 from typing import Dict, NamedTuple
-from xml.sax.saxutils import escape
 
 from .arrows import message_arrow, refusal_arrow, waiting_number
 from .bars import CAPS, kept_bar, lock_bar, transaction_bar
@@ -89,7 +89,7 @@ def row_ground(layout: Layout, row):
 
 def text_lines(layout: Layout, row, text, class_="line"):
     """The lines of a row's text, as parts of it. A page breaks a longer text anew as its window is wide, and has all of it."""
-    lines = "".join('<tspan x="%s" y="%s">%s</tspan>' % (number(layout.text), number(row.middle + 4 + at * LINE), escape(line))
+    lines = "".join('<tspan x="%s" y="%s">%s</tspan>' % (number(layout.text), number(row.middle + 4 + at * LINE), escape(line, quote=False))
                     for at, line in enumerate(row.lines))
     whole = {"data_text": text} if layout.right > layout.width and len(row.lines) > 1 else {}
     return "%s>%s</text>" % (opened("text", dict(class_=class_, **whole)), lines)

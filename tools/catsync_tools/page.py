@@ -2,7 +2,7 @@
 after it."""
 import json
 import os
-from xml.sax.saxutils import escape
+from html import escape
 
 from .drawing import Drawing, lane_names, svg
 from .layout import HEADER, Wanted
@@ -30,7 +30,7 @@ def page(story: Story, wanted: Wanted, drawing: Drawing):
     layout = drawing.layout
     top = layout.rows[0].y
     return part("page.html") % {
-        "title": escape(drawing.title),
+        "title": escape(drawing.title, quote=False),
         "style": part("page.css"), "width": number(layout.width),
         "head": svg(layout.width, drawing.top, drawing.head, 0, True),
         "lanes": svg(layout.width, HEADER, lane_names(layout, 0, HEADER), 0, True),

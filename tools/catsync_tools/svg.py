@@ -1,5 +1,5 @@
 """The elements of an SVG as text."""
-from xml.sax.saxutils import escape
+from html import escape
 
 
 def number(value):
@@ -14,7 +14,7 @@ def path(*parts):
 
 def title_of(text):
     """A title, which shows on hover."""
-    return "<title>%s</title>" % escape(text)
+    return "<title>%s</title>" % escape(text, quote=False)
 
 
 def opened(name, attributes):
@@ -22,7 +22,7 @@ def opened(name, attributes):
     parts = ["<", name]
     for key, value in attributes.items():
         value = value if isinstance(value, str) else number(value)
-        parts += [" ", key.rstrip("_").replace("_", "-"), '="', escape(value, {'"': "&quot;"}), '"']
+        parts += [" ", key.rstrip("_").replace("_", "-"), '="', escape(value, quote=False).replace('"', "&quot;"), '"']
     return "".join(parts)
 
 
@@ -35,7 +35,7 @@ def element(name, title="", **attributes):
 
 def text_at(x, y, text, class_, **attributes):
     """A text."""
-    return "%s>%s</text>" % (opened("text", dict(x=x, y=y, class_=class_, **attributes)), escape(text))
+    return "%s>%s</text>" % (opened("text", dict(x=x, y=y, class_=class_, **attributes)), escape(text, quote=False))
 
 
 def group(content, title="", **attributes):
