@@ -22,9 +22,9 @@ use Rattle.cacheless.specs.State.{session_at}
 use Rattle.cacheless.specs.Telling.{AreLines, TellsNow}
 use Rattle.cacheless.proofs.Allowed.Economical.{plays_needed}
 use Rattle.cacheless.proofs.Allowed.NextKeeps.{KeepsAllBy, next_keeps}
-use Rattle.session_laws.specs.Awaiting.{HasNoEntry, AwaitsEntry as SessionAwaits, KeepsScans, answer_after}
-use Rattle.session_laws.proofs.OwnAnswers.{waiting_is as session_is, at_session as command_is, own_next, own_tells}
-use Rattle.session_laws.proofs.OwnPlaces.{own_places}
+use Rattle.cacheless.specs.Awaiting.{HasNoEntry, AwaitsEntry as SessionAwaits, KeepsScans, answer_after}
+use Rattle.cacheless.proofs.OwnAnswers.{waiting_is as session_is, at_session as command_is, own_next, own_tells}
+use Rattle.cacheless.proofs.OwnPlaces.{own_places}
 use Rattle.backend_core.specs.Types.{Command, Scenario, Entry, Event, Backend}
 use Rattle.backend_core.specs.Agrees.{IsPlayed, command_at, Keeps, AgreesNow, AwaitsEntry, HasNotJoined}
 use Rattle.backend_core.specs.Fits.{Fits, is_lost}

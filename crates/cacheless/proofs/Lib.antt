@@ -36,3 +36,7 @@ pub mod SameRows
 pub mod Deciding
 mod WantedPlans
 pub mod Lacking
+pub mod Others
+pub mod EndEntries
+pub mod OwnPlaces
+pub mod OwnAnswers

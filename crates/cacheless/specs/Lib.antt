@@ -29,3 +29,4 @@ pub mod Answering
 pub mod Silently
 pub mod Holds
 pub mod Telling
+pub mod Awaiting

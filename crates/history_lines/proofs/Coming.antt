@@ -17,7 +17,7 @@ use Rattle.cacheless.specs.State.{session_at}
 use Rattle.cacheless.proofs.Deciding.{holds_decides}
 use Rattle.cacheless.proofs.Resting.{settled_at_rest}
 use Rattle.cacheless.proofs.SameRows.{both_decide, decided_by}
-use Rattle.session_laws.specs.Awaiting.{AwaitsEntry}
+use Rattle.cacheless.specs.Awaiting.{AwaitsEntry}
 use Rattle.history_lines.specs.Comes.{is_start, comes_at}
 use Rattle.history_lines.specs.Stands.{HasNoEntry, IsGoing, Awaits, Over, IsSessionOf}
 use Rattle.history_lines.specs.Types.{Scenario, Entry, Event, Line, Progress, Session}

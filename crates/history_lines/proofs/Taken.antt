@@ -20,13 +20,13 @@ use Rattle.cacheless.specs.State.{kept_at, session_at}
 use Rattle.cacheless.specs.Telling.{TellsNow, HasGoneOn}
 use Rattle.cacheless.proofs.Allowed.AllowedHistories.{plays_on_course}
 use Rattle.cacheless.proofs.Resting.{settled_at_rest}
-use Rattle.session_laws.specs.Awaiting.{AwaitsEntry, AnswersNow, HasTaken}
+use Rattle.cacheless.specs.Awaiting.{AwaitsEntry, AnswersNow, HasTaken}
 use Rattle.history_lines.specs.Comes.{comes_at, is_start}
 use Rattle.history_lines.specs.Stands.{HasNoEntry, HasStopped, IsGoing, Awaits, Over, Stands, IsSessionOf}
 use Rattle.history_lines.specs.Takes.{ComesNext, HasSettled, is_stop}
 use Rattle.history_lines.specs.Types.{Scenario, Command, Entry, Event, Ledger, Line, Progress, Session}
-use Rattle.session_laws.proofs.OwnAnswers.{own_answers, stop_lines, start_answers}
-use Rattle.session_laws.proofs.OwnPlaces.{own_places}
+use Rattle.cacheless.proofs.OwnAnswers.{own_answers, stop_lines, start_answers}
+use Rattle.cacheless.proofs.OwnPlaces.{own_places}
 
 -- where a session that has started is
 started_stands : (scenario : Scenario) (seen : List Entry) (s : Session) → s.is_started ≡ true → Stands scenario seen s → IsGoing scenario seen s

@@ -11,7 +11,7 @@ use Rattle.local_caches.specs.Kept.{kept_with, kept_spared}
 use Rattle.cacheless.specs.Holds.{Holds, Rests, HasEntered}
 use Rattle.cacheless.specs.May.{has_looked_at, is_next_at, may_last_at, may_play_at, may_play_now}
 use Rattle.cacheless.specs.State.{IsLockedIn, kept_at}
-use Rattle.session_laws.specs.Awaiting.{HasTaken, KeepsScans, answer_after}
+use Rattle.cacheless.specs.Awaiting.{HasTaken, KeepsScans, answer_after}
 use Rattle.history_lines.specs.Types.{Scenario, Command, Entry, Event, Ledger, Progress}
 
 -- of three tests that hold the middle one holds

@@ -15,7 +15,7 @@ use Rattle.cacheless.specs.Locks.{locked_by}
 use Rattle.cacheless.specs.State.{IsLockedIn, kept_at, messages_in, locks_made}
 use Rattle.base_types.specs.declared.ids.Oid.{Oid}
 use Rattle.base_types.specs.declared.ids.Xid.{Xid}
-use Rattle.session_laws.specs.Awaiting.{HasTaken}
+use Rattle.cacheless.specs.Awaiting.{HasTaken}
 use Rattle.history_lines.specs.Types.{Scenario, Entry, Ledger, Progress}
 use Rattle.history_lines.proofs.TakenEvents.{reserved_takes}
 

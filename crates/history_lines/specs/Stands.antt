@@ -7,8 +7,8 @@ use Rattle.history_ledger.specs.Reads.{Reads}
 use Rattle.cacheless.specs.Lines.{lines_of_backend}
 use Rattle.cacheless.specs.Played.{AreSpelled}
 use Rattle.cacheless.specs.Plays.{Plays}
-use Rattle.session_laws.specs.Awaiting as session
-use Rattle.session_laws.specs.Awaiting.{AwaitsEntry}
+use Rattle.cacheless.specs.Awaiting as session
+use Rattle.cacheless.specs.Awaiting.{AwaitsEntry}
 use Rattle.history_lines.specs.Types.{Scenario, Entry, Ledger, Session}
 
 -- a backend without entries

@@ -4,7 +4,7 @@ use Rattle.event_kinds.specs.declared.entry.Event.TheVariants.{Stop}
 use Rattle.history_model.specs.Legal.{IsLegal, MayFollow}
 use Rattle.cacheless.specs.Played.{AreSpelled}
 use Rattle.cacheless.specs.Plays.{IsNext, Plays}
-use Rattle.session_laws.specs.Awaiting.{AwaitsEntry}
+use Rattle.cacheless.specs.Awaiting.{AwaitsEntry}
 use Rattle.history_lines.specs.Types.{Scenario, Entry, Event, Session}
 
 -- the script's commands are spelled, the history is legal and played, and the entry may come next

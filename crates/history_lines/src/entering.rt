@@ -9,7 +9,7 @@ ghost use Rattle.cacheless.specs.May.{may_play_now};
 ghost use Rattle.cacheless.specs.Played.{AreSpelled};
 ghost use Rattle.cacheless.specs.Plays.{IsNext, Plays};
 ghost use Rattle.base_types.specs.Scenario.{Scenario};
-ghost use Rattle.session_laws.specs.Awaiting.{AwaitsEntry, AnswersNow};
+ghost use Rattle.cacheless.specs.Awaiting.{AwaitsEntry, AnswersNow};
 ghost use Rattle.history_lines.specs.Comes.{comes_at};
 ghost use Rattle.history_lines.specs.Takes.{ComesNext, HasSettled, is_stop};
 ghost use Rattle.history_lines.specs.Stands.{HasNoEntry, IsSessionOf};

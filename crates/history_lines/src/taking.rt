@@ -7,7 +7,7 @@ ghost use Rattle.event_kinds.specs.declared.entry.Entry.{Entry};
 ghost use Rattle.history_ledger.specs.Reads.{Reads};
 ghost use Rattle.cacheless.specs.Holds.{Rests};
 ghost use Rattle.cacheless.specs.May.{HasRoom, may_play_now, is_next_at};
-ghost use Rattle.session_laws.specs.Awaiting.{HasTaken};
+ghost use Rattle.cacheless.specs.Awaiting.{HasTaken};
 
 use crate::session::is_countable;
 use crate::writing::write;

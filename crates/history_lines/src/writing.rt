@@ -11,7 +11,7 @@ ghost use Rattle.history_ledger.specs.Reads.{Reads};
 ghost use Rattle.cacheless.specs.Holds.{Rests};
 ghost use Rattle.cacheless.specs.Locks.{locked_by};
 ghost use Rattle.cacheless.specs.State.{lists_at, messages_in, locks_made};
-ghost use Rattle.session_laws.specs.Awaiting.{HasTaken};
+ghost use Rattle.cacheless.specs.Awaiting.{HasTaken};
 
 use base_types::{Mode, NoMemory, Oid, Row, Xid};
 use cacheless::Progress;

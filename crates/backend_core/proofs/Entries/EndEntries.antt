@@ -20,7 +20,7 @@ use Rattle.cacheless.specs.Sessions.{ends_command, entered}
 use Rattle.cacheless.specs.State.{owed_at, has_write_since, end_of_running}
 use Rattle.cacheless.proofs.Deciding.{holds_decides}
 use Rattle.cacheless.proofs.Tests.{both_true}
-use Rattle.session_laws.specs.Awaiting.{KeepsScans, answer_after}
+use Rattle.cacheless.specs.Awaiting.{KeepsScans, answer_after}
 use Rattle.backend_core.specs.Types.{Command, Scenario, Entry, Event, Progress, Frame, Backend}
 use Rattle.backend_core.specs.Agrees.{IsPlayed, command_at, AwaitsEntry}
 use Rattle.backend_core.specs.Fits.{Fits}

@@ -28,7 +28,7 @@ use Rattle.cacheless.specs.Sessions.{resumed, placed_at, entered}
 use Rattle.cacheless.specs.State.{owed_at, one_if, kept_at, nothing_kept, kept_spared, is_kept}
 use Rattle.cacheless.specs.Suspects.{lacks}
 use Rattle.cacheless.proofs.Lacking.{lacks_more}
-use Rattle.session_laws.specs.Awaiting.{KeepsScans, answer_after}
+use Rattle.cacheless.specs.Awaiting.{KeepsScans, answer_after}
 use Rattle.backend_core.specs.Types.{Oid, Purpose, Command, Scenario, Entry, Event, Message, OwnLock, Progress, Backend, Opening, Frame}
 use Rattle.backend_core.specs.Agrees.{IsPlayed, command_at, AwaitsEntry}
 use Rattle.backend_core.specs.Fits.{looks_due, LooksFit, came_well, TakesFit, IsLookedFor, Lacks, Unfound, Said, lacks_scan, finds_no_name, Fits, FramesFit, IsUnheld, keeps_whole, looked_in, looked_on_top, told_owed, is_lost}

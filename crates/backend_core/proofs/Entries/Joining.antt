@@ -19,8 +19,8 @@ use Rattle.cacheless.specs.Plays.{MayPlayAt}
 use Rattle.cacheless.specs.Session.{none_open, at_command}
 use Rattle.cacheless.specs.State.{kept_at, session_at}
 use Rattle.cacheless.proofs.Reading.{facts_of-own}
-use Rattle.session_laws.specs.Awaiting.{AnswersNow}
-use Rattle.session_laws.proofs.OwnAnswers.{start_answers}
+use Rattle.cacheless.specs.Awaiting.{AnswersNow}
+use Rattle.cacheless.proofs.OwnAnswers.{start_answers}
 use Rattle.backend_core.specs.Types.{Command, Scenario, Entry, Progress, Backend}
 use Rattle.backend_core.specs.declared.life.Life.TheVariants as lives
 use Rattle.backend_core.specs.Agrees.{IsPlayed, AgreesNow, HasNotJoined}

@@ -15,8 +15,8 @@ use Rattle.cacheless.specs.Holds.{HasEntered}
 use Rattle.cacheless.specs.OnCourse.{AllOnCourse}
 use Rattle.cacheless.specs.Plays.{MayPlayIn}
 use Rattle.cacheless.specs.State.{running_of, kept_at}
-use Rattle.session_laws.proofs.OwnAnswers.{stop_lines}
-use Rattle.session_laws.proofs.OwnPlaces.{kept_stays}
+use Rattle.cacheless.proofs.OwnAnswers.{stop_lines}
+use Rattle.cacheless.proofs.OwnPlaces.{kept_stays}
 use Rattle.backend_core.specs.Types.{Event, Scenario, Entry, Progress, Backend}
 use Rattle.backend_core.specs.declared.life.Life.TheVariants as lives
 use Rattle.backend_core.specs.Agrees.{IsPlayed, command_at, AreLastScans, AwaitsEntry, HasLeft}

@@ -13,7 +13,8 @@ use Rattle.cacheless.specs.Sessions.{session_of}
 use Rattle.cacheless.specs.Silently.{is_to_answer_at}
 use Rattle.cacheless.specs.State.{kept_at, lists_at, messages_in, session_at}
 use Rattle.cacheless.specs.Telling.{Tells, AreLines, TellsNow}
-use Rattle.session_laws.specs.Types.{Scenario, Entry, Event, Line, Progress}
+use Rattle.cacheless.specs.Types.{Scenario, Entry, Event, Line}
+use Rattle.cacheless.specs.declared.progress.Progress.{Progress}
 
 -- that of a backend without entries
 pub record HasNoEntry (scenario : Scenario) (seen : List Entry) (s : Progress) : Type 0 where

@@ -17,8 +17,9 @@ use Rattle.cacheless.proofs.Answers.JudgedLines.{session_placed, finished_lines-
 use Rattle.cacheless.proofs.Entries.Others.{holds-other, not_started-other}
 use Rattle.cacheless.proofs.Reading.{facts_of-other, session_of-other}
 use Rattle.cacheless.proofs.Resting.{settled_at_rest}
-use Rattle.session_laws.specs.Awaiting.{HasNoEntry, AwaitsEntry}
-use Rattle.session_laws.specs.Types.{Scenario, Entry, Line, Progress}
+use Rattle.cacheless.specs.Awaiting.{HasNoEntry, AwaitsEntry}
+use Rattle.cacheless.specs.Types.{Scenario, Entry, Line}
+use Rattle.cacheless.specs.declared.progress.Progress.{Progress}
 
 -- the places of the scans that are kept
 pub kept-other : (seen : List Entry) (e : Entry) (b : ℕ) (kept : Kept) → (e.backend == b) ≡ false → AreLastScans seen b kept → AreLastScans (seen ++ e ∷ []) b kept

@@ -35,10 +35,11 @@ use Rattle.cacheless.proofs.CommandEnds.{left_none}
 use Rattle.cacheless.proofs.Entries.EnteredLooks.{not_absent}
 use Rattle.cacheless.proofs.Reading.{facts_of-own}
 use Rattle.cacheless.proofs.Resting.{first_left, settled_at_rest}
-use Rattle.session_laws.specs.Awaiting.{HasNoEntry, AwaitsEntry, AnswersNow, answer_after}
-use Rattle.session_laws.specs.Types.{Command, Scenario, Entry, Event, Line, Progress}
-use Rattle.session_laws.proofs.EndEntries.{end_answers, gone_on, plan_left, release_left}
-use Rattle.session_laws.proofs.OwnPlaces.{keeps_none}
+use Rattle.cacheless.specs.Awaiting.{HasNoEntry, AwaitsEntry, AnswersNow, answer_after}
+use Rattle.cacheless.specs.Types.{Command, Scenario, Entry, Event, Line}
+use Rattle.cacheless.specs.declared.progress.Progress.{Progress}
+use Rattle.cacheless.proofs.EndEntries.{end_answers, gone_on, plan_left, release_left}
+use Rattle.cacheless.proofs.OwnPlaces.{keeps_none}
 
 -- the session of a backend that waits
 abbrev pub waiting : {scenario : Scenario} {seen : List Entry} {s : Progress} {lines : List Line} → AwaitsEntry scenario seen s lines → Session

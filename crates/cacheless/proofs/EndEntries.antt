@@ -31,7 +31,8 @@ use Rattle.cacheless.specs.Told.{tells_of_scans}
 use Rattle.cacheless.proofs.Allowed.OwnEntries.{ends_out}
 use Rattle.cacheless.proofs.Allowed.Releases.{written_ended, resumed_ended}
 use Rattle.cacheless.proofs.Same.{owes_nothing_is}
-use Rattle.session_laws.specs.Types.{Command, Event, Progress}
+use Rattle.cacheless.specs.Types.{Command, Event}
+use Rattle.cacheless.specs.declared.progress.Progress.{Progress}
 
 -- a command that ends blocks begins no transaction
 none_begins : (command : Command) (s : Session) → ends_block command ≡ true → begins command s ≡ false

@@ -27,13 +27,13 @@ use Rattle.cacheless.specs.Plays.{IsWrite, MayPlayIn}
 use Rattle.cacheless.specs.Session.{Session}
 use Rattle.cacheless.specs.Sessions.{written, resumed}
 use Rattle.cacheless.specs.State.{kept_at, lists_at, messages_in, session_at}
-use Rattle.cacheless.specs.Types.{Purpose, Row, Message, Item}
 use Rattle.cacheless.proofs.Answers.ReadPlaces.{place_read-more, place_read-scan}
 use Rattle.cacheless.proofs.Entries.EnteredFetches.{all-spared, never_absent}
 use Rattle.cacheless.proofs.Plans.SilentActs.{on_its_way, its_place}
 use Rattle.cacheless.proofs.Resting.{settled_at_rest}
-use Rattle.session_laws.specs.Awaiting.{AwaitsEntry, KeepsScans, HasTaken}
-use Rattle.session_laws.specs.Types.{Scenario, Command, Entry, Event, Line, Progress}
+use Rattle.cacheless.specs.Awaiting.{AwaitsEntry, KeepsScans, HasTaken}
+use Rattle.cacheless.specs.Types.{Purpose, Row, Message, Scenario, Command, Entry, Event, Item, Line}
+use Rattle.cacheless.specs.declared.progress.Progress.{Progress}
 
 -- the places of scans stay with an entry that is none
 pub kept_stays : (seen : List Entry) (e : Entry) (b : ℕ) (kept : Kept) → ((scan : Purpose) → is_scan_of scan e.event ≡ false) → AreLastScans seen b kept → AreLastScans (seen ++ e ∷ []) b kept

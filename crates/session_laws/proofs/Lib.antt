@@ -1,4 +1,0 @@
-pub mod Others
-pub mod EndEntries
-pub mod OwnPlaces
-pub mod OwnAnswers
