@@ -1,5 +1,5 @@
 use crate::dropped::dropped_number;
-use crate::name_bytes::{name_fault, text_fault, word_fault};
+use crate::name_bytes::{Spelling, name_fault, short_fault};
 use crate::{LONGEST_TEXT, LineBuffer, MOST_COLUMNS, NameFault, ShortText};
 use std::marker::Model;
 
@@ -100,15 +100,15 @@ impl Model for Word {
 
 impl Word {
     ghost use Rattle.std.specs.Prelude.{◌≡◌, ◌≤◌, length, IfOk, IfErr, Some};
-    ghost use Rattle.base_types.specs.Names.{IsWord, is_word_byte as allowed, short_fault};
+    ghost use Rattle.base_types.specs.Names.{IsWord, is_word_byte as allowed, short_fault as first_fault};
 
     /// The word of these bytes: 1 to 63 small letters, digits, `_` and `-`.
     /// `Err` has the first fault.
     pub fn new(text: &[u8]) -> Result<Word, NameFault>
         ensures ok { IfOk result (λ made. (made ≡ text.now) × IsWord text.now) }
-        ensures err { IfErr result (λ fault. short_fault allowed text.now ≡ Some fault) }
+        ensures err { IfErr result (λ fault. first_fault allowed text.now ≡ Some fault) }
     {
-        match word_fault(text) {
+        match short_fault(Spelling::Word, text) {
             None => Ok(Word {
                 text: ShortText::new(text),
             }),
@@ -147,15 +147,15 @@ impl Model for Text {
 
 impl Text {
     ghost use Rattle.std.specs.Prelude.{◌≡◌, ◌≤◌, length, IfOk, IfErr, Some};
-    ghost use Rattle.base_types.specs.Names.{IsText, is_text_byte as allowed, short_fault};
+    ghost use Rattle.base_types.specs.Names.{IsText, is_text_byte as allowed, short_fault as first_fault};
 
     /// The text of these bytes: 1 to 63 small letters, digits and `_ - < > = + *`.
     /// `Err` has the first fault.
     pub fn new(text: &[u8]) -> Result<Text, NameFault>
         ensures ok { IfOk result (λ made. (made ≡ text.now) × IsText text.now) }
-        ensures err { IfErr result (λ fault. short_fault allowed text.now ≡ Some fault) }
+        ensures err { IfErr result (λ fault. first_fault allowed text.now ≡ Some fault) }
     {
-        match text_fault(text) {
+        match short_fault(Spelling::Text, text) {
             None => Ok(Text {
                 text: ShortText::new(text),
             }),

@@ -1,7 +1,15 @@
 ghost use Rattle.std.specs.Prelude.{◌≡◌, ◌<◌, IfSome, length};
-ghost use Rattle.base_types.specs.Names.{is_name_byte as byte_of_name, is_word_byte as byte_of_word, is_text_byte as byte_of_text, bad_byte as fault_at, name_fault as fault_of_name, short_fault, first_refused};
+ghost use Rattle.base_types.specs.Names.{is_name_byte as byte_of_name, is_word_byte as byte_of_word, is_text_byte as byte_of_text, bad_byte as fault_at, name_fault as fault_of_name, short_fault as fault_of_short, first_refused, allowed_in};
 
 use crate::{LONGEST_TEXT, NameFault, is_digit};
+
+// What a short text is to be: which bytes it may have.
+#[derive(Clone, Copy)]
+pub(crate) enum Spelling {
+    Name,
+    Word,
+    Text,
+}
 
 // The first fault of a name.
 pub(crate) fn name_fault(text: &[u8]) -> Option<NameFault>
@@ -16,12 +24,12 @@ pub(crate) fn name_fault(text: &[u8]) -> Option<NameFault>
     if is_digit(text[0]) {
         return Some(NameFault::BadByte { at: 0 });
     }
-    bad_byte(refused_by_name(text))
+    bad_byte(refused(Spelling::Name, text))
 }
 
-// The first fault of a word.
-pub(crate) fn word_fault(text: &[u8]) -> Option<NameFault>
-    ensures { result ≡ short_fault byte_of_word text.now }
+// The first fault of a word or of a check's text.
+pub(crate) fn short_fault(spelling: Spelling, text: &[u8]) -> Option<NameFault>
+    ensures { result ≡ fault_of_short (allowed_in spelling) text.now }
 {
     if text.is_empty() {
         return Some(NameFault::Empty);
@@ -29,44 +37,25 @@ pub(crate) fn word_fault(text: &[u8]) -> Option<NameFault>
     if text.len() > LONGEST_TEXT {
         return Some(NameFault::TooLong);
     }
-    bad_byte(refused_by_word(text))
+    bad_byte(refused(spelling, text))
 }
 
-// The first fault of a check's text.
-pub(crate) fn text_fault(text: &[u8]) -> Option<NameFault>
-    ensures { result ≡ short_fault byte_of_text text.now }
+// The first byte that the spelling doesn't allow.
+fn refused(spelling: Spelling, text: &[u8]) -> Option<usize>
+    ensures place { result ≡ first_refused (allowed_in spelling) text.now }
+    ensures within { IfSome result (λ place. place < length text.now) }
 {
-    if text.is_empty() {
-        return Some(NameFault::Empty);
+    text.iter().position(|byte| !is_allowed(spelling, *byte))
+}
+
+fn is_allowed(spelling: Spelling, byte: u8) -> bool
+    ensures { result ≡ allowed_in spelling byte }
+{
+    match spelling {
+        Spelling::Name => is_name_byte(byte),
+        Spelling::Word => is_word_byte(byte),
+        Spelling::Text => is_text_byte(byte),
     }
-    if text.len() > LONGEST_TEXT {
-        return Some(NameFault::TooLong);
-    }
-    bad_byte(refused_by_text(text))
-}
-
-// The first byte that a name may not have.
-fn refused_by_name(text: &[u8]) -> Option<usize>
-    ensures place { result ≡ first_refused byte_of_name text.now }
-    ensures within { IfSome result (λ place. place < length text.now) }
-{
-    text.iter().position(|byte| !is_name_byte(*byte))
-}
-
-// The first byte that a word may not have.
-fn refused_by_word(text: &[u8]) -> Option<usize>
-    ensures place { result ≡ first_refused byte_of_word text.now }
-    ensures within { IfSome result (λ place. place < length text.now) }
-{
-    text.iter().position(|byte| !is_word_byte(*byte))
-}
-
-// The first byte that a check's text may not have.
-fn refused_by_text(text: &[u8]) -> Option<usize>
-    ensures place { result ≡ first_refused byte_of_text text.now }
-    ensures within { IfSome result (λ place. place < length text.now) }
-{
-    text.iter().position(|byte| !is_text_byte(*byte))
 }
 
 // The fault of a byte at a place below 64.
