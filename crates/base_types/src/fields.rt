@@ -1,5 +1,5 @@
 ghost use Rattle.std.specs.Prelude.{◌≡◌};
-ghost use Rattle.base_types.specs.Fields.{fields_of as shown_fields, field_number as number_of, has_field as is_field_of, read_by as scan_for};
+ghost use Rattle.base_types.specs.Fields.{fields_of as shown_fields, has_field as is_field_of, read_by as scan_for};
 
 use crate::{Field, Kind, Oid, Purpose};
 
@@ -27,9 +27,10 @@ pub fn fields_of(kind: Kind) -> &'static [Field]
 pub fn has_field(kind: Kind, field: Field) -> bool
     ensures { result ≡ is_field_of kind field }
 {
-    fields_of(kind)
-        .iter()
-        .any(|other| field_number(field) == field_number(*other))
+    match kind {
+        Kind::Table => !matches!(field, Field::Of | Field::Valid),
+        Kind::Index => matches!(field, Field::Name | Field::Of | Field::Valid),
+    }
 }
 
 /// The scan whose rows give a field of a relation.
@@ -44,24 +45,5 @@ pub fn read_by(field: Field, rel: Oid) -> Purpose
         Field::Indexes => Purpose::Index(rel),
         Field::Triggers => Purpose::Trigger(rel),
         Field::Of | Field::Valid => Purpose::IndexRow(rel),
-    }
-}
-
-// The place of a field in its type.
-fn field_number(field: Field) -> u32
-    ensures { result ≡ number_of field }
-{
-    match field {
-        Field::Name => 0,
-        Field::Columns => 1,
-        Field::Defaults => 2,
-        Field::Statistics => 3,
-        Field::Fillfactor => 4,
-        Field::Constraints => 5,
-        Field::Referenced => 6,
-        Field::Indexes => 7,
-        Field::Triggers => 8,
-        Field::Of => 9,
-        Field::Valid => 10,
     }
 }

@@ -1,4 +1,4 @@
-ghost use Rattle.std.specs.Prelude.{◌≡◌, ◌≤◌, ◌+◌, ◌++◌, ◌↔◌, IsTrue, length, [], decimal};
+ghost use Rattle.std.specs.Prelude.{◌≡◌, ◌≤◌, ◌+◌, ◌++◌, length, [], decimal};
 ghost use Rattle.std.specs.Fmt.{signed_decimal};
 
 use itoa::Buffer;
@@ -34,13 +34,6 @@ impl LineBuffer {
             bytes: [0; LINE_ROOM],
             len: 0,
         }
-    }
-
-    /// Whether there is room for so many more bytes.
-    pub fn has_room(&self, bytes: usize) -> bool
-        ensures { IsTrue result ↔ (length self.now + bytes ≤ LINE_ROOM) }
-    {
-        bytes <= LINE_ROOM - self.len
     }
 
     /// Adds a text at the end. Condition: there is room.

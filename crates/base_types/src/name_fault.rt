@@ -1,5 +1,5 @@
 /// Why bytes are no name, word or text, in the order of the tests.
-#[derive(Clone, Copy, Debug)]
+#[derive(Clone, Copy)]
 pub enum NameFault {
     /// There are no bytes.
     Empty,
