@@ -4,6 +4,7 @@ mod Ended
 mod EndedEach
 mod Exact
 mod Found
+mod Fronts
 mod Given
 mod Grown
 mod Listing

@@ -1,5 +1,7 @@
-use Rattle.std.proofs.Common.{◌≡◌, true, get_or, refl}
+use Rattle.std.proofs.Common.{◌≡◌, true, get_or, refl, sym, subst}
+use Rattle.std.proofs.lemmas.List.{take_all}
 use Rattle.catalog_rows.specs.Index.{ends_at}
+use Rattle.catalog_rows.specs.Slots.{IsIn}
 use Rattle.catalog_rows.proofs.Touched.{noted_next}
 use Rattle.catalog_rows.proofs.lists.touch_ended.Goals as goal
 
@@ -12,3 +14,6 @@ loop-number-preserved c = record {
 
 pub returns-in_err-touch_if_ended-clause-grows : goal.returns-in_err-touch_if_ended-clause-grows
 returns-in_err-touch_if_ended-clause-grows c = λ x j is. c.touch_if_ended.ensures.grows x j (c.loop-number.invariant.grows x j is)
+
+pub returns-clause-ok : goal.returns-clause-ok
+returns-clause-ok c = λ i is ends. c.loop-number.invariant.has i (subst (IsIn i) (sym (take_all c.loop-number.number-index c.args.list.now c.loop-number-test.false)) is) ends
