@@ -1,8 +1,8 @@
-ghost use Rattle.std.specs.Prelude.{◌≡◌, ◌++◌, [], ◌∷◌, decimal, flat_map, codes};
+ghost use Rattle.std.specs.Prelude.{◌≡◌, ◌++◌, true, [], ◌∷◌, decimal, flat_map, codes};
 ghost use Rattle.std.specs.Fmt.{signed_decimal};
 ghost use Rattle.base_types.specs.Words.{type_word};
 ghost use Rattle.script_text.specs.Operands.{lock_words};
-ghost use Rattle.script_text.specs.Spelling.{AddsPieces, command_pieces, shown_pieces, valid_pieces, trigger_words as words_of_trigger, listed, column_pieces, name_pieces};
+ghost use Rattle.script_text.specs.Spelling.{AddsPieces, is_alteration, command_pieces, shown_pieces, valid_pieces, trigger_words as words_of_trigger, listed, column_pieces, name_pieces};
 
 use crate::adding_pieces::{named, number, piece, signed, two_names, words};
 use crate::operands;
@@ -32,6 +32,22 @@ pub(crate) fn command(out: &mut Vec<u8>, command: &Command) -> Result<(), NoMemo
         Command::CloseRel(name) => named(out, "close", name),
         Command::CreateTable { name, columns } => create_table(out, name, columns),
         Command::DropTable(name) => named(out, "drop table", name),
+        Command::CreateTrigger { name, trigger } => create_trigger(out, name, trigger),
+        Command::CreateIndex { name, on_table, columns } =>
+            create_index(out, name, on_table, columns),
+        Command::DropIndex(name) => named(out, "drop index", name),
+        Command::RenameIndex { name, to } => two_names(out, "alter index", name, "rename to", to),
+        _ => alteration(out, command),
+    }
+}
+
+// An alteration of a table: one call for each form.
+#[rattlefmt::skip]
+fn alteration(out: &mut Vec<u8>, command: &Command) -> Result<(), NoMemory>
+    requires { is_alteration command.now ≡ true }
+    ensures { AddsPieces out.old.items out.new.items result (command_pieces command.now) }
+{
+    match command {
         Command::RenameTable { name, to } => altered(out, name, "rename to", to),
         Command::AddColumn { name, column, col_type } => add_column(out, name, column, *col_type),
         Command::DropColumn { name, column } => altered(out, name, "drop column", column),
@@ -48,11 +64,7 @@ pub(crate) fn command(out: &mut Vec<u8>, command: &Command) -> Result<(), NoMemo
         Command::DropConstraint { name, constraint } =>
             altered(out, name, "drop constraint", constraint),
         Command::SetTrigger { name, trigger, on } => set_trigger(out, name, trigger, *on),
-        Command::CreateTrigger { name, trigger } => create_trigger(out, name, trigger),
-        Command::CreateIndex { name, on_table, columns } =>
-            create_index(out, name, on_table, columns),
-        Command::DropIndex(name) => named(out, "drop index", name),
-        Command::RenameIndex { name, to } => two_names(out, "alter index", name, "rename to", to),
+        _ => unreachable!(),
     }
 }
 
