@@ -6,6 +6,7 @@ pub mod DraftLimits
 pub mod LineByLine
 pub mod LineLengths
 pub mod Finding
+pub mod PieceByPiece
 pub mod FirstBytes
 pub mod StepItems
 pub mod QueueSizes
