@@ -7,7 +7,7 @@ use Rattle.event_kinds.specs.declared.entry.Event.TheVariants as events
 use Rattle.event_kinds.specs.Texts.{purpose_text, event_text, entry_text}
 use Rattle.event_kinds.specs.Entries.{IsNumber, IsPurpose, IsEvent, IsEntry}
 use Rattle.event_kinds.specs.Readers.{Reader, lit_at, as_at, none_at, or_at, choose_at}
-use Rattle.event_kinds.specs.Reading.{rel_oid_of, att_name_of, att_list_of, class_scan_of, attribute_of, attr_def_of, constraint_of, index_of, trigger_of, index_row_of, constraint_scan_at, relation_scan_at, purpose_at, lock_event_of, unlock_event_of, scan_event_of, write_event_of, clash_event_of, visible_of, of_row, of_running, fetch_at, holder_cases, holder_at, lock_event_at, owner_cases, owner_at, number_event_cases, number_event_at, short_event_at, unlock_event_at, scan_event_at, write_event_at, clash_event_at, event_at, placed_of, placed_at, entry_cases, ends_here, entry_at}
+use Rattle.event_kinds.specs.Reading.{rel_oid_of, att_name_of, att_list_of, class_scan_of, attribute_of, attr_def_of, constraint_of, index_of, trigger_of, index_row_of, constraint_scan_at, object_scan_at, relation_scan_at, purpose_at, lock_event_of, unlock_event_of, scan_event_of, write_event_of, clash_event_of, visible_of, of_row, of_running, fetch_at, holder_cases, holder_at, lock_event_at, owner_cases, owner_at, number_event_cases, number_event_at, short_event_at, unlock_event_at, scan_event_at, write_event_at, clash_event_at, event_at, placed_of, placed_at, entry_cases, ends_here, entry_at}
 use Rattle.event_kinds.proofs.Spelling.{read_some, or_other, Spells, Behind, or_behind, or_within, choose_behind, Part, then_part, pair_part, behind_part, again_part}
 use Rattle.event_kinds.proofs.Fields.{TokenEnds, no_lit_number}
 use Rattle.event_kinds.proofs.Parts.{number_part, name_part, mode_part, blank_part, behind_value}
@@ -23,6 +23,14 @@ constraint_scan_behind : Behind [] purpose_text IsPurpose constraint_scan_at
 unfolding constraint_scan_at
 constraint_scan_behind = choose_behind purpose_text IsPurpose ((codes "constraint ", as_at constraint_of number_part.read) ∷ []) (behind_part number_part (codes "constraint ") constraint_of purpose_text IsPurpose (λ n h. refl) (λ n h. h), tt)
 
+object_scan_behind : Behind [] purpose_text IsPurpose object_scan_at
+unfolding object_scan_at
+object_scan_behind =
+    one_scan_behind (codes "index ") index_of _ (λ n. refl) (λ n h. h)
+    (one_scan_behind (codes "trigger ") trigger_of _ (λ n. refl) (λ n h. h)
+    (one_scan_behind (codes "indexrow ") index_row_of _ (λ n. refl) (λ n h. h)
+    constraint_scan_behind))
+
 relation_scan_behind : Behind [] purpose_text IsPurpose relation_scan_at
 unfolding relation_scan_at
 relation_scan_behind =
@@ -30,10 +38,7 @@ relation_scan_behind =
     (one_scan_behind (codes "class ") class_scan_of _ (λ n. refl) (λ n h. h)
     (one_scan_behind (codes "attribute ") attribute_of _ (λ n. refl) (λ n h. h)
     (one_scan_behind (codes "attrdef ") attr_def_of _ (λ n. refl) (λ n h. h)
-    (one_scan_behind (codes "index ") index_of _ (λ n. refl) (λ n h. h)
-    (one_scan_behind (codes "trigger ") trigger_of _ (λ n. refl) (λ n h. h)
-    (one_scan_behind (codes "indexrow ") index_row_of _ (λ n. refl) (λ n h. h)
-    constraint_scan_behind))))))
+    object_scan_behind)))
 
 abbrev att_name_part : Part (ℕ × List ℕ)
 att_name_part = blank_part number_part (λ rest. refl) name_part
@@ -49,7 +54,7 @@ purpose_behind = or_behind purpose_text IsPurpose (codes "relname ") _ _ (behind
     relation_scan_behind))
 
 purpose_again : (purpose : Purpose) (rest : List ℕ) → IsPurpose purpose → TokenEnds rest → purpose_at (purpose_text purpose ++ rest) ≡ Some (purpose, rest)
-unfolding purpose_at relation_scan_at constraint_scan_at lit_at
+unfolding purpose_at relation_scan_at object_scan_at constraint_scan_at lit_at
 purpose_again (scans.RelName name) rest is end = again_part name_part scans.RelName name rest is end
 purpose_again (scans.AttName rel name) rest is end = ap (λ l. purpose_at (l ++ rest)) (att_name_spelled (rel.0, name)) ∙ again_part att_name_part att_name_of (rel.0, name) rest (is.0, is.1) end
 purpose_again (scans.RelOid rel) rest is end = again_part number_part rel_oid_of rel.0 rest is end

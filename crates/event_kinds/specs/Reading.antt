@@ -318,9 +318,13 @@ index_row_of n = scans.IndexRow (record { 0 = n })
 unfoldable pub constraint_scan_at : Reader Purpose
 constraint_scan_at = choose_at ((codes "constraint ", as_at constraint_of number_at) ∷ [])
 
+-- a scan of one table's indexes, triggers or constraints, or of an index's own row
+unfoldable pub object_scan_at : Reader Purpose
+object_scan_at = or_at (codes "index ") (as_at index_of number_at) (or_at (codes "trigger ") (as_at trigger_of number_at) (or_at (codes "indexrow ") (as_at index_row_of number_at) constraint_scan_at))
+
 -- a scan of one relation's rows
 unfoldable pub relation_scan_at : Reader Purpose
-relation_scan_at = or_at (codes "attlist ") (as_at att_list_of number_at) (or_at (codes "class ") (as_at class_scan_of number_at) (or_at (codes "attribute ") (as_at attribute_of number_at) (or_at (codes "attrdef ") (as_at attr_def_of number_at) (or_at (codes "index ") (as_at index_of number_at) (or_at (codes "trigger ") (as_at trigger_of number_at) (or_at (codes "indexrow ") (as_at index_row_of number_at) constraint_scan_at))))))
+relation_scan_at = or_at (codes "attlist ") (as_at att_list_of number_at) (or_at (codes "class ") (as_at class_scan_of number_at) (or_at (codes "attribute ") (as_at attribute_of number_at) (or_at (codes "attrdef ") (as_at attr_def_of number_at) object_scan_at)))
 
 -- a scan
 unfoldable pub purpose_at : Reader Purpose

@@ -6,7 +6,7 @@ use base_types::{Mode, Oid, Purpose, Xid};
 
 // Changes, scans, and all events but a write.
 impl<'a> Cursor<'a> {
-    ghost use Rattle.event_kinds.specs.Reading.{item_at, number_event_at, purpose_at, relation_scan_at, constraint_scan_at, short_event_at, fetch_at, holder_at, lock_event_at, unlock_event_at, scan_event_at, owner_at, clash_event_at};
+    ghost use Rattle.event_kinds.specs.Reading.{item_at, number_event_at, purpose_at, relation_scan_at, object_scan_at, constraint_scan_at, short_event_at, fetch_at, holder_at, lock_event_at, unlock_event_at, scan_event_at, owner_at, clash_event_at};
 
     // A change of a write.
     #[tactic(auto, unfolding(crate::specs::Reading::item_at))]
@@ -53,25 +53,54 @@ impl<'a> Cursor<'a> {
         ensures { Gives result self.new (relation_scan_at self.old) }
     {
         if self.eat(b"attlist ").is_some() {
-            return Some(Purpose::AttList(Oid(self.number()?)));
+            let Some(rel) = self.number() else {
+                return None;
+            };
+            return Some(Purpose::AttList(Oid(rel)));
         }
         if self.eat(b"class ").is_some() {
-            return Some(Purpose::Class(Oid(self.number()?)));
+            let Some(rel) = self.number() else {
+                return None;
+            };
+            return Some(Purpose::Class(Oid(rel)));
         }
         if self.eat(b"attribute ").is_some() {
-            return Some(Purpose::Attribute(Oid(self.number()?)));
+            let Some(rel) = self.number() else {
+                return None;
+            };
+            return Some(Purpose::Attribute(Oid(rel)));
         }
         if self.eat(b"attrdef ").is_some() {
-            return Some(Purpose::AttrDef(Oid(self.number()?)));
+            let Some(rel) = self.number() else {
+                return None;
+            };
+            return Some(Purpose::AttrDef(Oid(rel)));
         }
+        self.object_scan()
+    }
+
+    // A scan of one table's indexes, triggers or constraints, or of an index's own row.
+    #[tactic(auto, unfolding(crate::specs::Reading::object_scan_at))]
+    fn object_scan(&mut self) -> Option<Purpose>
+        ensures { Gives result self.new (object_scan_at self.old) }
+    {
         if self.eat(b"index ").is_some() {
-            return Some(Purpose::Index(Oid(self.number()?)));
+            let Some(rel) = self.number() else {
+                return None;
+            };
+            return Some(Purpose::Index(Oid(rel)));
         }
         if self.eat(b"trigger ").is_some() {
-            return Some(Purpose::Trigger(Oid(self.number()?)));
+            let Some(rel) = self.number() else {
+                return None;
+            };
+            return Some(Purpose::Trigger(Oid(rel)));
         }
         if self.eat(b"indexrow ").is_some() {
-            return Some(Purpose::IndexRow(Oid(self.number()?)));
+            let Some(rel) = self.number() else {
+                return None;
+            };
+            return Some(Purpose::IndexRow(Oid(rel)));
         }
         self.constraint_scan()
     }
@@ -111,24 +140,28 @@ impl<'a> Cursor<'a> {
         ensures { Gives result self.new (number_event_at self.old) }
     {
         if self.eat(b"visible ").is_some() {
-            return Some(Event::Visible {
-                xid: Xid(self.number()?),
-            });
+            let Some(xid) = self.number() else {
+                return None;
+            };
+            return Some(Event::Visible { xid: Xid(xid) });
         }
         if self.eat(b"publish ").is_some() {
-            return Some(Event::Publish {
-                count: self.number()?,
-            });
+            let Some(count) = self.number() else {
+                return None;
+            };
+            return Some(Event::Publish { count });
         }
         if self.eat(b"release ").is_some() {
-            return Some(Event::Release {
-                from: self.number()?,
-            });
+            let Some(from) = self.number() else {
+                return None;
+            };
+            return Some(Event::Release { from });
         }
         if self.eat(b"gone ").is_some() {
-            return Some(Event::Gone {
-                from: self.number()?,
-            });
+            let Some(from) = self.number() else {
+                return None;
+            };
+            return Some(Event::Gone { from });
         }
         if self.eat(b"fail").is_some() {
             return Some(Event::Fail);
@@ -173,13 +206,23 @@ impl<'a> Cursor<'a> {
     pub(crate) fn lock_event(&mut self) -> Option<Event>
         ensures { Gives result self.new (lock_event_at self.old) }
     {
-        let rel = Oid(self.number()?);
-        self.eat(b" ")?;
-        let mode = self.mode()?;
-        self.eat(b" ")?;
-        match self.holder()? {
-            None => Some(Event::LockOk { rel, mode }),
-            Some((holder, held)) => Some(Event::LockHeld {
+        let Some(rel) = self.number() else {
+            return None;
+        };
+        if self.eat(b" ").is_none() {
+            return None;
+        }
+        let Some(mode) = self.mode() else {
+            return None;
+        };
+        if self.eat(b" ").is_none() {
+            return None;
+        }
+        let rel = Oid(rel);
+        match self.holder() {
+            None => None,
+            Some(None) => Some(Event::LockOk { rel, mode }),
+            Some(Some((holder, held))) => Some(Event::LockHeld {
                 rel,
                 mode,
                 holder,
@@ -216,10 +259,16 @@ impl<'a> Cursor<'a> {
         ensures { Gives result self.new (owner_at self.old) }
     {
         if self.eat(b"row ").is_some() {
-            return Some((true, self.number()?));
+            let Some(number) = self.number() else {
+                return None;
+            };
+            return Some((true, number));
         }
         if self.eat(b"running ").is_some() {
-            return Some((false, self.number()?));
+            let Some(number) = self.number() else {
+                return None;
+            };
+            return Some((false, number));
         }
         None
     }

@@ -46,10 +46,18 @@ impl<'a> Cursor<'a> {
     fn placed(&mut self, alloc: Global) -> Result<Entry, EntryFault>
         ensures { Yields result self.new (placed_at self.old) }
     {
-        let backend = self.number().ok_or(EntryFault::Bad)?;
-        self.eat(b" ").ok_or(EntryFault::Bad)?;
-        let command = self.number().ok_or(EntryFault::Bad)?;
-        self.eat(b" ").ok_or(EntryFault::Bad)?;
+        let Some(backend) = self.number() else {
+            return Err(EntryFault::Bad);
+        };
+        if self.eat(b" ").is_none() {
+            return Err(EntryFault::Bad);
+        }
+        let Some(command) = self.number() else {
+            return Err(EntryFault::Bad);
+        };
+        if self.eat(b" ").is_none() {
+            return Err(EntryFault::Bad);
+        }
         let event = self.event(alloc)?;
         Ok(Entry {
             backend,
@@ -86,9 +94,14 @@ impl<'a> Cursor<'a> {
     fn write_event(&mut self, alloc: Global) -> Result<Event, EntryFault>
         ensures { Yields result self.new (write_event_at self.old) }
     {
-        let xid = Xid(self.number().ok_or(EntryFault::Bad)?);
+        let Some(xid) = self.number() else {
+            return Err(EntryFault::Bad);
+        };
         let items = self.items(alloc)?;
-        Ok(Event::Write { xid, items })
+        Ok(Event::Write {
+            xid: Xid(xid),
+            items,
+        })
     }
 
     // Changes, at least one, a blank before each.
@@ -97,7 +110,9 @@ impl<'a> Cursor<'a> {
         ensures { Yields result self.new (items_at self.old) }
     {
         let mut items = Listed::new(alloc);
-        self.eat(b" ").ok_or(EntryFault::Bad)?;
+        if self.eat(b" ").is_none() {
+            return Err(EntryFault::Bad);
+        }
         let Some(first) = self.item() else {
             return Err(EntryFault::Bad);
         };

@@ -38,14 +38,26 @@ impl<'a> Cursor<'a> {
     fn class_row(&mut self) -> Option<Row>
         ensures { Gives result self.new (class_at self.old) }
     {
-        let oid = Oid(self.next_number()?);
-        let name = self.next_name()?;
-        let kind = self.kind()?;
-        self.eat(b",")?;
-        let fill = self.fill()?;
-        self.eat(b")")?;
+        let Some(oid) = self.next_number() else {
+            return None;
+        };
+        let Some(name) = self.next_name() else {
+            return None;
+        };
+        let Some(kind) = self.kind() else {
+            return None;
+        };
+        if self.eat(b",").is_none() {
+            return None;
+        }
+        let Some(fill) = self.fill() else {
+            return None;
+        };
+        if self.eat(b")").is_none() {
+            return None;
+        }
         Some(Row::Class {
-            oid,
+            oid: Oid(oid),
             name,
             kind,
             fill,
@@ -56,17 +68,35 @@ impl<'a> Cursor<'a> {
     fn att_row(&mut self) -> Option<Row>
         ensures { Gives result self.new (att_at self.old) }
     {
-        let rel = Oid(self.next_number()?);
-        let num = self.next_number()?;
-        let name = self.next_name()?;
-        let col_type = self.col_type()?;
-        self.eat(b",")?;
-        let stat = self.signed()?;
-        self.eat(b",")?;
-        let live = self.live()?;
-        self.eat(b")")?;
+        let Some(rel) = self.next_number() else {
+            return None;
+        };
+        let Some(num) = self.next_number() else {
+            return None;
+        };
+        let Some(name) = self.next_name() else {
+            return None;
+        };
+        let Some(col_type) = self.col_type() else {
+            return None;
+        };
+        if self.eat(b",").is_none() {
+            return None;
+        }
+        let Some(stat) = self.signed() else {
+            return None;
+        };
+        if self.eat(b",").is_none() {
+            return None;
+        }
+        let Some(live) = self.live() else {
+            return None;
+        };
+        if self.eat(b")").is_none() {
+            return None;
+        }
         Some(Row::Att {
-            rel,
+            rel: Oid(rel),
             num,
             name,
             col_type,
@@ -79,14 +109,24 @@ impl<'a> Cursor<'a> {
     fn def_row(&mut self) -> Option<Row>
         ensures { Gives result self.new (def_at self.old) }
     {
-        let oid = Oid(self.next_number()?);
-        let rel = Oid(self.next_number()?);
-        let num = self.next_number()?;
-        let word = self.word()?;
-        self.eat(b")")?;
+        let Some(oid) = self.next_number() else {
+            return None;
+        };
+        let Some(rel) = self.next_number() else {
+            return None;
+        };
+        let Some(num) = self.next_number() else {
+            return None;
+        };
+        let Some(word) = self.word() else {
+            return None;
+        };
+        if self.eat(b")").is_none() {
+            return None;
+        }
         Some(Row::Def {
-            oid,
-            rel,
+            oid: Oid(oid),
+            rel: Oid(rel),
             num,
             word,
         })
@@ -96,15 +136,27 @@ impl<'a> Cursor<'a> {
     fn ind_row(&mut self) -> Option<Row>
         ensures { Gives result self.new (ind_at self.old) }
     {
-        let index = Oid(self.next_number()?);
-        let table = Oid(self.next_number()?);
-        let state = self.state()?;
-        self.eat(b",")?;
-        let nums = self.nums()?;
-        self.eat(b")")?;
+        let Some(index) = self.next_number() else {
+            return None;
+        };
+        let Some(table) = self.next_number() else {
+            return None;
+        };
+        let Some(state) = self.state() else {
+            return None;
+        };
+        if self.eat(b",").is_none() {
+            return None;
+        }
+        let Some(nums) = self.nums() else {
+            return None;
+        };
+        if self.eat(b")").is_none() {
+            return None;
+        }
         Some(Row::Ind {
-            index,
-            table,
+            index: Oid(index),
+            table: Oid(table),
             state,
             nums,
         })
@@ -114,14 +166,24 @@ impl<'a> Cursor<'a> {
     fn con_row(&mut self) -> Option<Row>
         ensures { Gives result self.new (con_at self.old) }
     {
-        let oid = Oid(self.next_number()?);
-        let rel = Oid(self.next_number()?);
-        let name = self.next_name()?;
-        let (valid, what) = self.what()?;
-        self.eat(b")")?;
+        let Some(oid) = self.next_number() else {
+            return None;
+        };
+        let Some(rel) = self.next_number() else {
+            return None;
+        };
+        let Some(name) = self.next_name() else {
+            return None;
+        };
+        let Some((valid, what)) = self.what() else {
+            return None;
+        };
+        if self.eat(b")").is_none() {
+            return None;
+        }
         Some(Row::Con {
-            oid,
-            rel,
+            oid: Oid(oid),
+            rel: Oid(rel),
             name,
             valid,
             what,
@@ -132,12 +194,27 @@ impl<'a> Cursor<'a> {
     fn trg_row(&mut self) -> Option<Row>
         ensures { Gives result self.new (trg_at self.old) }
     {
-        let oid = Oid(self.next_number()?);
-        let rel = Oid(self.next_number()?);
-        let name = self.next_name()?;
-        let on = self.on()?;
-        self.eat(b")")?;
-        Some(Row::Trg { oid, rel, name, on })
+        let Some(oid) = self.next_number() else {
+            return None;
+        };
+        let Some(rel) = self.next_number() else {
+            return None;
+        };
+        let Some(name) = self.next_name() else {
+            return None;
+        };
+        let Some(on) = self.on() else {
+            return None;
+        };
+        if self.eat(b")").is_none() {
+            return None;
+        }
+        Some(Row::Trg {
+            oid: Oid(oid),
+            rel: Oid(rel),
+            name,
+            on,
+        })
     }
 
     // Whether a constraint is known to hold, and what it demands.
@@ -168,16 +245,26 @@ impl<'a> Cursor<'a> {
     fn foreign_what(&mut self) -> Option<(bool, ConKind)>
         ensures { Gives result self.new (foreign_con_at self.old) }
     {
-        let valid = self.valid()?;
-        self.eat(b",")?;
-        let num = self.next_number()?;
-        let refrel = Oid(self.next_number()?);
-        let refnum = self.number()?;
+        let Some(valid) = self.valid() else {
+            return None;
+        };
+        if self.eat(b",").is_none() {
+            return None;
+        }
+        let Some(num) = self.next_number() else {
+            return None;
+        };
+        let Some(refrel) = self.next_number() else {
+            return None;
+        };
+        let Some(refnum) = self.number() else {
+            return None;
+        };
         Some((
             valid,
             ConKind::Foreign {
                 num,
-                refrel,
+                refrel: Oid(refrel),
                 refnum,
             },
         ))
