@@ -14,16 +14,28 @@ impl<'a> Cursor<'a> {
         ensures { Gives result self.new (item_at self.old) }
     {
         if self.eat(b"+").is_some() {
-            return Some(Item::Add(self.row()?));
+            let Some(row) = self.row() else {
+                return None;
+            };
+            return Some(Item::Add(row));
         }
         if self.eat(b"=").is_some() {
-            return Some(Item::Put(self.row()?));
+            let Some(row) = self.row() else {
+                return None;
+            };
+            return Some(Item::Put(row));
         }
         if self.eat(b"-").is_some() {
-            return Some(Item::Remove(self.key()?));
+            let Some(key) = self.key() else {
+                return None;
+            };
+            return Some(Item::Remove(key));
         }
         if self.eat(b"!").is_some() {
-            return Some(Item::Force(Oid(self.number()?)));
+            let Some(rel) = self.number() else {
+                return None;
+            };
+            return Some(Item::Force(Oid(rel)));
         }
         None
     }
@@ -193,9 +205,15 @@ impl<'a> Cursor<'a> {
             return Some(None);
         }
         if self.eat(b"held ").is_some() {
-            let holder = self.number()?;
-            self.eat(b" ")?;
-            let held = self.mode()?;
+            let Some(holder) = self.number() else {
+                return None;
+            };
+            if self.eat(b" ").is_none() {
+                return None;
+            }
+            let Some(held) = self.mode() else {
+                return None;
+            };
             return Some(Some((holder, held)));
         }
         None
@@ -236,10 +254,19 @@ impl<'a> Cursor<'a> {
     pub(crate) fn unlock_event(&mut self) -> Option<Event>
         ensures { Gives result self.new (unlock_event_at self.old) }
     {
-        let rel = Oid(self.number()?);
-        self.eat(b" ")?;
-        let mode = self.mode()?;
-        Some(Event::Unlock { rel, mode })
+        let Some(rel) = self.number() else {
+            return None;
+        };
+        if self.eat(b" ").is_none() {
+            return None;
+        }
+        let Some(mode) = self.mode() else {
+            return None;
+        };
+        Some(Event::Unlock {
+            rel: Oid(rel),
+            mode,
+        })
     }
 
     // A scan, after its word.
@@ -247,9 +274,15 @@ impl<'a> Cursor<'a> {
     pub(crate) fn scan_event(&mut self) -> Option<Event>
         ensures { Gives result self.new (scan_event_at self.old) }
     {
-        let purpose = self.purpose()?;
-        self.eat(b" rows ")?;
-        let rows = self.number()?;
+        let Some(purpose) = self.purpose() else {
+            return None;
+        };
+        if self.eat(b" rows ").is_none() {
+            return None;
+        }
+        let Some(rows) = self.number() else {
+            return None;
+        };
         Some(Event::Scan { purpose, rows })
     }
 
@@ -278,14 +311,19 @@ impl<'a> Cursor<'a> {
     pub(crate) fn clash_event(&mut self) -> Option<Event>
         ensures { Gives result self.new (clash_event_at self.old) }
     {
-        let name = self.name()?;
-        self.eat(b" ")?;
-        match self.owner()? {
-            (true, oid) => Some(Event::ClashRow {
+        let Some(name) = self.name() else {
+            return None;
+        };
+        if self.eat(b" ").is_none() {
+            return None;
+        }
+        match self.owner() {
+            None => None,
+            Some((true, oid)) => Some(Event::ClashRow {
                 name,
                 rel: Oid(oid),
             }),
-            (false, xid) => Some(Event::ClashRunning {
+            Some((false, xid)) => Some(Event::ClashRunning {
                 name,
                 xid: Xid(xid),
             }),

@@ -235,9 +235,15 @@ impl<'a> Cursor<'a> {
     fn check_what(&mut self) -> Option<(bool, ConKind)>
         ensures { Gives result self.new (check_con_at self.old) }
     {
-        let valid = self.valid()?;
-        self.eat(b",")?;
-        let text = self.text()?;
+        let Some(valid) = self.valid() else {
+            return None;
+        };
+        if self.eat(b",").is_none() {
+            return None;
+        }
+        let Some(text) = self.text() else {
+            return None;
+        };
         Some((valid, ConKind::Check(text)))
     }
 
@@ -355,23 +361,38 @@ impl<'a> Cursor<'a> {
         ensures { Gives result self.new (key_at self.old) }
     {
         if self.eat(b"class(").is_some() {
-            return Some(RowKey::Class(Oid(self.last_number()?)));
+            let Some(oid) = self.last_number() else {
+                return None;
+            };
+            return Some(RowKey::Class(Oid(oid)));
         }
         if self.eat(b"att(").is_some() {
             let rel = Oid(self.next_number()?);
             return Some(RowKey::Att(rel, self.last_number()?));
         }
         if self.eat(b"def(").is_some() {
-            return Some(RowKey::Def(Oid(self.last_number()?)));
+            let Some(oid) = self.last_number() else {
+                return None;
+            };
+            return Some(RowKey::Def(Oid(oid)));
         }
         if self.eat(b"ind(").is_some() {
-            return Some(RowKey::Ind(Oid(self.last_number()?)));
+            let Some(oid) = self.last_number() else {
+                return None;
+            };
+            return Some(RowKey::Ind(Oid(oid)));
         }
         if self.eat(b"con(").is_some() {
-            return Some(RowKey::Con(Oid(self.last_number()?)));
+            let Some(oid) = self.last_number() else {
+                return None;
+            };
+            return Some(RowKey::Con(Oid(oid)));
         }
         if self.eat(b"trg(").is_some() {
-            return Some(RowKey::Trg(Oid(self.last_number()?)));
+            let Some(oid) = self.last_number() else {
+                return None;
+            };
+            return Some(RowKey::Trg(Oid(oid)));
         }
         None
     }
