@@ -6,7 +6,6 @@ pub mod AnothersTable
 pub mod FullFetch
 pub mod FullFetchInBuild
 pub mod LappedReader
-pub mod ResetInsideBuild
 pub mod FailedBlock
 pub mod RefusedLock
 pub mod ThreeHolders
