@@ -233,6 +233,13 @@ acts_left (stages.Writing draft) = 1
 acts_left (stages.Altering altering) = alter_acts_left altering
 acts_left stage = 0
 
+-- the stage keeps the rows that it reads, and reads others
+abbrev pub keeps_rows : Exec → Bool
+keeps_rows (stages.DroppingIndexes rel constraints) = true
+keeps_rows (stages.DroppingDefaults rel constraints indexes) = true
+keeps_rows (stages.DroppingTriggers rel constraints indexes defaults) = true
+keeps_rows stage = false
+
 -- at most so many are left of a command that begins
 abbrev pub most_acts : ℕ
 most_acts = 2 * most_rows + 8

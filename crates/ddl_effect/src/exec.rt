@@ -1,11 +1,11 @@
-ghost use Rattle.std.specs.Prelude.{◌≡◌, ◌<◌, ◌≤◌, ◌+◌, ◌*◌, ℕ, List, true, [], None, Ok, IfOk, IfSome, OnOk, OnErr, MatchOption};
+ghost use Rattle.std.specs.Prelude.{◌≡◌, ◌<◌, ◌≤◌, ◌+◌, ◌*◌, ℕ, List, true, [], length, None, Ok, IfOk, IfSome, OnOk, OnErr, MatchOption};
 ghost use Rattle.std.specs.List.{filter_map};
 ghost use Rattle.ddl_effect.specs.Plans.{Absent, Done, after_act, told_rests_on};
 ghost use Rattle.ddl_effect.specs.Parts.{found as found_rows, if_closed, opening, writing};
 ghost use Rattle.ddl_effect.specs.Reads.{live_column as column_live, telling_column, regclass_of, told_fields, showing_field, peeking, closing};
 ghost use Rattle.ddl_effect.specs.Tables.{drop_table};
 ghost use Rattle.ddl_effect.specs.Commands.{plan_of};
-ghost use Rattle.ddl_effect.specs.Stages.{plan_at, plan_again, plan_found, name_sought, want_of, told_of, acts_left, most_rows, most_acts};
+ghost use Rattle.ddl_effect.specs.Stages.{plan_at, plan_again, plan_found, name_sought, want_of, told_of, acts_left, keeps_rows, most_rows, most_acts};
 ghost use Rattle.ddl_effect.specs.Steps.{StepsTo};
 
 use crate::alteration::alteration_of;
@@ -311,42 +311,9 @@ impl Exec {
                 name: *name,
             })),
             Exec::DroppingTable { rel, name } => Ok(Some(unreferred(alloc, *rel, *name, rows)?)),
-            Exec::DroppingIndexes { rel, constraints } => {
-                let indexes = copied(alloc, rows)?;
-                Ok(Some(Exec::DroppingDefaults {
-                    rel: *rel,
-                    constraints: taken(alloc, constraints),
-                    indexes,
-                }))
-            }
-            Exec::DroppingDefaults {
-                rel,
-                constraints,
-                indexes,
-            } => {
-                let defaults = copied(alloc, rows)?;
-                Ok(Some(Exec::DroppingTriggers {
-                    rel: *rel,
-                    constraints: taken(alloc, constraints),
-                    indexes: taken(alloc, indexes),
-                    defaults,
-                }))
-            }
-            Exec::DroppingTriggers {
-                rel,
-                constraints,
-                indexes,
-                defaults,
-            } => {
-                let triggers = copied(alloc, rows)?;
-                Ok(Some(Exec::DroppingColumns {
-                    rel: *rel,
-                    constraints: taken(alloc, constraints),
-                    indexes: taken(alloc, indexes),
-                    defaults: taken(alloc, defaults),
-                    triggers,
-                }))
-            }
+            Exec::DroppingIndexes { .. }
+            | Exec::DroppingDefaults { .. }
+            | Exec::DroppingTriggers { .. } => Ok(Some(self.reads_on(alloc, rows)?)),
             Exec::DroppingColumns {
                 rel,
                 constraints,
@@ -381,6 +348,55 @@ impl Exec {
             Exec::Done(_) | Exec::Failing(_) | Exec::Missing(_) | Exec::MissingIndexed(_) => Ok(
                 None,
             ),
+        }
+    }
+
+    // What comes after an act whose rows it keeps. Out of memory, nothing changes; else this stage is given up.
+    fn reads_on(&mut self, alloc: Global, rows: &[Row]) -> Result<Exec, NoMemory>
+        requires { keeps_rows self.old ≡ true }
+        ensures goes { IfOk result (λ exec. (opens : List OpenRelation) → StepsTo opens rows.now self.old exec) }
+        ensures err { OnErr result (self.new ≡ self.old) }
+    {
+        let read = copied(alloc, rows)?;
+        let stage = replace(self, Exec::Done(Told::Ok));
+        Ok(stage.with_rows(read))
+    }
+
+    // The same by value, with the rows to keep.
+    fn with_rows(self, read: Listed<Row>) -> Exec
+        requires stage { keeps_rows self ≡ true }
+        requires few { length read < most_rows }
+        ensures { (opens : List OpenRelation) → StepsTo opens read self result }
+    {
+        match self {
+            Exec::DroppingIndexes { rel, constraints } => Exec::DroppingDefaults {
+                rel,
+                constraints,
+                indexes: read,
+            },
+            Exec::DroppingDefaults {
+                rel,
+                constraints,
+                indexes,
+            } => Exec::DroppingTriggers {
+                rel,
+                constraints,
+                indexes,
+                defaults: read,
+            },
+            Exec::DroppingTriggers {
+                rel,
+                constraints,
+                indexes,
+                defaults,
+            } => Exec::DroppingColumns {
+                rel,
+                constraints,
+                indexes,
+                defaults,
+                triggers: read,
+            },
+            _ => unreachable!(),
         }
     }
 
