@@ -1,9 +1,10 @@
 ghost use Rattle.std.specs.Prelude.{◌≡◌, ◌==◌};
 ghost use Rattle.std.specs.Option.{option_eq};
+ghost use Rattle.std.specs.Str.{bytes_eq};
 ghost use Rattle.history_model.specs.Covered.{same_row as rows_match, same_demand as demands_match};
 ghost use Rattle.history_ledger.specs.Writing.{same_part_row as parts_match, same_column_row as columns_match, same_key_row as keys_match, same_con_row as cons_match, same_trigger_row as triggers_match};
 
-use base_types::{ConKind, Row, live_word, on_word, valid_word};
+use base_types::{ConKind, Name, Row};
 
 // Whether two rows are equal.
 pub(crate) fn same_row(a: &Row, b: &Row) -> bool
@@ -25,7 +26,7 @@ pub(crate) fn same_row(a: &Row, b: &Row) -> bool
             },
         ) => {
             oid.0 == other.0
-                && name.as_bytes() == other_name.as_bytes()
+                && same_name(name, other_name)
                 && kind.word() == other_kind.word()
                 && same_fill(*fill, *other_fill)
         }
@@ -86,10 +87,10 @@ fn same_column_row(a: &Row, b: &Row) -> bool
         ) => {
             rel.0 == other.0
                 && num == other_num
-                && name.as_bytes() == other_name.as_bytes()
+                && same_name(name, other_name)
                 && col_type.word() == other_type.word()
                 && stat == other_stat
-                && live_word(*live) == live_word(*other_live)
+                && live == other_live
         }
         _ => same_key_row(a, b),
     }
@@ -146,8 +147,8 @@ fn same_con_row(a: &Row, b: &Row) -> bool
         ) => {
             oid.0 == other.0
                 && rel.0 == other_rel.0
-                && name.as_bytes() == other_name.as_bytes()
-                && valid_word(*valid) == valid_word(*other_valid)
+                && same_name(name, other_name)
+                && valid == other_valid
                 && same_demand(what, other_what)
         }
         _ => same_trigger_row(a, b),
@@ -170,8 +171,8 @@ fn same_trigger_row(a: &Row, b: &Row) -> bool
         ) => {
             oid.0 == other.0
                 && rel.0 == other_rel.0
-                && name.as_bytes() == other_name.as_bytes()
-                && on_word(*on) == on_word(*other_on)
+                && same_name(name, other_name)
+                && on == other_on
         }
         _ => false,
     }
@@ -197,6 +198,13 @@ fn same_demand(a: &ConKind, b: &ConKind) -> bool
         ) => num == other_num && refrel.0 == other_rel.0 && refnum == other_refnum,
         _ => false,
     }
+}
+
+// Whether two names are equal.
+fn same_name(a: &Name, b: &Name) -> bool
+    ensures { result ≡ bytes_eq a.now b.now }
+{
+    a.as_bytes() == b.as_bytes()
 }
 
 // Whether two fillfactors are the same, or none is set.
