@@ -55,7 +55,7 @@ fn relations_made(alloc: Global, items: &[Item]) -> Result<Vec<Oid>, NoMemory>
 }
 
 // The row that a change replaces or takes away.
-fn old_row(store: &RowStore, reader: Reader, item: &Item) -> Option<Row>
+pub(crate) fn old_row(store: &RowStore, reader: Reader, item: &Item) -> Option<Row>
     ensures { result ≡ old_at store.now reader item.now }
 {
     match item {

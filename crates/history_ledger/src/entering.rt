@@ -5,6 +5,7 @@ ghost use Rattle.history_model.specs.Held.{granted_by, held_by};
 ghost use Rattle.history_model.specs.Transactions.{last_xid_by};
 ghost use Rattle.history_ledger.specs.Enters.{change_in, changes_in as changes_among, messages_at, messages_from, store_after, undone, log_after, IsPlaced};
 
+use crate::changing::old_row;
 use base_types::{Change, Mode, NoMemory, Row, Xid};
 use catalog_rows::RowStore;
 use event_kinds::{Event, Item};
@@ -235,10 +236,10 @@ fn announce(
 ) -> Result<(), NoMemory>
     ensures { OnOk result (messages.new.items ≡ messages.old.items ++ messages_at store.now reader item.now) }
 {
+    let old = old_row(store, reader, item);
     match item {
-        Item::Add(row) => messages_of(None, Some(row), messages),
-        Item::Put(row) => messages_of(store.row(&row.key(), reader).as_ref(), Some(row), messages),
-        Item::Remove(key) => messages_of(store.row(key, reader).as_ref(), None, messages),
+        Item::Add(row) | Item::Put(row) => messages_of(old.as_ref(), Some(row), messages),
+        Item::Remove(_) => messages_of(old.as_ref(), None, messages),
         Item::Force(rel) => {
             messages.push(Message::Rel { rel: *rel })?;
             Ok(())
