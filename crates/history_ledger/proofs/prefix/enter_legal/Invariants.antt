@@ -1,7 +1,7 @@
 use Rattle.std.proofs.Common.{take}
 use Rattle.history_ledger.specs.Reads.{Reads}
 use Rattle.history_ledger.proofs.MayFollow.{IsQueued}
-use Rattle.history_ledger.proofs.prefix.legal_prefix.Given as goal
+use Rattle.history_ledger.proofs.prefix.enter_legal.Given as goal
 
 abbrev pub invariant-loop-at : goal.invariant-loop-at
 invariant-loop-at l = record {

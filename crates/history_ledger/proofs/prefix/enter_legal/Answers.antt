@@ -3,7 +3,7 @@ use Rattle.std.specs.Bool.{Decides}
 use Rattle.history_model.specs.Lapped.{FetchesFrom}
 use Rattle.history_model.specs.Legal.{MayFollow}
 use Rattle.history_ledger.proofs.MayFollow.{can_enter, queued_more, reads_next, ends_here, all_of_it}
-use Rattle.history_ledger.proofs.prefix.legal_prefix.Goals as goal
+use Rattle.history_ledger.proofs.prefix.enter_legal.Goals as goal
 
 pub returns-then-not-follows : goal.returns-then-not-follows
 returns-then-not-follows c = ends_here c.args.size c.args.entries.now c.loop-at.at c.index-entries-at.result _ c.loop-at-test.true c.index-entries-at.is c.loop-at.invariant.queued
