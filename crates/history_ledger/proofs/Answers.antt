@@ -1,7 +1,7 @@
 -- Two answers of a scan, and lists that a loop goes over.
 use Rattle.std.proofs.Common.{◌≡◌, ◌≢◌, ◌≤◌, ◌<◌, ◌∙◌, ◌+◌, ◌&&◌, ℕ, zero, suc, Some, None, slice_get, get_or, take, drop, Bool, true, false, List, [], ◌∷◌, ◌++◌, length, map, refl, sym, ap, subst, arith}
 use Rattle.std.specs.List.{flat_map, list_all}
-use Rattle.std.proofs.lemmas.List.{flat_map_more, take_more}
+use Rattle.std.proofs.lemmas.List.{flat_map_more, take_all, take_more}
 use Rattle.history_model.specs.Covered.{same_row, same_rows}
 use Rattle.history_ledger.specs.Types.{Row}
 
@@ -31,6 +31,9 @@ all_end f (y ∷ xs) (suc i) at = all_end f xs i at
 pub flat_map_next : {X A : Type 0} (f : X → List A) (xs : List X) (i : ℕ) (x d : X) (found : List A) → i < length xs → x ≡ get_or xs i d → found ≡ flat_map f (take i xs) → found ++ f x ≡ flat_map f (take (i + 1) xs)
 flat_map_next f xs i x d found within is before =
     (λ j. before j ++ f x) ∙ flat_map_more f [] (take i xs) x ∙ ap (flat_map f) (sym (take_more xs i d within ∙ ap (λ y. take i xs ++ y ∷ []) (sym is)))
+
+pub flat_map_done : {X A : Type 0} (f : X → List A) (xs : List X) (i : ℕ) (found : List A) → length xs ≤ i → found ≡ flat_map f (take i xs) → found ≡ flat_map f xs
+flat_map_done f xs i found past before = before ∙ ap (flat_map f) (take_all i xs past)
 
 -- all of a list from an element on
 all_from : {X : Type 0} (f : X → Bool) (xs : List X) (i : ℕ) (x d : X) → i < length xs → x ≡ get_or xs i d → list_all f (drop i xs) ≡ (f x && list_all f (drop (i + 1) xs))

@@ -1,9 +1,12 @@
-use Rattle.std.proofs.Common.{rules}
+use Rattle.std.proofs.Common.{rules, arith}
 use Rattle.history_model.specs.Drawn.{made_by}
-use Rattle.history_ledger.proofs.Answers.{flat_map_next}
+use Rattle.history_ledger.proofs.Answers.{flat_map_next, flat_map_done}
 use Rattle.history_ledger.proofs.changing.relations_made.Goals as goal
 
 pub loop-item-preserved : goal.loop-item-preserved
 loop-item-preserved c =
     let next = flat_map_next made_by c.args.items.now c.loop-item.item-index c.item-item.result _ _ c.loop-item-test.true c.item-item.is c.loop-item.invariant in
     search (rules, next)
+
+pub returns : goal.returns
+returns c = flat_map_done made_by c.args.items.now c.loop-item.item-index c.loop-item.made.items (omega (arith, c.loop-item-test.false)) c.loop-item.invariant

@@ -1,5 +1,7 @@
-use Rattle.std.proofs.Common.{◌∙◌, sym, subst}
+use Rattle.std.proofs.Common.{◌∙◌, fold, ap, sym, subst, arith}
+use Rattle.std.proofs.lemmas.List.{take_all}
 use Rattle.base_types.specs.Scans.{goes_before, IsInOrder}
+use Rattle.history_ledger.specs.Writing.{given_after}
 use Rattle.history_ledger.proofs.ScanChanges.{in_order_after, given_next}
 use Rattle.history_ledger.proofs.covering.change_rows.Goals as goal
 
@@ -8,3 +10,6 @@ loop-item-preserved c = record {
   order = subst (IsInOrder (goes_before c.args.scan.now)) (sym c.in_ok-change_row.ensures) (in_order_after c.args.scan.now c.loop-item.rows.items c.item-item.result c.loop-item.invariant.order);
   is = c.in_ok-change_row.ensures ∙ given_next c.args.scan.now c.args.rows.now.items c.loop-item.rows.items c.args.items.now c.loop-item.item-index c.item-item.result _ c.loop-item-test.true c.item-item.is c.loop-item.invariant.is;
 }
+
+pub returns : goal.returns
+returns c = c.loop-item.invariant.is ∙ ap (fold (given_after c.args.scan.now) c.args.rows.now.items) (take_all c.loop-item.item-index c.args.items.now (omega (arith, c.loop-item-test.false)))

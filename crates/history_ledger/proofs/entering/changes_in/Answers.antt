@@ -1,7 +1,7 @@
-use Rattle.std.proofs.Common.{◌∙◌, ◌++◌, ap, sym, append-nil}
+use Rattle.std.proofs.Common.{◌∙◌, ◌++◌, ap, sym, append-nil, arith}
 use Rattle.std.specs.Option.{option_to_list}
 use Rattle.history_ledger.specs.Enters.{change_in}
-use Rattle.history_ledger.proofs.Answers.{flat_map_next}
+use Rattle.history_ledger.proofs.Answers.{flat_map_next, flat_map_done}
 use Rattle.history_ledger.proofs.entering.changes_in.Goals.{in-Some+in_ok-push, in_default}
 use Rattle.history_ledger.proofs.entering.changes_in.Goals as goal
 
@@ -12,3 +12,6 @@ loop-item-preserved c =
       | in-Some+in_ok-push w ↦ ap (λ v. v.items) w.changes-is ∙ w.in_ok-push.ensures.items ∙ ap (λ o. c.loop-item.changes.items ++ option_to_list o) (sym w.in-Some.is ∙ c.change_of.ensures) ∙ next
       | in_default w ↦ ap (λ v. v.items) w.changes-is ∙ sym (append-nil c.loop-item.changes.items) ∙ ap (λ o. c.loop-item.changes.items ++ option_to_list o) (sym w.in_default.is ∙ c.change_of.ensures) ∙ next
     ]
+
+pub returns : goal.returns
+returns c = flat_map_done (λ item. option_to_list (change_in item)) c.args.items.now c.loop-item.item-index c.loop-item.changes.items (omega (arith, c.loop-item-test.false)) c.loop-item.invariant

@@ -1,7 +1,7 @@
-use Rattle.std.proofs.Common.{◌∙◌, ◌++◌, ap, sym, append-nil}
+use Rattle.std.proofs.Common.{◌∙◌, ◌++◌, ap, sym, append-nil, arith}
 use Rattle.std.specs.Option.{option_to_list}
 use Rattle.history_model.specs.Writes.{changed_key}
-use Rattle.history_ledger.proofs.Answers.{flat_map_next}
+use Rattle.history_ledger.proofs.Answers.{flat_map_next, flat_map_done}
 use Rattle.history_ledger.proofs.writing.changed_keys.Goals.{in-Some+in_ok-push, in_default}
 use Rattle.history_ledger.proofs.writing.changed_keys.Goals as goal
 
@@ -12,3 +12,6 @@ loop-item-preserved c =
       | in-Some+in_ok-push w ↦ ap (λ v. v.items) w.keys-is ∙ w.in_ok-push.ensures.items ∙ ap (λ l. c.loop-item.keys.items ++ l) (ap option_to_list (sym w.in-Some.is) ∙ c.key_of_change.ensures) ∙ next
       | in_default w ↦ ap (λ v. v.items) w.keys-is ∙ sym (append-nil c.loop-item.keys.items) ∙ ap (λ l. c.loop-item.keys.items ++ l) (ap option_to_list (sym w.in_default.is) ∙ c.key_of_change.ensures) ∙ next
     ]
+
+pub returns : goal.returns
+returns c = flat_map_done changed_key c.args.items.now c.loop-item.item-index c.loop-item.keys.items (omega (arith, c.loop-item-test.false)) c.loop-item.invariant

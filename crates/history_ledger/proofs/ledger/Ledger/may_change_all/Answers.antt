@@ -1,5 +1,6 @@
-use Rattle.std.proofs.Common.{◌∙◌, ℕ, Bool, List, refl, sym, ap}
-use Rattle.std.specs.List.{flat_map}
+use Rattle.std.proofs.Common.{◌∙◌, ℕ, Bool, List, refl, sym, ap, arith}
+use Rattle.std.specs.List.{flat_map, list_all}
+use Rattle.std.proofs.lemmas.List.{drop_all}
 use Rattle.history_model.specs.Drawn.{made_by}
 use Rattle.history_ledger.specs.Types.{Item}
 use Rattle.history_ledger.specs.Follows.{reader_at}
@@ -24,3 +25,6 @@ returns-then-not-may_change c =
     all_at (allowed c.args.self.now c.args.own.now c.args.b c.args.items.now) c.args.items.now c.args.items.now c.loop-item.item-index c.item-item.result _ _ refl c.loop-item-test.true c.item-item.is
     (sym c.if-not-may_change.true ∙ c.may_change.ensures ∙ (λ j. may_change c.args.self.now.store c.args.self.now.locks (c.xid-own.ensures j) c.args.b ((c.deref.ensures.value ∙ c.in_ok-made.ensures) j) c.item-item.result ((c.old_row-old.ensures ∙ ap (λ r. old_at c.args.self.now.store r c.item-item.result) c.reader-reader.ensures) j)))
     ∙ c.loop-item.invariant
+
+pub returns : goal.returns
+returns c = sym (ap (list_all (allowed c.args.self.now c.args.own.now c.args.b c.args.items.now)) (drop_all c.loop-item.item-index c.args.items.now (omega (arith, c.loop-item-test.false)))) ∙ c.loop-item.invariant
