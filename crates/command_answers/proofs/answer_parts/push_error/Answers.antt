@@ -38,3 +38,36 @@ returns-in-OutOfRange-clause-text c = rw c.in-OutOfRange.is c.push_out_of_range.
 
 pub returns-in-TooManyColumns-clause-text : goal.returns-in-TooManyColumns-clause-text
 returns-in-TooManyColumns-clause-text c = rw c.in-TooManyColumns.is c.push-in-TooManyColumns.ensures.text
+
+pub returns-in-BlockFailed-clause-text : goal.returns-in-BlockFailed-clause-text
+returns-in-BlockFailed-clause-text c = rw c.in-BlockFailed.is c.push.ensures.text
+
+pub returns-in-NoBlock-clause-text : goal.returns-in-NoBlock-clause-text
+returns-in-NoBlock-clause-text c = rw c.in-NoBlock.is c.push-in-NoBlock.ensures.text
+
+pub returns-in-NoSavepoint-clause-text : goal.returns-in-NoSavepoint-clause-text
+returns-in-NoSavepoint-clause-text c = rw c.in-NoSavepoint.is c.push_absent.ensures.text
+
+pub returns-in-NotOpen-clause-text : goal.returns-in-NotOpen-clause-text
+returns-in-NotOpen-clause-text c = rw c.in-NotOpen.is c.push_around.ensures.text
+
+pub returns-in-NoTrigger-clause-text : goal.returns-in-NoTrigger-clause-text
+returns-in-NoTrigger-clause-text c = rw c.in-NoTrigger.is c.push_absent-in-NoTrigger.ensures.text
+
+pub returns-in-Locked-clause-text : goal.returns-in-Locked-clause-text
+returns-in-Locked-clause-text c = rw c.in-Locked.is c.push_locked.ensures.text
+
+pub returns-in-NameInUse-clause-text : goal.returns-in-NameInUse-clause-text
+returns-in-NameInUse-clause-text c = rw c.in-NameInUse.is c.push_in_use.ensures.text
+
+pub returns-in-NotTable-clause-text : goal.returns-in-NotTable-clause-text
+returns-in-NotTable-clause-text c = rw c.in-NotTable.is c.push_around-in-NotTable.ensures.text
+
+pub returns-in-NotIndex-clause-text : goal.returns-in-NotIndex-clause-text
+returns-in-NotIndex-clause-text c = rw c.in-NotIndex.is c.push_around-in-NotIndex.ensures.text
+
+pub returns-in-NoField-clause-text : goal.returns-in-NoField-clause-text
+returns-in-NoField-clause-text c = rw c.in-NoField.is c.push_no_field.ensures.text
+
+pub returns-in-WantOfMemory-clause-text : goal.returns-in-WantOfMemory-clause-text
+returns-in-WantOfMemory-clause-text c = rw c.in-WantOfMemory.is c.push-in-WantOfMemory.ensures.text
