@@ -4,3 +4,5 @@ pub mod Homes
 pub mod Putting
 pub mod Unpinned
 pub mod Texts
+mod Catalogs
+mod KeyedPuts
