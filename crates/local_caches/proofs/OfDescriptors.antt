@@ -6,12 +6,12 @@ use Rattle.std.specs.Option.{option_map, option_or}
 use Rattle.std.specs.List.{find}
 use Rattle.base_types.specs.Scans.{same_scan}
 use Rattle.pin_pool.specs.declared.reference.Ref.{Ref}
-use Rattle.rel_cache.specs.Descriptors.{renewed}
+use Rattle.rel_cache.specs.Descriptors.{renewed, new_held, closed_once}
 use Rattle.rel_cache.specs.Caches.{held_of, HeldUnder, ChangesHeld}
 use Rattle.rel_cache.proofs.Whole.{by_number}
 use Rattle.local_caches.specs.Types.{Oid, Purpose, Held, RelCache}
 use Rattle.local_caches.specs.declared.part.Part.{Part}
-use Rattle.local_caches.specs.Parts.{parts_held, pins_held, part_kept, read_part}
+use Rattle.local_caches.specs.Parts.{parts_held, pins_held, part_kept, read_part, PutsPart, KeepsParts}
 
 -- relations are one or not
 pub same_or_other : (a b : Oid) → (a ≡ b) ⊎ (a ≢ b)
@@ -82,3 +82,30 @@ keeps_parts old new rel it other = by (same_or_other other rel)
     by : (other ≡ rel) ⊎ (other ≢ rel) → parts_held (held_of new other) ≡ parts_held (held_of old other)
     by (inl is) = ap (λ o. parts_held (held_of new o)) is ∙ it.at ∙ sym (ap (λ o. parts_held (held_of old o)) is)
     by (inr differs) = it.others other differs
+
+-- where no reference is given, nothing is held
+pub none_held : (cache : RelCache (List Part)) (rel : Oid) → option_map (λ h. h.at) (held_of cache rel) ≡ None → held_of cache rel ≡ None
+none_held cache rel none = by (held_of cache rel) none
+  where
+    by : (o : Option (Held (List Part))) → option_map (λ h. h.at) o ≡ None → o ≡ None
+    by None is = refl
+    by (Some h) is = absurd (cc)
+
+-- one that begins has the scan, and no pin once it is closed
+pub begins : (old mid new : RelCache (List Part)) (rel : Oid) (r : Ref) (part : Part) (parts : List Part) → held_of old rel ≡ None → parts ≡ part ∷ [] → ChangesHeld old mid rel (Some (new_held r parts)) → ChangesHeld mid new rel (option_map closed_once (held_of mid rel)) → PutsPart old new rel part
+begins old mid new rel r part parts none are opens closes = record {
+  at = ap parts_held now ∙ are ∙ sym (ap (λ o. parts_held o ++ part ∷ []) none);
+  others = λ other differs. ap parts_held (closes.others other differs ∙ opens.others other differs);
+  pins = λ other. by other (same_or_other other rel);
+}
+  where
+    now : held_of new rel ≡ option_map closed_once (Some (new_held r parts))
+    now = closes.at ∙ ap (option_map closed_once) opens.at
+
+    by : (other : Oid) → (other ≡ rel) ⊎ (other ≢ rel) → pins_held (held_of new other) ≡ pins_held (held_of old other)
+    by other (inl is) = ap (λ o. pins_held (held_of new o)) is ∙ ap pins_held now ∙ sym (ap pins_held none) ∙ sym (ap (λ o. pins_held (held_of old o)) is)
+    by other (inr differs) = ap pins_held (closes.others other differs ∙ opens.others other differs)
+
+-- where all is held that was, each has its scans and pins
+pub keeps_held : (old new : RelCache (List Part)) → ((rel : Oid) → held_of new rel ≡ held_of old rel) → KeepsParts old new
+keeps_held old new same = record { parts = λ rel. ap parts_held (same rel); pins = λ rel. ap pins_held (same rel) }

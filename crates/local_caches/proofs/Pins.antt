@@ -1,5 +1,5 @@
 -- How often the relations are pinned.
-use Rattle.std.proofs.Common.{◌≡◌, ◌≢◌, ◌<◌, ◌+◌, ◌∙◌, ◌⊎◌, inl, inr, ◌||◌, ℕ, Bool, true, false, Option, Some, None, IsSome, IsSomeAnd, List, [], ◌∷◌, ◌++◌, sym, ap, refl, arith, if◌then◌else◌}
+use Rattle.std.proofs.Common.{◌≡◌, ◌≢◌, ◌<◌, ◌+◌, ◌∙◌, ◌⊎◌, inl, inr, ◌||◌, ℕ, Bool, true, false, Option, Some, None, IsSome, IsSomeAnd, List, [], ◌∷◌, ◌++◌, sym, ap, subst, refl, arith, if◌then◌else◌}
 use Rattle.std.proofs.lemmas.Bool.{or_parts, eq-eqb, ne_eqb}
 use Rattle.std.specs.List.{list_any}
 use Rattle.std.specs.Option.{option_map}
@@ -12,7 +12,7 @@ use Rattle.rel_cache.specs.Caches.{held_of, ChangesHeld}
 use Rattle.rel_cache.proofs.Whole.{by_number}
 use Rattle.local_caches.specs.Types.{Oid, Held, RelCache}
 use Rattle.local_caches.specs.declared.part.Part.{Part}
-use Rattle.local_caches.specs.Parts.{pins_held}
+use Rattle.local_caches.specs.Parts.{parts_held, pins_held}
 use Rattle.local_caches.specs.Whole.{times, ArePinned}
 use Rattle.local_caches.proofs.OfDescriptors.{same_or_other}
 
@@ -63,6 +63,35 @@ pub is_there : (o : Option (Held (List Part))) (answer : Opened) → answer ≡ 
 is_there None answer is (inl valid) = let never : Unknown ≡ Valid valid.0 = sym is ∙ valid.1 in absurd (cc)
 is_there None answer is (inr invalid) = let never : Unknown ≡ Invalid invalid.0 = sym is ∙ invalid.1 in absurd (cc)
 is_there (Some h) answer is there = refl
+
+-- where none is opened there is none
+pub is_absent : (o : Option (Held (List Part))) (answer : Opened) → answer ≡ opened o → answer ≡ Unknown → o ≡ None
+is_absent None answer is unknown = refl
+is_absent (Some h) answer is unknown = by h.valid (sym is ∙ unknown)
+  where
+    by : (valid : Bool) → (if valid then Valid h.at else Invalid h.at) ≡ Unknown → Some h ≡ None
+    by true never = absurd (cc)
+    by false never = absurd (cc)
+
+-- each descriptor has the scans that it had
+pub opened_parts : (old new : RelCache (List Part)) (rel : Oid) → ChangesHeld old new rel (option_map opened_once (held_of old rel)) → (other : Oid) → parts_held (held_of new other) ≡ parts_held (held_of old other)
+opened_parts old new rel changes other = by (same_or_other other rel)
+  where
+    same : (o : Option (Held (List Part))) → parts_held (option_map opened_once o) ≡ parts_held o
+    same None = refl
+    same (Some h) = refl
+
+    by : (other ≡ rel) ⊎ (other ≢ rel) → parts_held (held_of new other) ≡ parts_held (held_of old other)
+    by (inl is) = ap (λ o. parts_held (held_of new o)) is ∙ ap parts_held changes.at ∙ same (held_of old rel) ∙ sym (ap (λ o. parts_held (held_of old o)) is)
+    by (inr differs) = ap parts_held (changes.others other differs)
+
+-- and the one that is opened a pin
+pub opened_pinned : (old new : RelCache (List Part)) (rel : Oid) → IsSome (held_of old rel) → ChangesHeld old new rel (option_map opened_once (held_of old rel)) → 0 < pins_held (held_of new rel)
+opened_pinned old new rel there changes = subst (λ o. 0 < pins_held o) (sym changes.at) (by (held_of old rel) there)
+  where
+    by : (o : Option (Held (List Part))) → IsSome o → 0 < pins_held (option_map opened_once o)
+    by None none = absurd (cc)
+    by (Some h) some = omega arith
 
 -- a descriptor that is opened has one pin more
 pub opened_pins : (old new : RelCache (List Part)) (rel : Oid) (pinned now : List Oid) → ArePinned old pinned → IsSome (held_of old rel) → ChangesHeld old new rel (option_map opened_once (held_of old rel)) → now ≡ pinned ++ rel ∷ [] → ArePinned new now
