@@ -50,9 +50,23 @@ impl GrantLists {
                 Err(error) => Err(error),
             };
         }
+        self.begin(key, count)
+    }
+
+    // Begins the list of a number that has none, with room for so many grants.
+    fn begin(&mut self, key: u32, count: usize) -> Result<(), NoMemory>
+        requires { get nat_eq self.old.lists key ≡ None }
+        ensures same { (other : ℕ) → grants_at self.new other ≡ grants_at self.old other }
+        ensures more { (other : ℕ) → room_at self.old other ≤ room_at self.new other }
+        ensures ok { OnOk result (count ≤ room_at self.new key) }
+    {
         let mut list = GrantList::new(self.alloc);
-        list.reserve(count)?;
-        self.lists.insert(key, list)?;
+        let Ok(()) = list.reserve(count) else {
+            return Err(NoMemory);
+        };
+        let Ok(_) = self.lists.insert(key, list) else {
+            return Err(NoMemory);
+        };
         Ok(())
     }
 
