@@ -11,3 +11,10 @@ invariant_of-self-2 c = record {
   room = subst (λ grants. HasRoom c.reserve.new.by_rel c.reserve.new.by_backend grants (length grants) (length grants)) c.deref.ensures.value c.in_ok-reserve.ensures.ok;
   exclude = exclude_all _ _ (exclude_front _ _ c.self.invariant.exclude) (subst (λ (table : Holding). AreFree table.held c.args.grants.items) (sym c.self.view_is) c.requires);
 }
+
+pub invariant_of-self : goal.invariant_of-self
+invariant_of-self c = record {
+  holds = c.reserve.ensures.same _ c.self.invariant.holds;
+  room = c.reserve.ensures.more _ _ _ c.self.invariant.room;
+  exclude = c.self.invariant.exclude;
+}
