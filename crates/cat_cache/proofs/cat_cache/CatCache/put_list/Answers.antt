@@ -5,7 +5,7 @@ use Rattle.cat_cache.specs.Types.{Held, Link}
 use Rattle.cat_cache.specs.Entries.{list_in}
 use Rattle.cat_cache.proofs.Adding.{live_same, live_new, is_added, adds_held}
 use Rattle.cat_cache.proofs.Standing.{stands_still, stands_kept, stands_alike, stands_more}
-use Rattle.cat_cache.proofs.Whole.{no_list_known, list_added}
+use Rattle.cat_cache.proofs.Whole.{no_list_known, list_added, has_same}
 use Rattle.cat_cache.proofs.cat_cache.CatCache.put_list.Goals as goal
 
 pub invariant_of-self : goal.invariant_of-self
@@ -40,3 +40,6 @@ returns-clause-list c =
     cache.pool c.add.new.self c.in-Ok.r (cached.List c.args.rows c.args.at) refl refl c.in-Ok.ensures.unnamed c.in-Ok.ensures.entry in
     list_added cache _ refl link c.args.prefix.now (record { under = c.in-Ok.r; rows = c.args.rows; at = c.args.at }) c.in_ok-parts.ensures adds
     (ap (option_and_then (list_in c.in-Ok.r)) (live_new cache.pool c.add.new.self c.in-Ok.r (cached.List c.args.rows c.args.at) c.in-Ok.ensures.entry)) (λ hash. refl)
+
+pub returns-in_default-clause-same : goal.returns-in_default-clause-same
+returns-in_default-clause-same c = has_same c.args.self.now _ refl (λ hash. refl) c.reserve.ensures.same (live_same c.args.self.now.pool c.add.new.self c.in_default.ensures.same)
