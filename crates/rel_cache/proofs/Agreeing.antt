@@ -1,7 +1,8 @@
 -- The index and the pool after a change of one relation's descriptor.
-use Rattle.std.proofs.Common.{◌≡◌, ◌≢◌, ◌∙◌, ◌⊎◌, inl, inr, ◌==◌, ℕ, Bool, true, false, Option, Some, None, sym, ap, refl, nat_eq, unwrap_or}
+use Rattle.std.proofs.Common.{◌≡◌, ◌≢◌, ◌∙◌, ◌⊎◌, inl, inr, ◌==◌, ℕ, Bool, true, false, Option, Some, None, [], sym, ap, refl, nat_eq, unwrap_or}
 use Rattle.std.proofs.lemmas.Bool.{eqb-true, eqb-false}
 use Rattle.std.specs.Option.{option_map, option_and_then}
+use Rattle.std.specs.Map.{lookup}
 use Rattle.indexmap.specs.IndexMap.{IndexMap, get}
 use Rattle.pin_pool.specs.Entries.{Entry}
 use Rattle.pin_pool.specs.Pools.{entry_of, Changes}
@@ -154,3 +155,16 @@ module _ {D S : Type 0} where
           at = ap (option_and_then (held_at new)) gone;
           others = held_others old new before after rel r None moves indexed;
         }
+
+module _ {D S : Type 0} where
+  -- an empty index has no place that would want an entry
+  pub none_indexed : (pool : Pool (Kept D)) (index : IndexMap ℕ Place S) → index.entries ≡ [] → AreIndexed pool index
+  none_indexed pool index empty rel place is = let never : None ≡ Some place = sym (ap (lookup (nat_eq rel)) empty) ∙ is in absurd (cc)
+
+  -- nor an empty pool an entry that would want a place
+  pub none_placed : (pool : Pool (Kept D)) (index : IndexMap ℕ Place S) → ((r : Ref) → entry_of pool r ≡ None) → ArePlaced pool index
+  none_placed pool index empty r rel dead is = absurd (by (entry_of pool r) (empty r) is)
+    where
+      by : (o : Option (Entry (Kept D))) → o ≡ None → option_map whose o ≡ Some (rel, dead) → ⊥
+      by None none some = absurd (cc)
+      by (Some e) some is = absurd (cc)
