@@ -23,3 +23,9 @@ returns-clause-kept c =
     let r = c.self.inside in
     (keeps_more r.window r.first.value r.max r.min r.threshold r.readers.items c.append.new.self _ _ c.args.quantum.now c.append.ensures.size c.append.ensures.log refl refl c.self.invariant
     (subst (λ (q : Queue). length q.log + length c.args.quantum.now ≤ q.least + q.size) (sym c.self.view_is) c.make_room-cleaned.ensures.room)).counts.sound.readers
+
+pub invariant_of-self : goal.invariant_of-self
+invariant_of-self c =
+    let r = c.self.inside in
+    keeps_more r.window r.first.value r.max r.min r.threshold r.readers.items c.append.new.self _ _ c.args.quantum.now c.append.ensures.size c.append.ensures.log refl refl c.self.invariant
+    (subst (λ (q : Queue). length q.log + length c.args.quantum.now ≤ q.least + q.size) (sym c.self.view_is) c.make_room-cleaned.ensures.room)
