@@ -13,7 +13,7 @@ import re
 import sys
 
 TOP = os.path.dirname(os.path.dirname(os.path.abspath(__file__)))
-GOAL = re.compile(r'"name":"([^"]+)","notes".*?"phases":\[([0-9,]*)\]')
+GOAL = re.compile(r'"name":"([^"]+)","notes".*?"phases":\[([0-9,]+)\]')
 
 
 def searched(crate):
