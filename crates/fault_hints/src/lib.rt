@@ -35,9 +35,9 @@ mod reasons;
 mod symbols;
 mod tokens;
 mod tool_lines;
-mod usage;
+mod usage_text;
 
 pub use differing::difference;
 pub use hints::hint;
 pub use kept::KeptSource;
-pub use usage::usage;
+pub use usage_text::usage;
