@@ -6,7 +6,7 @@ use Rattle.cacheless.specs.State.{kept_at}
 use Rattle.cacheless.proofs.Entries.Others.{holds-other}
 use Rattle.cacheless.proofs.Reading.{facts_of-other}
 use Rattle.cacheless.specs.Awaiting.{HasNoEntry, AwaitsEntry as SessionAwaits}
-use Rattle.cacheless.proofs.Others.{kept-other, awaits-other as session_awaits-other, no_entry-other, lines-other}
+use Rattle.cacheless.proofs.OthersEntries.{kept-other, awaits-other as session_awaits-other, no_entry-other, lines-other}
 use Rattle.backend_core.specs.Types.{Entry, Life, Backend}
 use Rattle.backend_core.specs.declared.life.Life.TheVariants as lives
 use Rattle.backend_core.specs.Agrees.{command_at, AwaitsEntry, HasNotJoined, HasLeft, Stands}

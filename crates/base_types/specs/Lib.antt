@@ -2,6 +2,7 @@ pub mod Adding
 pub mod Padded
 pub mod Types
 pub mod Names
+pub mod ByteKinds
 pub mod Modes
 pub mod Scans
 pub mod Words

@@ -3,8 +3,6 @@ use Rattle.std.specs.Prelude.{◌≡◌, ℕ, Bool, true, false, Option, Some, N
 use Rattle.std.specs.List.{position_from, list_all}
 use Rattle.base_types.specs.declared.dropped.TheConstants.{MOST_COLUMNS}
 use Rattle.base_types.specs.declared.short_text.TheConstants.{LONGEST_TEXT}
-use Rattle.base_types.specs.declared.name_bytes.Spelling.{Spelling}
-use Rattle.base_types.specs.declared.name_bytes.Spelling.TheVariants as spellings
 use Rattle.base_types.specs.declared.name_fault.NameFault.{NameFault}
 use Rattle.base_types.specs.declared.name_fault.NameFault.TheVariants.{Empty, TooLong, BadByte}
 
@@ -27,12 +25,6 @@ is_word_byte byte = is_name_byte byte || (byte == 45)
 -- a byte of a check's text: one of a word, or one of `<`, `=`, `>`, `*` and `+`
 abbrev pub is_text_byte : ℕ → Bool
 is_text_byte byte = is_word_byte byte || (nat_le 60 byte && nat_le byte 62) || (nat_le 42 byte && nat_le byte 43)
-
--- a byte that the spelling allows
-abbrev pub allowed_in : Spelling → ℕ → Bool
-allowed_in spellings.Name = is_name_byte
-allowed_in spellings.Word = is_word_byte
-allowed_in spellings.Text = is_text_byte
 
 -- the fault of a byte that is not allowed, if there is one
 abbrev pub bad_byte : Option ℕ → Option NameFault

@@ -1,5 +1,5 @@
 use crate::dropped::dropped_number;
-use crate::name_bytes::{Spelling, name_fault, short_fault};
+use crate::name_bytes::{ByteKind, name_fault, short_fault};
 use crate::{LONGEST_TEXT, LineBuffer, MOST_COLUMNS, NameFault, ShortText};
 use std::marker::Model;
 
@@ -108,7 +108,7 @@ impl Word {
         ensures ok { IfOk result (λ made. (made ≡ text.now) × IsWord text.now) }
         ensures err { IfErr result (λ fault. first_fault allowed text.now ≡ Some fault) }
     {
-        match short_fault(Spelling::Word, text) {
+        match short_fault(ByteKind::Word, text) {
             None => Ok(Word {
                 text: ShortText::new(text),
             }),
@@ -155,7 +155,7 @@ impl Text {
         ensures ok { IfOk result (λ made. (made ≡ text.now) × IsText text.now) }
         ensures err { IfErr result (λ fault. first_fault allowed text.now ≡ Some fault) }
     {
-        match short_fault(Spelling::Text, text) {
+        match short_fault(ByteKind::Text, text) {
             None => Ok(Text {
                 text: ShortText::new(text),
             }),

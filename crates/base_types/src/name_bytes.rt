@@ -1,11 +1,12 @@
 ghost use Rattle.std.specs.Prelude.{◌≡◌, ◌<◌, IfSome, length};
-ghost use Rattle.base_types.specs.Names.{is_name_byte as byte_of_name, is_word_byte as byte_of_word, is_text_byte as byte_of_text, bad_byte as fault_at, name_fault as fault_of_name, short_fault as fault_of_short, first_refused, allowed_in};
+ghost use Rattle.base_types.specs.ByteKinds.{is_byte_of};
+ghost use Rattle.base_types.specs.Names.{is_name_byte as byte_of_name, is_word_byte as byte_of_word, is_text_byte as byte_of_text, bad_byte as fault_at, name_fault as fault_of_name, short_fault as fault_of_short, first_refused};
 
 use crate::{LONGEST_TEXT, NameFault, is_digit};
 
-// What a short text is to be: which bytes it may have.
+// Which bytes a short text may have.
 #[derive(Clone, Copy)]
-pub(crate) enum Spelling {
+pub(crate) enum ByteKind {
     Name,
     Word,
     Text,
@@ -24,12 +25,12 @@ pub(crate) fn name_fault(text: &[u8]) -> Option<NameFault>
     if is_digit(text[0]) {
         return Some(NameFault::BadByte { at: 0 });
     }
-    bad_byte(refused(Spelling::Name, text))
+    bad_byte(refused(ByteKind::Name, text))
 }
 
 // The first fault of a word or of a check's text.
-pub(crate) fn short_fault(spelling: Spelling, text: &[u8]) -> Option<NameFault>
-    ensures { result ≡ fault_of_short (allowed_in spelling) text.now }
+pub(crate) fn short_fault(kind: ByteKind, text: &[u8]) -> Option<NameFault>
+    ensures { result ≡ fault_of_short (is_byte_of kind) text.now }
 {
     if text.is_empty() {
         return Some(NameFault::Empty);
@@ -37,24 +38,25 @@ pub(crate) fn short_fault(spelling: Spelling, text: &[u8]) -> Option<NameFault>
     if text.len() > LONGEST_TEXT {
         return Some(NameFault::TooLong);
     }
-    bad_byte(refused(spelling, text))
+    bad_byte(refused(kind, text))
 }
 
-// The first byte that the spelling doesn't allow.
-fn refused(spelling: Spelling, text: &[u8]) -> Option<usize>
-    ensures place { result ≡ first_refused (allowed_in spelling) text.now }
+// The first byte that isn't of this kind.
+fn refused(kind: ByteKind, text: &[u8]) -> Option<usize>
+    ensures place { result ≡ first_refused (is_byte_of kind) text.now }
     ensures within { IfSome result (λ place. place < length text.now) }
 {
-    text.iter().position(|byte| !is_allowed(spelling, *byte))
+    text.iter().position(|byte| !is_of(kind, *byte))
 }
 
-fn is_allowed(spelling: Spelling, byte: u8) -> bool
-    ensures { result ≡ allowed_in spelling byte }
+// Whether a byte is of this kind.
+fn is_of(kind: ByteKind, byte: u8) -> bool
+    ensures { result ≡ is_byte_of kind byte }
 {
-    match spelling {
-        Spelling::Name => is_name_byte(byte),
-        Spelling::Word => is_word_byte(byte),
-        Spelling::Text => is_text_byte(byte),
+    match kind {
+        ByteKind::Name => is_name_byte(byte),
+        ByteKind::Word => is_word_byte(byte),
+        ByteKind::Text => is_text_byte(byte),
     }
 }
 

@@ -36,7 +36,10 @@ pub mod SameRows
 pub mod Deciding
 mod WantedPlans
 pub mod Lacking
-pub mod Others
+pub mod ListSteps
+mod AtStart
+mod BeforeStart
+pub mod OthersEntries
 pub mod EndEntries
 pub mod OwnPlaces
 pub mod OwnAnswers

@@ -3,6 +3,7 @@ use Rattle.std.proofs.Common.{◌≡◌, ◌≤◌, ◌<◌, ◌+◌, ◌∙◌,
 use Rattle.std.proofs.lemmas.List.{length_push, append-nil}
 use Rattle.std.proofs.lemmas.Option.{slice_get_within}
 use Rattle.std.specs.List.{cons_option}
+use Rattle.std.specs.Option.{option_map_or}
 use Rattle.base_types.specs.Scans.{selects}
 use Rattle.base_types.specs.declared.row.Row.TheVariants as rows
 use Rattle.local_caches.specs.Caches.{kept_of}
@@ -81,6 +82,10 @@ absent_or (Absent name) is go = go name refl
 absent_or (Done told) is go = absurd (cc)
 absent_or (Fails error) is go = absurd (cc)
 absent_or (Do act rest) is go = absurd (cc)
+
+-- a command that isn't answered counts
+pub none_answered : (o : Option (List ℕ)) → o ≡ None → option_map_or {U = ℕ} (λ text. 0) o 1 ≡ 1
+none_answered o none = ap (λ (p : Option (List ℕ)). option_map_or {U = ℕ} (λ text. 0) p 1) none
 
 -- a finished command has come out
 pub out_of : (command : Command) (s : Progress) → is_finished_at command s ≡ true → is_out s ≡ true

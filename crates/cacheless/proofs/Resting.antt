@@ -3,20 +3,23 @@ use Rattle.std.proofs.Common.{◌≡◌, ◌≤◌, ◌<◌, ◌+◌, ◌∙◌,
 use Rattle.std.specs.Option.{option_map_or}
 use Rattle.std.proofs.lemmas.List.{drop_more, drop_all}
 use Rattle.std.proofs.lemmas.Option.{slice_get_cases, slice_get_within, get_or_from_slice_get}
+use Rattle.base_types.specs.declared.command.Command.TheVariants as commands
 use Rattle.base_types.specs.declared.row.Row.TheVariants as rows
 use Rattle.base_types.specs.declared.scan.Purpose.TheVariants as scans
 use Rattle.local_caches.specs.Kept.{Read as KeptRead}
 use Rattle.ddl_effect.specs.Plans.{Plan, Act, Done, Fails, Absent, Do, Lookup, Open, Search, Read, Lock, Write}
 use Rattle.ddl_effect.specs.Stages.{plan_at}
 use Rattle.history_model.specs.Writes.{is_empty}
-use Rattle.cacheless.specs.Types.{Mode, Row, Purpose, Command, Scenario, Entry, Event}
+use Rattle.lock_modes.specs.Own.{has_lock}
+use Rattle.lock_modes.specs.Rooms.{Roomy}
+use Rattle.cacheless.specs.Types.{Mode, Row, Purpose, Command, Scenario, Entry, Event, OwnLock}
 use Rattle.cacheless.specs.declared.progress.Progress.{Progress}
 use Rattle.cacheless.specs.Facts.{Facts, facts_of}
-use Rattle.cacheless.specs.Session.{Session, Badly, outcome_of, is_settled, first_of}
+use Rattle.cacheless.specs.Session.{Session, Badly, Well, Unsettled, outcome_of, is_settled, first_of}
 use Rattle.cacheless.specs.Owed.{owed_at_start, owed_after, builds_owed, act_owed, owed_of, has_looked}
 use Rattle.cacheless.specs.Ends.{End, Ends, Commits, TakesBack, end_left, end_of, next_of_end}
-use Rattle.cacheless.specs.Settled.{if_locked, has_accepted, gives, looked_up, act_done, done_here, acted_on, is_finished, settled}
-use Rattle.cacheless.specs.State.{owed_at, is_quiet, owed_first, running_of, Kept, kept_at, rows_kept, is_kept, builds_missing, act_missing, scans_missing, end_at, Rest, session_at}
+use Rattle.cacheless.specs.Settled.{if_locked, has_taken_no_other, has_accepted, gives, looked_up, act_done, done_here, acted_on, is_finished, settled}
+use Rattle.cacheless.specs.State.{owed_at, is_quiet, owed_first, running_of, Kept, kept_at, rows_kept, is_kept, builds_missing, act_missing, scans_missing, row_sought, is_out, end_in_well, end_in_badly, end_at, Rest, session_at}
 use Rattle.cacheless.specs.May.{lacks_any, owes_nothing}
 use Rattle.cacheless.specs.Silently.{has_accepted_at, looks_up_at, gives_at, gives_next, acts_on, is_ends, is_finished_at}
 use Rattle.cacheless.specs.Holds.{AreRight, FactsFit, Holds, Rests}
@@ -171,3 +174,46 @@ settled_at_rest scenario seen s rests = by_command (slice_get s.commands s.finis
     by_command : (o : Option Command) → slice_get s.commands s.finished ≡ o → settled (facts_of seen s.id) (drop s.finished s.commands) (session_at s rests.holds.rest) ≡ session_at s rests.holds.rest
     by_command None at = rests_after_all scenario seen s rests.holds at
     by_command (Some command) at = let stays = rests.still command at in rests_here scenario seen s command rests.holds at stays.0 stays.1
+
+-- room for more locks changes nothing of that
+gives_reserved : (s : Progress) (locks : Roomy OwnLock) → locks.items ≡ s.locks.items → (p : Plan) → gives_next (record s { locks = locks }) p ≡ gives_next s p
+gives_reserved s locks same (Do (Lookup name mode) rest) = by_row (row_sought s name)
+  where
+    by_row : (o : Option Row) → is_some (looks_up_at (record s { locks = locks }) mode o) ≡ is_some (looks_up_at s mode o)
+    by_row (Some (rows.Class oid own kind fill)) = ap (λ (l : List OwnLock). is_some (if_locked (has_lock l oid mode && has_taken_no_other s.taken oid) (rows.Class oid own kind fill ∷ []))) same
+    by_row o = refl
+gives_reserved s locks same (Do (Lock rel mode) rest) = ap (λ (l : List OwnLock). is_some (if_locked (has_lock l rel mode) [])) same
+gives_reserved s locks same (Do act rest) = refl
+gives_reserved s locks same p = refl
+
+well_reserved : (s : Progress) (locks : Roomy OwnLock) (command : Command) → end_in_well (record s { locks = locks }) command ≡ end_in_well s command
+well_reserved s locks commands.Begin = refl
+well_reserved s locks commands.Commit = refl
+well_reserved s locks commands.Rollback = refl
+well_reserved s locks (commands.RollbackTo name) = refl
+well_reserved s locks command = refl
+
+end_reserved : (s : Progress) (locks : Roomy OwnLock) (command : Command) → end_at (record s { locks = locks }) command ≡ end_at s command
+end_reserved s locks command = ap (λ (e : End). elim (outcome_of (plan_at s.opens s.exec)) as (λ x. End) [ Well ↦ e | Badly ↦ end_in_badly s | Unsettled ↦ Ends ]) (well_reserved s locks command)
+
+pub rests_reserved : (scenario : Scenario) (seen : List Entry) (s : Progress) (locks : Roomy OwnLock) → locks.items ≡ s.locks.items → Rests scenario seen s → Rests scenario seen (record s { locks = locks })
+rests_reserved scenario seen s locks same rests = record {
+  holds = let h = rests.holds in record {
+    number = h.number;
+    commands = h.commands;
+    few = h.few;
+    most = h.most;
+    rest = h.rest;
+    count = h.count;
+    is = h.is ∙ (λ i. Some (settled (facts_of seen s.id) (drop s.finished s.commands) (record (session_at s h.rest) { locks = sym same i })));
+    facts = let f = h.facts in record { running = f.running; lists = f.lists; owed = f.owed; quiet = f.quiet; usable = f.usable; kept = f.kept };
+    counts = h.counts;
+    order = h.order;
+    sought = h.sought;
+    puts = h.puts;
+  };
+  still = λ command here. let still = rests.still command here in (
+    ap (λ t. owes_nothing command s && t) (gives_reserved s locks same (plan_at s.opens s.exec)) ∙ still.0,
+    ap (λ e. is_out s && (s.ended || is_ends e) && owes_nothing command s) (end_reserved s locks command) ∙ still.1,
+  );
+}

@@ -1,5 +1,5 @@
 -- What is asked of a plan by what it wants next.
-use Rattle.std.proofs.Common.{◌≡◌, ℕ, Bool, false, not, Option, None, List, [], ap, ◌∷◌, ◌&&◌, refl, is_some}
+use Rattle.std.proofs.Common.{◌≡◌, ℕ, Bool, true, false, not, Option, None, List, [], ap, ◌∷◌, ◌&&◌, ◌⊎◌, inl, inr, ◌∙◌, cond, refl, is_some}
 use Rattle.std.specs.Option.{option_map_or}
 use Rattle.std.specs.List.{cons_option, find}
 use Rattle.base_types.specs.Scans.{same_oid, build_scans}
@@ -8,14 +8,18 @@ use Rattle.base_types.specs.declared.scan.Purpose.TheVariants as scans
 use Rattle.ddl_effect.specs.declared.want.Want.{Want}
 use Rattle.ddl_effect.specs.declared.want.Want.TheVariants as wants
 use Rattle.ddl_effect.specs.Plans.{Plan, Done, Fails, Absent, Do, Lookup, Open, Search, Read, Lock, left_rests_on, told_rests_on}
-use Rattle.ddl_effect.specs.Stages.{want_of}
-use Rattle.txn_blocks.specs.Blocks.{Blocks, Level, blocks_badly}
+use Rattle.ddl_effect.specs.Stages.{want_of, told_of}
+use Rattle.lock_modes.specs.Own.{has_lock}
+use Rattle.txn_blocks.specs.Blocks.{Block, Blocks, Level, blocks_badly}
 use Rattle.ddl_effect.proofs.Driven.{fails_is, absent_is}
-use Rattle.cacheless.specs.Types.{Oid, Mode, Kind, Row, Purpose, Command, CommandError, OpenRelation, Opening}
-use Rattle.cacheless.specs.Session.{Badly, Unsettled, outcome_of}
-use Rattle.cacheless.specs.Settled.{opens_badly, opens_passed}
-use Rattle.cacheless.specs.State.{kept_at, is_kept, row_sought, row_next, blocks_passed}
+use Rattle.history_model.specs.Writes.{is_empty}
+use Rattle.cacheless.specs.Types.{Oid, Mode, Kind, Row, Purpose, Command, CommandError, OpenRelation, Opening, OwnLock}
+use Rattle.cacheless.specs.Session.{Badly, Unsettled, outcome_of, is_settled}
+use Rattle.cacheless.specs.Settled.{if_locked, opens_badly, opens_passed}
+use Rattle.cacheless.specs.State.{Kept, kept_at, is_kept, missing, row_sought, row_next, blocks_passed}
 use Rattle.cacheless.specs.May.{is_missing, is_first_missing, is_next_of_act, lacks_to_build, is_lock_at, is_unlock_at, names_relation}
+use Rattle.cacheless.specs.Silently.{looks_up_at, gives_next, opened_for}
+use Rattle.cacheless.specs.Told.{told_well, told_left}
 use Rattle.cacheless.specs.declared.progress.Progress.{Progress}
 
 -- the lock that it asks for
@@ -149,3 +153,100 @@ row_wanted s plan = refl
 pub no_row : (s : Progress) (want : Want) → ((name : List ℕ) (m : Mode) → want ≡ wants.Lookup name m → ⊥) → row_of_want s want ≡ None
 no_row s (wants.Lookup name m) lookup = absurd (lookup name m refl)
 no_row s want lookup = refl
+
+-- whether its command has come out
+abbrev pub out_of_want : Want → Bool
+out_of_want (wants.Done told) = true
+out_of_want (wants.Fails error) = true
+out_of_want (wants.Absent name) = true
+out_of_want want = false
+
+pub out_wanted : (plan : Plan) → is_settled (outcome_of plan) ≡ out_of_want (want_of plan)
+out_wanted (Do (Lookup name mode) rest) = refl
+out_wanted (Do act rest) = refl
+out_wanted plan = refl
+
+pub not_out : (want : Want) → ((told : Option Purpose) → want ≡ wants.Done told → ⊥) → ((error : CommandError) → want ≡ wants.Fails error → ⊥) → ((name : List ℕ) → want ≡ wants.Absent name → ⊥) → out_of_want want ≡ false
+not_out (wants.Done told) done fails absent = absurd (done told refl)
+not_out (wants.Fails error) done fails absent = absurd (fails error refl)
+not_out (wants.Absent name) done fails absent = absurd (absent name refl)
+not_out want done fails absent = refl
+
+pub is_out_of : (want : Want) → ((told : Option Purpose) × (want ≡ wants.Done told)) ⊎ ((error : CommandError) × (want ≡ wants.Fails error)) ⊎ ((name : List ℕ) × (want ≡ wants.Absent name)) → out_of_want want ≡ true
+is_out_of want (inl (told, is)) = ap out_of_want is
+is_out_of want (inr (inl (error, is))) = ap out_of_want is
+is_out_of want (inr (inr (name, is))) = ap out_of_want is
+
+-- whether it has failed
+abbrev pub failed_of_want : Want → Bool
+failed_of_want (wants.Fails error) = true
+failed_of_want (wants.Absent name) = true
+failed_of_want want = false
+
+pub failed_wanted : (plan : Plan) → elim (outcome_of plan) as (λ x. Bool) [ Badly ↦ true | other ↦ false ] ≡ failed_of_want (want_of plan)
+failed_wanted (Do (Lookup name mode) rest) = refl
+failed_wanted (Do act rest) = refl
+failed_wanted plan = refl
+
+pub not_failed : (want : Want) → ((error : CommandError) → want ≡ wants.Fails error → ⊥) → ((name : List ℕ) → want ≡ wants.Absent name → ⊥) → failed_of_want want ≡ false
+not_failed (wants.Fails error) fails absent = absurd (fails error refl)
+not_failed (wants.Absent name) fails absent = absurd (absent name refl)
+not_failed want fails absent = refl
+
+pub has_failed_of : (want : Want) → ((error : CommandError) × (want ≡ wants.Fails error)) ⊎ ((name : List ℕ) × (want ≡ wants.Absent name)) → failed_of_want want ≡ true
+has_failed_of want (inl (error, is)) = ap failed_of_want is
+has_failed_of want (inr (name, is)) = ap failed_of_want is
+
+-- whether its next act is given rows without an entry
+abbrev pub gives_of_want : Progress → Want → Bool
+gives_of_want s (wants.Lookup name mode) = is_some (looks_up_at s mode (row_sought s name))
+gives_of_want s (wants.Open rel kind) = true
+gives_of_want s (wants.Search scan) = true
+gives_of_want s (wants.Read scan) = true
+gives_of_want s (wants.Lock rel mode) = has_lock s.locks.items rel mode
+gives_of_want s want = false
+
+some_locked : (t : Bool) → is_some (if_locked t []) ≡ t
+some_locked true = refl
+some_locked false = refl
+
+pub gives_wanted : (s : Progress) (plan : Plan) → gives_next s plan ≡ gives_of_want s (want_of plan)
+gives_wanted s (Do (Lookup name mode) rest) = refl
+gives_wanted s (Do (Lock rel mode) rest) = some_locked (has_lock s.locks.items rel mode)
+gives_wanted s (Do act rest) = refl
+gives_wanted s plan = refl
+
+pub no_gives : (s : Progress) (want : Want) → ((name : List ℕ) (m : Mode) → want ≡ wants.Lookup name m → ⊥) → ((rel : Oid) (mode : Mode) → want ≡ wants.Lock rel mode → ⊥) → ((rel : Oid) (kind : Kind) → want ≡ wants.Open rel kind → ⊥) → ((scan : Purpose) → want ≡ wants.Search scan → ⊥) → ((scan : Purpose) → want ≡ wants.Read scan → ⊥)
+    → gives_of_want s want ≡ false
+no_gives s (wants.Lookup name m) lookup lock opens search read = absurd (lookup name m refl)
+no_gives s (wants.Lock rel mode) lookup lock opens search read = absurd (lock rel mode refl)
+no_gives s (wants.Open rel kind) lookup lock opens search read = absurd (opens rel kind refl)
+no_gives s (wants.Search scan) lookup lock opens search read = absurd (search scan refl)
+no_gives s (wants.Read scan) lookup lock opens search read = absurd (read scan refl)
+no_gives s want lookup lock opens search read = refl
+
+pub gives_all : (s : Progress) (want : Want) → ((rel : Oid) × (kind : Kind) × (want ≡ wants.Open rel kind)) ⊎ ((scan : Purpose) × (want ≡ wants.Search scan)) ⊎ ((scan : Purpose) × (want ≡ wants.Read scan)) → gives_of_want s want ≡ true
+gives_all s want (inl (rel, kind, is)) = ap (gives_of_want s) is
+gives_all s want (inr (inl (scan, is))) = ap (gives_of_want s) is
+gives_all s want (inr (inr (scan, is))) = ap (gives_of_want s) is
+
+-- what a command answers that has come out well
+pub tells_well : (rows : Purpose → List Row) (places : Purpose → ℕ) (locks : List OwnLock) (block : Block) (command : Command) (plan : Plan) (told : Option Purpose) → want_of plan ≡ wants.Done told → told_left rows places locks block command plan ≡ told_well rows places locks block (told_of plan)
+tells_well rows places locks block command (Done told) rests is = refl
+tells_well rows places locks block command (Fails error) rests is = absurd (cc is)
+tells_well rows places locks block command (Absent name) rests is = absurd (cc is)
+tells_well rows places locks block command (Do (Lookup name mode) rest) rests is = absurd (cc is)
+tells_well rows places locks block command (Do act rest) rests is = absurd (cc is)
+
+-- the one scan on which it rests is missing, or it isn't
+pub one_missing : (kept : Kept) (scan : Purpose) (has : Bool) → has ≡ is_kept kept scan → not (not has) ≡ is_empty (missing kept (scan ∷ []))
+one_missing kept scan has is = ap (λ t. not (not t)) is ∙ by_test (is_kept kept scan)
+  where
+    by_test : (t : Bool) → not (not t) ≡ is_empty (cond (not t) (scan ∷ []) [])
+    by_test true = refl
+    by_test false = refl
+
+-- what it opens
+pub opens_none : (want : Want) → ((rel : Oid) (kind : Kind) → want ≡ wants.Open rel kind → ⊥) → opened_for want ≡ []
+opens_none (wants.Open rel kind) opens = absurd (opens rel kind refl)
+opens_none want opens = refl

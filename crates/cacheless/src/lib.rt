@@ -36,6 +36,11 @@
 //! alone. specs/State has what the code holds in the definitions' words, May what may come next by
 //! these, Silently what is done without an entry, Answering what a command answers by them. The promise
 //! of what it answers is in Telling: that is the command's line.
+//!
+//! What an own entry keeps of a session, and what another's does, is in specs/Awaiting and its laws (proofs/EndEntries,
+//! OwnPlaces, OwnAnswers, OthersEntries): the session that waits for an entry, and right after its own has what its call says,
+//! has the places, the answer and the lines of the longer history. Whoever makes the entry cites these laws: the program's
+//! backend (backend_core), or a history that is judged (history_lines).
 #![tactic(auto)]
 
 mod answering;

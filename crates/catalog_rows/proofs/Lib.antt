@@ -4,7 +4,7 @@ mod Ended
 mod EndedEach
 mod Exact
 mod Found
-mod Fronts
+mod Prefixes
 mod Given
 mod Grown
 mod Listing

@@ -1,5 +1,5 @@
 -- What a gathering sink holds, and what its sink has taken.
-use Rattle.std.proofs.Common.{◌≡◌, ℕ, ◌+◌, ◌-◌, ◌≤◌, true, List, [], ◌++◌, length, take, drop, Option, None, Some, Result, Ok, Err, refl, sym, ap, ◌∙◌, subst, OnOk, zero-add, append_assoc, append-nil, take-append-drop, length-drop, arith}
+use Rattle.std.proofs.Common.{◌≡◌, ℕ, zero, suc, ◌+◌, ◌-◌, ◌<◌, ◌≤◌, ◌==◌, true, false, List, [], ◌++◌, length, take, drop, Option, None, Some, Result, Ok, Err, refl, sym, ap, ◌∙◌, subst, OnOk, zero-add, append_assoc, append-nil, take-append-drop, length-drop, arith}
 use Rattle.std.proofs.lemmas.List.{drop-take, append_cancel_left, length-take-le}
 use Rattle.std.proofs.lemmas.List.Edits.{take-paste}
 use Rattle.std.proofs.Math.Seq.{paste}
@@ -27,6 +27,18 @@ pub let_go_of : (bytes new held : List ℕ) (len count : ℕ) → take len bytes
 let_go_of bytes new held len count is within fits moves =
     let long : length held ≡ len = ap length (sym is) ∙ length-take-le len bytes fits in
     ap (take (len - count)) moves ∙ moved bytes len count (omega arith) fits ∙ ap (drop count) is
+
+-- less is held after some of its first bytes were let go
+pub held_shorter : (held piece new : List ℕ) (count : ℕ) → piece ≡ held → new ≡ drop count held → (0 < length piece → 0 < count) → false ≡ (length held == 0) → length new < length held
+held_shorter held piece new count same is some more =
+    let long : 0 < length held = by (length held) more in
+    let taken : 0 < count = some (subst (λ l. 0 < length l) (sym same) long) in
+    let shorter = ap length is ∙ length-drop count held in
+    omega (arith, long, taken, shorter)
+  where
+    by : (n : ℕ) → false ≡ (n == 0) → 0 < n
+    by zero never = absurd (false≢true never)
+    by (suc n) other = omega arith
 
 -- what a gathering sink tells stays where bytes that it held are handed on
 pub handed_on : (a b c : Option (List ℕ)) (held : List ℕ) (n : ℕ) → Stays a (append_known b held) → Grows b c (take n held) → Stays a (append_known c (drop n held))

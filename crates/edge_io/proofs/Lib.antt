@@ -1,2 +1,4 @@
+pub mod Failing
 pub mod Gathering
+pub mod Giving
 pub mod Sending

@@ -47,7 +47,7 @@ fn of_output(
         (Some(e), due) => {
             let before = entries.get(..reached.entries).unwrap_or(entries);
             let mut text = String::new(alloc);
-            push_line(&mut text, line_at(output, reached.entries))?;
+            push_line(&mut text, whole_line(output, reached.entries))?;
             text.push_str(": ")?;
             match kind {
                 CheckKind::Walk => out_of_turn(alloc, &mut text, script, before, e, due)?,
@@ -61,7 +61,7 @@ fn of_output(
 }
 
 // The line of this number, from 0, with its end.
-fn line_at(text: &[u8], number: usize) -> &[u8] {
+fn whole_line(text: &[u8], number: usize) -> &[u8] {
     text.split_inclusive(|byte| *byte == b'\n')
         .nth(number)
         .unwrap_or(&[])

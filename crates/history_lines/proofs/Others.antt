@@ -1,7 +1,7 @@
 -- Another backend's entry changes nothing of where a backend is.
 use Rattle.std.proofs.Common.{◌≡◌, ◌∙◌, ◌==◌, ◌∷◌, ◌++◌, [], ℕ, Bool, true, false, List, sym, ap}
 use Rattle.history_model.proofs.Reading.{life_of-other}
-use Rattle.cacheless.proofs.Others.{awaits-other, no_entry-other, lines-other}
+use Rattle.cacheless.proofs.OthersEntries.{awaits-other, no_entry-other, lines-other}
 use Rattle.history_lines.specs.Stands.{HasNoEntry, HasStopped, IsGoing, Awaits, Over, Stands, IsSessionOf}
 use Rattle.history_lines.specs.Types.{Scenario, Entry, Session as Held}
 

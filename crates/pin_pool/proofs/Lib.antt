@@ -1,1 +1,3 @@
+mod Changing
+mod Pins
 pub mod Refs

@@ -6,4 +6,5 @@ pub mod LineForms
 pub mod Grammar
 pub mod Drafts
 pub mod Spelling
+pub mod Alterations
 pub mod ReadBack

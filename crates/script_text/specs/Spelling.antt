@@ -99,22 +99,6 @@ command_pieces (CreateIndex name on_table columns) = codes "create index" ∷ na
 command_pieces (DropIndex name) = codes "drop index" ∷ name ∷ []
 command_pieces (RenameIndex name to) = codes "alter index" ∷ name ∷ codes "rename to" ∷ to ∷ []
 
--- the command alters a table
-abbrev pub is_alteration : Command → Bool
-is_alteration (RenameTable name to) = true
-is_alteration (AddColumn name column col_type) = true
-is_alteration (DropColumn name column) = true
-is_alteration (RenameColumn name column to) = true
-is_alteration (SetDefault name column word) = true
-is_alteration (SetStatistics name column stat) = true
-is_alteration (SetFillfactor name fill) = true
-is_alteration (AddCheck name constraint text valid) = true
-is_alteration (AddForeign name constraint column refers ref_column valid) = true
-is_alteration (ValidateConstraint name constraint) = true
-is_alteration (DropConstraint name constraint) = true
-is_alteration (SetTrigger name trigger on) = true
-is_alteration command = false
-
 -- the end of a line
 abbrev pub line_end : List ℕ
 line_end = 10 ∷ []

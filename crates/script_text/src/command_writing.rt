@@ -2,7 +2,8 @@ ghost use Rattle.std.specs.Prelude.{◌≡◌, ◌++◌, true, [], ◌∷◌, de
 ghost use Rattle.std.specs.Fmt.{signed_decimal};
 ghost use Rattle.base_types.specs.Words.{type_word};
 ghost use Rattle.script_text.specs.Operands.{lock_words};
-ghost use Rattle.script_text.specs.Spelling.{AddsPieces, is_alteration, command_pieces, shown_pieces, valid_pieces, trigger_words as words_of_trigger, listed, column_pieces, name_pieces};
+ghost use Rattle.script_text.specs.Alterations.{is_alteration};
+ghost use Rattle.script_text.specs.Spelling.{AddsPieces, command_pieces, shown_pieces, valid_pieces, trigger_words as words_of_trigger, listed, column_pieces, name_pieces};
 
 use crate::adding_pieces::{named, number, piece, signed, two_names, words};
 use crate::operands;

@@ -36,7 +36,6 @@ impl<V: Turned> TurnTable<V> {
 
     /// A table of this value, with a pass for each seat, in order. There are 1 to 64 seats, and nothing
     /// waits for any of them. Out of memory, the value is dropped.
-    #[tactic(auto, using(crate::proofs::Numbering::numbered))]
     pub fn new(
         alloc: Global,
         value: V,

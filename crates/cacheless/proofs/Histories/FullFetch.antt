@@ -1,10 +1,9 @@
--- A fetch of 32 messages asks for a further look; the output is tests/runs/32_messages_before_an_absent_name.output.
+-- A fetch of 32 messages asks for a further look, as in tests/runs/32_messages_before_the_scan_of_a_name.output, with other names.
 use Rattle.std.proofs.Common.{◌++◌, true, false, None, List, [], ◌∷◌, codes}
 use Rattle.base_types.specs.Scenario.{Scenario}
-use Rattle.base_types.specs.declared.scan.Purpose.TheVariants as scans
 use Rattle.base_types.specs.declared.command.Command.TheVariants as commands
 use Rattle.event_kinds.specs.declared.entry.Entry.{Entry}
-use Rattle.event_kinds.specs.declared.entry.Event.TheVariants.{Start, Look, Fetch, Scan, Write, Visible, Publish, Release, Stop}
+use Rattle.event_kinds.specs.declared.entry.Event.TheVariants.{Start, Look, Fetch, Write, Visible, Publish, Release}
 use Rattle.cacheless.proofs.Plans.Given.{xid, entry, placed, turns, script, wide_columns, wide_table}
 
 abbrev pub fetch_of_exactly_32 : Scenario
@@ -33,21 +32,3 @@ fetched = looked ++ entry 2 1 (Fetch 32) ∷ []
 
 abbrev pub looked_again : List Entry
 looked_again = fetched ++ entry 2 1 (Look false) ∷ []
-
-abbrev pub looked_before_name : List Entry
-looked_before_name = looked_again ++ entry 2 1 (Look false) ∷ []
-
-abbrev pub name_scanned : List Entry
-name_scanned = looked_before_name ++ entry 2 1 (Scan (scans.RelName (codes "u")) 0) ∷ []
-
-abbrev pub accepted : List Entry
-accepted = name_scanned ++ entry 2 1 (Look false) ∷ []
-
-abbrev pub ended : List Entry
-ended = accepted ++ entry 2 1 (Release 1) ∷ []
-
-abbrev pub stopped : List Entry
-stopped = ended ++ entry 2 2 Stop ∷ []
-
-abbrev pub writer_stopped : List Entry
-writer_stopped = stopped ++ entry 1 2 Stop ∷ []

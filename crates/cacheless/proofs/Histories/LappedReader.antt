@@ -1,14 +1,9 @@
--- A backend that sleeps is lapped and reset; the output is tests/runs/lapped_between_two_lookups.output.
-use Rattle.std.proofs.Common.{◌++◌, true, false, None, List, [], ◌∷◌, codes}
-use Rattle.base_types.specs.Scenario.{Scenario}
+-- A backend that sleeps is lapped and reset, as in tests/runs/lapped_between_two_lookups.output.
+use Rattle.std.proofs.Common.{◌++◌, true, false, List, [], ◌∷◌, codes}
 use Rattle.base_types.specs.declared.scan.Purpose.TheVariants as scans
-use Rattle.base_types.specs.declared.command.Command.TheVariants as commands
 use Rattle.event_kinds.specs.declared.entry.Entry.{Entry}
 use Rattle.event_kinds.specs.declared.entry.Event.TheVariants.{Start, Look, FetchReset, Scan, Write, Visible, Publish, Release, Stop}
-use Rattle.cacheless.proofs.Plans.Given.{xid, entry, placed, turns, small_queue, wide_columns, wide_table}
-
-abbrev pub lapped_reader : Scenario
-lapped_reader = small_queue 2 (placed 2 (commands.Show (codes "u") None) ∷ placed 2 (commands.Show (codes "u") None) ∷ placed 1 (commands.CreateTable (codes "w") (wide_columns 67)) ∷ []) ((turns 2 7 ∷ turns 1 8 ∷ turns 2 7 ∷ turns 1 1 ∷ []) ∷ [])
+use Rattle.cacheless.proofs.Plans.Given.{xid, entry, wide_table}
 
 abbrev pub reader_started : List Entry
 reader_started = entry 2 0 Start ∷ []

@@ -1,9 +1,9 @@
--- The oid of a table that was rolled back isn't drawn again; the output is tests/runs/oids_not_drawn_again.output.
+-- The oid of a table that was rolled back isn't drawn again, as in tests/runs/oids_not_drawn_again.output.
 use Rattle.std.proofs.Common.{◌++◌, false, List, [], ◌∷◌, codes}
 use Rattle.base_types.specs.Scenario.{Scenario}
 use Rattle.base_types.specs.declared.command.Command.TheVariants as commands
 use Rattle.event_kinds.specs.declared.entry.Entry.{Entry}
-use Rattle.event_kinds.specs.declared.entry.Event.TheVariants.{Start, Look, Write, Visible, Publish, Release, Gone, Stop}
+use Rattle.event_kinds.specs.declared.entry.Event.TheVariants.{Start, Look, Write, Visible, Publish, Release, Gone}
 use Rattle.cacheless.proofs.Plans.Given.{xid, entry, placed, script, creating, new_table}
 
 abbrev pub oids_are_not_drawn_again : Scenario
@@ -35,6 +35,3 @@ published = visible ++ entry 1 4 (Publish 3) ∷ entry 1 4 (Publish 1) ∷ []
 
 abbrev pub ended : List Entry
 ended = published ++ entry 1 4 (Release 4) ∷ []
-
-abbrev pub stopped : List Entry
-stopped = ended ++ entry 1 5 Stop ∷ []

@@ -1,15 +1,10 @@
--- The holder that is named is the first of those that conflict, in the order of their grants; the output is tests/runs/first_of_two_holders.output.
+-- Two backends hold locks, and a third is about to be refused, as in tests/runs/first_of_two_holders.output.
 use Rattle.std.proofs.Common.{◌++◌, true, false, List, [], ◌∷◌, codes}
-use Rattle.base_types.specs.Scenario.{Scenario}
-use Rattle.base_types.specs.declared.mode.Mode.TheVariants.{AccessShare, Share, AccessExclusive}
+use Rattle.base_types.specs.declared.mode.Mode.TheVariants.{AccessShare, Share}
 use Rattle.base_types.specs.declared.scan.Purpose.TheVariants as scans
-use Rattle.base_types.specs.declared.command.Command.TheVariants as commands
 use Rattle.event_kinds.specs.declared.entry.Entry.{Entry}
-use Rattle.event_kinds.specs.declared.entry.Event.TheVariants.{Start, Look, Fetch, LockOk, LockHeld, Scan, Write, Visible, Publish, Release}
-use Rattle.cacheless.proofs.Plans.Given.{oid, xid, entry, placed, turns, script, creating, new_table}
-
-abbrev pub holders_in_order_of_grant : Scenario
-holders_in_order_of_grant = script 3 (placed 1 (creating (codes "t") (codes "a")) ∷ placed 1 commands.Begin ∷ placed 1 (commands.LockTable (codes "t") Share) ∷ placed 2 commands.Begin ∷ placed 2 (commands.LockTable (codes "t") AccessShare) ∷ placed 3 commands.Begin ∷ placed 3 (commands.LockTable (codes "t") AccessExclusive) ∷ []) ((turns 1 13 ∷ turns 2 6 ∷ turns 3 6 ∷ []) ∷ [])
+use Rattle.event_kinds.specs.declared.entry.Event.TheVariants.{Start, Look, Fetch, LockOk, Scan, Write, Visible, Publish, Release}
+use Rattle.cacheless.proofs.Plans.Given.{oid, xid, entry, new_table}
 
 abbrev pub created : List Entry
 created = entry 1 0 Start ∷ entry 1 1 (Look false) ∷ entry 1 1 (Write (xid 1) (new_table 16384 (codes "t") (codes "a"))) ∷ entry 1 1 (Visible (xid 1)) ∷ entry 1 1 (Publish 3) ∷ entry 1 1 (Publish 1) ∷ entry 1 1 (Release 1) ∷ []
@@ -37,9 +32,3 @@ third_begun = second_locked ++ entry 3 0 Start ∷ entry 3 1 (Look false) ∷ []
 
 abbrev pub third_scanned : List Entry
 third_scanned = third_begun ++ entry 3 2 (Look false) ∷ entry 3 2 (Scan (scans.RelName (codes "t")) 1) ∷ []
-
-abbrev pub third_refused : List Entry
-third_refused = third_scanned ++ entry 3 2 (LockHeld (oid 16384) AccessExclusive 1 Share) ∷ []
-
-abbrev pub third_released : List Entry
-third_released = third_refused ++ entry 3 2 (Release 1) ∷ []

@@ -1,4 +1,4 @@
--- Two backends want one name; the output is tests/runs/two_creators_first_commits.output.
+-- Two backends want one name, as in tests/runs/two_creators_first_commits.output.
 use Rattle.std.proofs.Common.{◌++◌, true, false, List, [], ◌∷◌, codes}
 use Rattle.base_types.specs.Scenario.{Scenario}
 use Rattle.base_types.specs.declared.command.Command.TheVariants as commands
@@ -56,6 +56,3 @@ second_clashed_again = second_fetched ++ entry 2 2 (ClashRow (codes "x") (oid 16
 
 abbrev pub second_released_again : List Entry
 second_released_again = second_clashed_again ++ entry 2 2 (Release 2) ∷ []
-
-abbrev pub second_stopped : List Entry
-second_stopped = second_released_again ++ entry 2 3 Stop ∷ []

@@ -1,6 +1,6 @@
 use Rattle.std.proofs.Common.{rules, arith}
 use Rattle.history_model.specs.Drawn.{made_by}
-use Rattle.history_ledger.proofs.Answers.{flat_map_next, flat_map_done}
+use Rattle.history_ledger.proofs.OverLists.{flat_map_next, flat_map_done}
 use Rattle.history_ledger.proofs.changing.relations_made.Goals as goal
 
 pub loop-item-preserved : goal.loop-item-preserved

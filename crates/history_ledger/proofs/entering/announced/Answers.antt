@@ -1,6 +1,6 @@
 use Rattle.std.proofs.Common.{◌∙◌, arith}
 use Rattle.history_ledger.specs.Enters.{messages_at}
-use Rattle.history_ledger.proofs.Answers.{flat_map_next, flat_map_done}
+use Rattle.history_ledger.proofs.OverLists.{flat_map_next, flat_map_done}
 use Rattle.history_ledger.proofs.entering.announced.Goals as goal
 
 pub loop-item-preserved : goal.loop-item-preserved

@@ -71,3 +71,6 @@ returns g c = let V = g.V.Turned in let i = c.loop-number.invariant in let p = c
       (let l = length_push c.loop-number.passes.items c.push_reserved-2.new.self.items _ p.items in omega (arith, a, t, high, l)),
       numbered_push V.fixed V.history V.owner V.waiting V.room c.args.shared.now.table_id c.args.shared.now.key 1 c.loop-number.passes.items c.push_reserved-2.new.self.items _ (λ p. (p.number, p.seat)) p.items i.7 (omega (arith, a)) i.5 last,
     )
+
+pub overflow_add-number : goal.overflow_add-number
+overflow_add-number g c = omega (arith, c.loop-number-test.true, c.ranges.seats.fits)

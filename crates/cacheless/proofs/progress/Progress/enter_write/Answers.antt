@@ -1,7 +1,7 @@
 use Rattle.std.proofs.Common.{◌∙◌, ap, Some}
+use Rattle.txn_blocks.specs.declared.transaction.RunningTransaction.{RunningTransaction}
 use Rattle.cacheless.specs.Session.{held_in}
 use Rattle.cacheless.specs.State.{locks_accepted}
-use Rattle.txn_blocks.specs.declared.transaction.RunningTransaction.{RunningTransaction}
 use Rattle.cacheless.proofs.Entries.EntryCodes.{write_code}
 use Rattle.cacheless.proofs.progress.Progress.enter_write.Goals as goal
 
@@ -16,3 +16,9 @@ invariant_of-self-in-Break-branch-3 c = record { known = c.forget.ensures _ _ }
 
 pub invariant_of-self-in-Break-branch-4 : goal.invariant_of-self-in-Break-branch-4
 invariant_of-self-in-Break-branch-4 c = record { known = c.forget.ensures _ _ }
+
+pub returns-clause-kept : goal.returns-clause-kept
+returns-clause-kept c = c.in_ok-pin_anew.ensures ∙ c.execute.ensures
+
+pub invariant_of-self-2 : goal.invariant_of-self-2
+invariant_of-self-2 c = record { known = c.find.ensures }

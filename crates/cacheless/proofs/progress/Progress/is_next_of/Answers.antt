@@ -8,3 +8,13 @@ returns-in_default c =
     sym (next_wanted c.args.scan.now c.args.self.now (plan_at c.args.self.now.opens c.args.self.now.exec)
     ∙ ap (next_of_want c.args.scan.now c.args.self.now) c.requires.want
     ∙ no_next c.args.scan.now c.args.self.now c.args.want.now c.in_default.not-Lookup c.in_default.not-Search c.in_default.not-Open c.in_default.not-Done)
+
+pub returns-in-Search : goal.returns-in-Search
+returns-in-Search c =
+    c.is_missing-in-Search.ensures
+    ∙ sym (next_wanted c.args.scan.now c.args.self.now (plan_at c.args.self.now.opens c.args.self.now.exec) ∙ ap (next_of_want c.args.scan.now c.args.self.now) (c.requires.want ∙ c.in-Search.is))
+
+pub returns-in-Lookup : goal.returns-in-Lookup
+returns-in-Lookup c =
+    c.is_missing.ensures
+    ∙ sym (next_wanted c.args.scan.now c.args.self.now (plan_at c.args.self.now.opens c.args.self.now.exec) ∙ ap (next_of_want c.args.scan.now c.args.self.now) (c.requires.want ∙ c.in-Lookup.is))

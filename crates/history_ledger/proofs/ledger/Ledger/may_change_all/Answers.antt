@@ -8,7 +8,7 @@ use Rattle.history_ledger.specs.Standing.{standing_of, xid_in}
 use Rattle.history_ledger.specs.Writing.{may_change, old_at}
 use Rattle.history_ledger.specs.declared.ledger.Ledger.{Ledger}
 use Rattle.history_ledger.specs.declared.own.Own.{Own}
-use Rattle.history_ledger.proofs.Answers.{all_at}
+use Rattle.history_ledger.proofs.OverLists.{all_at}
 use Rattle.history_ledger.proofs.ledger.Ledger.may_change_all.Goals as goal
 
 abbrev allowed : Ledger → Own → ℕ → List Item → Item → Bool

@@ -1,4 +1,5 @@
-use Rattle.std.proofs.Common.{arith, ◌<◌, ◌+◌, ◌∙◌, refl, sym, ap, subst}
+use Rattle.std.proofs.Common.{arith, ◌<◌, ◌+◌, ◌∙◌, ◌∷◌, None, refl, sym, ap, subst}
+use Rattle.atomic_table.specs.Table.{rest}
 use Rattle.turn_table.specs.Views.{words_in}
 use Rattle.turn_table.proofs.Lists.{told_seats}
 use Rattle.turn_table.proofs.Steps.{rings}
@@ -38,3 +39,6 @@ returns g c = let V = g.V.Turned in let t = c.args.turn in let e = c.exchange-em
       room = h.room_is;
       told = h.told;
     }
+
+pub exchange-empty-requires : goal.exchange-empty-requires
+exchange-empty-requires g c = let carried = ap (λ m. m.1) c.args.turn.turns in (c.requires.of.0, (None, carried ∙ ap (λ l. (0, None) ∷ rest l) (sym carried)))

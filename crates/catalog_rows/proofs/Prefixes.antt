@@ -1,10 +1,10 @@
--- The first slots, after others came behind them or went.
+-- The first slots, after others were added or taken off.
 use Rattle.std.proofs.Common.{◌≡◌, ◌+◌, ◌-◌, ◌∙◌, ℕ, List, ◌++◌, length, take, ap, arith}
 use Rattle.std.proofs.lemmas.List.{take_all, take-take, take-append-le, length-take-le}
 
--- what came behind is not among them
-pub front_kept : {X : Type 0} (n : ℕ) (old more new : List X) → n ≡ length old → new ≡ old ++ more → take n new ≡ old
-front_kept n old more new is grown = ap (take n) grown ∙ take-append-le n old more (omega (arith, is)) ∙ take_all n old (omega (arith, is))
+-- what is added isn't among them
+pub prefix_kept : {X : Type 0} (n : ℕ) (old more new : List X) → n ≡ length old → new ≡ old ++ more → take n new ≡ old
+prefix_kept n old more new is grown = ap (take n) grown ∙ take-append-le n old more (omega (arith, is)) ∙ take_all n old (omega (arith, is))
 
 -- one more is taken off
 pub one_off : {X : Type 0} (n turn size : ℕ) (old now new : List X) → n ≡ length old → size ≡ length now → now ≡ take (n - turn) old → new ≡ take (size - 1) now → new ≡ take (n - (turn + 1)) old

@@ -1,4 +1,4 @@
--- Another backend's entry changes nothing of where a backend is.
+-- Another backend's entry leaves a session waiting where it is: its places, its answer and its lines.
 use Rattle.std.proofs.Common.{◌≡◌, ◌∙◌, ◌==◌, ◌∷◌, ◌++◌, [], ℕ, false, Option, Some, None, List, sym, ap, drop, refl}
 use Rattle.std.specs.Option.{option_map_or}
 use Rattle.ddl_effect.specs.Commands.{commands_of}
