@@ -1,7 +1,8 @@
 -- The looks that a backend makes between two of its turns.
-use Rattle.std.proofs.Common.{◌≡◌, ◌<◌, ℕ, zero, suc, Bool, List, [], ◌∷◌, ◌++◌, refl, sym, subst, append_assoc, append-nil, length, take, get_or, arith}
+use Rattle.std.proofs.Common.{◌≡◌, ◌<◌, ◌+◌, ◌∙◌, ℕ, zero, suc, Bool, List, [], ◌∷◌, ◌++◌, refl, sym, ap, subst, append_assoc, append-nil, length, take, map, get_or, arith}
+use Rattle.std.proofs.lemmas.List.{take_more, map-append}
 use Rattle.history_model.proofs.Sound.{sound_is_legal}
-use Rattle.seg_calls.specs.Calls.{MayCall}
+use Rattle.seg_calls.specs.Calls.{MayCall, Appends}
 use Rattle.cacheless.proofs.Allowed.AllowedHistories.{played_more}
 use Rattle.backend_core.specs.Types.{Scenario, Entry, Next, Backend}
 use Rattle.backend_core.specs.declared.life.Life.TheVariants as lives
@@ -9,7 +10,7 @@ use Rattle.backend_core.specs.declared.look_for.LookFor.{LookFor}
 use Rattle.backend_core.specs.declared.next.Next.TheVariants as nexts
 use Rattle.backend_core.specs.declared.turns.HeldLook.{HeldLook}
 use Rattle.backend_core.specs.Agrees.{IsReady}
-use Rattle.backend_core.specs.Looks.{next_of_look, want_of_next, look_of, LooksWherever, IsRight, ToEnter, Wants, MakesLook, entry_held, entries_of, MayCallAll}
+use Rattle.backend_core.specs.Looks.{next_of_look, want_of_next, look_of, LooksWherever, IsRight, ToEnter, Wants, MakesLook, entry_held, entries_of, MayCallAll, TakesPlaces}
 use Rattle.backend_core.specs.Steps.{IsNextOf}
 use Rattle.backend_core.proofs.Entries.Looking.{looks_call}
 use Rattle.backend_core.proofs.Stepped.{is_ready}
@@ -44,3 +45,14 @@ call_at scenario before b (look ∷ held) (suc i) d less each = subst (λ h. May
 -- the same where those before it are handed over
 pub handed_call : (scenario later : Scenario) (before now : List Entry) (b : ℕ) (held : List HeldLook) (i : ℕ) (d : HeldLook) → later ≡ scenario → now ≡ before ++ entries_of b (take i held) → i < length held → MayCallAll scenario before (entries_of b held) → MayCall later now (entry_held b (get_or held i d))
 handed_call scenario later before now b held i d same is less each = subst (λ k. MayCall k now (entry_held b (get_or held i d))) (sym same) (subst (λ h. MayCall scenario h (entry_held b (get_or held i d))) (sym is) (call_at scenario before b held i d less each))
+
+-- one more is handed over, by which the history grows and a place is taken
+pub handed_more : (before old new : List Entry) (b : ℕ) (held : List HeldLook) (i : ℕ) (d : HeldLook) → i < length held → old ≡ before ++ entries_of b (take i held) → new ≡ old ++ entry_held b (get_or held i d) ∷ [] → new ≡ before ++ entries_of b (take (i + 1) held)
+handed_more before old new b held i d less is more = more ∙ ap (λ h. h ++ entry_held b (get_or held i d) ∷ []) is ∙ append_assoc before (entries_of b (take i held)) (entry_held b (get_or held i d) ∷ []) ∙ ap (λ l. before ++ l) (sym (ap (map (entry_held b)) (take_more held i d less) ∙ map-append (entry_held b) (take i held) (get_or held i d ∷ [])))
+
+pub takes_more : (old new : List Entry) (had has now : ℕ → ℕ) (b n : ℕ) (look : HeldLook) → TakesPlaces had has b n → Appends old new has now (entry_held b look) → TakesPlaces had now b (n + 1)
+takes_more old new had has now b n look takes appends = record {
+  own = omega (arith, takes.own, appends.own);
+  most = omega (arith, takes.most, appends.most);
+  others = λ a other. appends.others a other ∙ takes.others a other;
+}

@@ -1,5 +1,5 @@
 -- A step: an entry, and then what needs none.
-use Rattle.std.proofs.Common.{◌≡◌, ◌∙◌, ◌&&◌, ℕ, false, List, [], Result, Ok, Err, OnOk, refl, sym, ap, subst}
+use Rattle.std.proofs.Common.{◌≡◌, ◌∙◌, ◌&&◌, ℕ, true, false, List, [], Result, Ok, Err, OnOk, refl, sym, ap, subst}
 use Rattle.std.proofs.lemmas.Bool.{both_ways}
 use Rattle.backend_core.specs.Types.{Scenario, Entry, Life, Backend}
 use Rattle.backend_core.specs.declared.life.Life.TheVariants as lives
@@ -45,7 +45,7 @@ settled_steps scenario old new had has was now done (Ok x) played enters settles
 settled_steps scenario old new had has was now done (Err e) played enters settles = tt
 
 -- a backend that stands and hasn't joined has nothing noted
-not_joined : (scenario : Scenario) (seen : List Entry) (s : Backend) → Stands scenario seen s → s.life ≡ lives.Unstarted → HasNotJoined scenario seen s
+pub not_joined : (scenario : Scenario) (seen : List Entry) (s : Backend) → Stands scenario seen s → s.life ≡ lives.Unstarted → HasNotJoined scenario seen s
 not_joined scenario seen s stands life = subst (λ life. elim life as (λ x. Type 0) [ lives.Unstarted ↦ HasNotJoined scenario seen s | lives.Alive ↦ AwaitsEntry scenario seen s | lives.Stopped ↦ HasLeft scenario seen s ]) life stands
 
 new_noted : (s : Backend) → s.looked ≡ false → s.frames ≡ [] → s.told ≡ false → noted_of s ≡ nothing_noted
@@ -82,3 +82,8 @@ notes_left old new was now notes = notes_on old new was now now notes (Stays ref
 pub remains : (scenario : Scenario) (old new : List Entry) (had has : ℕ → ℕ) (was now : Backend) → MakesNext scenario old new had has was now → has_left now.life ≡ false → Enters scenario old new had has was now
 remains scenario old new had has was now (Remains enters) stays = enters
 remains scenario old new had has was now (Left gone steps) stays = absurd (both_ways _ stays (ap has_left gone))
+
+-- and one that has left is through with its step
+pub leaves : (scenario : Scenario) (old new : List Entry) (had has : ℕ → ℕ) (was now : Backend) → MakesNext scenario old new had has was now → has_left now.life ≡ true → Steps scenario old new had has was now
+leaves scenario old new had has was now (Remains enters) gone = absurd (both_ways _ (ap has_left enters.agrees.keeps.alive) gone)
+leaves scenario old new had has was now (Left life steps) gone = steps

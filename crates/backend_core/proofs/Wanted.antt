@@ -6,8 +6,8 @@ use Rattle.ddl_effect.specs.declared.want.Want.TheVariants as wants
 use Rattle.ddl_effect.specs.Plans.{Plan, Do, Lookup, Open}
 use Rattle.ddl_effect.specs.Stages.{want_of}
 use Rattle.cacheless.specs.State.{is_absent, kept_at, is_kept, row_sought}
-use Rattle.backend_core.specs.Types.{Oid, Mode, Kind, Progress}
-use Rattle.backend_core.specs.Words.{relation_to_open, relation_named, is_unfound}
+use Rattle.backend_core.specs.Types.{Oid, Mode, Kind, CommandError, Progress}
+use Rattle.backend_core.specs.Words.{relation_to_open, relation_named, is_unfound, has_error}
 
 abbrev pub absent_of_want : Want → Bool
 absent_of_want (wants.Absent name) = true
@@ -47,3 +47,16 @@ unfound_wanted s plan = refl
 pub not_unfound : (s : Progress) (want : Want) → ((name : List ℕ) (mode : Mode) → want ≡ wants.Lookup name mode → ⊥) → unfound_of_want s want ≡ false
 not_unfound s (wants.Lookup name mode) lookup = absurd (lookup name mode refl)
 not_unfound s want lookup = refl
+
+abbrev pub error_of_want : Want → Bool
+error_of_want (wants.Fails error) = true
+error_of_want want = false
+
+pub error_wanted : (plan : Plan) → has_error plan ≡ error_of_want (want_of plan)
+error_wanted (Do (Lookup name mode) rest) = refl
+error_wanted (Do act rest) = refl
+error_wanted plan = refl
+
+pub not_error : (want : Want) → ((error : CommandError) → want ≡ wants.Fails error → ⊥) → error_of_want want ≡ false
+not_error (wants.Fails error) fails = absurd (fails error refl)
+not_error want fails = refl

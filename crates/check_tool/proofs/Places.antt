@@ -1,5 +1,5 @@
 -- How many messages each backend is past, over one entry more of a legal history.
-use Rattle.std.proofs.Common.{◌≡◌, ◌≢◌, ◌≤◌, ◌+◌, ◌-◌, ◌∙◌, ◌⊎◌, inl, inr, ℕ, zero, suc, true, false, Option, Some, None, List, [], ◌∷◌, ◌++◌, ◌==◌, min, refl, sym, ap, subst, length, take, get_or, slice_get, slice_set, replicate, arith}
+use Rattle.std.proofs.Common.{◌≡◌, ◌≢◌, ◌≤◌, ◌+◌, ◌-◌, ◌∙◌, ◌&&◌, ◌⊎◌, inl, inr, ℕ, zero, suc, Bool, true, false, nat_lt, Option, Some, None, List, [], ◌∷◌, ◌++◌, ◌==◌, min, refl, sym, ap, subst, length, take, get_or, slice_get, slice_set, replicate, arith}
 use Rattle.std.proofs.lemmas.Bool.{ne_eqb, eq-eqb}
 use Rattle.std.proofs.lemmas.Bool.Decides.{eqb_tells}
 use Rattle.std.proofs.lemmas.List.{length-append, length-take-le}
@@ -7,8 +7,8 @@ use Rattle.std.proofs.lemmas.Option.{slice_get_read}
 use Rattle.base_types.specs.Scenario.{IsBackend}
 use Rattle.event_kinds.specs.declared.entry.Event.TheVariants.{Start, Publish}
 use Rattle.history_model.specs.Legal.{MayFollow, AllowsEvent}
-use Rattle.history_model.specs.Lives.{Life, Unstarted, Alive, Stopped, FollowsLife, life_by, life_of}
-use Rattle.history_model.specs.Log.{log_of, log_by, position_of, position_by}
+use Rattle.history_model.specs.Lives.{Life, Unstarted, Alive, Stopped, FollowsLife, is_alive, life_by, life_of}
+use Rattle.history_model.specs.Log.{log_of, log_by, position_of, position_by, is_waiting}
 use Rattle.history_model.specs.Sent.{unsent_of}
 use Rattle.history_model.proofs.Reading.{log_of-more, life_of-own, life_of-other, position_of-own, position_of-other}
 use Rattle.by_backend.proofs.Places.{get_of_set, get_beside_set}
@@ -80,3 +80,23 @@ tell_none n places same = record {
   published_is = refl;
   each = λ i place at. of_replicate n None place i (ap (λ all. slice_get all i) (sym same) ∙ at);
 }
+
+-- whether a message waits for a backend at this place
+abbrev waits_at : ℕ → Option ℕ → Bool
+waits_at published None = false
+waits_at published (Some place) = nat_lt place published
+
+-- in each life a message waits where the place in it says so
+waits_by : (seen : List Entry) (b : ℕ) (life : Life) → (is_alive life && nat_lt (position_of seen b) (length (log_of seen))) ≡ waits_at (length (log_of seen)) (place_at life (position_of seen b))
+waits_by seen b Unstarted = refl
+waits_by seen b (Alive last) = refl
+waits_by seen b Stopped = refl
+
+-- a message waits for a backend where the place that is held says so
+pub waits_told : (seen : List Entry) (b published : ℕ) (places : List (Option ℕ)) (place held : Option ℕ) → TellPlaces seen published places → IsBackend (length places) b → place ≡ get_or places (b - 1) place → place ≡ held → waits_at published held ≡ is_waiting seen b
+waits_told seen b published places place held tell number read is =
+    ap (waits_at published) (sym is ∙ tell.each (b - 1) place (slice_get_read places (length places) (b - 1) place refl (omega (arith, number.0, number.1)) read) ∙ ap (place_of seen) own)
+    ∙ ap (λ n. waits_at n (place_of seen b)) tell.published_is ∙ sym (waits_by seen b (life_of seen b))
+  where
+    own : b - 1 + 1 ≡ b
+    own = omega (arith, number.0)

@@ -7,7 +7,7 @@ mod Entered
 mod Deciding
 mod ScanChanges
 mod Answers
-mod OverLists
+pub mod OverLists
 pub mod FreeNames
 mod WriteTests
 mod SeenAfter

@@ -1,7 +1,7 @@
 -- Lists that a loop goes over, item by item.
-use Rattle.std.proofs.Common.{◌≡◌, ◌≤◌, ◌<◌, ◌∙◌, ◌+◌, ◌&&◌, ℕ, zero, suc, Some, None, slice_get, get_or, take, drop, Bool, true, List, [], ◌∷◌, ◌++◌, length, refl, sym, ap, subst, arith}
+use Rattle.std.proofs.Common.{◌≡◌, ◌≤◌, ◌<◌, ◌∙◌, ◌+◌, ◌&&◌, ℕ, zero, suc, Some, None, slice_get, get_or, map, replicate, append_assoc, take, drop, Bool, true, List, [], ◌∷◌, ◌++◌, length, refl, sym, ap, subst, arith}
 use Rattle.std.specs.List.{flat_map, list_all}
-use Rattle.std.proofs.lemmas.List.{flat_map_more, take_all, take_more}
+use Rattle.std.proofs.lemmas.List.{flat_map_more, map-append, replicate_more, take_all, take_more}
 use Rattle.std.proofs.lemmas.Option.{slice_get-get_or}
 
 -- all of a list from a place on, where there is one, and where there is none
@@ -16,14 +16,25 @@ all_end f [] (suc i) at = refl
 all_end f (y ∷ xs) zero at = absurd (cc)
 all_end f (y ∷ xs) (suc i) at = all_end f xs i at
 
+-- what stands before a place, with the element there
+taken_more : {X : Type 0} (xs : List X) (i : ℕ) (x d : X) → i < length xs → x ≡ get_or xs i d → take i xs ++ x ∷ [] ≡ take (i + 1) xs
+taken_more xs i x d within is = sym (take_more xs i d within ∙ ap (λ y. take i xs ++ y ∷ []) (sym is))
+
 -- what is made of each element, with one element more
 pub flat_map_next : {X A : Type 0} (f : X → List A) (xs : List X) (i : ℕ) (x d : X) (found : List A) → i < length xs → x ≡ get_or xs i d → found ≡ flat_map f (take i xs) → found ++ f x ≡ flat_map f (take (i + 1) xs)
-flat_map_next f xs i x d found within is before =
-    (λ j. before j ++ f x) ∙ flat_map_more f [] (take i xs) x ∙ ap (flat_map f) (sym (take_more xs i d within ∙ ap (λ y. take i xs ++ y ∷ []) (sym is)))
+flat_map_next f xs i x d found within is before = ap (λ l. l ++ f x) before ∙ flat_map_more f [] (take i xs) x ∙ ap (flat_map f) (taken_more xs i x d within is)
+
+pub map_next : {X A : Type 0} (f : X → A) (first : List A) (xs : List X) (i : ℕ) (x d : X) (found : List A) → i < length xs → x ≡ get_or xs i d → found ≡ first ++ map f (take i xs) → found ++ f x ∷ [] ≡ first ++ map f (take (i + 1) xs)
+map_next f first xs i x d found within is before =
+    ap (λ l. l ++ f x ∷ []) before ∙ append_assoc first (map f (take i xs)) (f x ∷ []) ∙ ap (λ l. first ++ l) (sym (map-append f (take i xs) (x ∷ [])) ∙ ap (map f) (taken_more xs i x d within is))
 
 -- and at the end all of them
-pub flat_map_done : {X A : Type 0} (f : X → List A) (xs : List X) (i : ℕ) (found : List A) → length xs ≤ i → found ≡ flat_map f (take i xs) → found ≡ flat_map f xs
-flat_map_done f xs i found past before = before ∙ ap (flat_map f) (take_all i xs past)
+pub all_done : {X Y : Type 0} (f : List X → Y) (xs : List X) (i : ℕ) (made : Y) → length xs ≤ i → made ≡ f (take i xs) → made ≡ f xs
+all_done f xs i made past before = before ∙ ap f (take_all i xs past)
+
+-- one more of the same after a list
+pub filled_next : {X : Type 0} (first : List X) (n : ℕ) (x : X) (found : List X) → found ≡ first ++ replicate n x → found ++ x ∷ [] ≡ first ++ replicate (n + 1) x
+filled_next first n x found before = ap (λ l. l ++ x ∷ []) before ∙ append_assoc first (replicate n x) (x ∷ []) ∙ ap (λ l. first ++ l) (replicate_more n x)
 
 -- all of a list from an element on
 all_from : {X : Type 0} (f : X → Bool) (xs : List X) (i : ℕ) (x d : X) → i < length xs → x ≡ get_or xs i d → list_all f (drop i xs) ≡ (f x && list_all f (drop (i + 1) xs))

@@ -1,5 +1,5 @@
 -- What the calls that enter an event make of a session.
-use Rattle.std.proofs.Common.{◌≡◌, ◌+◌, ◌∙◌, ◌&&◌, ℕ, Bool, true, false, Option, Some, None, Result, Ok, Err, OnOk, List, length, slice_get, refl, sym, ap, subst}
+use Rattle.std.proofs.Common.{◌≡◌, ◌≤◌, ◌+◌, ◌∙◌, ◌&&◌, ℕ, Bool, true, false, Option, Some, None, Result, Ok, Err, OnOk, List, length, slice_get, refl, sym, ap, subst}
 use Rattle.event_kinds.specs.declared.entry.Event.TheVariants as events
 use Rattle.history_model.specs.Log.{fetched_by}
 use Rattle.history_model.specs.Versions.{answer_of}
@@ -56,6 +56,10 @@ with_room s room = record s { locks = record { items = s.locks.items; room = roo
 -- the one for which room for a lock was made
 room_same : (s p : Progress) → IsLockedIn s.locks.items s p → p ≡ with_room s p.locks.room
 room_same s p same = same.is ∙ (λ i. record s { locks = record { items = same.locks_are i; room = p.locks.room } })
+
+-- it has finished as few commands
+pub reserved_few : (s p : Progress) → IsLockedIn s.locks.items s p → s.finished ≤ 20000 → p.finished ≤ 20000
+reserved_few s p same few = subst (λ (x : Progress). x.finished ≤ 20000) (sym same.is) few
 
 -- it holds the same session
 room_holds : (scenario : Scenario) (seen : List Entry) (s : Progress) (room : ℕ) → Holds scenario seen s → Holds scenario seen (with_room s room)

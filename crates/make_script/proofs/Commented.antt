@@ -1,6 +1,6 @@
 -- A script's text under a comment is read as the script.
-use Rattle.std.proofs.Common.{◌≡◌, ◌≤◌, ◌+◌, ◌-◌, ◌∙◌, ◌==◌, ◌++◌, ℕ, suc, Bool, true, false, cond, Result, Ok, Err, List, [], ◌∷◌, length, codes, decimal, refl, sym, ap, subst, arith}
-use Rattle.std.specs.List.{AllByRecursion, list_all, count_by}
+use Rattle.std.proofs.Common.{◌≡◌, ◌+◌, ◌-◌, ◌∙◌, ◌==◌, ◌++◌, ℕ, suc, Bool, true, false, cond, Result, Ok, Err, List, [], ◌∷◌, length, codes, decimal, refl, sym, ap, subst, arith}
+use Rattle.std.specs.List.{list_all, count_by}
 use Rattle.std.proofs.lemmas.Bool.{cond_both}
 use Rattle.std.proofs.lemmas.List.{append_assoc, length-append}
 use Rattle.base_types.specs.Scenario.{Scenario}
@@ -9,13 +9,13 @@ use Rattle.event_kinds.specs.declared.entry.Line.{Line}
 use Rattle.script_text.specs.declared.fault.Rest.TheVariants.{Refused}
 use Rattle.script_text.specs.declared.fault.ScriptCause.{ScriptCause}
 use Rattle.script_text.specs.TextLines.{text_lines, bare, counts, but_last, ends_in}
-use Rattle.script_text.specs.Grammar.{Draft, Reading, empty_draft, any_line, line_after, place_after, line_taken, at_end, lines_from, script_of}
+use Rattle.script_text.specs.Grammar.{Draft, Reading, empty_draft, any_line, place_after, at_end, lines_from, script_of}
 use Rattle.script_text.specs.ReadBack.{IsReadBack}
 use Rattle.script_text.specs.Spelling.{script_spelling}
 use Rattle.script_text.proofs.Clean.{is_clean, IsClean}
 use Rattle.script_text.proofs.TokenLaws.{each_byte, number_piece}
 use Rattle.script_text.proofs.LineLaws.{first_text_line}
-use Rattle.make_script.specs.Texts.{publishes, resets, is_error, comment_text, made_text}
+use Rattle.make_script.specs.Texts.{publishes, resets, is_error, made_text}
 
 -- ---- a comment's line says nothing
 

@@ -1,5 +1,5 @@
 -- The queue of invalidation messages that a history leaves.
-use Rattle.std.specs.Prelude.{ℕ, false, List, ◌+◌, length, take}
+use Rattle.std.specs.Prelude.{ℕ, false, List, length, take}
 use Rattle.history_model.specs.Prefixes.{along}
 use Rattle.history_model.specs.Sent.{unsent_of}
 use Rattle.sinval_ring.specs.declared.reader.Reader.TheVariants.{Inactive, At}

@@ -8,11 +8,15 @@ use Rattle.history_model.specs.Orderly.{MayComeNext}
 use Rattle.seg_calls.specs.Calls.{places_for, Appends}
 use Rattle.shared_seg.specs.Places.{promised_in}
 
-promised-own : (promised : List ℕ) (b n : ℕ) → b < length promised → promised_in (slice_set promised b n) b ≡ n
+pub promised-own : (promised : List ℕ) (b n : ℕ) → b < length promised → promised_in (slice_set promised b n) b ≡ n
 promised-own promised b n within = unwrap_or-slice_get (slice_set promised b n) b 0 ∙ get_or-set_at promised b b n 0 refl within
 
-promised-other : (promised : List ℕ) (b n a : ℕ) → a ≢ b → promised_in (slice_set promised b n) a ≡ promised_in promised a
+pub promised-other : (promised : List ℕ) (b n a : ℕ) → a ≢ b → promised_in (slice_set promised b n) a ≡ promised_in promised a
 promised-other promised b n a other = unwrap_or-slice_get (slice_set promised b n) a 0 ∙ get_or-set_other promised b a n 0 other ∙ sym (unwrap_or-slice_get promised a 0)
+
+-- an entry after the same ones
+pub pushed : (old same new : List Entry) (e : Entry) → new ≡ same ++ e ∷ [] → same ≡ old → new ≡ old ++ e ∷ []
+pushed old same new e entries is = entries ∙ ap (λ l. l ++ e ∷ []) is
 
 -- an entry that takes a place of its backend
 pub appends_placed : (old new : List Entry) (had has : List ℕ) (e : Entry) → places_for e.event ≡ 1 → new ≡ old ++ e ∷ [] → MayComeNext old e → has ≡ slice_set had e.backend (promised_in had e.backend - 1) → e.backend < length had

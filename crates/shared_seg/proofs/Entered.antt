@@ -30,6 +30,10 @@ within script b n is same = omega (arith, is.1, same)
 pub call_inside : (k now : Kept) (e : Entry) → k ≡ now → MayCall now.script now.history e → MayCall k.script k.history e
 call_inside k now e is call = subst (λ (x : Kept). MayCall x.script x.history e) (sym is) call
 
+-- so its backend has a place in the lists by backend
+pub called_within : (k now : Kept) (e : Entry) (n : ℕ) → k ≡ now → MayCall now.script now.history e → n ≡ k.script.backends + 1 → e.backend < n
+called_within k now e n is call same = within k.script e.backend n (call_inside k now e is call).backend same
+
 -- what an entry with a promised place does, as callers see it
 pub placed_appends : (k now : Kept) (after : List Entry) (has : List ℕ) (e : Entry) → places_for e.event ≡ 1 → k ≡ now → MayCall now.script now.history e → IsOrderly k.history e → length k.promised ≡ k.script.backends + 1
     → after ≡ k.history ++ e ∷ [] → has ≡ slice_set k.promised e.backend (promised_in k.promised e.backend - 1) → Appends now.history after (places_in now) (promised_in has) e

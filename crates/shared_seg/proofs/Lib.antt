@@ -8,10 +8,12 @@ mod NewNames
 mod NewLocks
 mod Own
 mod Promises
+mod Promising
 mod Published
 mod Rows
 mod Scanned
 mod Start
+mod Unchanged
 mod Writing
 mod Written
 pub mod Queue

@@ -10,9 +10,9 @@ use Rattle.lock_modes.specs.declared.grant.Grant.{Grant}
 use Rattle.lock_modes.specs.declared.granted.Granted.{Granted}
 use Rattle.lock_modes.specs.declared.granted.Granted.TheVariants.{New}
 use Rattle.lock_modes.specs.declared.granted.LockRefusal.{LockRefusal}
-use Rattle.lock_modes.specs.declared.granted.LockRefusal.TheVariants.{Conflict}
+use Rattle.lock_modes.specs.declared.granted.LockRefusal.TheVariants.{Conflict, NoMemory}
 use Rattle.lock_modes.specs.Grants.{is_lock, holds, first_conflict}
-use Rattle.lock_modes.specs.Requests.{Grants, IsRefused, Requests}
+use Rattle.lock_modes.specs.Requests.{Grants, IsRefused, Requests, RunsOut}
 use Rattle.history_model.specs.Drawn.{next_oid}
 use Rattle.history_model.specs.Held.{held_of}
 use Rattle.history_model.specs.Legal.{AllowsEvent, is_lock_of}
@@ -31,6 +31,9 @@ granted locks locked g answer is requests = subst (λ a. Requests locks locked g
 
 pub refused : (locks locked : List Grant) (g : Grant) (answer : LockRefusal) (holder : ℕ) (mode : Mode) → answer ≡ Conflict holder mode → Requests locks locked g (Err answer) → IsRefused locks locked g holder mode
 refused locks locked g answer holder mode is requests = subst (λ a. Requests locks locked g (Err a)) is requests
+
+pub ran_out : (locks locked : List Grant) (g : Grant) (answer : LockRefusal) → answer ≡ NoMemory → Requests locks locked g (Err answer) → RunsOut locks locked g
+ran_out locks locked g answer is requests = subst (λ a. Requests locks locked g (Err a)) is requests
 
 -- a lock that is granted
 pub allows_lock : (history : List Entry) (locks locked : List Grant) (b c : ℕ) (rel : Oid) (mode : Mode) → locks ≡ held_of history → Grants locks locked (record { backend = b; command = c; rel = rel; mode = mode }) → AllowsEvent history b c (LockOk rel mode)

@@ -1,6 +1,7 @@
 -- What a scan gives is what the history answers.
-use Rattle.std.proofs.Common.{◌≡◌, ◌≤◌, ◌+◌, ◌∙◌, ◌||◌, ◌&&◌, ◌==◌, ◌⊎◌, inl, inr, ℕ, Bool, true, false, Option, List, [], ◌∷◌, ◌++◌, length, map, filter, refl, sym, ap, subst, arith}
+use Rattle.std.proofs.Common.{◌≡◌, ◌≤◌, ◌+◌, ◌∙◌, ◌||◌, ◌&&◌, ◌==◌, ◌⊎◌, inl, inr, ℕ, Bool, true, false, Option, Result, Ok, Err, List, [], ◌∷◌, ◌++◌, length, map, filter, refl, sym, ap, subst, arith}
 use Rattle.std.specs.Prelude.{nat_lt}
+use Rattle.std.specs.Result.{MatchResult, OkIff, is_ok}
 use Rattle.std.specs.List.{AllByRecursion, list_any}
 use Rattle.std.proofs.lemmas.Bool.{or_cases, eqb-true, lt-ltb}
 use Rattle.base_types.specs.Scenario.{Scenario}
@@ -32,6 +33,11 @@ use Rattle.txn_blocks.specs.declared.transaction.RunningTransaction.{RunningTran
 use Rattle.shared_seg.specs.KeepsFolds.{KeepsFolds}
 use Rattle.shared_seg.specs.Transactions.{own_reader, xid_at}
 use Rattle.shared_seg.proofs.Rows.{runs_own}
+
+-- the number that a conversion gives is the one that it was given, whatever its error becomes
+pub converted : {E : Type 0} (F Fits : Type 0) (Fails : E → Type 0) (given : Result ℕ E) (count n : ℕ) → OkIff given Fits n → true ≡ is_ok given → MatchResult given (λ x. ◌≡◌ {A = Result ℕ F} (Ok count) (Ok x)) Fails → count ≡ n
+converted F Fits Fails (Ok x) count n is ok same = let first : count ≡ x = cc in first ∙ is.1
+converted F Fits Fails (Err error) count n is ok same = absurd (cc)
 
 by_place : (w : Written) (c n : ℕ) (There : Type 0) → w.command ≤ n → (There → c ≤ n) → ((w.command == c) ≡ true) ⊎ There → c ≤ n
 by_place w c n There low later (inl here) = omega (arith, eqb-true w.command c here, low)

@@ -2,7 +2,7 @@
 use Rattle.std.proofs.Common.{◌≡◌, ◌∙◌, ◌⊎◌, inl, inr, ℕ, Bool, true, false, not, ◌&&◌, ◌||◌, Option, Some, None, List, [], ◌∷◌, ◌++◌, refl, sym, ap, subst, append_assoc, is_some, slice_get}
 use Rattle.std.specs.List.{find, list_any}
 use Rattle.std.specs.Option.{IsSomeAnd, option_map_or}
-use Rattle.std.proofs.lemmas.Bool.{both_ways}
+use Rattle.std.proofs.lemmas.Bool.{both_ways, and_parts}
 use Rattle.std.proofs.lemmas.List.{append-nil}
 use Rattle.base_types.specs.Scans.{same_scan, build_scans}
 use Rattle.base_types.proofs.SameScan.{same_scan-itself}
@@ -21,14 +21,14 @@ use Rattle.cacheless.specs.OpenedReads.{ReadsOpened}
 use Rattle.cacheless.specs.Settled.{opened_by}
 use Rattle.cacheless.specs.Session.{held_before, plan_admitted}
 use Rattle.cacheless.specs.Silently.{is_ends, IsAtRest}
-use Rattle.cacheless.specs.State.{kept_at, is_kept, is_absent, is_quiet, act_missing, is_out, end_at}
+use Rattle.cacheless.specs.State.{kept_at, is_kept, is_absent, is_quiet, act_missing, is_out, end_at, owed_at, owed_first}
 use Rattle.cacheless.specs.Suspects.{lacks}
 use Rattle.cacheless.proofs.Answers.OpenedReads.{reads_out, reads_first, reads_after}
-use Rattle.cacheless.proofs.Tests.{both_true, not_both}
+use Rattle.cacheless.proofs.Tests.{both_true, not_both, empty_is}
 use Rattle.backend_core.specs.Types.{Event, Row, Purpose, Command, CommandError, Opening, Scenario, Entry, Next, Frame, Progress, Backend}
 use Rattle.backend_core.specs.declared.next.Next.TheVariants as nexts
 use Rattle.backend_core.specs.Agrees.{command_at, AwaitsEntry}
-use Rattle.backend_core.specs.Steps.{IsWhole, WaitsForNone, IsFree, IsScanNext, IsLookNext, IsChoiceSound, EndsNext, InCommand, end_event, IsNextOf, ComesOfCommit, ComesOfBack}
+use Rattle.backend_core.specs.Steps.{IsWhole, WaitsForNone, IsFree, IsScanNext, IsLookNext, IsChoiceSound, Says, IsAcceptNext, EndsNext, InCommand, end_event, IsNextOf, ComesOfCommit, ComesOfBack}
 use Rattle.backend_core.specs.Frames.{top, IsRebuilt}
 use Rattle.backend_core.specs.Words.{is_looked_for, accepts_again}
 use Rattle.backend_core.proofs.Fitting.Rebuilding.{kept_lacks}
@@ -50,6 +50,10 @@ ends_next s next ends = ends
 some_weaker : (o : Option Event) (P Q : Event → Type 0) → ((event : Event) → P event → Q event) → IsSomeAnd o P → IsSomeAnd o Q
 some_weaker None P Q all some = some
 some_weaker (Some event) P Q all some = all event some
+
+-- a command that owes no first look, and whose last entry asks for nothing
+pub free_of : (p : Progress) (command : Command) (owes : Bool) → slice_get p.commands p.finished ≡ Some command → owed_at p.due ≡ [] → not owes ≡ is_empty (owed_first p command) → owes ≡ false → IsFree p command
+free_of p command owes at due is none = record { at = at; due = due; first = empty_is (owed_first p command) (sym is ∙ ap not none) }
 
 -- in a command that has come out and owes nothing, at rest
 pub out_owes : (p : Progress) (command : Command) → IsFree p command → lacks_any p ≡ false → owes_nothing command p ≡ true
@@ -74,6 +78,20 @@ done_accepted s scan is = by_plan (plan_at s.progress.opens s.progress.exec) is
     by_plan : (p : Plan) → want_of p ≡ wants.Done scan → (is_absent p && is_quiet s.progress.due && (not s.looked || s.told)) ≡ false
     by_plan (Absent name) done = absurd (cc done)
     by_plan p done = refl
+
+-- a command that says so looks once more where messages came, or where it hasn't looked
+pub once_more : (s : Backend) (command : Command) → IsFree s.progress command → accepts_again s ≡ true → IsAcceptNext s
+once_more s command free again = record { command = command; free = free; finds = Says says.0 says.1; unlooked = by_noted s.looked s.told parts.1 }
+  where
+    parts : ((is_absent (plan_at s.progress.opens s.progress.exec) && is_quiet s.progress.due) ≡ true) × ((not s.looked || s.told) ≡ true)
+    parts = and_parts (is_absent (plan_at s.progress.opens s.progress.exec) && is_quiet s.progress.due) (not s.looked || s.told) again
+
+    says : (is_absent (plan_at s.progress.opens s.progress.exec) ≡ true) × (is_quiet s.progress.due ≡ true)
+    says = and_parts (is_absent (plan_at s.progress.opens s.progress.exec)) (is_quiet s.progress.due) parts.0
+
+    by_noted : (looked told : Bool) → (not looked || told) ≡ true → (looked ≡ false) ⊎ (told ≡ true)
+    by_noted false told is = inl refl
+    by_noted true told is = inr is
 
 -- so the entry of its end may come
 may_now : (p : Progress) (command : Command) (event : Event) (end : End) → p.ended ≡ false → end_at p command ≡ end → owes_no_end command p end ≡ true → is_next_of_end p event end ≡ true → may_end_at command p event ≡ true

@@ -1,7 +1,8 @@
 -- Messages keep what the rebuilds see to.
-use Rattle.std.proofs.Common.{◌≡◌, ◌∙◌, inl, inr, Bool, true, false, not, Option, Some, None, List, [], ◌∷◌, ◌++◌, ◌&&◌, ◌||◌, cond, refl, sym, ap, subst, map}
+use Rattle.std.proofs.Common.{◌≡◌, ◌∙◌, inl, inr, Bool, true, false, not, Option, Some, None, List, [], ◌∷◌, ◌++◌, ◌&&◌, ◌||◌, ◌<◌, ◌+◌, ℕ, cond, refl, sym, ap, subst, map, length, take, get_or}
 use Rattle.std.specs.List.{find, list_any, AllByRecursion}
 use Rattle.std.proofs.Math.Bool.{and-false}
+use Rattle.std.proofs.lemmas.List.Sums.{fold_more}
 use Rattle.base_types.specs.Scans.{same_oid}
 use Rattle.inval_messages.specs.Messages.{covers, is_spared}
 use Rattle.inval_messages.specs.declared.message.Message.TheVariants.{Cat, Rel}
@@ -95,3 +96,7 @@ stack_after before has held (m ∷ messages) frames stack = subst (λ h. IsStack
     spare_more : (here later kept : Bool) → (not later && (not here && kept)) ≡ (not (here || later) && kept)
     spare_more true later kept = and-false (not later)
     spare_more false later kept = refl
+
+-- one message more
+pub told_more : (has : Purpose → Bool) (held given : List Opening) (messages : List Message) (i : ℕ) (d : Message) (first before now : List Frame) → i < length messages → given ≡ held → before ≡ frames_after has held (take i messages) first → now ≡ frames_by has given before (get_or messages i d) → now ≡ frames_after has held (take (i + 1) messages) first
+told_more has held given messages i d first before now within same so_far hears = hears ∙ (λ j. frames_by has (same j) (so_far j) (get_or messages i d)) ∙ sym (fold_more (frames_by has held) first messages i d within)

@@ -15,6 +15,16 @@ use Rattle.backend_core.proofs.Stacking.Stacks.{top_push, below_push, on_push, o
 pub scanned_push : (has : Purpose → Bool) (held : List Opening) (under : List Frame) (f : Frame) → frames_scanned has held (under ++ f ∷ []) ≡ scanned_on has held under f
 scanned_push has held under f = ap (λ o. elim o as (λ x. List Frame) [ Some g ↦ scanned_on has held (below (under ++ f ∷ [])) g | None ↦ under ++ f ∷ [] ]) (top_push under f) ∙ ap (λ l. scanned_on has held l f) (below_push under f)
 
+-- by what that one lacks still it goes on, or it is done
+abbrev after_scan : (Purpose → Bool) → List Opening → List Frame → Frame → Option Opening → List Frame
+after_scan has held under f left = elim left as (λ x. List Frame) [ Some o ↦ under ++ new_frame o f.of_reset ∷ [] | None ↦ elim f.of_reset as (λ x. List Frame) [ true ↦ with_rest has held under | false ↦ under ] ]
+
+pub scanned_again : (has : Purpose → Bool) (held : List Opening) (all under : List Frame) (f : Frame) (o : Opening) → all ≡ under ++ f ∷ [] → left_of has held f ≡ Some o → under ++ new_frame o f.of_reset ∷ [] ≡ frames_scanned has held all
+scanned_again has held all under f o is lacks = sym (ap (frames_scanned has held) is ∙ scanned_push has held under f ∙ ap (after_scan has held under f) lacks)
+
+pub scanned_done : (has : Purpose → Bool) (held : List Opening) (all under : List Frame) (f : Frame) (reset : Bool) → all ≡ under ++ f ∷ [] → left_of has held f ≡ None → f.of_reset ≡ reset → elim reset as (λ x. List Frame) [ true ↦ with_rest has held under | false ↦ under ] ≡ frames_scanned has held all
+scanned_done has held all under f reset is lacks resets = sym (ap (frames_scanned has held) is ∙ scanned_push has held under f ∙ ap (after_scan has held under f) lacks ∙ ap (λ t. elim t as (λ x. List Frame) [ true ↦ with_rest has held under | false ↦ under ]) resets)
+
 module _ (has : Purpose → Bool) (held : List Opening) (under : List Frame) (f : Frame) (scan : Purpose) (is : find (λ d. not (has d)) (build_scans f.opening.kind f.opening.rel) ≡ Some scan) (stack : IsStack has held (under ++ f ∷ [])) where
   abbrev now : Purpose → Bool
   now = with_scan scan has

@@ -23,3 +23,9 @@ returns-clause-rest c =
 pub returns-clause-typed : goal.returns-clause-typed
 returns-clause-typed c =
     read_line c.args.line.now c.after-3.result (record { backend = c.push_line_head.ensures.numbers.0; command = c.push_line_head.ensures.numbers.1; text = c.as_bytes-2.ensures.in_line })
+
+pub returns-in_err-text-clause-typed : goal.returns-in_err-text-clause-typed
+returns-in_err-text-clause-typed c = rw c.from_residual.ensures tt
+
+pub returns-in_err-end-clause-typed : goal.returns-in_err-end-clause-typed
+returns-in_err-end-clause-typed c = rw c.from_residual-in_err-end.ensures tt

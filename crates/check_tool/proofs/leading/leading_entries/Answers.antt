@@ -1,4 +1,4 @@
-use Rattle.std.proofs.Common.{arith, subst, drop}
+use Rattle.std.proofs.Common.{arith, ap, subst, length, drop, length-drop}
 use Rattle.std.proofs.lemmas.List.{take_rest}
 use Rattle.check_tool.specs.Leading.{HasNoEntryFirst, HasEntryFirst}
 use Rattle.check_tool.proofs.FirstLines.{read_none, read_more, read_leads, read_leads_all}
@@ -22,3 +22,13 @@ returns-clause-leads c = read_leads_all c.args.text.now c.lines.entries.items c.
 
 pub returns-clause-within : goal.returns-clause-within
 returns-clause-within c = c.lines.invariant.within
+
+pub overflow_add-size : goal.overflow_add-size
+overflow_add-size c =
+    let first = rw c.in-Some.is at c.in_ok-first.ensures in
+    omega (arith, first.within, ap length (take_rest c.args.text.now c.lines.size), length-drop c.lines.size c.args.text.now, c.lines.invariant.within)
+
+pub lines-smaller : goal.lines-smaller
+lines-smaller c =
+    let first = rw c.in-Some.is at c.in_ok-first.ensures in
+    omega (arith, first.some, first.within, ap length (take_rest c.args.text.now c.lines.size), length-drop c.lines.size c.args.text.now, c.lines-test.true)

@@ -1,5 +1,6 @@
-use Rattle.std.proofs.Common.{◌≡◌, ◌+◌, ◌∙◌, sym, ap, subst, take, length, replicate, true, false, arith}
+use Rattle.std.proofs.Common.{◌≡◌, ◌+◌, ◌∙◌, sym, ap, subst, take, length, replicate, true, false, IfSome, arith}
 use Rattle.std.proofs.lemmas.List.{with_items_is}
+use Rattle.base_types.specs.Scenario.{IsBackend}
 use Rattle.check_tool.specs.Turning.{TellStopped}
 use Rattle.check_tool.proofs.Schedule.{Follows, follows_none, follows_more, follows_here, follows_whole, turn_in_order}
 use Rattle.check_tool.proofs.scheduled.in_turn.Goals as goal
@@ -26,3 +27,8 @@ pub returns : goal.returns
 returns c =
     follows_whole c.args.script.now c.args.entries.now c.loop-at.at c.first_running.result (omega (arith, c.loop-at-test.false)) c.loop-at.invariant.follows
     (turn_in_order c.args.script.now (take c.loop-at.at c.args.entries.now) c.loop-at.stopped.items c.deref-2.result.now c.first_running.result c.requires c.loop-at.invariant c.deref-2.ensures.value c.first_running.ensures.first)
+
+pub note-requires : goal.note-requires
+note-requires c =
+    subst (λ n. IsBackend n c.index-entries-at.result.backend) (ap length c.deref.ensures.value ∙ sym (ap length c.deref_mut.ensures.value))
+    (subst (λ turn. IfSome turn (IsBackend (length c.deref.result.now))) (c.is_turn_of.ensures.0 c.if-not-is_turn_of.false) c.first_running-turn.ensures.range)

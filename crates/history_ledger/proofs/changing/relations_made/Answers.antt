@@ -1,6 +1,7 @@
 use Rattle.std.proofs.Common.{rules, arith}
+use Rattle.std.specs.List.{flat_map}
 use Rattle.history_model.specs.Drawn.{made_by}
-use Rattle.history_ledger.proofs.OverLists.{flat_map_next, flat_map_done}
+use Rattle.history_ledger.proofs.OverLists.{flat_map_next, all_done}
 use Rattle.history_ledger.proofs.changing.relations_made.Goals as goal
 
 pub loop-item-preserved : goal.loop-item-preserved
@@ -9,4 +10,4 @@ loop-item-preserved c =
     search (rules, next)
 
 pub returns : goal.returns
-returns c = flat_map_done made_by c.args.items.now c.loop-item.item-index c.loop-item.made.items (omega (arith, c.loop-item-test.false)) c.loop-item.invariant
+returns c = all_done (flat_map made_by) c.args.items.now c.loop-item.item-index c.loop-item.made.items (omega (arith, c.loop-item-test.false)) c.loop-item.invariant

@@ -1,7 +1,8 @@
 use Rattle.std.proofs.Common.{◌∙◌, ◌++◌, ap, sym, append-nil, arith}
+use Rattle.std.specs.List.{flat_map}
 use Rattle.std.specs.Option.{option_to_list}
 use Rattle.history_model.specs.Writes.{changed_key}
-use Rattle.history_ledger.proofs.OverLists.{flat_map_next, flat_map_done}
+use Rattle.history_ledger.proofs.OverLists.{flat_map_next, all_done}
 use Rattle.history_ledger.proofs.writing.changed_keys.Goals.{in-Some+in_ok-push, in_default}
 use Rattle.history_ledger.proofs.writing.changed_keys.Goals as goal
 
@@ -14,4 +15,4 @@ loop-item-preserved c =
     ]
 
 pub returns : goal.returns
-returns c = flat_map_done changed_key c.args.items.now c.loop-item.item-index c.loop-item.keys.items (omega (arith, c.loop-item-test.false)) c.loop-item.invariant
+returns c = all_done (flat_map changed_key) c.args.items.now c.loop-item.item-index c.loop-item.keys.items (omega (arith, c.loop-item-test.false)) c.loop-item.invariant

@@ -2,7 +2,7 @@ use Rattle.std.proofs.Common.{◌≡◌, ◌<◌, ◌+◌, List, get_or, refl, s
 use Rattle.base_types.specs.declared.command.Command.{Command}
 use Rattle.ddl_effect.specs.Commands.{commands_of}
 use Rattle.by_backend.proofs.LeftLists.{left_next, left_fewer}
-use Rattle.history_lines.proofs.NewSessions.{Begins, begins_more, follows_none}
+use Rattle.history_lines.proofs.NewSessions.{Begins, begins_none, begins_more, follows_none}
 use Rattle.history_lines.proofs.answering.new_sessions.Goals as goal
 
 pub loop-number-preserved : goal.loop-number-preserved
@@ -21,3 +21,9 @@ loop-number-preserved c =
 
 pub returns : goal.returns
 returns c = λ ledger reads. follows_none c.args.script.now c.loop-number.sessions.items c.loop-number.number ledger c.backends-number-end.ensures.kept (omega (arith, c.loop-number-test.false, c.loop-number.auto.number-end, c.backends-number-end.ensures.value)) c.loop-number.invariant.begins reads
+
+pub loop-number-init : goal.loop-number-init
+loop-number-init c = record {
+  begins = rw c.new-sessions.ensures.items (begins_none c.args.script.now);
+  left = record { count = c.in_ok-lists.ensures.count; each = λ i from. c.in_ok-lists.ensures.each i };
+}

@@ -31,3 +31,24 @@ returns-in-Release-clause-takes c = takes_alone c.release.result c.args.ledger.n
 
 pub returns-in_default-clause-takes : goal.returns-in_default-clause-takes
 returns-in_default-clause-takes c = takes_alone c.enter_alone.result c.args.ledger.now c.args.at c.args.progress.now c.enter_alone.new.progress c.args.event.now c.args.event.now refl c.enter_alone.ensures.takes
+
+pub fetch-requires-clause-few : goal.fetch-requires-clause-few
+fetch-requires-clause-few c = c.is_countable.ensures.few c.if-not-is_countable.false
+
+pub scan-requires-clause-few : goal.scan-requires-clause-few
+scan-requires-clause-few c = c.is_countable.ensures.few c.if-not-is_countable.false
+
+pub lock-requires-clause-few : goal.lock-requires-clause-few
+lock-requires-clause-few c = c.is_countable.ensures.few c.if-not-is_countable.false
+
+pub unlock-requires : goal.unlock-requires
+unlock-requires c = record { few = c.is_countable.ensures.few c.if-not-is_countable.false }
+
+pub write-requires : goal.write-requires
+write-requires c = record { few = c.is_countable.ensures.few c.if-not-is_countable.false }
+
+pub publish-requires : goal.publish-requires
+publish-requires c = record { few = c.is_countable.ensures.few c.if-not-is_countable.false }
+
+pub release-requires : goal.release-requires
+release-requires c = record { few = c.is_countable.ensures.few c.if-not-is_countable.false }

@@ -1,6 +1,6 @@
 use Rattle.std.proofs.Common.{◌∙◌, ap}
 use Rattle.event_kinds.specs.declared.entry.Event.TheVariants as events
-use Rattle.history_lines.proofs.TakenEvents.{reserved_takes}
+use Rattle.history_lines.proofs.TakenEvents.{reserved_few, reserved_takes}
 use Rattle.history_lines.specs.Types.{Progress}
 use Rattle.history_lines.proofs.taking.lock.Goals as goal
 
@@ -10,3 +10,9 @@ returns-clause-takes c = λ scenario seen. reserved_takes scenario seen c.args.p
 
 pub returns-clause-same : goal.returns-clause-same
 returns-clause-same c = c.enter_lock.ensures.same ∙ ap (λ (x : Progress). x.commands) c.reserve_lock.ensures.same.is
+
+pub enter_lock-requires-clause-few : goal.enter_lock-requires-clause-few
+enter_lock-requires-clause-few c = reserved_few c.args.progress.now c.reserve_lock.new.self c.reserve_lock.ensures.same c.requires.few
+
+pub enter_lock-requires-clause-place : goal.enter_lock-requires-clause-place
+enter_lock-requires-clause-place c = c.in_ok-reserve_lock.ensures.ok

@@ -2,7 +2,7 @@ use Rattle.std.proofs.Common.{◌∙◌, sym}
 use Rattle.cacheless.proofs.Allowed.AllowedHistories.{plays_on_course}
 use Rattle.backend_core.specs.Steps.{Remains}
 use Rattle.backend_core.proofs.Entries.Inside.{then_so}
-use Rattle.backend_core.proofs.Stepped.{is_ready, joined_notes, entered_notes}
+use Rattle.backend_core.proofs.Stepped.{is_ready, not_joined, joined_notes, entered_notes}
 use Rattle.backend_core.proofs.backend.Backend.enter_in_turn.Goals as goal
 
 pub join-requires-clause-played : goal.join-requires-clause-played
@@ -25,3 +25,6 @@ returns-in-Unstarted-clause-starts g c = λ first. c.join.ensures.command
 
 pub returns-in-Alive-clause-starts : goal.returns-in-Alive-clause-starts
 returns-in-Alive-clause-starts g c = then_so c.enter_next.result (λ makes first. absurd (cc (sym first ∙ c.in-Alive.is))) c.enter_next.ensures.makes
+
+pub join-requires-clause-before : goal.join-requires-clause-before
+join-requires-clause-before g c = not_joined _ _ c.args.self.now c.requires.stands c.in-Unstarted.is

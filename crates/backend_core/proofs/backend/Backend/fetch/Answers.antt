@@ -1,9 +1,17 @@
+use Rattle.std.proofs.Common.{arith}
+use Rattle.backend_core.proofs.Fitting.Entered.{has_room}
 use Rattle.backend_core.proofs.Entries.Inside.{so_of_all, made_refused}
 use Rattle.backend_core.proofs.Entries.Fetching.{fetch_call, messages_enter, reset_enters, messages_make, reset_makes, messages_noted, reset_noted}
 use Rattle.backend_core.proofs.backend.Backend.fetch.Goals as goal
 
 pub fetch-requires-clause-call : goal.fetch-requires-clause-call
 fetch-requires-clause-call g c = fetch_call _ _ c.args.self.now c.requires.ready.waits c.requires.next
+
+pub take_messages-requires-clause-room : goal.take_messages-requires-clause-room
+take_messages-requires-clause-room g c = has_room _ _ c.args.self.now c.requires.ready.waits (omega (arith, g.met.L.Seg.short c.args.seg.now))
+
+pub take_reset-requires-clause-room : goal.take_reset-requires-clause-room
+take_reset-requires-clause-room g c = has_room _ _ c.args.self.now c.requires.ready.waits (omega (arith, g.met.L.Seg.short c.args.seg.now))
 
 pub returns-in-Messages-clause-enters : goal.returns-in-Messages-clause-enters
 returns-in-Messages-clause-enters g c = so_of_all c.take_messages.result (λ holds kept none is. messages_enter _ _ _ _ _ c.args.self.now _ _ _ _ c.requires.ready.waits c.requires.ready.played c.requires.ready.course c.requires.next c.in-Messages.ensures.fetches c.as_slice.ensures.value

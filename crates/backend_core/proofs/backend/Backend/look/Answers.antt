@@ -1,11 +1,15 @@
-use Rattle.std.proofs.Common.{sym}
+use Rattle.std.proofs.Common.{sym, arith}
 use Rattle.event_kinds.specs.declared.entry.Event.TheVariants as events
 use Rattle.history_model.proofs.Sound.{sound_is_legal}
+use Rattle.backend_core.proofs.Fitting.Entered.{has_room}
 use Rattle.backend_core.proofs.Entries.Looking.{look_allowed, looks_call, looks_enter}
 use Rattle.backend_core.proofs.backend.Backend.look.Goals as goal
 
 pub looked-requires-clause-call : goal.looked-requires-clause-call
 looked-requires-clause-call g c = looks_call _ _ c.args.self.now c.args.look _ c.requires.ready.waits c.requires.next (look_allowed _ _ _ (sound_is_legal _ c.requires.ready.played.sound) (sym c.waits-some_wait.ensures))
+
+pub take_look-requires-clause-room : goal.take_look-requires-clause-room
+take_look-requires-clause-room g c = has_room _ _ c.args.self.now c.requires.ready.waits (omega (arith, g.met.L.Seg.short c.args.seg.now))
 
 pub returns-clause-enters : goal.returns-clause-enters
 returns-clause-enters g c = looks_enter _ _ _ _ _ c.args.self.now _ _ c.requires.ready c.waits-some_wait.ensures (c.take_look.ensures.looks _ _ c.requires.ready c.looked.ensures.appends.comes.follows) c.looked.ensures.appends

@@ -21,3 +21,6 @@ next_of_end-requires-clause-accepted c = done_accepted c.args.self.now _ (c.requ
 pub returns-in-Lock : goal.returns-in-Lock
 returns-in-Lock c =
     further_lock c.args.self.now c.args.command.now c.requires.still c.requires.chosen c.requires.free (whole_of _ _ _ c.requires.whole (c.requires.want ∙ c.in-Lock.is) refl) c.in-Lock.rel c.in-Lock.mode (c.requires.want ∙ c.in-Lock.is)
+
+pub next_of_lookup-requires-clause-want : goal.next_of_lookup-requires-clause-want
+next_of_lookup-requires-clause-want c = c.requires.want ∙ c.in-Lookup.is

@@ -1,7 +1,7 @@
 use Rattle.std.proofs.Common.{◌∙◌, sym}
 use Rattle.cacheless.proofs.Allowed.AllowedHistories.{plays_on_course}
-use Rattle.backend_core.proofs.Entries.Inside.{then_so}
-use Rattle.backend_core.proofs.Stepped.{settled_steps, remains, notes_on, notes_left}
+use Rattle.backend_core.proofs.Entries.Inside.{made_refused, then_so}
+use Rattle.backend_core.proofs.Stepped.{settled_steps, remains, leaves, notes_on, notes_left}
 use Rattle.backend_core.proofs.backend.Backend.step.Goals as goal
 
 pub returns-clause-steps : goal.returns-clause-steps
@@ -14,3 +14,9 @@ returns-clause-noted g c = then_so c.settle.result (λ settles. notes_on _ _ c.a
 
 pub returns-then-is_stopped-clause-noted : goal.returns-then-is_stopped-clause-noted
 returns-then-is_stopped-clause-noted g c = notes_left _ _ c.args.self.now _ c.in_ok-enter_in_turn.ensures.noted
+
+pub returns-then-is_stopped-clause-steps : goal.returns-then-is_stopped-clause-steps
+returns-then-is_stopped-clause-steps g c = leaves _ _ _ _ _ c.args.self.now _ c.in_ok-enter_in_turn.ensures.makes (sym c.is_stopped.ensures ∙ c.if-is_stopped.true)
+
+pub returns-clause-refused : goal.returns-clause-refused
+returns-clause-refused g c = made_refused _ _ _ _ _ _ c.settle.result (remains _ _ _ _ _ c.args.self.now _ c.in_ok-enter_in_turn.ensures.makes (sym c.is_stopped.ensures ∙ c.if-is_stopped.false)).makes

@@ -1,4 +1,5 @@
-use Rattle.std.proofs.Common.{sym, subst}
+use Rattle.std.proofs.Common.{◌∙◌, sym, ap, subst}
+use Rattle.backend_core.specs.Types.{Backend}
 use Rattle.backend_core.specs.Looks.{next_of_look, LooksWherever}
 use Rattle.backend_core.specs.Steps.{IsNextOf}
 use Rattle.backend_core.proofs.Entries.Looking.{look_well, look_before_well, accept_well}
@@ -15,3 +16,6 @@ returns-in-Scan-clause-looks c = subst (LooksWherever c.args.self.now c.args.som
 pub returns-in-Absent-clause-looks : goal.returns-in-Absent-clause-looks
 returns-in-Absent-clause-looks c = λ scenario seen ready follows. accept_well scenario seen c.args.self.now _ c.args.some_wait _ ready.waits ready.played ready.course (subst (λ l. IsNextOf c.args.self.now (next_of_look l)) c.in-Absent.is c.requires.next) follows
     c.still_looked-self.ensures (c.enter_look.ensures.holds scenario seen ready.waits.rests) c.enter_look.ensures.kept c.enter_look.ensures.answer
+
+pub returns-in-Scan-clause-same : goal.returns-in-Scan-clause-same
+returns-in-Scan-clause-same c = ap (λ (s : Backend). s.progress.commands) c.note_look.ensures ∙ c.enter_look.ensures.same

@@ -1,6 +1,8 @@
-use Rattle.std.proofs.Common.{refl, rules}
+use Rattle.std.proofs.Common.{refl, rules, arith}
 use Rattle.local_caches.specs.Caches.{kept_of}
 use Rattle.cacheless.specs.State.{is_kept}
+use Rattle.backend_core.specs.Steps.{Before}
+use Rattle.backend_core.proofs.Fitting.Entered.{is_few}
 use Rattle.backend_core.proofs.Entries.Alike.{reserved_id, reserved_awaits, reserved_write, drafted_awaits, drafted_write}
 use Rattle.backend_core.proofs.Entries.Writing.{write_request, may_write, lists_before, made_free, wrote_refused, wrote_agrees, clash_enters, wrote_noted, clash_noted}
 use Rattle.backend_core.proofs.Entries.Inside.{then_so}
@@ -40,3 +42,15 @@ returns-in_ok-enter_write-in-Ok-clause-noted g c = then_so c.tell_each.result (w
 pub returns-in-Clash-clause-noted : goal.returns-in-Clash-clause-noted
 returns-in-Clash-clause-noted g c = written_noted _ _ c.args.self.now _ _ _ _ c.reserve_lock.ensures.same (clash_noted _ _ _ c.in_ok-draft.draft refl (drafted_awaits _ _ _ c.in_ok-draft.draft _ (search rules) (reserved_awaits _ _ c.args.self.now _ c.reserve_lock.ensures.same c.requires.ready.waits)) c.requires.ready.played c.requires.ready.course (drafted_write _ c.in_ok-draft.draft _ (search rules) (reserved_write _ _ c.reserve_lock.ensures.same c.requires.next))
     _ _ _ _ c.in-Clash.name c.in-Clash.clash (c.enter_clash.ensures.holds _ _ _) (rw c.in-Clash.is at c.in-Err.ensures.writes))
+
+pub enter_write-requires-clause-few : goal.enter_write-requires-clause-few
+enter_write-requires-clause-few g c = is_few _ _ _ (reserved_awaits _ _ c.args.self.now _ c.reserve_lock.ensures.same c.requires.ready.waits)
+
+pub enter_clash-requires : goal.enter_clash-requires
+enter_clash-requires g c = record { few = is_few _ _ _ (reserved_awaits _ _ c.args.self.now _ c.reserve_lock.ensures.same c.requires.ready.waits) }
+
+pub overflow_add-self : goal.overflow_add-self
+overflow_add-self g c = omega (arith, is_few _ _ _ (reserved_awaits _ _ c.args.self.now _ c.reserve_lock.ensures.same c.requires.ready.waits))
+
+pub returns-in-NoMemory-clause-refused : goal.returns-in-NoMemory-clause-refused
+returns-in-NoMemory-clause-refused g c = Before (rw c.in-NoMemory.is at c.in-Err.ensures.writes)

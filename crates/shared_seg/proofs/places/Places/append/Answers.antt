@@ -1,6 +1,7 @@
-use Rattle.std.proofs.Common.{◌≡◌, ◌<◌, ◌+◌, ◌-◌, sum, length, slice_set, arith, ap, sym}
+use Rattle.std.proofs.Common.{◌≡◌, ◌<◌, ◌≤◌, ◌∙◌, ◌++◌, ◌∷◌, [], ◌+◌, ◌-◌, sum, length, slice_set, arith, ap, sym, subst}
 use Rattle.shared_seg.specs.Places.{Placed, promised_in}
 use Rattle.shared_seg.proofs.Promises.{promised_at, promised_in-le, sum-taken}
+use Rattle.shared_seg.proofs.Promising.{had_of}
 use Rattle.shared_seg.proofs.places.Places.append.Goals as goal
 
 pub overflow_sub-total : goal.overflow_sub-total
@@ -41,3 +42,9 @@ returns-clause-short c =
     let had : c.index-had.result.now ≡ promised_in c.self.inside.promised.items c.args.entry.backend = promised_at c.self.inside.promised.items c.args.entry.backend c.index-had.result.now within c.index-had.ensures in
     let less : sum (slice_set c.self.inside.promised.items c.args.entry.backend (c.index-had.result.now - 1)) + 1 ≡ sum c.self.inside.promised.items = rw had (sum-taken c.self.inside.promised.items c.args.entry.backend within place) in
     omega (arith, less, c.self.invariant.counted, c.self.invariant.short, c.push_reserved.ensures.len)
+
+pub overflow_sub-had : goal.overflow_sub-had
+overflow_sub-had c = subst (λ n. 1 ≤ n) (sym (had_of _ _ c.args.entry.backend _ c.self.view_is c.requires.within c.index-had.ensures)) c.requires.place
+
+pub returns-clause-entries : goal.returns-clause-entries
+returns-clause-entries c = c.push_reserved.ensures.items ∙ ap (λ (p : Placed). p.entries ++ c.args.entry ∷ []) c.self.view_is

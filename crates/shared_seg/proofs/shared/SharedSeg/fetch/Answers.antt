@@ -2,7 +2,8 @@ use Rattle.std.proofs.Common.{◌≡◌, ◌∙◌, ◌++◌, ◌∷◌, [], ref
 use Rattle.event_kinds.specs.declared.entry.Event.TheVariants.{Fetch}
 use Rattle.seg_calls.specs.Calls.{entry_of}
 use Rattle.shared_seg.specs.KeepsQueue.{event_of_fetch}
-use Rattle.shared_seg.proofs.Entered.{call_inside, within}
+use Rattle.shared_seg.specs.Kept.{Kept}
+use Rattle.shared_seg.proofs.Entered.{call_inside, within, called_within}
 use Rattle.shared_seg.proofs.Queue.{placed_queued, active_needs}
 use Rattle.shared_seg.proofs.Fetched.{fetch_alive, fetch_due, fetch_given, fetch_queued, fetch_call, fetches_due, fetch_folds}
 use Rattle.shared_seg.proofs.shared.SharedSeg.fetch.Goals as goal
@@ -32,3 +33,9 @@ returns-clause-fetches c =
     c.append.ensures.entries ∙ ap (λ event. c.self.inside.places.entries ++ entry_of c.args.b c.args.c event ∷ []) c.fetch_event.ensures in
     fetches_due _ _ _ _ c.args.b c.args.c c.fetch-fetched.result _ c.self.view_is (fetch_call _ _ c.args.b c.args.c c.fetch-fetched.result c.self.view_is c.requires.call due) c.self.invariant.folds.backends due
     (fetch_given c.self.inside.script.scenario _ _ c.args.b _ c.self.invariant.queued alive c.fetch-fetched.ensures.given) entries c.append.ensures.promised
+
+pub returns-clause-script : goal.returns-clause-script
+returns-clause-script c = ap (λ (k : Kept). k.script) c.self.view_is
+
+pub begin-requires : goal.begin-requires
+begin-requires c = called_within _ _ _ _ c.self.view_is c.requires.call (c.self.inside.transactions.ok.0 ∙ c.self.invariant.folds.slots)

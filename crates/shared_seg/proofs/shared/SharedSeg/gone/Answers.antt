@@ -1,7 +1,10 @@
-use Rattle.std.proofs.Common.{refl, rules}
+use Rattle.std.proofs.Common.{◌∙◌, refl, ap}
 use Rattle.event_kinds.specs.declared.entry.Event.TheVariants.{Gone}
 use Rattle.seg_calls.specs.Calls.{entry_of}
-use Rattle.shared_seg.proofs.Entered.{call_inside, within, placed_appends, placed_keeps}
+use Rattle.shared_seg.specs.Transactions.{xid_at}
+use Rattle.shared_seg.specs.Undone.{undone}
+use Rattle.shared_seg.specs.Kept.{Kept}
+use Rattle.shared_seg.proofs.Entered.{call_inside, within, placed_appends, placed_keeps, called_within}
 use Rattle.shared_seg.proofs.Rows.{gone_steps}
 use Rattle.shared_seg.proofs.Queue.{placed_still}
 use Rattle.shared_seg.proofs.shared.SharedSeg.gone.Goals as goal
@@ -11,9 +14,15 @@ invariant_of-self c = record {
   folds =
       let call = call_inside _ _ (entry_of c.args.b c.args.c (Gone c.args.from)) c.self.view_is c.requires.call in
       placed_keeps _ _ _ _ (entry_of c.args.b c.args.c (Gone c.args.from)) _ _ _ _ _ _ _ _ _ _ c.self.view_is c.self.invariant.folds c.requires.call tt c.append.ensures.entries c.append.ensures.promised
-      (gone_steps _ c.args.b c.args.c c.args.from _ _ _ _ _ _ _ (c.self.invariant.folds.own c.args.b) (search rules) (within c.self.inside.script.scenario c.args.b _ call.backend c.self.invariant.folds.slots) c.begin.ensures);
+      (gone_steps _ c.args.b c.args.c c.args.from _ _ _ _ _ _ _ (c.self.invariant.folds.own c.args.b) (c.undo_from.ensures ∙ ap (λ own. undone own c.args.from c.self.inside.store) (c.own_xid-own.ensures ∙ ap (λ ts. xid_at ts c.args.b) c.deref.ensures.value)) (within c.self.inside.script.scenario c.args.b _ call.backend c.self.invariant.folds.slots) c.begin.ensures);
   queued = placed_still _ _ _ (entry_of c.args.b c.args.c (Gone c.args.from)) _ c.self.view_is c.self.invariant.queued c.requires.call refl c.append.ensures.entries;
 }
 
 pub returns-clause-appends : goal.returns-clause-appends
 returns-clause-appends c = placed_appends _ _ _ _ (entry_of c.args.b c.args.c (Gone c.args.from)) refl c.self.view_is c.requires.call tt c.self.invariant.folds.backends c.append.ensures.entries c.append.ensures.promised
+
+pub returns-clause-script : goal.returns-clause-script
+returns-clause-script c = ap (λ (k : Kept). k.script) c.self.view_is
+
+pub begin-requires : goal.begin-requires
+begin-requires c = called_within _ _ _ _ c.self.view_is c.requires.call (c.self.inside.transactions.ok.0 ∙ c.self.invariant.folds.slots)

@@ -1,8 +1,8 @@
-use Rattle.std.proofs.Common.{length, refl, sym, subst}
+use Rattle.std.proofs.Common.{◌∙◌, length, refl, ap, sym, subst}
 use Rattle.event_kinds.specs.declared.entry.Event.TheVariants.{Publish}
 use Rattle.seg_calls.specs.Calls.{entry_of, ArePublishedNext}
 use Rattle.shared_seg.specs.Kept.{Kept}
-use Rattle.shared_seg.proofs.Entered.{call_inside, placed_appends, quiet_keeps}
+use Rattle.shared_seg.proofs.Entered.{call_inside, placed_appends, quiet_keeps, called_within}
 use Rattle.shared_seg.proofs.Queue.{few_published, publish_queued, cleaned_is}
 use Rattle.shared_seg.proofs.Published.{published_fits}
 use Rattle.shared_seg.specs.KeepsQueue.{KeepsQueue}
@@ -28,3 +28,9 @@ returns-clause-appends c = placed_appends _ _ _ _ (entry_of c.args.b c.args.c (P
 
 pub returns-clause-cleaned : goal.returns-clause-cleaned
 returns-clause-cleaned c = cleaned_is _ _ _ (length c.args.messages.now) _ c.self.view_is c.self.invariant.queued c.insert-cleaned.ensures.answer
+
+pub returns-clause-script : goal.returns-clause-script
+returns-clause-script c = ap (λ (k : Kept). k.script) c.self.view_is
+
+pub add_published-requires-clause-within : goal.add_published-requires-clause-within
+add_published-requires-clause-within c = called_within _ _ _ _ c.self.view_is c.requires.call (c.self.inside.transactions.ok.0 ∙ c.self.invariant.folds.slots)

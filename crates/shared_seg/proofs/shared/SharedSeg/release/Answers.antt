@@ -1,7 +1,8 @@
-use Rattle.std.proofs.Common.{refl}
+use Rattle.std.proofs.Common.{◌∙◌, refl, ap}
 use Rattle.event_kinds.specs.declared.entry.Event.TheVariants.{Release}
 use Rattle.seg_calls.specs.Calls.{entry_of}
-use Rattle.shared_seg.proofs.Entered.{placed_appends, quiet_keeps}
+use Rattle.shared_seg.specs.Kept.{Kept}
+use Rattle.shared_seg.proofs.Entered.{placed_appends, quiet_keeps, called_within}
 use Rattle.shared_seg.proofs.Queue.{placed_still}
 use Rattle.shared_seg.proofs.shared.SharedSeg.release.Goals as goal
 
@@ -14,3 +15,9 @@ invariant_of-self c = record {
 
 pub returns-clause-appends : goal.returns-clause-appends
 returns-clause-appends c = placed_appends _ _ _ _ (entry_of c.args.b c.args.c (Release c.args.from)) refl c.self.view_is c.requires.call tt c.self.invariant.folds.backends c.append.ensures.entries c.append.ensures.promised
+
+pub returns-clause-script : goal.returns-clause-script
+returns-clause-script c = ap (λ (k : Kept). k.script) c.self.view_is
+
+pub end_from-requires : goal.end_from-requires
+end_from-requires c = called_within _ _ _ _ c.self.view_is c.requires.call (c.self.inside.transactions.ok.0 ∙ c.self.invariant.folds.slots)

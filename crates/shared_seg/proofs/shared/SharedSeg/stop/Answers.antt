@@ -1,6 +1,7 @@
-use Rattle.std.proofs.Common.{refl}
+use Rattle.std.proofs.Common.{refl, ap}
 use Rattle.event_kinds.specs.declared.entry.Event.TheVariants.{Stop}
 use Rattle.seg_calls.specs.Calls.{entry_of}
+use Rattle.shared_seg.specs.Kept.{Kept}
 use Rattle.shared_seg.proofs.Own.{kept_same}
 use Rattle.shared_seg.proofs.Keeps.{quiet_steps}
 use Rattle.shared_seg.proofs.Entered.{call_inside, within, placed_appends, placed_keeps}
@@ -21,3 +22,6 @@ invariant_of-self c = record {
 
 pub returns-clause-appends : goal.returns-clause-appends
 returns-clause-appends c = placed_appends _ _ _ _ (entry_of c.args.b c.args.c Stop) refl c.self.view_is c.requires.call tt c.self.invariant.folds.backends c.append.ensures.entries c.append.ensures.promised
+
+pub returns-clause-script : goal.returns-clause-script
+returns-clause-script c = ap (λ (k : Kept). k.script) c.self.view_is

@@ -1,14 +1,15 @@
-use Rattle.std.proofs.Common.{◌≡◌, ◌∙◌, ◌++◌, ◌∷◌, [], max, length, sum, refl, ap, subst, rules, arith}
+use Rattle.std.proofs.Common.{◌∙◌, ◌++◌, ◌∷◌, [], length, sum, refl, ap, subst, arith}
 use Rattle.std.specs.List.{flat_map}
 use Rattle.row_visibility.specs.declared.version.Reader.{Reader}
-use Rattle.seg_calls.specs.Calls.{entry_of}
 use Rattle.shared_seg.specs.Announced.{messages_at}
 use Rattle.shared_seg.specs.IsDrawn.{IsDrawn}
-use Rattle.shared_seg.specs.Naming.{clash_with}
+use Rattle.shared_seg.specs.Naming.{NamesFree}
 use Rattle.shared_seg.specs.Transactions.{own_reader}
-use Rattle.shared_seg.proofs.Asked.{request_inside, small_number}
+use Rattle.shared_seg.specs.Kept.{Kept}
+use Rattle.shared_seg.proofs.Asked.{request_inside, asked_within, small_number}
 use Rattle.shared_seg.proofs.Queue.{clash_still}
 use Rattle.shared_seg.proofs.Writing.{may_enter, write_allowed, write_granted, write_entered, write_announced, write_keeps, taken_of, taken_allowed, taken_is_new, clash_keeps, clash_writes_at, makes_write}
+use Rattle.shared_seg.proofs.Unchanged.{keeps_same, unchanged}
 use Rattle.shared_seg.proofs.shared.SharedSeg.write.Goals as goal
 
 pub reader_in-reader-requires-clause-number : goal.reader_in-reader-requires-clause-number
@@ -19,14 +20,15 @@ invariant_of-self-in-Some c =
     let reader = c.reader_in-reader.ensures ∙ ap (λ ts. own_reader ts c.args.b c.args.c) c.deref.ensures.value in
     let taken = taken_of _ _ _ _ _ c.in-Some.taken reader c.deref-2.ensures.value c.in-Some.ensures in
     let allowed = taken_allowed _ _ _ _ _ _ _ _ c.args.b c.args.c c.self.invariant.folds c.in-Ok.drawn.changes.items c.in-Some.taken taken in
+    let entered = c.in-Ok-add.ensures.ok ∙ ap (λ e. c.self.inside.places.entries ++ e ∷ []) c.clash_entry.ensures in
     record {
-      folds = clash_keeps _ _ _ _ c.args.b c.args.c c.in-Some.taken.name c.in-Some.taken.clash _ _ _ _ _ _ c.self.view_is c.self.invariant.folds c.requires.call allowed (search rules) c.add.ensures.promised c.begin.ensures;
-      queued = clash_still _ _ _ c.args.b c.args.c c.in-Some.taken.name c.in-Some.taken.clash _ c.self.view_is c.self.invariant.queued c.requires.call allowed (search rules);
+      folds = clash_keeps _ _ _ _ c.args.b c.args.c c.in-Some.taken.name c.in-Some.taken.clash _ _ _ _ _ _ c.self.view_is c.self.invariant.folds c.requires.call allowed entered c.add.ensures.promised c.begin.ensures;
+      queued = clash_still _ _ _ c.args.b c.args.c c.in-Some.taken.name c.in-Some.taken.clash _ c.self.view_is c.self.invariant.queued c.requires.call allowed entered;
     }
 
 pub returns-in-Some-clause-writes : goal.returns-in-Some-clause-writes
 returns-in-Some-clause-writes c =
-    let entered : c.add.new.self.entries ≡ c.self.inside.places.entries ++ entry_of c.args.b c.args.c (clash_with c.in-Some.taken) ∷ [] = search rules in
+    let entered = c.in-Ok-add.ensures.ok ∙ ap (λ e. c.self.inside.places.entries ++ e ∷ []) c.clash_entry.ensures in
     let reader = c.reader_in-reader.ensures ∙ ap (λ ts. own_reader ts c.args.b c.args.c) c.deref.ensures.value in
     let taken = taken_of _ _ _ _ _ c.in-Some.taken reader c.deref-2.ensures.value c.in-Some.ensures in
     let drawn = subst (λ (r : Reader). IsDrawn r.xid c.args.draft.now c.self.inside.next_oid c.self.inside.last_xid c.in-Ok.drawn) reader c.in-Ok.ensures in
@@ -38,20 +40,19 @@ returns-in-Some-clause-writes c =
 pub enter_write-requires : goal.enter_write-requires
 enter_write-requires c =
     let reader = c.reader_in-reader.ensures ∙ ap (λ ts. own_reader ts c.args.b c.args.c) c.deref.ensures.value in
-    let enter = may_enter _ _ c.args.b c.args.c c.self.inside.store _ _ _ c.args.draft.now c.in-Ok.drawn _ c.self.view_is c.requires.call c.requires.write reader c.in-Ok.ensures (search rules) in
+    let enter = may_enter _ _ c.args.b c.args.c c.self.inside.store _ _ _ c.args.draft.now c.in-Ok.drawn _ c.self.view_is c.requires.call c.requires.write reader c.in-Ok.ensures (subst (NamesFree c.self.inside.store c.reader_in-reader.result) c.deref-2.ensures.value c.in_default-first_taken.ensures) in
     write_granted _ _ _ _ _ _ _ _ c.args.b c.args.c c.self.invariant.folds c.args.draft.now c.in-Ok.drawn enter
 
 pub invariant_of-self-2 : goal.invariant_of-self-2
 invariant_of-self-2 c =
     let reader = c.reader_in-reader.ensures ∙ ap (λ ts. own_reader ts c.args.b c.args.c) c.deref.ensures.value in
-    let last : c.max-self-inside.result ≡ max c.self.inside.last_xid c.in-Ok.drawn.xid.0 = search rules in
-    let enter = may_enter _ _ c.args.b c.args.c c.self.inside.store _ _ _ c.args.draft.now c.in-Ok.drawn _ c.self.view_is c.requires.call c.requires.write reader c.in-Ok.ensures (search rules) in
-    write_keeps _ _ _ _ c.args.b c.args.c c.args.draft.now c.in-Ok.drawn _ _ _ _ _ _ _ _ _ _ c.self.view_is c.self.invariant c.requires.call enter c.in-Ok-enter_write.ensures.entries c.enter_write.ensures.promised c.in-Ok-enter_write.ensures.rows c.in-Ok-enter_write.ensures.held c.begin_writing.ensures last
+    let enter = may_enter _ _ c.args.b c.args.c c.self.inside.store _ _ _ c.args.draft.now c.in-Ok.drawn _ c.self.view_is c.requires.call c.requires.write reader c.in-Ok.ensures (subst (NamesFree c.self.inside.store c.reader_in-reader.result) c.deref-2.ensures.value c.in_default-first_taken.ensures) in
+    write_keeps _ _ _ _ c.args.b c.args.c c.args.draft.now c.in-Ok.drawn _ _ _ _ _ _ _ _ _ _ c.self.view_is c.self.invariant c.requires.call enter c.in-Ok-enter_write.ensures.entries c.enter_write.ensures.promised c.in-Ok-enter_write.ensures.rows c.in-Ok-enter_write.ensures.held c.begin_writing.ensures c.max-self-inside.ensures
 
 pub returns-clause-writes : goal.returns-clause-writes
 returns-clause-writes c =
     let reader = c.reader_in-reader.ensures ∙ ap (λ ts. own_reader ts c.args.b c.args.c) c.deref.ensures.value in
-    let enter = may_enter _ _ c.args.b c.args.c c.self.inside.store _ _ _ c.args.draft.now c.in-Ok.drawn _ c.self.view_is c.requires.call c.requires.write reader c.in-Ok.ensures (search rules) in
+    let enter = may_enter _ _ c.args.b c.args.c c.self.inside.store _ _ _ c.args.draft.now c.in-Ok.drawn _ c.self.view_is c.requires.call c.requires.write reader c.in-Ok.ensures (subst (NamesFree c.self.inside.store c.reader_in-reader.result) c.deref-2.ensures.value c.in_default-first_taken.ensures) in
     let messages = c.in-Ok-announced.ensures ∙ ap (flat_map (messages_at c.self.inside.store c.reader_in-reader.result)) c.deref-3.ensures.value in
     makes_write _ _ _ _ c.args.b c.args.c c.self.inside.next_oid c.args.draft.now _ c.self.view_is c.requires.call
     (write_allowed _ _ _ _ _ _ _ _ c.args.b c.args.c c.self.invariant.folds c.args.draft.now c.in-Ok.drawn enter) enter.may.orderly
@@ -60,3 +61,33 @@ returns-clause-writes c =
 
 pub invariant_of-self-inside-in_default-enter_write : goal.invariant_of-self-inside-in_default-enter_write
 invariant_of-self-inside-in_default-enter_write c = (omega (arith, ap length c.in_default-enter_write.ensures.same_entries, ap sum c.enter_write.ensures.promised, c.self.inside.short), tt)
+
+pub invariant_of-self-in_default-enter_write : goal.invariant_of-self-in_default-enter_write
+invariant_of-self-in_default-enter_write c = keeps_same _ _ _ _ _ _ _ _ _ _ _ _ _ c.in_default-enter_write.ensures.same_entries (ap length c.enter_write.ensures.promised) c.in_default-enter_write.ensures.same_rows c.in_default-enter_write.ensures.same_held c.self.invariant
+
+pub invariant_of-self : goal.invariant_of-self
+invariant_of-self c = keeps_same _ _ _ _ _ _ _ _ _ _ _ _ _ c.in_default-add.ensures.err (ap length c.add.ensures.promised) refl refl c.self.invariant
+
+pub begin_writing-requires : goal.begin_writing-requires
+begin_writing-requires c = asked_within _ _ c.args.b c.args.c _ c.self.view_is c.requires.call (c.self.inside.transactions.ok.0 ∙ c.self.invariant.folds.slots)
+
+pub begin-requires : goal.begin-requires
+begin-requires c = asked_within _ _ c.args.b c.args.c _ c.self.view_is c.requires.call (c.self.inside.transactions.ok.0 ∙ c.self.invariant.folds.slots)
+
+pub returns-in_default-enter_write-clause-writes : goal.returns-in_default-enter_write-clause-writes
+returns-in_default-enter_write-clause-writes c = unchanged _ _ _ _ c.self.view_is c.in_default-enter_write.ensures.same_entries c.enter_write.ensures.promised
+
+pub returns-in_default-add-clause-writes : goal.returns-in_default-add-clause-writes
+returns-in_default-add-clause-writes c = unchanged _ _ _ _ c.self.view_is c.in_default-add.ensures.err c.add.ensures.promised
+
+pub returns-clause-script : goal.returns-clause-script
+returns-clause-script c = ap (λ (k : Kept). k.script) c.self.view_is
+
+pub returns-in_default-enter_write-clause-script : goal.returns-in_default-enter_write-clause-script
+returns-in_default-enter_write-clause-script c = ap (λ (k : Kept). k.script) c.self.view_is
+
+pub returns-in-Some-clause-script : goal.returns-in-Some-clause-script
+returns-in-Some-clause-script c = ap (λ (k : Kept). k.script) c.self.view_is
+
+pub returns-in_default-add-clause-script : goal.returns-in_default-add-clause-script
+returns-in_default-add-clause-script c = ap (λ (k : Kept). k.script) c.self.view_is
