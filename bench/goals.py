@@ -4,8 +4,10 @@ nothing.
 
     bench/goals.py CRATE [COUNT]
 
-They are read off what `rt check` left in crates/CRATE/out/incremental. One or two seconds go into a million steps; an answer in the
-function's Answers.antt, by the lemmas that the goal needs, takes next to none. COUNT is how many are listed; 30 if left out.
+They are read off what `rt check` left in crates/CRATE/out/incremental, where goals of texts that were checked earlier stay and count:
+the sum is right in a clone in which the crate was checked once. One or two seconds go into a million steps; an answer in the
+function's Answers.antt, by the lemmas that the goal needs, takes next to none. Where an answer searches itself, its steps are those
+of a goal of `Answers`. COUNT is how many are listed; 30 if left out.
 """
 import glob
 import os
@@ -18,9 +20,9 @@ GOAL = re.compile(r'"name":"([^"]+)","notes".*?"phases":\[([0-9,]+)\]')
 
 def searched(crate):
     """The steps, the function and the name of each goal that was searched."""
-    records = os.path.join(TOP, "crates", crate, "out", "incremental", "*", "records", "Rattle-%s-proofs.*.Proof.decls.oantt" % crate)
-    for path in glob.glob(records):
-        function = os.path.basename(path).split("-proofs.", 1)[1][:-len(".Proof.decls.oantt")]
+    records = os.path.join(TOP, "crates", crate, "out", "incremental", "*", "records", "Rattle-%s-proofs.*.%s.decls.oantt")
+    for path in glob.glob(records % (crate, "Proof")) + glob.glob(records % (crate, "Answers")):
+        function = os.path.basename(path).split("-proofs.", 1)[1][:-len(".decls.oantt")].removesuffix(".Proof")
         with open(path, encoding="latin1") as file:
             for name, phases in GOAL.findall(file.read()):
                 yield sum(map(int, phases.split(","))), function, name
