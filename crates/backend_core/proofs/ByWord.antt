@@ -1,6 +1,6 @@
 -- The looks that a backend makes between two of its turns.
-use Rattle.std.proofs.Common.{◌≡◌, ◌<◌, ◌+◌, ◌∙◌, ℕ, zero, suc, Bool, List, [], ◌∷◌, ◌++◌, refl, sym, ap, subst, append_assoc, append-nil, length, take, map, get_or, arith}
-use Rattle.std.proofs.lemmas.List.{take_more, map-append}
+use Rattle.std.proofs.Common.{◌≡◌, ◌<◌, ◌+◌, ◌∙◌, ℕ, zero, suc, Bool, List, [], ◌∷◌, ◌++◌, sym, subst, append_assoc, append-nil, length, take, get_or, refl, arith}
+use Rattle.history_model.proofs.ListSteps.{map_next}
 use Rattle.history_model.proofs.Sound.{sound_is_legal}
 use Rattle.seg_calls.specs.Calls.{MayCall, Appends}
 use Rattle.cacheless.proofs.Allowed.AllowedHistories.{played_more}
@@ -48,7 +48,7 @@ handed_call scenario later before now b held i d same is less each = subst (λ k
 
 -- one more is handed over, by which the history grows and a place is taken
 pub handed_more : (before old new : List Entry) (b : ℕ) (held : List HeldLook) (i : ℕ) (d : HeldLook) → i < length held → old ≡ before ++ entries_of b (take i held) → new ≡ old ++ entry_held b (get_or held i d) ∷ [] → new ≡ before ++ entries_of b (take (i + 1) held)
-handed_more before old new b held i d less is more = more ∙ ap (λ h. h ++ entry_held b (get_or held i d) ∷ []) is ∙ append_assoc before (entries_of b (take i held)) (entry_held b (get_or held i d) ∷ []) ∙ ap (λ l. before ++ l) (sym (ap (map (entry_held b)) (take_more held i d less) ∙ map-append (entry_held b) (take i held) (get_or held i d ∷ [])))
+handed_more before old new b held i d less is more = more ∙ map_next (entry_held b) before held i (get_or held i d) d old less refl is
 
 pub takes_more : (old new : List Entry) (had has now : ℕ → ℕ) (b n : ℕ) (look : HeldLook) → TakesPlaces had has b n → Appends old new has now (entry_held b look) → TakesPlaces had now b (n + 1)
 takes_more old new had has now b n look takes appends = record {

@@ -36,8 +36,7 @@ pub mod SameRows
 pub mod Deciding
 mod WantedPlans
 pub mod Lacking
-pub mod ListSteps
-mod AtStart
+mod Blocking
 mod BeforeStart
 pub mod OthersEntries
 pub mod EndEntries

@@ -117,7 +117,7 @@ no_scans (wants.Search scan) lookup opens search reads done = absurd (search sca
 no_scans (wants.Read scan) lookup opens search reads done = absurd (reads scan refl)
 no_scans want lookup opens search reads done = refl
 
--- whether its command has come out
+-- how its command has come out
 pub came_badly : (plan : Plan) (error : CommandError) → want_of plan ≡ wants.Fails error → outcome_of plan ≡ Badly
 came_badly plan error is = ap outcome_of (fails_is plan error is)
 
@@ -154,7 +154,7 @@ pub no_row : (s : Progress) (want : Want) → ((name : List ℕ) (m : Mode) → 
 no_row s (wants.Lookup name m) lookup = absurd (lookup name m refl)
 no_row s want lookup = refl
 
--- whether its command has come out
+-- whether its command has come out, well or badly
 abbrev pub out_of_want : Want → Bool
 out_of_want (wants.Done told) = true
 out_of_want (wants.Fails error) = true
@@ -225,10 +225,11 @@ no_gives s (wants.Search scan) lookup lock opens search read = absurd (search sc
 no_gives s (wants.Read scan) lookup lock opens search read = absurd (read scan refl)
 no_gives s want lookup lock opens search read = refl
 
-pub gives_all : (s : Progress) (want : Want) → ((rel : Oid) × (kind : Kind) × (want ≡ wants.Open rel kind)) ⊎ ((scan : Purpose) × (want ≡ wants.Search scan)) ⊎ ((scan : Purpose) × (want ≡ wants.Read scan)) → gives_of_want s want ≡ true
-gives_all s want (inl (rel, kind, is)) = ap (gives_of_want s) is
-gives_all s want (inr (inl (scan, is))) = ap (gives_of_want s) is
-gives_all s want (inr (inr (scan, is))) = ap (gives_of_want s) is
+-- of what is open or is read, yes
+pub gives_kept : (s : Progress) (want : Want) → ((rel : Oid) × (kind : Kind) × (want ≡ wants.Open rel kind)) ⊎ ((scan : Purpose) × (want ≡ wants.Search scan)) ⊎ ((scan : Purpose) × (want ≡ wants.Read scan)) → gives_of_want s want ≡ true
+gives_kept s want (inl (rel, kind, is)) = ap (gives_of_want s) is
+gives_kept s want (inr (inl (scan, is))) = ap (gives_of_want s) is
+gives_kept s want (inr (inr (scan, is))) = ap (gives_of_want s) is
 
 -- what a command answers that has come out well
 pub tells_well : (rows : Purpose → List Row) (places : Purpose → ℕ) (locks : List OwnLock) (block : Block) (command : Command) (plan : Plan) (told : Option Purpose) → want_of plan ≡ wants.Done told → told_left rows places locks block command plan ≡ told_well rows places locks block (told_of plan)
@@ -238,7 +239,7 @@ tells_well rows places locks block command (Absent name) rests is = absurd (cc i
 tells_well rows places locks block command (Do (Lookup name mode) rest) rests is = absurd (cc is)
 tells_well rows places locks block command (Do act rest) rests is = absurd (cc is)
 
--- the one scan on which it rests is missing, or it isn't
+-- of an act that rests on one scan nothing is missing where that scan is kept
 pub one_missing : (kept : Kept) (scan : Purpose) (has : Bool) → has ≡ is_kept kept scan → not (not has) ≡ is_empty (missing kept (scan ∷ []))
 one_missing kept scan has is = ap (λ t. not (not t)) is ∙ by_test (is_kept kept scan)
   where

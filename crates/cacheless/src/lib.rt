@@ -37,10 +37,10 @@
 //! these, Silently what is done without an entry, Answering what a command answers by them. The promise
 //! of what it answers is in Telling: that is the command's line.
 //!
-//! What an own entry keeps of a session, and what another's does, is in specs/Awaiting and its laws (proofs/EndEntries,
-//! OwnPlaces, OwnAnswers, OthersEntries): the session that waits for an entry, and right after its own has what its call says,
-//! has the places, the answer and the lines of the longer history. Whoever makes the entry cites these laws: the program's
-//! backend (backend_core), or a history that is judged (history_lines).
+//! specs/Awaiting says where a session is between two entries of its backend, and right after one. The laws of it are in
+//! proofs: EndEntries, OwnPlaces and OwnAnswers for an entry of its own, OthersEntries for another backend's. After either, its
+//! places, answer and lines are those of the longer history. Who makes the entry cites them: backend_core does, and
+//! history_lines, which judges a given history.
 #![tactic(auto)]
 
 mod answering;

@@ -3,8 +3,8 @@ mod CurrentSteps
 mod Ended
 mod EndedEach
 mod Exact
+mod FirstSlots
 mod Found
-mod Prefixes
 mod Given
 mod Grown
 mod Listing

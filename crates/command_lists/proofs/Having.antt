@@ -1,8 +1,7 @@
 -- Whether there is a list of a command or of one after it.
-use Rattle.std.proofs.Common.{◌≡◌, ◌∙◌, ℕ, Bool, true, false, Option, Some, None, List, [], ◌∷◌, ◌++◌, ◌||◌, nat_le, refl, sym, ap}
+use Rattle.std.proofs.Common.{◌≡◌, ◌∙◌, ℕ, Bool, Option, List, [], ◌∷◌, ◌++◌, ◌||◌, nat_le, refl, sym, ap}
 use Rattle.std.specs.Option.{option_to_list}
 use Rattle.std.specs.List.{list_any}
-use Rattle.std.proofs.lemmas.List.Folds.{list_any-append}
 use Rattle.inval_messages.specs.Lists.{has_write_from}
 use Rattle.command_lists.specs.Types.{Message, Place, Start}
 use Rattle.command_lists.specs.Lists.{all_lists}

@@ -1,4 +1,4 @@
-pub mod Failing
+mod FaultCounts
 pub mod Gathering
-pub mod Giving
+mod MemoryReads
 pub mod Sending

@@ -7,7 +7,6 @@ mod Entered
 mod Deciding
 mod ScanChanges
 mod Answers
-pub mod OverLists
 pub mod FreeNames
 mod WriteTests
 mod SeenAfter

@@ -1,8 +1,7 @@
 -- The lines that the sessions hold are those of the history.
-use Rattle.std.proofs.Common.{◌≡◌, ◌<◌, ◌+◌, ◌∙◌, ℕ, suc, Bool, true, false, Option, Some, None, List, [], ◌∷◌, ◌++◌, refl, sym, ap, subst, length, take, get_or, slice_get, arith}
+use Rattle.std.proofs.Common.{◌≡◌, ◌+◌, ◌∙◌, ℕ, suc, Bool, true, false, Option, Some, None, List, [], ◌∷◌, ◌++◌, refl, sym, ap, subst, length, slice_get, arith}
 use Rattle.std.specs.List.{flat_map, range_with_len}
 use Rattle.std.specs.Option.{option_map_or}
-use Rattle.std.proofs.lemmas.List.{flat_map_more, take_more}
 use Rattle.ddl_effect.specs.Commands.{commands_of}
 use Rattle.cacheless.specs.Lines.{lines_from, lines_of_backend, lines_of}
 use Rattle.cacheless.specs.Session.{Session as Course}
@@ -10,7 +9,7 @@ use Rattle.cacheless.specs.Sessions.{session_of}
 use Rattle.cacheless.specs.State.{session_at}
 use Rattle.history_lines.specs.Stands.{HasNoEntry, IsGoing, Awaits, Over, IsSessionOf, AreSessions}
 use Rattle.history_lines.specs.AllowedNext.{lines_held}
-use Rattle.history_lines.specs.Types.{Scenario, Entry, Line, Session}
+use Rattle.history_lines.specs.Types.{Scenario, Entry, Session}
 use Rattle.history_lines.proofs.Coming.{waiting_is}
 
 -- the lines of a backend, by its session
@@ -49,8 +48,3 @@ pub lines_are : (scenario : Scenario) (seen : List Entry) (sessions : List Sessi
 lines_are scenario seen sessions are =
     each_part scenario seen sessions 1 (λ i s is. let n : i + 1 ≡ 1 + i = omega arith in subst (λ b. IsSessionOf scenario seen b s) n (are.each i s is))
     ∙ ap (λ n. flat_map (lines_of_backend scenario seen) (range_with_len 1 n)) are.count
-
--- the lines that are held of one session more
-pub held_more : (sessions : List Session) (i : ℕ) (s : Session) (lines : List Line) → i < length sessions → s ≡ get_or sessions i s → lines ≡ lines_held (take i sessions) → lines ++ s.lines ≡ lines_held (take (i + 1) sessions)
-held_more sessions i s lines within is before =
-    ap (λ l. l ++ s.lines) before ∙ flat_map_more (λ x. x.lines) [] (take i sessions) s ∙ ap lines_held (sym (take_more sessions i s within ∙ ap (λ x. take i sessions ++ x ∷ []) (sym is)))

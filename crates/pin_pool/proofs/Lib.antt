@@ -1,3 +1,3 @@
-mod Changing
-mod Pins
 pub mod Refs
+mod ChangedPlaces
+mod Pins

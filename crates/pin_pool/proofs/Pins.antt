@@ -1,32 +1,21 @@
 -- What becomes of an entry as a pin goes or as it is marked, by its pins and its mark.
-use Rattle.std.proofs.Common.{◌≡◌, ◌≢◌, ◌∙◌, ◌==◌, ◌&&◌, ℕ, ◌-◌, ◌<◌, ◌≤◌, Bool, true, false, Option, Some, None, if◌then◌else◌, ap, refl, subst, arith}
+use Rattle.std.proofs.Common.{◌≡◌, ◌∙◌, ◌==◌, ◌&&◌, ◌-◌, ◌<◌, ◌≤◌, true, false, Option, Some, None, if◌then◌else◌, ap, subst, arith}
 use Rattle.std.specs.Option.{IsSomeAnd, option_and_then}
-use Rattle.std.proofs.lemmas.Bool.{eqb-true}
+use Rattle.std.proofs.Math.Bool.{and-false}
+use Rattle.std.proofs.lemmas.Bool.{ne_eqb}
 use Rattle.pin_pool.specs.Entries.{Entry, is_last_pin, unpinned, value_at_unpin, marked, value_at_mark}
-
--- numbers that differ are tested to differ
-differ : (a b : ℕ) → a ≢ b → (a == b) ≡ false
-differ a b other = by (a == b) refl
-  where
-    by : (t : Bool) → (a == b) ≡ t → (a == b) ≡ false
-    by false is = is
-    by true is = absurd (other (eqb-true a b is))
-
-both_false : (a b : Bool) → b ≡ false → (a && b) ≡ false
-both_false true b is = is
-both_false false b is = refl
 
 module _ {T : Type 0} where
   last_if_one : (e : Entry T) → e.dead ≡ true → 0 < e.pins → e.pins ≤ 1 → is_last_pin e ≡ true
   last_if_one e dead some few = let one : e.pins ≡ 1 = omega (arith, some, few) in ap (λ b. b && (e.pins == 1)) dead ∙ ap (λ n. n == 1) one
 
   not_last_if_more : (e : Entry T) → 1 < e.pins → is_last_pin e ≡ false
-  not_last_if_more e more = both_false e.dead (e.pins == 1) (differ e.pins 1 (λ one. omega (arith, more, one)))
+  not_last_if_more e more = ap (λ b. e.dead && b) (ne_eqb e.pins 1 (λ one. omega (arith, more, one))) ∙ and-false e.dead
 
   module _ (o : Option (Entry T)) (e : Entry T) (is : o ≡ Some e) where
     pub marked_stays : 0 < e.pins → (option_and_then marked o ≡ Some (record e { dead = true })) × (option_and_then value_at_mark o ≡ None)
     marked_stays pinned =
-        let some = differ e.pins 0 (λ none. omega (arith, pinned, none)) in
+        let some = ne_eqb e.pins 0 (λ none. omega (arith, pinned, none)) in
         (ap (option_and_then marked) is ∙ ap (λ b. if b then None else Some (record e { dead = true })) some, ap (option_and_then value_at_mark) is ∙ ap (λ b. if b then Some e.value else None) some)
 
     pub marked_goes : e.pins ≤ 0 → (option_and_then marked o ≡ None) × (option_and_then value_at_mark o ≡ Some e.value)

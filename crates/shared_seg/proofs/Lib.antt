@@ -7,8 +7,8 @@ mod Locked
 mod NewNames
 mod NewLocks
 mod Own
-mod Promises
-mod Promising
+mod PromiseSums
+mod PlacesPromised
 mod Published
 mod Rows
 mod Scanned

@@ -57,6 +57,14 @@ finished_asks s command finished = both_true (is_out s) (has_failed s || not (te
 pub finishes : (s : Progress) (command : Command) → slice_get s.commands s.finished ≡ Some command → (is_none s.answer && is_to_answer command s) ≡ false → is_finished_at command s ≡ true → Finishes s
 finishes s command at none finished = record { command = command; at = at; finished = finished; answered = answered_if s command none (finished_asks s command finished) }
 
+-- and rests where there is nothing to do
+pub settled_now : (s : Progress) (command : Command) → slice_get s.commands s.finished ≡ Some command → acts_on command s ≡ false → (is_none s.answer && is_to_answer command s) ≡ false → is_finished_at command s ≡ false → IsSettled s
+settled_now s command at stays none going = record {
+  still = λ other here. subst (λ c. (acts_on c s ≡ false) × (is_finished_at c s ≡ false)) (let both : Some command ≡ Some other = sym at ∙ here in cc both) (stays, going);
+  answered = answered_at_rest s command at none;
+}
+
+-- a test for none tells it
 pub not_some : {X : Type 0} (o : Option X) → is_none o ≡ true → o ≡ None
 not_some None is = refl
 not_some (Some x) is = absurd (cc is)
@@ -66,13 +74,6 @@ pub settled_after_all : (s : Progress) → slice_get s.commands s.finished ≡ N
 settled_after_all s none = record {
   still = λ command here. let both : None ≡ Some command = sym none ∙ here in absurd (cc both);
   answered = λ asked. let never : false ≡ true = sym (ap (λ (o : Option Command). elim o as (λ x. Bool) [ Some command ↦ is_to_answer command s | None ↦ false ]) none) ∙ asked in absurd (cc never);
-}
-
--- and rests where there is nothing to do
-pub settled_now : (s : Progress) (command : Command) → slice_get s.commands s.finished ≡ Some command → acts_on command s ≡ false → (is_none s.answer && is_to_answer command s) ≡ false → is_finished_at command s ≡ false → IsSettled s
-settled_now s command at stays none going = record {
-  still = λ other here. subst (λ c. (acts_on c s ≡ false) × (is_finished_at c s ≡ false)) (let both : Some command ≡ Some other = sym at ∙ here in cc both) (stays, going);
-  answered = answered_at_rest s command at none;
 }
 
 -- the running command is that of the session

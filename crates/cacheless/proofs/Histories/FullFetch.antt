@@ -1,4 +1,4 @@
--- A fetch of 32 messages asks for a further look, as in tests/runs/32_messages_before_the_scan_of_a_name.output, with other names.
+-- A fetch of 32 messages asks for a further look, as in tests/runs/32_messages_before_the_scan_of_a_name.output, with another command and other names.
 use Rattle.std.proofs.Common.{◌++◌, true, false, None, List, [], ◌∷◌, codes}
 use Rattle.base_types.specs.Scenario.{Scenario}
 use Rattle.base_types.specs.declared.command.Command.TheVariants as commands

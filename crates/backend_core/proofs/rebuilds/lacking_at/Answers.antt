@@ -1,10 +1,10 @@
 use Rattle.std.proofs.Common.{◌∙◌, ◌&&◌, Some, None, refl, sym, ap, cond}
 use Rattle.std.proofs.lemmas.Bool.{eq-eqb}
 use Rattle.base_types.specs.Scans.{same_oid}
+use Rattle.history_model.proofs.ListSteps.{given_at}
 use Rattle.local_caches.specs.Caches.{kept_of}
 use Rattle.local_caches.specs.Kept.{is_kept}
 use Rattle.cacheless.specs.Suspects.{lacks}
-use Rattle.cacheless.proofs.ListSteps.{given_at}
 use Rattle.backend_core.specs.Frames.{if_so}
 use Rattle.backend_core.proofs.rebuilds.lacking_at.Goals as goal
 

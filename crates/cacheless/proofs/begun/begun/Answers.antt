@@ -1,8 +1,8 @@
 use Rattle.std.proofs.Common.{◌∙◌, not, refl, ap, sym}
 use Rattle.ddl_effect.specs.Plans.{Fails}
+use Rattle.history_model.proofs.ListSteps.{given_at, none_at}
 use Rattle.cacheless.specs.Session.{plan_first, plan_admitted, is_blocked}
-use Rattle.cacheless.proofs.ListSteps.{given_at, none_at}
-use Rattle.cacheless.proofs.AtStart.{unblocked_last, unblocked, blocked_failed, blocked_outside}
+use Rattle.cacheless.proofs.Blocking.{unblocked_last, unblocked, blocked_failed, blocked_outside}
 use Rattle.cacheless.proofs.begun.begun.Goals.{then-is_failed, else-is_failed}
 use Rattle.cacheless.proofs.begun.begun.Goals as goal
 

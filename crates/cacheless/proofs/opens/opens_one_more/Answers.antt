@@ -1,6 +1,6 @@
 use Rattle.std.proofs.Common.{◌∙◌, ◌++◌, ◌∷◌, [], List, Option, Some, None, refl, ap, sym, length}
+use Rattle.history_model.proofs.ListSteps.{given_at, none_at}
 use Rattle.cacheless.specs.Types.{OpenRelation, Opening}
-use Rattle.cacheless.proofs.ListSteps.{given_at, none_at}
 use Rattle.cacheless.proofs.opens.opens_one_more.Goals.{in-Some+in_ok-push, in_default}
 use Rattle.cacheless.proofs.opens.opens_one_more.Goals as goal
 

@@ -1,5 +1,5 @@
 use Rattle.std.proofs.Common.{◌∙◌, arith}
-use Rattle.catalog_rows.proofs.Prefixes.{prefix_kept}
+use Rattle.catalog_rows.proofs.FirstSlots.{first_kept}
 use Rattle.catalog_rows.proofs.Grown.{grown_slots, grown_noted}
 use Rattle.catalog_rows.proofs.growing.grow_each.Goals as goal
 
@@ -20,7 +20,7 @@ pub returns-in_err-grow_by-clause-current : goal.returns-in_err-grow_by-clause-c
 returns-in_err-grow_by-clause-current c = λ committed current. c.grow_by.ensures.current committed (c.loop-change.invariant.current committed current)
 
 pub returns-in_err-grow_by-clause-before : goal.returns-in_err-grow_by-clause-before
-returns-in_err-grow_by-clause-before c = prefix_kept _ c.args.slots.now.items _ c.grow_by.new.slots.items (omega (arith, c.args.slots.now.ok)) (c.in_err-grow_by.ensures.err ∙ c.loop-change.invariant.slots)
+returns-in_err-grow_by-clause-before c = first_kept _ c.args.slots.now.items _ c.grow_by.new.slots.items (omega (arith, c.args.slots.now.ok)) (c.in_err-grow_by.ensures.err ∙ c.loop-change.invariant.slots)
 
 pub returns-clause-before : goal.returns-clause-before
-returns-clause-before c = prefix_kept _ c.args.slots.now.items _ c.loop-change.slots.items (omega (arith, c.args.slots.now.ok)) c.loop-change.invariant.slots
+returns-clause-before c = first_kept _ c.args.slots.now.items _ c.loop-change.slots.items (omega (arith, c.args.slots.now.ok)) c.loop-change.invariant.slots

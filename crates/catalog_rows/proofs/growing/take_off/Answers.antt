@@ -1,5 +1,5 @@
 use Rattle.std.proofs.Common.{arith}
-use Rattle.catalog_rows.proofs.Prefixes.{one_off}
+use Rattle.catalog_rows.proofs.FirstSlots.{one_off}
 use Rattle.catalog_rows.proofs.growing.take_off.Goals as goal
 
 pub loop-turn-preserved : goal.loop-turn-preserved

@@ -1,7 +1,7 @@
 use Rattle.std.proofs.Common.{◌∙◌}
 use Rattle.std.specs.List.{flat_map}
+use Rattle.history_model.proofs.ListSteps.{flat_map_next, all_done}
 use Rattle.shared_seg.specs.Announced.{messages_at}
-use Rattle.history_ledger.proofs.OverLists.{flat_map_next, all_done}
 use Rattle.shared_seg.proofs.announce.announced.Goals as goal
 
 pub loop-item-preserved : goal.loop-item-preserved

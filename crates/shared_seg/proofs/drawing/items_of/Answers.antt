@@ -1,7 +1,7 @@
 use Rattle.std.proofs.Common.{◌∙◌, ◌++◌, ◌∷◌, [], map, append-nil, ap, sym, refl}
 use Rattle.event_kinds.specs.declared.entry.Item.TheVariants.{Force}
 use Rattle.history_model.specs.Changes.{item_of}
-use Rattle.history_ledger.proofs.OverLists.{map_next, all_done}
+use Rattle.history_model.proofs.ListSteps.{map_next, all_done}
 use Rattle.shared_seg.proofs.drawing.items_of.Goals as goal
 
 pub loop-rel-preserved : goal.loop-rel-preserved

@@ -1,7 +1,7 @@
 use Rattle.std.proofs.Common.{rules}
 use Rattle.std.specs.List.{flat_map}
 use Rattle.history_model.specs.Held.{granted_by}
-use Rattle.history_ledger.proofs.OverLists.{flat_map_next, all_done}
+use Rattle.history_model.proofs.ListSteps.{flat_map_next, all_done}
 use Rattle.shared_seg.proofs.grants.new_grants.Goals as goal
 
 pub loop-item-preserved : goal.loop-item-preserved

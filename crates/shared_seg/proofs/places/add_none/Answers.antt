@@ -1,5 +1,5 @@
 use Rattle.std.proofs.Common.{◌∙◌}
-use Rattle.history_ledger.proofs.OverLists.{filled_next}
+use Rattle.history_model.proofs.ListSteps.{filled_next}
 use Rattle.shared_seg.proofs.places.add_none.Goals as goal
 
 pub loop-place-preserved : goal.loop-place-preserved

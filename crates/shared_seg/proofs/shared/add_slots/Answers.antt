@@ -1,5 +1,5 @@
 use Rattle.std.proofs.Common.{◌∙◌}
-use Rattle.history_ledger.proofs.OverLists.{filled_next}
+use Rattle.history_model.proofs.ListSteps.{filled_next}
 use Rattle.shared_seg.proofs.shared.add_slots.Goals as goal
 
 pub loop-slot-preserved : goal.loop-slot-preserved

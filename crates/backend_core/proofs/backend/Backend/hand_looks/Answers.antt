@@ -1,5 +1,5 @@
 use Rattle.std.proofs.Common.{◌∙◌, ◌++◌, refl, sym, append-nil, arith}
-use Rattle.cacheless.proofs.ListSteps.{all_done}
+use Rattle.history_model.proofs.ListSteps.{all_done}
 use Rattle.backend_core.specs.Looks.{entries_of}
 use Rattle.backend_core.proofs.ByWord.{handed_call, handed_more, takes_more}
 use Rattle.backend_core.proofs.backend.Backend.hand_looks.Goals as goal

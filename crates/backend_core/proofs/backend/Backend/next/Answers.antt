@@ -1,4 +1,4 @@
-use Rattle.cacheless.proofs.ListSteps.{given_at, none_at}
+use Rattle.history_model.proofs.ListSteps.{given_at, none_at}
 use Rattle.backend_core.proofs.backend.Backend.next.Goals as goal
 
 pub next_of_command-requires-clause-at : goal.next_of_command-requires-clause-at

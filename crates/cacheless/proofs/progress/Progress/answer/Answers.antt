@@ -1,8 +1,8 @@
 use Rattle.std.proofs.Common.{◌≡◌, ◌∙◌, Some, None, sym, refl, arith}
+use Rattle.history_model.proofs.ListSteps.{given_at, none_at}
 use Rattle.cacheless.specs.Silently.{HasAnswered}
 use Rattle.cacheless.proofs.Lacking.{with_known}
 use Rattle.cacheless.proofs.Passing.{none_answered}
-use Rattle.cacheless.proofs.ListSteps.{given_at, none_at}
 use Rattle.cacheless.proofs.progress.Progress.answer.Goals as goal
 
 pub returns-clause-answers : goal.returns-clause-answers

@@ -1,11 +1,11 @@
 use Rattle.std.proofs.Common.{◌≡◌, ◌∙◌, ◌+◌, true, false, ℕ, Some, None, List, ap, sym, refl, is_some, arith}
 use Rattle.std.specs.Option.{option_map}
 use Rattle.std.proofs.lemmas.Option.{slice_get_within}
+use Rattle.history_model.proofs.ListSteps.{given_at, none_at}
 use Rattle.local_caches.specs.Caches.{kept_of}
 use Rattle.cacheless.specs.Types.{Line}
 use Rattle.cacheless.specs.Session.{held_in}
 use Rattle.cacheless.proofs.Lacking.{same_known}
-use Rattle.cacheless.proofs.ListSteps.{given_at, none_at}
 use Rattle.cacheless.proofs.Passing.{none_answered, finish_code}
 use Rattle.cacheless.proofs.progress.Progress.finish.Goals as goal
 

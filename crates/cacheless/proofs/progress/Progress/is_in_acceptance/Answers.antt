@@ -1,6 +1,6 @@
 use Rattle.std.proofs.Common.{◌∙◌, not, ap, sym}
+use Rattle.history_model.proofs.ListSteps.{given_at, none_at}
 use Rattle.cacheless.specs.State.{is_in_accept}
-use Rattle.cacheless.proofs.ListSteps.{given_at, none_at}
 use Rattle.cacheless.proofs.progress.Progress.is_in_acceptance.Goals as goal
 
 pub returns-in-Some : goal.returns-in-Some

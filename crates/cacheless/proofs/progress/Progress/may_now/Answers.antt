@@ -1,7 +1,7 @@
 use Rattle.std.proofs.Common.{◌∙◌, Bool, Option, Some, None, ap, sym}
+use Rattle.history_model.proofs.ListSteps.{given_at, none_at}
 use Rattle.cacheless.specs.Types.{Command}
 use Rattle.cacheless.specs.May.{may_play_at, may_last_at}
-use Rattle.cacheless.proofs.ListSteps.{given_at, none_at}
 use Rattle.cacheless.proofs.progress.Progress.may_now.Goals as goal
 
 pub returns-in-Some : goal.returns-in-Some

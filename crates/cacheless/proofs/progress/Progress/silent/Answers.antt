@@ -1,8 +1,8 @@
 use Rattle.std.proofs.Common.{◌∙◌, is_none, sym}
 use Rattle.std.proofs.lemmas.Bool.{and_parts}
+use Rattle.history_model.proofs.ListSteps.{given_at, none_at}
 use Rattle.cacheless.specs.Silently.{is_to_answer}
 use Rattle.cacheless.proofs.Answers.Telling.{not_some, finishes, settled_now, settled_after_all}
-use Rattle.cacheless.proofs.ListSteps.{given_at, none_at}
 use Rattle.cacheless.proofs.progress.Progress.silent.Goals as goal
 
 pub returns-then-is_finished : goal.returns-then-is_finished

@@ -1,4 +1,4 @@
-use Rattle.std.proofs.Common.{◌≡◌, ◌∙◌, ◌==◌, ◌-◌, ℕ, List, length, take, not, filter, rules, ap}
+use Rattle.std.proofs.Common.{◌∙◌, ◌==◌, ◌-◌, ℕ, List, length, take, not, filter, rules, ap}
 use Rattle.catalog_rows.proofs.Ascending.{popped}
 use Rattle.catalog_rows.proofs.Retained.{retained}
 use Rattle.catalog_rows.proofs.numbers.Numbers.remove.Goals as goal

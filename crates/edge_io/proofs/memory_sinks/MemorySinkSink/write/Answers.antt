@@ -1,6 +1,6 @@
 use Rattle.std.proofs.Common.{◌∙◌, ap}
 use Rattle.edge_io.specs.InMemory.{wanted}
-use Rattle.edge_io.proofs.Failing.{failed, stayed}
+use Rattle.edge_io.proofs.FaultCounts.{failed, stayed}
 use Rattle.edge_io.proofs.memory_sinks.MemorySinkSink.write.Goals as goal
 
 pub returns-then-self-len-clause-cause : goal.returns-then-self-len-clause-cause

@@ -1,8 +1,8 @@
 use Rattle.std.proofs.Common.{◌∙◌, length, min, drop, sym, ap, arith}
 use Rattle.std.proofs.lemmas.List.{drop-drop}
 use Rattle.edge_io.specs.InMemory.{given, after_read}
-use Rattle.edge_io.proofs.Failing.{stayed}
-use Rattle.edge_io.proofs.Giving.{part_from, gave, after_one}
+use Rattle.edge_io.proofs.FaultCounts.{stayed}
+use Rattle.edge_io.proofs.MemoryReads.{part_from, gave, after_one}
 use Rattle.edge_io.proofs.memory_sources.MemorySourceSource.read.Goals as goal
 
 pub returns-clause-bytes : goal.returns-clause-bytes

@@ -1,5 +1,5 @@
 use Rattle.std.proofs.Common.{◌∙◌, sym, arith}
-use Rattle.edge_io.proofs.Giving.{part_from, gave}
+use Rattle.edge_io.proofs.MemoryReads.{part_from, gave}
 use Rattle.edge_io.proofs.memory_sources.SteadySourceSource.read.Goals as goal
 
 pub returns-clause-bytes : goal.returns-clause-bytes

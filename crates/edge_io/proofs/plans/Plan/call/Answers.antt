@@ -1,5 +1,5 @@
 use Rattle.std.proofs.Common.{ap}
-use Rattle.edge_io.proofs.Failing.{failed}
+use Rattle.edge_io.proofs.FaultCounts.{failed}
 use Rattle.edge_io.proofs.plans.Plan.call.Goals as goal
 
 pub returns-then-failing-clause-cause : goal.returns-then-failing-clause-cause

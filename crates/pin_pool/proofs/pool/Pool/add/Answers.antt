@@ -1,6 +1,6 @@
 use Rattle.std.proofs.Common.{◌<◌, ◌∙◌, sym, ap, subst, arith}
 use Rattle.slab.specs.Slab.{get, SameValues}
-use Rattle.pin_pool.proofs.Changing.{names_nothing, unchanged, never_given, changes_at_addition, updates_from, read_there, next_there, next_elsewhere, reusable_at_addition}
+use Rattle.pin_pool.proofs.ChangedPlaces.{names_nothing, unchanged, never_given, changes_at_addition, updates_from, read_there, next_there, next_elsewhere, reusable_at_addition}
 use Rattle.pin_pool.proofs.pool.Pool.add.Goals as goal
 
 pub overflow_add-generation : goal.overflow_add-generation

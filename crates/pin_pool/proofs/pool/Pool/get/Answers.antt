@@ -1,6 +1,6 @@
 use Rattle.std.proofs.Common.{◌∙◌, Some, sym, ap}
 use Rattle.std.specs.Option.{option_map, option_copied}
-use Rattle.pin_pool.proofs.Changing.{names}
+use Rattle.pin_pool.proofs.ChangedPlaces.{names}
 use Rattle.pin_pool.proofs.pool.Pool.get.Goals as goal
 
 pub returns : goal.returns

@@ -1,7 +1,7 @@
 use Rattle.std.proofs.Common.{◌∙◌, Some, sym, ap, refl, subst}
 use Rattle.std.specs.Option.{IsSome, option_map}
 use Rattle.pin_pool.specs.Pools.{Changes}
-use Rattle.pin_pool.proofs.Changing.{names, reusable_at_write, changes_at_write, same_at_write, changes_from}
+use Rattle.pin_pool.proofs.ChangedPlaces.{names, reusable_at_write, changes_at_write, same_at_write, changes_from}
 use Rattle.pin_pool.proofs.Pins.{marked_stays, marked_goes}
 use Rattle.pin_pool.proofs.pool.Pool.mark_dead.Goals as goal
 

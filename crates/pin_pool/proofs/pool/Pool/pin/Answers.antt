@@ -1,7 +1,7 @@
 use Rattle.std.proofs.Common.{◌∙◌, Some, sym, ap, refl}
 use Rattle.std.specs.Option.{option_map}
 use Rattle.pin_pool.specs.Entries.{pinned}
-use Rattle.pin_pool.proofs.Changing.{names, some_and, reusable_at_write, changes_at_write}
+use Rattle.pin_pool.proofs.ChangedPlaces.{names, some_and, reusable_at_write, changes_at_write}
 use Rattle.pin_pool.proofs.pool.Pool.pin.Goals as goal
 
 pub invariant_of-self : goal.invariant_of-self

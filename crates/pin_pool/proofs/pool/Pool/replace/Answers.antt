@@ -1,7 +1,7 @@
 use Rattle.std.proofs.Common.{◌∙◌, sym, ap, refl}
 use Rattle.std.specs.Option.{option_map}
 use Rattle.pin_pool.specs.Entries.{with_value}
-use Rattle.pin_pool.proofs.Changing.{names, reusable_at_write, changes_at_write}
+use Rattle.pin_pool.proofs.ChangedPlaces.{names, reusable_at_write, changes_at_write}
 use Rattle.pin_pool.proofs.pool.Pool.replace.Goals as goal
 
 pub invariant_of-self : goal.invariant_of-self

@@ -1,7 +1,7 @@
 use Rattle.std.proofs.Common.{◌∙◌, Some, None, sym, ap, refl, arith}
 use Rattle.std.specs.Option.{option_map}
 use Rattle.pin_pool.specs.Slots.{held_in}
-use Rattle.pin_pool.proofs.Changing.{names, generation_read, still_reusable, reusable_at_write, changes_at, changes_at_write}
+use Rattle.pin_pool.proofs.ChangedPlaces.{names, generation_read, still_reusable, reusable_at_write, changes_at, changes_at_write}
 use Rattle.pin_pool.proofs.pool.Pool.take_out.Goals as goal
 
 pub invariant_of-self : goal.invariant_of-self

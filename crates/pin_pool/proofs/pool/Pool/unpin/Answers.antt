@@ -3,7 +3,7 @@ use Rattle.std.specs.Option.{IsSome, option_map}
 use Rattle.pin_pool.specs.Slots.{held_in}
 use Rattle.pin_pool.specs.declared.slot.Slot.TheVariants.{Held}
 use Rattle.pin_pool.specs.Pools.{Changes}
-use Rattle.pin_pool.proofs.Changing.{names, some_and, reusable_at_write, changes_at_write, same_at_write, changes_from}
+use Rattle.pin_pool.proofs.ChangedPlaces.{names, some_and, reusable_at_write, changes_at_write, same_at_write, changes_from}
 use Rattle.pin_pool.proofs.Pins.{unpinned_more, unpinned_live, unpinned_goes}
 use Rattle.pin_pool.proofs.pool.Pool.unpin.Goals.{then-pins-gt1-via-then-pins-gt1, then-pins-gt1-via-else-pins-gt1+then-not-dead}
 use Rattle.pin_pool.proofs.pool.Pool.unpin.Goals as goal

@@ -1,7 +1,7 @@
 use Rattle.std.proofs.Common.{◌≡◌, ◌<◌, ◌≤◌, ◌∙◌, ◌++◌, ◌∷◌, [], ◌+◌, ◌-◌, sum, length, slice_set, arith, ap, sym, subst}
 use Rattle.shared_seg.specs.Places.{Placed, promised_in}
-use Rattle.shared_seg.proofs.Promises.{promised_at, promised_in-le, sum-taken}
-use Rattle.shared_seg.proofs.Promising.{had_of}
+use Rattle.shared_seg.proofs.PromiseSums.{promised_at, promised_in-le, sum-taken}
+use Rattle.shared_seg.proofs.PlacesPromised.{had_of}
 use Rattle.shared_seg.proofs.places.Places.append.Goals as goal
 
 pub overflow_sub-total : goal.overflow_sub-total

@@ -1,5 +1,5 @@
 use Rattle.std.proofs.Common.{◌∙◌, ◌++◌, ◌+◌, replicate, sum, ap, sym, arith}
-use Rattle.shared_seg.proofs.Promises.{sum_none}
+use Rattle.shared_seg.proofs.PromiseSums.{sum_none}
 use Rattle.shared_seg.proofs.places.Places.new.Goals as goal
 
 pub invariant_of-result : goal.invariant_of-result

@@ -1,7 +1,7 @@
 use Rattle.std.proofs.Common.{◌∙◌, ◌<◌, sym, ap, subst, arith}
 use Rattle.shared_seg.specs.Places.{Placed}
-use Rattle.shared_seg.proofs.Promises.{sum-changed}
-use Rattle.shared_seg.proofs.Promising.{placed_within, had_of, raised, enough, wants_more}
+use Rattle.shared_seg.proofs.PromiseSums.{sum-changed}
+use Rattle.shared_seg.proofs.PlacesPromised.{placed_within, had_of, raised, enough, wants_more}
 use Rattle.shared_seg.proofs.places.Places.promise.Goals as goal
 
 pub invariant_of-self-2 : goal.invariant_of-self-2

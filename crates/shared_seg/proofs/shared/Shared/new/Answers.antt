@@ -1,7 +1,7 @@
 use Rattle.std.proofs.Common.{◌∙◌, ◌+◌, ◌++◌, None, replicate, length, sum, ap, arith}
 use Rattle.sinval_ring.specs.Queues.{empty_queue}
 use Rattle.shared_seg.specs.Places.{promised_in}
-use Rattle.shared_seg.proofs.Promises.{none_promised, sum_none}
+use Rattle.shared_seg.proofs.PromiseSums.{none_promised, sum_none}
 use Rattle.shared_seg.proofs.Queue.{shared_start_at}
 use Rattle.shared_seg.proofs.shared.Shared.new.Goals as goal
 

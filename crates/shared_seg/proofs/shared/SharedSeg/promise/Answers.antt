@@ -1,6 +1,6 @@
 use Rattle.std.proofs.Common.{refl, ap}
 use Rattle.shared_seg.specs.Kept.{Kept}
-use Rattle.shared_seg.proofs.Promising.{as_many, promises_made}
+use Rattle.shared_seg.proofs.PlacesPromised.{as_many, promises_made}
 use Rattle.shared_seg.proofs.Unchanged.{keeps_same}
 use Rattle.shared_seg.proofs.shared.SharedSeg.promise.Goals as goal
 

@@ -1,21 +1,22 @@
--- A command at its beginning, by whether the blocks refuse it.
+-- Whether a command is blocked as it begins.
 use Rattle.std.proofs.Common.{◌≡◌, ◌∙◌, Bool, true, false, not, Option, Some, None, refl, ap, is_some}
 use Rattle.txn_blocks.specs.Blocks.{Block, Outside, Inside, Failed, Blocks, is_open, is_failed, refused_by}
 use Rattle.cacheless.specs.Types.{Command, CommandError}
 use Rattle.cacheless.specs.Session.{is_blocked}
 
+-- in no block is anything blocked that isn't refused
 blocks_none : (block : Block) → elim block as (λ x. Bool) [ Inside ↦ false | other ↦ false ] ≡ false
 blocks_none Inside = refl
 blocks_none block = refl
 
--- after the last command, and where the blocks admit it
+-- nothing is blocked after the last command, or where the blocks admit the command
 pub unblocked_last : (blocks : Blocks) → is_blocked blocks None ≡ false
 unblocked_last blocks = blocks_none blocks.block
 
 pub unblocked : (blocks : Blocks) (command : Command) → refused_by blocks command ≡ None → is_blocked blocks (Some command) ≡ false
 unblocked blocks command admits = ap (λ (o : Option CommandError). elim blocks.block as (λ x. Bool) [ Inside ↦ false | other ↦ is_some o ]) admits ∙ blocks_none blocks.block
 
--- where they refuse it
+-- a refused command is blocked in a failed block
 pub blocked_failed : (blocks : Blocks) (command : Command) (error : CommandError) → refused_by blocks command ≡ Some error → is_failed blocks ≡ true → is_blocked blocks (Some command) ≡ true
 blocked_failed blocks command error refuses = λ failed. ap (λ (o : Option CommandError). elim blocks.block as (λ x. Bool) [ Inside ↦ false | other ↦ is_some o ]) refuses ∙ by_block blocks.block failed
   where
@@ -24,6 +25,7 @@ blocked_failed blocks command error refuses = λ failed. ap (λ (o : Option Comm
     by_block Outside is = refl
     by_block Inside is = absurd (cc is)
 
+-- and in another case wherever a block is open
 pub blocked_outside : (blocks : Blocks) (command : Command) (error : CommandError) → refused_by blocks command ≡ Some error → is_failed blocks ≡ false → is_blocked blocks (Some command) ≡ not (is_open blocks)
 blocked_outside blocks command error refuses = λ unfailed. ap (λ (o : Option CommandError). elim blocks.block as (λ x. Bool) [ Inside ↦ false | other ↦ is_some o ]) refuses ∙ by_block blocks.block unfailed
   where

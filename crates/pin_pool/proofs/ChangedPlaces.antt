@@ -11,11 +11,7 @@ use Rattle.pin_pool.specs.Slots.{Slot, held_at, held_in}
 use Rattle.pin_pool.specs.Pools.{entry_of, next_generation, WasGiven, HasGone, IsSame, Changes}
 use Rattle.pin_pool.specs.declared.pool.Pool.{Pool}
 use Rattle.pin_pool.specs.declared.reference.Ref.{Ref}
-use Rattle.pin_pool.proofs.Refs.{same_or_other}
-
--- references to one place at one generation are one
-same_ref : (r s : Ref) → r.place ≡ s.place → r.generation ≡ s.generation → r ≡ s
-same_ref r s places generations = ap (λ p. record r { place = p }) places ∙ ap (λ g. record s { generation = g }) generations
+use Rattle.pin_pool.proofs.Refs.{same_ref, same_or_other}
 
 -- what is chosen by a test is there only where it holds
 test_holds : {X : Type 0} (b : Bool) (o : Option X) → IsSome (if b then o else None) → b ≡ true

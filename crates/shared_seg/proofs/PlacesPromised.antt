@@ -10,7 +10,7 @@ use Rattle.shared_seg.specs.Kept.{Kept, places_in}
 use Rattle.shared_seg.specs.Places.{Placed, places_of, promised_in}
 use Rattle.shared_seg.proofs.Appended.{promised-own, promised-other}
 use Rattle.shared_seg.proofs.Entered.{within}
-use Rattle.shared_seg.proofs.Promises.{promised_at}
+use Rattle.shared_seg.proofs.PromiseSums.{promised_at}
 
 -- a backend with promises, of the parts
 pub placed_within : (p now : Placed) (b : ℕ) → p ≡ now → b < length now.promised → b < length p.promised

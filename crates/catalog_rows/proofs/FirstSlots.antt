@@ -3,8 +3,8 @@ use Rattle.std.proofs.Common.{◌≡◌, ◌+◌, ◌-◌, ◌∙◌, ℕ, List,
 use Rattle.std.proofs.lemmas.List.{take_all, take-take, take-append-le, length-take-le}
 
 -- what is added isn't among them
-pub prefix_kept : {X : Type 0} (n : ℕ) (old more new : List X) → n ≡ length old → new ≡ old ++ more → take n new ≡ old
-prefix_kept n old more new is grown = ap (take n) grown ∙ take-append-le n old more (omega (arith, is)) ∙ take_all n old (omega (arith, is))
+pub first_kept : {X : Type 0} (n : ℕ) (old more new : List X) → n ≡ length old → new ≡ old ++ more → take n new ≡ old
+first_kept n old more new is grown = ap (take n) grown ∙ take-append-le n old more (omega (arith, is)) ∙ take_all n old (omega (arith, is))
 
 -- one more is taken off
 pub one_off : {X : Type 0} (n turn size : ℕ) (old now new : List X) → n ≡ length old → size ≡ length now → now ≡ take (n - turn) old → new ≡ take (size - 1) now → new ≡ take (n - (turn + 1)) old
