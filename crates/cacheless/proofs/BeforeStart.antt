@@ -19,7 +19,7 @@ use Rattle.cacheless.specs.Session.{none_open, plan_first, is_blocked}
 use Rattle.cacheless.specs.State.{is_kept, nothing_kept, no_counts, owed_at, is_quiet, running_of, IsNew}
 use Rattle.cacheless.specs.Suspects.{AreKnown}
 
--- what is new holds nothing
+-- a Progress with these fields is new
 pub is_new : (id : ℕ) (all : List Command) (exec : Exec) (blocked : Bool) (tally : Counts) (blocks : Blocks) (opens : List OpenRelation) (lists : Held) (opened : List Opening) (locks : Roomy OwnLock) (caches : LocalCaches) (suspects : Suspects) (known : AreKnown (is_kept (kept_of caches)) opened suspects)
     → (given : List OpenRelation) (commands : List Command) → given ≡ opens → commands ≡ all → plan_at given exec ≡ plan_first blocks given (slice_get commands 0) → blocked ≡ is_blocked blocks (slice_get commands 0) → tally ≡ no_counts → blocks ≡ no_block → opens ≡ none_open → lists.lists ≡ no_lists → opened ≡ [] → locks.items ≡ [] → kept_of caches ≡ nothing_kept
     → IsNew id all (record { id = id; commands = all; finished = 0; exec = exec; blocked = blocked; ended = false; tally = tally; due = dues.Nothing; blocks = blocks; opens = opens; running = None; lists = lists; taken = None; opened = opened; locks = locks; caches = caches; suspects = suspects; answer = None; known = known })
@@ -43,7 +43,7 @@ is_new id all exec blocked tally blocks opens lists opened locks caches suspects
   answer = refl;
 }
 
--- so it fits a history that has begun with none of its entries
+-- a new one fits the empty history
 pub new_waits : (scenario : Scenario) (s : Progress) → IsNew s.id s.commands s → IsBackend scenario.backends s.id → s.commands ≡ commands_of scenario s.id → length s.commands ≤ 20000 → HasNotStarted scenario [] s
 new_waits scenario s new number commands few = record {
   number = number;

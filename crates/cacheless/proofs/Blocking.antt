@@ -4,7 +4,7 @@ use Rattle.txn_blocks.specs.Blocks.{Block, Outside, Inside, Failed, Blocks, is_o
 use Rattle.cacheless.specs.Types.{Command, CommandError}
 use Rattle.cacheless.specs.Session.{is_blocked}
 
--- in no block is anything blocked that isn't refused
+-- where nothing refuses the command, no kind of block blocks it
 blocks_none : (block : Block) → elim block as (λ x. Bool) [ Inside ↦ false | other ↦ false ] ≡ false
 blocks_none Inside = refl
 blocks_none block = refl
@@ -25,9 +25,9 @@ blocked_failed blocks command error refuses = λ failed. ap (λ (o : Option Comm
     by_block Outside is = refl
     by_block Inside is = absurd (cc is)
 
--- and in another case wherever a block is open
-pub blocked_outside : (blocks : Blocks) (command : Command) (error : CommandError) → refused_by blocks command ≡ Some error → is_failed blocks ≡ false → is_blocked blocks (Some command) ≡ not (is_open blocks)
-blocked_outside blocks command error refuses = λ unfailed. ap (λ (o : Option CommandError). elim blocks.block as (λ x. Bool) [ Inside ↦ false | other ↦ is_some o ]) refuses ∙ by_block blocks.block unfailed
+-- and in no failed block it is blocked exactly where no block is open
+pub blocked_unless_open : (blocks : Blocks) (command : Command) (error : CommandError) → refused_by blocks command ≡ Some error → is_failed blocks ≡ false → is_blocked blocks (Some command) ≡ not (is_open blocks)
+blocked_unless_open blocks command error refuses = λ unfailed. ap (λ (o : Option CommandError). elim blocks.block as (λ x. Bool) [ Inside ↦ false | other ↦ is_some o ]) refuses ∙ by_block blocks.block unfailed
   where
     by_block : (block : Block) → elim block as (λ x. Bool) [ Failed ↦ true | other ↦ false ] ≡ false → elim block as (λ x. Bool) [ Inside ↦ false | other ↦ true ] ≡ not (elim block as (λ x. Bool) [ Outside ↦ false | other ↦ true ])
     by_block Failed is = absurd (cc is)

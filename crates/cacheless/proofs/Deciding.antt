@@ -1,17 +1,16 @@
 -- What the code answers decides what may come next.
-use Rattle.std.proofs.Common.{◌≡◌, ◌∙◌, ◌==◌, ◌&&◌, ◌||◌, ℕ, Bool, true, false, not, Option, Some, None, List, [], ◌∷◌, ◌++◌, refl, sym, ap, subst, is_none, is_some, unwrap_or, slice_get, length, map, take, min, if◌then◌else◌, cond, arith, nat_le}
+use Rattle.std.proofs.Common.{◌≡◌, ◌∙◌, ◌&&◌, ◌||◌, ℕ, Bool, true, false, not, Option, Some, None, List, [], ◌∷◌, ◌++◌, refl, sym, ap, subst, is_none, is_some, unwrap_or, slice_get, length, map, take, min, if◌then◌else◌, cond, arith, nat_le}
 use Rattle.std.specs.Bool.{Decides}
 use Rattle.std.specs.List.{list_any, flat_map, AllByRecursion}
 use Rattle.std.specs.Option.{option_map, option_map_or}
 use Rattle.std.specs.Str.{bytes_eq}
 use Rattle.std.proofs.lemmas.Bool.{eq-eqb, eqb-true, leb-true, leb-false}
 use Rattle.std.proofs.lemmas.List.{length-take}
-use Rattle.base_types.specs.Modes.{mode_number, same_mode}
+use Rattle.base_types.specs.Modes.{same_mode}
 use Rattle.base_types.specs.Scans.{same_oid, build_scans}
 use Rattle.base_types.specs.declared.change.Change.{Change}
 use Rattle.base_types.specs.declared.change.Change.TheVariants as changes
 use Rattle.base_types.specs.declared.kind.Kind.TheVariants.{Table, Index}
-use Rattle.base_types.specs.declared.mode.Mode.TheVariants as modes
 use Rattle.base_types.specs.declared.row.Row.TheVariants as rows
 use Rattle.base_types.specs.declared.scan.Purpose.TheVariants as scans
 use Rattle.event_kinds.specs.declared.entry.Event.TheVariants as events
@@ -25,6 +24,7 @@ use Rattle.history_model.specs.Names.{has_name}
 use Rattle.history_model.specs.Transactions.{is_visible}
 use Rattle.history_model.specs.Sent.{unsent_in}
 use Rattle.history_model.specs.Writes.{is_empty}
+use Rattle.history_model.proofs.Decided.{always, never, both_decide, decided_by, mode_decides}
 use Rattle.cacheless.specs.Types.{Oid, Xid, Mode, Kind, Message, Row, Purpose, Command, Scenario, Entry, Item, Event, Opening}
 use Rattle.txn_blocks.specs.declared.transaction.RunningTransaction.{RunningTransaction}
 use Rattle.cacheless.specs.declared.progress.Progress.{Progress}
@@ -42,37 +42,13 @@ use Rattle.cacheless.proofs.Tests.{and_true, empty_is, right_none}
 use Rattle.cacheless.proofs.Same.{look_same, looked_same, next_same, lacks_any_is, owes_nothing_is}
 use Rattle.cacheless.proofs.CommandEnds.{end_same, end_of_all-same}
 use Rattle.cacheless.proofs.Resting.{kept_rows, named_same, lacks_none}
-use Rattle.cacheless.proofs.SameRows.{both_decide, decided_by, oid_decides, items_decide}
+use Rattle.cacheless.proofs.SameRows.{oid_decides, items_decide}
 
 by_path : {a b : Bool} → a ≡ b → Decides b (a ≡ true)
 by_path same = (λ is. same ∙ is, λ is. sym same ∙ is)
 
-always : {P : Type 0} → P → Decides true P
-always p = (λ is. p, λ is. refl)
-
-never : {P : Type 0} → (P → ⊥) → Decides false P
-never not_so = (λ is. absurd (cc), λ is. absurd (not_so is))
-
 none_decide : {X : Type 0} (xs : List X) (t : Bool) → is_empty xs ≡ t → Decides t (xs ≡ [])
 none_decide xs t same = (λ is. empty_is xs (same ∙ is), λ is. sym same ∙ ap is_empty is)
-
--- a mode is known by its number
-mode_with : ℕ → Mode
-mode_with n = if n == 1 then modes.AccessShare else if n == 2 then modes.RowShare else if n == 3 then modes.RowExclusive else if n == 4 then modes.ShareUpdateExclusive else if n == 5 then modes.Share else if n == 6 then modes.ShareRowExclusive else if n == 7 then modes.Exclusive else modes.AccessExclusive
-
-mode_again : (m : Mode) → mode_with (mode_number m) ≡ m
-unfolding mode_with
-mode_again modes.AccessShare = refl
-mode_again modes.RowShare = refl
-mode_again modes.RowExclusive = refl
-mode_again modes.ShareUpdateExclusive = refl
-mode_again modes.Share = refl
-mode_again modes.ShareRowExclusive = refl
-mode_again modes.Exclusive = refl
-mode_again modes.AccessExclusive = refl
-
-mode_decides : (a b : Mode) → Decides (same_mode a b) (a ≡ b)
-mode_decides a b = (λ is. sym (mode_again a) ∙ ap mode_with (eqb-true (mode_number a) (mode_number b) is) ∙ mode_again b, λ is. eq-eqb (mode_number a) (mode_number b) (ap mode_number is))
 
 named_decides : (rel : Oid) (given : List Row) → Decides (names_relation rel (slice_get given 0)) (class_oid given ≡ Some rel)
 named_decides rel [] = never (λ is. absurd (cc))

@@ -83,7 +83,7 @@ absent_or (Done told) is go = absurd (cc)
 absent_or (Fails error) is go = absurd (cc)
 absent_or (Do act rest) is go = absurd (cc)
 
--- a command that isn't answered counts
+-- an answer still to be given counts one of what is left to do
 pub none_answered : (o : Option (List ℕ)) → o ≡ None → option_map_or {U = ℕ} (λ text. 0) o 1 ≡ 1
 none_answered o none = ap (λ (p : Option (List ℕ)). option_map_or {U = ℕ} (λ text. 0) p 1) none
 

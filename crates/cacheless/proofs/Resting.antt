@@ -175,7 +175,7 @@ settled_at_rest scenario seen s rests = by_command (slice_get s.commands s.finis
     by_command None at = rests_after_all scenario seen s rests.holds at
     by_command (Some command) at = let stays = rests.still command at in rests_here scenario seen s command rests.holds at stays.0 stays.1
 
--- room for more locks changes nothing of that
+-- room for more locks changes neither what is held nor that it rests
 gives_reserved : (s : Progress) (locks : Roomy OwnLock) → locks.items ≡ s.locks.items → (p : Plan) → gives_next (record s { locks = locks }) p ≡ gives_next s p
 gives_reserved s locks same (Do (Lookup name mode) rest) = by_row (row_sought s name)
   where

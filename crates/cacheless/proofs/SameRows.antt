@@ -23,17 +23,9 @@ use Rattle.base_types.specs.declared.row_key.RowKey.TheVariants as keys
 use Rattle.event_kinds.specs.declared.entry.Item.TheVariants as items
 use Rattle.history_model.specs.Covered.{same_demand, same_row}
 use Rattle.history_model.proofs.Asking.{oid_eq}
+use Rattle.history_model.proofs.Decided.{both_decide, decided_by}
 use Rattle.cacheless.specs.Types.{Oid, Kind, Row, Item}
 use Rattle.cacheless.specs.SameItems.{same_item, same_items}
-use Rattle.cacheless.proofs.Tests.{and_true, both_true}
-
--- two facts that are decided
-pub both_decide : {P Q : Type 0} (a b : Bool) → Decides a P → Decides b Q → Decides (a && b) (P × Q)
-both_decide a b p q = (λ is. let both = and_true a b is in (p.0 both.0, q.0 both.1), λ is. both_true a b (p.1 is.0) (q.1 is.1))
-
--- a fact that comes to one which is decided
-pub decided_by : {P Q : Type 0} (t : Bool) → Decides t P → (P → Q) → (Q → P) → Decides t Q
-decided_by t d there back = (λ is. there (d.0 is), λ is. d.1 (back is))
 
 pub oid_decides : (a b : Oid) → Decides (same_oid a b) (a ≡ b)
 oid_decides a b = (oid_eq a b, λ is. eq-eqb a.0 b.0 (ap (λ o. o.0) is))

@@ -11,7 +11,7 @@ use Rattle.ddl_effect.specs.Plans.{Plan, Done, Fails, Absent, Do, Lookup, Open, 
 use Rattle.ddl_effect.specs.Stages.{want_of, told_of}
 use Rattle.lock_modes.specs.Own.{has_lock}
 use Rattle.txn_blocks.specs.Blocks.{Block, Blocks, Level, blocks_badly}
-use Rattle.ddl_effect.proofs.Driven.{fails_is, absent_is}
+use Rattle.ddl_effect.proofs.Driven.{fails_is}
 use Rattle.history_model.specs.Writes.{is_empty}
 use Rattle.cacheless.specs.Types.{Oid, Mode, Kind, Row, Purpose, Command, CommandError, OpenRelation, Opening, OwnLock}
 use Rattle.cacheless.specs.Session.{Badly, Unsettled, outcome_of, is_settled}
@@ -121,9 +121,6 @@ no_scans want lookup opens search reads done = refl
 pub came_badly : (plan : Plan) (error : CommandError) → want_of plan ≡ wants.Fails error → outcome_of plan ≡ Badly
 came_badly plan error is = ap outcome_of (fails_is plan error is)
 
-pub came_absent : (plan : Plan) (name : List ℕ) → want_of plan ≡ wants.Absent name → outcome_of plan ≡ Badly
-came_absent plan name is = ap outcome_of (absent_is plan name is)
-
 pub goes_on : (plan : Plan) → ((told : Option Purpose) → want_of plan ≡ wants.Done told → ⊥) → ((error : CommandError) → want_of plan ≡ wants.Fails error → ⊥) → ((name : List ℕ) → want_of plan ≡ wants.Absent name → ⊥) → outcome_of plan ≡ Unsettled
 goes_on (Done told) done fails absent = absurd (done (told_rests_on told) refl)
 goes_on (Fails error) done fails absent = absurd (fails error refl)
@@ -225,11 +222,11 @@ no_gives s (wants.Search scan) lookup lock opens search read = absurd (search sc
 no_gives s (wants.Read scan) lookup lock opens search read = absurd (read scan refl)
 no_gives s want lookup lock opens search read = refl
 
--- of what is open or is read, yes
-pub gives_kept : (s : Progress) (want : Want) → ((rel : Oid) × (kind : Kind) × (want ≡ wants.Open rel kind)) ⊎ ((scan : Purpose) × (want ≡ wants.Search scan)) ⊎ ((scan : Purpose) × (want ≡ wants.Read scan)) → gives_of_want s want ≡ true
-gives_kept s want (inl (rel, kind, is)) = ap (gives_of_want s) is
-gives_kept s want (inr (inl (scan, is))) = ap (gives_of_want s) is
-gives_kept s want (inr (inr (scan, is))) = ap (gives_of_want s) is
+-- to open, to search and to read need no entry: always yes
+pub gives_always : (s : Progress) (want : Want) → ((rel : Oid) × (kind : Kind) × (want ≡ wants.Open rel kind)) ⊎ ((scan : Purpose) × (want ≡ wants.Search scan)) ⊎ ((scan : Purpose) × (want ≡ wants.Read scan)) → gives_of_want s want ≡ true
+gives_always s want (inl (rel, kind, is)) = ap (gives_of_want s) is
+gives_always s want (inr (inl (scan, is))) = ap (gives_of_want s) is
+gives_always s want (inr (inr (scan, is))) = ap (gives_of_want s) is
 
 -- what a command answers that has come out well
 pub tells_well : (rows : Purpose → List Row) (places : Purpose → ℕ) (locks : List OwnLock) (block : Block) (command : Command) (plan : Plan) (told : Option Purpose) → want_of plan ≡ wants.Done told → told_left rows places locks block command plan ≡ told_well rows places locks block (told_of plan)
@@ -247,7 +244,7 @@ one_missing kept scan has is = ap (λ t. not (not t)) is ∙ by_test (is_kept ke
     by_test true = refl
     by_test false = refl
 
--- what it opens
+-- a want other than Open opens nothing
 pub opens_none : (want : Want) → ((rel : Oid) (kind : Kind) → want ≡ wants.Open rel kind → ⊥) → opened_for want ≡ []
 opens_none (wants.Open rel kind) opens = absurd (opens rel kind refl)
 opens_none want opens = refl

@@ -21,5 +21,4 @@ pub mod WriteFits
 pub mod WritesChange
 pub mod Putting
 pub mod Unsent
-pub mod Registering
 pub mod Listed

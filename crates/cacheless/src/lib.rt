@@ -38,7 +38,7 @@
 //! of what it answers is in Telling: that is the command's line.
 //!
 //! specs/Awaiting says where a session is between two entries of its backend, and right after one. The laws of it are in
-//! proofs: EndEntries, OwnPlaces and OwnAnswers for an entry of its own, OthersEntries for another backend's. After either, its
+//! proofs: OwnPlaces and OwnAnswers (over EndEntries) for an entry of its own, OthersEntries for another backend's. After either, its
 //! places, answer and lines are those of the longer history. Who makes the entry cites them: backend_core does, and
 //! history_lines, which judges a given history.
 #![tactic(auto)]

@@ -2,6 +2,7 @@
 use Rattle.std.proofs.Common.{◌≡◌, ◌≤◌, ◌<◌, ◌+◌, ◌∙◌, ℕ, Bool, true, false, not, Option, None, Result, Ok, Err, IfOk, List, [], ◌∷◌, ◌++◌, length, take, filter, get_or, slice_get, replicate, refl, sym, ap, subst, arith}
 use Rattle.std.specs.List.{range_with_len}
 use Rattle.std.proofs.lemmas.List.{take-take, take_all, length-take-le, length-replicate}
+use Rattle.history_model.proofs.ListSteps.{prefix_more}
 use Rattle.history_ledger.specs.Longest.{IsLongest}
 use Rattle.history_model.proofs.Prefixes.{EachEntry-prefix}
 use Rattle.cacheless.specs.declared.check_kind.CheckKind.TheVariants.{Walk, Run}
@@ -12,7 +13,7 @@ use Rattle.check_tool.specs.Types.{CheckKind, Scenario, Entry}
 use Rattle.check_tool.specs.Reached.{HaveFollowed, AreInterleaved, due_after}
 use Rattle.check_tool.specs.Turning.{TellStopped}
 use Rattle.check_tool.specs.declared.interleaved.Interleaved.{Interleaved}
-use Rattle.check_tool.proofs.Longest.{prefix_more, longest_all, longest_both}
+use Rattle.check_tool.proofs.Longest.{longest_all, longest_both}
 use Rattle.check_tool.proofs.Schedule.{stopped_none}
 
 -- what holds of a history holds of its prefixes

@@ -2,15 +2,12 @@
 use Rattle.std.proofs.Common.{◌≡◌, ◌≤◌, ◌<◌, ◌+◌, ◌∙◌, ◌⊎◌, inl, inr, ℕ, true, false, List, [], ◌∷◌, ◌++◌, length, take, drop, get_or, sym, ap, subst, arith}
 use Rattle.std.proofs.Math.Dec.{leb}
 use Rattle.std.proofs.lemmas.Bool.Decides.{leb_tells}
-use Rattle.std.proofs.lemmas.List.{take-take, take_all, take_more, take-append-drop, length-take-le}
+use Rattle.std.proofs.lemmas.List.{take-take, take_all, take-append-drop, length-take-le}
 use Rattle.history_model.specs.Prefixes.{EachEntry}
 use Rattle.history_model.proofs.Prefixes.{EachEntry-more, EachEntry-prefix, EachEntry-rest}
+use Rattle.history_model.proofs.ListSteps.{prefix_more}
 use Rattle.history_ledger.specs.Longest.{IsLongest}
 use Rattle.check_tool.specs.Types.{Entry}
-
--- the prefix of one entry more
-pub prefix_more : (entries : List Entry) (at : ℕ) (e d : Entry) → at < length entries → e ≡ get_or entries at d → take (at + 1) entries ≡ take at entries ++ e ∷ []
-prefix_more entries at e d within is = take_more entries at d within ∙ ap (λ x. take at entries ++ x ∷ []) (sym is)
 
 -- what holds of each entry holds of one of them
 pub each_at : (P : List Entry → Entry → Type 0) (entries : List Entry) (at : ℕ) (e d : Entry) → at < length entries → e ≡ get_or entries at d → EachEntry P entries → P (take at entries) e

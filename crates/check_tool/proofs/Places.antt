@@ -86,7 +86,7 @@ abbrev waits_at : ℕ → Option ℕ → Bool
 waits_at published None = false
 waits_at published (Some place) = nat_lt place published
 
--- in each life a message waits where the place in it says so
+-- whichever life the backend is in, a message waits exactly where `waits_at` says so of its place
 waits_by : (seen : List Entry) (b : ℕ) (life : Life) → (is_alive life && nat_lt (position_of seen b) (length (log_of seen))) ≡ waits_at (length (log_of seen)) (place_at life (position_of seen b))
 waits_by seen b Unstarted = refl
 waits_by seen b (Alive last) = refl

@@ -4,7 +4,7 @@ use Rattle.std.specs.List.{AllByRecursion, range_with_len, flat_map}
 use Rattle.std.proofs.lemmas.Bool.{ne_eqb, eq-eqb}
 use Rattle.std.proofs.lemmas.Bool.Decides.{eqb_tells}
 use Rattle.std.proofs.lemmas.List.Elements.{All-get_or, All-from_recursion}
-use Rattle.std.proofs.lemmas.List.{drop-drop, drop_more, drop_all, take_more, take_all, flat_map_more, get_or_default, length-replicate}
+use Rattle.std.proofs.lemmas.List.{drop-drop, drop_more, drop_all, take_all, get_or_default, length-replicate}
 use Rattle.std.proofs.lemmas.Option.{slice_get_read}
 use Rattle.base_types.specs.declared.command.Turns.{Turns}
 use Rattle.base_types.specs.Scenario.{IsBackend, IsScript, AreTurns, schedule_of, turns_of}
@@ -12,12 +12,13 @@ use Rattle.event_kinds.specs.declared.entry.Event.TheVariants.{Stop}
 use Rattle.history_model.specs.Lives.{life_by}
 use Rattle.history_model.proofs.Prefixes.{along-more}
 use Rattle.history_model.proofs.Reading.{life_of-own, life_of-other}
+use Rattle.history_model.proofs.ListSteps.{prefix_more}
 use Rattle.cacheless.specs.Schedule.{FollowsSchedule, is_stopped, has_stopped, pass_stopped, steps_after, turns_by, turns_left}
 use Rattle.by_backend.proofs.Places.{get_of_set, get_beside_set}
 use Rattle.check_tool.specs.Types.{Scenario, Entry, Event}
 use Rattle.check_tool.specs.Turning.{TellStopped, stopped_after}
 use Rattle.check_tool.specs.Reached.{HaveFollowed}
-use Rattle.check_tool.proofs.Longest.{prefix_more, each_next, longest_here, longest_all}
+use Rattle.check_tool.proofs.Longest.{each_next, longest_here, longest_all}
 use Rattle.check_tool.proofs.Places.{of_replicate}
 
 -- ---- who has stopped
@@ -117,11 +118,6 @@ first_never stopped i past first seen tell =
     sym (first seen tell ∙ ap (λ n. slice_get (filter (runs_in seen) (range_with_len (i + 1) n)) 0) none)
 
 -- ---- the steps of a script are of its backends
-
--- one item or line more
-pub flat_take_more : {X : Type 0} (f : X → List ℕ) (before held : List ℕ) (xs : List X) (i : ℕ) (x d : X) → i < length xs → x ≡ get_or xs i d → held ≡ before ++ flat_map f (take i xs) → held ++ f x ≡ before ++ flat_map f (take (i + 1) xs)
-flat_take_more f before held xs i x d within is same =
-    ap (λ steps. steps ++ f x) same ∙ flat_map_more f before (take i xs) x ∙ ap (λ some. before ++ flat_map f some) (ap (λ y. take i xs ++ y ∷ []) is ∙ sym (take_more xs i d within))
 
 replicate_all : (n b backends : ℕ) → IsBackend backends b → AllByRecursion (IsBackend backends) (replicate n b)
 replicate_all zero b backends number = tt

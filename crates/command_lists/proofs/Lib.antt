@@ -4,4 +4,5 @@ mod Parts
 mod Registering
 mod Aborting
 pub mod Writes
+pub mod WriteRegistered
 pub mod Having

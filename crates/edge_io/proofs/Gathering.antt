@@ -1,5 +1,5 @@
 -- What a gathering sink holds, and what its sink has taken.
-use Rattle.std.proofs.Common.{◌≡◌, ℕ, zero, suc, ◌+◌, ◌-◌, ◌<◌, ◌≤◌, ◌==◌, true, false, List, [], ◌++◌, length, take, drop, Option, None, Some, Result, Ok, Err, refl, sym, ap, ◌∙◌, subst, OnOk, zero-add, append_assoc, append-nil, take-append-drop, length-drop, arith}
+use Rattle.std.proofs.Common.{◌≡◌, ℕ, zero, suc, ◌+◌, ◌-◌, ◌<◌, ◌≤◌, ◌==◌, true, false, List, [], ◌++◌, length, take, drop, Option, None, Some, Result, Ok, Err, refl, sym, ap, ◌∙◌, subst, OnOk, zero-add, append_assoc, append-nil, length-drop, arith}
 use Rattle.std.proofs.lemmas.List.{drop-take, append_cancel_left, length-take-le}
 use Rattle.std.proofs.lemmas.List.Edits.{take-paste}
 use Rattle.std.proofs.Math.Seq.{paste}
@@ -40,24 +40,10 @@ held_shorter held piece new count same is some more =
     by zero never = absurd (false≢true never)
     by (suc n) other = omega arith
 
--- what a gathering sink tells stays where bytes that it held are handed on
-pub handed_on : (a b c : Option (List ℕ)) (held : List ℕ) (n : ℕ) → Stays a (append_known b held) → Grows b c (take n held) → Stays a (append_known c (drop n held))
-handed_on a b None held n p q = tt
-handed_on a None (Some z) held n p q = absurd q
-handed_on None (Some y) (Some z) held n p q = absurd p
-handed_on (Some x) (Some y) (Some z) held n p q =
-    ap (λ l. l ++ drop n held) q ∙ append_assoc y (take n held) (drop n held) ∙ ap (λ l. y ++ l) (take-append-drop n held) ∙ p
-
 -- what a gathering sink tells stays where nothing is done
 pub told_stays : (a : Option (List ℕ)) → Stays a a
 told_stays None = tt
 told_stays (Some x) = refl
-
--- what it tells grows by what it keeps
-pub told_grows : (a b : Option (List ℕ)) (held piece : List ℕ) → Stays a (append_known b held) → Grows a (append_known b (held ++ piece)) piece
-told_grows a None held piece p = tt
-told_grows None (Some y) held piece p = absurd p
-told_grows (Some x) (Some y) held piece p = sym (append_assoc y held piece) ∙ ap (λ l. l ++ piece) p
 
 -- where bytes begin with others, the rest follows
 begins_parts : (x y : List ℕ) → begins (Some x) (Some y) ≡ true → y ≡ x ++ drop (length x) y
@@ -69,14 +55,6 @@ begins_from x y rest e = (starts_is Decides-eqb y x (begins (Some x) (Some y)) r
 pub begins_same : (a : Option (List ℕ)) → begins a a ≡ true
 begins_same None = refl
 begins_same (Some x) = begins_from x x [] (sym (append-nil x))
-
-pub begins_more : (a b c : Option (List ℕ)) (piece : List ℕ) → begins a b ≡ true → Grows b c piece → begins a c ≡ true
-begins_more a b None piece p q = refl
-begins_more a None (Some z) piece p q = absurd q
-begins_more None (Some y) (Some z) piece p q = absurd (false≢true p)
-begins_more (Some x) (Some y) (Some z) piece p q =
-    let rest = drop (length x) y in
-    begins_from x z (rest ++ piece) (q ∙ ap (λ l. l ++ piece) (begins_parts x y p) ∙ append_assoc x rest piece)
 
 pub begins_then : (a b c : Option (List ℕ)) → begins a b ≡ true → begins b c ≡ true → begins a c ≡ true
 begins_then a b None p q = refl

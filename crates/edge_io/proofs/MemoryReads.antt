@@ -7,7 +7,7 @@ use Rattle.edge_io.specs.InMemory.{Calls, Giving, next_fails, after_call, given,
 pub part_from : (bytes seen : List ℕ) (at : ℕ) → seen ≡ bytes → take (length seen - at) (drop at seen) ≡ drop at bytes
 part_from bytes seen at same = take_rest seen at ∙ ap (drop at) same
 
--- some first bytes of what was left were given, and none only where none was left
+-- some first bytes of what was left were given; where there was room for one, none only if none was left
 pub gave : (bytes part into : List ℕ) (at room most count : ℕ) → part ≡ drop at bytes → 0 < most → length into ≡ room → count ≡ min (min room most) (length part) → take count into ≡ take count part
     → (drop at bytes ≡ take count into ++ drop (at + count) bytes) × (count ≡ 0 → 0 < length into → drop (at + count) bytes ≡ [])
 gave bytes part into at room most count is some wide counts given_are =

@@ -1,12 +1,11 @@
 -- What is asked of what is held decides what the definitions ask of the history.
-use Rattle.std.proofs.Common.{◌≡◌, ◌≤◌, ◌-◌, ◌∙◌, ◌&&◌, ◌==◌, ℕ, Bool, true, false, not, Option, Some, None, List, [], ◌∷◌, is_none, if◌then◌else◌, length, min, refl, sym, ap, subst, arith}
+use Rattle.std.proofs.Common.{◌≡◌, ◌≤◌, ◌-◌, ◌∙◌, ◌&&◌, ◌==◌, ℕ, Bool, true, false, not, Option, Some, None, List, [], ◌∷◌, is_none, length, min, refl, sym, ap, subst, arith}
 use Rattle.std.specs.Prelude.{nat_lt, nat_le}
 use Rattle.std.specs.Bool.{Decides}
 use Rattle.std.specs.List.{list_any}
 use Rattle.std.specs.Option.{option_map, option_map_or}
-use Rattle.std.proofs.lemmas.Bool.{and_from, and_parts, eq-eqb, eqb-true, leb-true, le-leb}
-use Rattle.base_types.specs.Modes.{mode_number, same_mode}
-use Rattle.base_types.specs.declared.mode.Mode.TheVariants as modes
+use Rattle.std.proofs.lemmas.Bool.{eq-eqb, eqb-true, leb-true, le-leb}
+use Rattle.base_types.specs.Modes.{same_mode}
 use Rattle.catalog_rows.specs.Store.{clash_of, rows_of_scan}
 use Rattle.inval_messages.specs.Lists.{Written, has_write_from, left_after, unsent_after}
 use Rattle.lock_modes.specs.Grants.{holds, first_conflict}
@@ -20,6 +19,7 @@ use Rattle.history_model.specs.Sent.{lists_of, left_in, unsent_in, unsent_of}
 use Rattle.history_model.specs.Transactions.{Running, running_transaction_of, is_visible, last_xid}
 use Rattle.history_model.specs.Versions.{answer_of}
 use Rattle.history_model.specs.Writes.{is_write}
+use Rattle.history_model.proofs.Decided.{always, never, both_decide, decided_by, mode_decides}
 use Rattle.history_ledger.specs.Types.{Oid, Mode, Grant, Purpose, Entry, Event, RelName, Start, Look, Fetch, FetchReset, LockOk, LockHeld, Unlock, Scan, Write, ClashRow, ClashRunning, Visible, Publish, Release, Gone, Stop, LifeState, Unstarted, Alive, Stopped, GaveUp}
 use Rattle.history_ledger.specs.Backends.{standing_at}
 use Rattle.history_ledger.specs.Standing.{Standing, life_at, asks_of, kept_of, transaction_of, xid_in, left_at, unsent_at, is_visible_at}
@@ -32,18 +32,6 @@ use Rattle.history_ledger.proofs.Stands.{waits_same}
 
 pub by_same : {a b : Bool} → a ≡ b → Decides a (b ≡ true)
 by_same same = (λ is. sym same ∙ is, λ is. same ∙ is)
-
-pub always : {P : Type 0} → P → Decides true P
-always p = (λ is. p, λ is. refl)
-
-pub never : {P : Type 0} → (P → ⊥) → Decides false P
-never not_so = (λ is. absurd (cc), λ is. absurd (not_so is))
-
-pub both_decide : {P Q : Type 0} (a b : Bool) → Decides a P → Decides b Q → Decides (a && b) (P × Q)
-both_decide a b p q = (λ is. let parts = and_parts a b is in (p.0 parts.0, q.0 parts.1), λ is. and_from a b (p.1 is.0) (q.1 is.1))
-
-pub decided_by : {P Q : Type 0} (t : Bool) → Decides t P → (P → Q) → (Q → P) → Decides t Q
-decided_by t d to from = (λ is. to (d.0 is), λ is. d.1 (from is))
 
 pub not_decides : (t : Bool) → Decides (not t) (t ≡ false)
 not_decides true = (λ is. absurd (cc), λ is. absurd (cc))
@@ -98,24 +86,6 @@ looked_decides (Some (Look true)) = always refl
 looked_decides (Some (Look false)) = never (λ is. absurd (cc))
 looked_decides (Some (Gone from)) = never (λ is. absurd (cc))
 looked_decides (Some event) = never (λ is. absurd (cc))
-
--- a mode is known by its number
-mode_with : ℕ → Mode
-mode_with n = if n == 1 then modes.AccessShare else if n == 2 then modes.RowShare else if n == 3 then modes.RowExclusive else if n == 4 then modes.ShareUpdateExclusive else if n == 5 then modes.Share else if n == 6 then modes.ShareRowExclusive else if n == 7 then modes.Exclusive else modes.AccessExclusive
-
-mode_again : (m : Mode) → mode_with (mode_number m) ≡ m
-unfolding mode_with
-mode_again modes.AccessShare = refl
-mode_again modes.RowShare = refl
-mode_again modes.RowExclusive = refl
-mode_again modes.ShareUpdateExclusive = refl
-mode_again modes.Share = refl
-mode_again modes.ShareRowExclusive = refl
-mode_again modes.Exclusive = refl
-mode_again modes.AccessExclusive = refl
-
-pub mode_decides : (a b : Mode) → Decides (same_mode a b) (a ≡ b)
-mode_decides a b = (λ is. sym (mode_again a) ∙ ap mode_with (eqb-true (mode_number a) (mode_number b) is) ∙ mode_again b, λ is. eq-eqb (mode_number a) (mode_number b) (ap mode_number is))
 
 abbrev pair : ℕ → Mode → ℕ × Mode
 pair n m = (n, m)

@@ -10,7 +10,7 @@ use Rattle.base_types.specs.declared.row.Row.TheVariants as rows
 use Rattle.row_visibility.specs.declared.clash.Clash.TheVariants as clashes
 use Rattle.row_visibility.specs.Seen.{seen_by}
 use Rattle.catalog_rows.specs.Store as stores
-use Rattle.catalog_rows.specs.Store.{Store, clash_of, clash_by, row_clash, relation_of, is_claimed, claimant_of}
+use Rattle.catalog_rows.specs.Store.{Store, clash_of, clash_by, row_clash, relation_of, claimant_of}
 use Rattle.history_model.specs.Names.{is_row_of, is_named, users_of}
 use Rattle.history_model.specs.Versions.{versions_of, sees, answer_of}
 use Rattle.history_model.specs.Writes.{is_empty, is_free}

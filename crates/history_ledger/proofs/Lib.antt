@@ -1,4 +1,3 @@
-mod Registering
 pub mod Mirrors
 mod Parts
 mod Stands

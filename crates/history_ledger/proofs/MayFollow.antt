@@ -3,7 +3,7 @@ use Rattle.std.proofs.Common.{◌≡◌, ◌≢◌, ◌≤◌, ◌<◌, ◌+◌,
 use Rattle.std.specs.Bool.{Decides}
 use Rattle.std.specs.List.{flat_map, filter_map, list_all, range_with_len}
 use Rattle.std.proofs.lemmas.Bool.{and_from, and_parts, eqb-true, eqb-false, both_ways}
-use Rattle.std.proofs.lemmas.List.{take_more, take_all}
+use Rattle.std.proofs.lemmas.List.{take_all}
 use Rattle.base_types.specs.RowKeys.{are_distinct_keys}
 use Rattle.base_types.specs.declared.memory.NoMemory.{NoMemory}
 use Rattle.history_model.proofs.Every.{every-weaker, every-both}
@@ -19,6 +19,8 @@ use Rattle.history_model.specs.Transactions.{last_xid, xid_for, running_transact
 use Rattle.history_model.specs.Versions.{ended_key}
 use Rattle.history_model.specs.Writes.{changed_key, has_row, has_written, keeps_kind, is_free, is_guarded, IsWriteAllowed}
 use Rattle.inval_messages.specs.Lists.{Written}
+use Rattle.history_model.proofs.Decided.{both_decide, decided_by}
+use Rattle.history_model.proofs.ListSteps.{prefix_more}
 use Rattle.history_ledger.specs.Types.{Xid, Entry, Event, Item, Write, Visible}
 use Rattle.history_ledger.specs.Backends.{standing_at}
 use Rattle.history_ledger.specs.Enters.{IsPlaced, IsInOrder, CanEnter, messages_at}
@@ -29,7 +31,7 @@ use Rattle.history_ledger.specs.Standing.{xid_in}
 use Rattle.history_ledger.specs.Writing.{is_next_xid, are_from, is_last_write, old_at, may_change, covers_item, may_write_at, may_do_at, may_follow_at}
 use Rattle.history_ledger.specs.declared.ledger.Ledger.{Ledger}
 use Rattle.history_ledger.proofs.CoverTests.{covers_is}
-use Rattle.history_ledger.proofs.Deciding.{by_same, both_decide, decided_by, not_decides, event_decides, own_decides}
+use Rattle.history_ledger.proofs.Deciding.{by_same, not_decides, event_decides, own_decides}
 use Rattle.history_ledger.proofs.Entered.{mirrors}
 use Rattle.history_ledger.proofs.Mirrors.{reads_same, row_same}
 use Rattle.history_ledger.proofs.WriteTests.{xid_decides, from_decides, written_is, changes_is}
@@ -122,7 +124,7 @@ abbrev pub IsQueued : ℕ → List Entry → Type 0
 IsQueued size history = IsLegal history × FollowsQueue size history
 
 pub queued_more : (size : ℕ) (entries : List Entry) (at : ℕ) (e d : Entry) → at < length entries → e ≡ get_or entries at d → IsQueued size (take at entries) → MayFollow (take at entries) e × FetchesFrom size (take at entries) e.backend e.event → IsQueued size (take (at + 1) entries)
-queued_more size entries at e d within is was follows = subst (IsQueued size) (sym (take_more entries at d within ∙ ap (λ x. take at entries ++ x ∷ []) (sym is)))
+queued_more size entries at e d within is was follows = subst (IsQueued size) (sym (prefix_more entries at e d within is))
     (EachEntry-more MayFollow (take at entries) e was.0 follows.0, EachEntry-more (λ before x. FetchesFrom size before x.backend x.event) (take at entries) e was.1 follows.1)
 
 pub ends_here : (size : ℕ) (entries : List Entry) (at : ℕ) (e d : Entry) → at < length entries → e ≡ get_or entries at d → IsQueued size (take at entries) → Decides false (MayFollow (take at entries) e × FetchesFrom size (take at entries) e.backend e.event) → IsLongest (IsQueued size) entries at
@@ -130,7 +132,7 @@ ends_here size entries at e d within is was decides = record {
   within = omega (arith, within);
   holds = was;
   most = λ less more.
-      let parts : IsQueued size (take at entries ++ e ∷ []) = subst (IsQueued size) (take_more entries at d within ∙ ap (λ x. take at entries ++ x ∷ []) (sym is)) more in
+      let parts : IsQueued size (take at entries ++ e ∷ []) = subst (IsQueued size) (prefix_more entries at e d within is) more in
       let never : false ≡ true = decides.1 ((EachEntry-rest MayFollow (take at entries) (e ∷ []) parts.0).0, (EachEntry-rest (λ before x. FetchesFrom size before x.backend x.event) (take at entries) (e ∷ []) parts.1).0) in absurd (cc);
 }
 
@@ -143,4 +145,4 @@ all_of_it size entries at past was = record {
 
 -- what is held after the next entry
 pub reads_next : (entries : List Entry) (at : ℕ) (e d : Entry) (ledger : Ledger) → at < length entries → e ≡ get_or entries at d → Reads (take at entries ++ e ∷ []) ledger → Reads (take (at + 1) entries) ledger
-reads_next entries at e d ledger within is k = subst (λ history. Reads history ledger) (sym (take_more entries at d within ∙ ap (λ x. take at entries ++ x ∷ []) (sym is))) k
+reads_next entries at e d ledger within is k = subst (λ history. Reads history ledger) (sym (prefix_more entries at e d within is)) k

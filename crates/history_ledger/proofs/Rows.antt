@@ -13,7 +13,7 @@ use Rattle.std.proofs.lemmas.Option.{unwrap_or-slice_get}
 use Rattle.base_types.specs.RowKeys.{key_of, same_key, are_distinct_keys}
 use Rattle.row_visibility.specs.Seen.{is_own}
 use Rattle.catalog_rows.specs.Store as stores
-use Rattle.catalog_rows.specs.Store.{Store, has_committed, after_change, after_write, after_commit, end_if, is_ended, new_version, option_items, with_place, taken_back, restored}
+use Rattle.catalog_rows.specs.Store.{Store, has_committed, after_change, after_write, end_if, is_ended, new_version, option_items, with_place, taken_back, restored}
 use Rattle.history_model.specs.Changes.{item_of}
 use Rattle.history_model.specs.Legal.{AllowsEvent}
 use Rattle.history_model.specs.Transactions.{Running, has_xid, is_committed, last_xid, last_xid_by, makes_visible, runs_as, running_transaction_of, xid_for}

@@ -9,7 +9,7 @@ use Rattle.std.proofs.lemmas.List.Elements.{filter-append}
 use Rattle.base_types.specs.RowKeys.{key_of, same_key, are_distinct_keys}
 use Rattle.row_visibility.specs.Seen.{seen_by}
 use Rattle.catalog_rows.specs.Store as stores
-use Rattle.catalog_rows.specs.Store.{Store, has_committed, after_change, after_write, end_if, is_ended, new_version, option_items}
+use Rattle.catalog_rows.specs.Store.{Store, has_committed, after_change, end_if, is_ended, new_version, option_items}
 use Rattle.history_model.proofs.Every.{every-weaker}
 use Rattle.history_model.proofs.Reading.{versions_of-more, is_committed-more, running_transaction_of-own}
 use Rattle.history_model.proofs.Touched.{stamps-weaker}

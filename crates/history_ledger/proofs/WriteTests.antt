@@ -17,11 +17,12 @@ use Rattle.history_model.specs.Names.{new_name, new_names}
 use Rattle.history_model.specs.Transactions.{Running, running_transaction_of, last_xid, xid_for}
 use Rattle.history_model.specs.Versions.{ended_key, added_row, old_row, row_with}
 use Rattle.history_model.specs.Writes.{has_row, has_written, is_free, relations_changed, is_validation, modes_enough, is_guarded, keeps_kind}
+use Rattle.history_model.proofs.Decided.{both_decide, decided_by, always}
 use Rattle.history_ledger.specs.Types.{Oid, Xid, Row, RowKey, Reader, Entry, Item, Add, Put, Remove, Force}
 use Rattle.history_ledger.specs.Reads.{Wrote}
 use Rattle.history_ledger.specs.Standing.{xid_of, kept_of, xid_in, transaction_of}
 use Rattle.history_ledger.specs.Writing.{is_next_xid, are_from, is_last_write, old_at, is_there, leaves_kind, frees_names, guards_row, guards_rows, may_change}
-use Rattle.history_ledger.proofs.Deciding.{number_decides, both_decide, decided_by, always}
+use Rattle.history_ledger.proofs.Deciding.{number_decides}
 use Rattle.history_ledger.proofs.FreeNames.{free_is}
 use Rattle.history_ledger.proofs.Mirrors.{Mirrors}
 

@@ -8,6 +8,7 @@ use Rattle.ddl_effect.specs.Commands.{commands_of}
 use Rattle.history_model.specs.Drawn.{next_oid}
 use Rattle.history_model.specs.Legal.{MayFollow}
 use Rattle.history_model.specs.Lives.{Life, Stopped, FollowsLife, life_of}
+use Rattle.history_model.proofs.Decided.{both_decide, decided_by}
 use Rattle.cacheless.specs.Facts.{facts_of}
 use Rattle.cacheless.specs.May.{may_play_now}
 use Rattle.cacheless.specs.Plays.{IsStart, MayPlayIn, MayPlayAt, IsNext}
@@ -16,7 +17,6 @@ use Rattle.cacheless.specs.Sessions.{session_of}
 use Rattle.cacheless.specs.State.{session_at}
 use Rattle.cacheless.proofs.Deciding.{holds_decides}
 use Rattle.cacheless.proofs.Resting.{settled_at_rest}
-use Rattle.cacheless.proofs.SameRows.{both_decide, decided_by}
 use Rattle.cacheless.specs.Awaiting.{AwaitsEntry}
 use Rattle.history_lines.specs.Comes.{is_start, comes_at}
 use Rattle.history_lines.specs.Stands.{HasNoEntry, IsGoing, Awaits, Over, IsSessionOf}

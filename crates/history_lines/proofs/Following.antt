@@ -4,7 +4,7 @@ use Rattle.std.specs.Bool.{Decides}
 use Rattle.std.proofs.Math.ListN.{length-set}
 use Rattle.std.proofs.lemmas.Bool.{ne_eqb}
 use Rattle.std.proofs.lemmas.Bool.Decides.{eqb_tells}
-use Rattle.std.proofs.lemmas.List.{take_more, take_all}
+use Rattle.std.proofs.lemmas.List.{take_all}
 use Rattle.std.proofs.lemmas.Option.{slice_get_read}
 use Rattle.base_types.specs.Scenario.{IsBackend}
 use Rattle.base_types.specs.declared.memory.NoMemory.{NoMemory}
@@ -13,6 +13,7 @@ use Rattle.history_model.specs.Drawn.{next_oid}
 use Rattle.history_model.specs.Lapped.{FetchesFrom}
 use Rattle.history_model.specs.Legal.{IsLegal, MayFollow}
 use Rattle.history_model.specs.Read.{ScansOnlyIfNeeded}
+use Rattle.history_model.proofs.ListSteps.{prefix_more}
 use Rattle.by_backend.proofs.Places.{get_of_set, get_beside_set}
 use Rattle.history_ledger.proofs.MayFollow.{can_enter}
 use Rattle.history_ledger.specs.Reads.{Reads}
@@ -138,10 +139,6 @@ pub entered_follows : (old new : Ledger) (sessions : List Session) (e : Entry) (
 entered_follows old new sessions e at was now can read takes enters scenario seen k number next =
     follows_more scenario seen old new sessions e was now k next can.backend (session_read sessions e.backend was can.backend read)
     (takes scenario seen k.reads number k.spelled k.legal k.plays next.0.0 next.1) (enters seen k.reads next.0.0)
-
--- the prefix of one entry more
-prefix_more : (entries : List Entry) (at : ℕ) (e d : Entry) → at < length entries → e ≡ get_or entries at d → take (at + 1) entries ≡ take at entries ++ e ∷ []
-prefix_more entries at e d within is = take_more entries at d within ∙ ap (λ x. take at entries ++ x ∷ []) (sym is)
 
 -- what is held after the next entry of the list
 pub follows_next : (scenario : Scenario) (entries : List Entry) (at : ℕ) (e d : Entry) (ledger : Ledger) (sessions : List Session) → at < length entries → e ≡ get_or entries at d → Follows scenario (take at entries ++ e ∷ []) ledger sessions → Follows scenario (take (at + 1) entries) ledger sessions

@@ -57,7 +57,7 @@ with_room s room = record s { locks = record { items = s.locks.items; room = roo
 room_same : (s p : Progress) → IsLockedIn s.locks.items s p → p ≡ with_room s p.locks.room
 room_same s p same = same.is ∙ (λ i. record s { locks = record { items = same.locks_are i; room = p.locks.room } })
 
--- it has finished as few commands
+-- the bound on how many commands it has finished stays
 pub reserved_few : (s p : Progress) → IsLockedIn s.locks.items s p → s.finished ≤ 20000 → p.finished ≤ 20000
 reserved_few s p same few = subst (λ (x : Progress). x.finished ≤ 20000) (sym same.is) few
 

@@ -1,11 +1,10 @@
 -- What a write makes of a session.
 use Rattle.std.proofs.Common.{◌≡◌, ◌∙◌, ◌<◌, ◌+◌, ◌∷◌, ◌++◌, ◌||◌, [], ℕ, Bool, true, false, not, Option, Some, None, Result, Ok, Err, OnOk, List, nat_le, is_some, length, take, get_or, refl, sym, ap, subst, leb-false}
 use Rattle.std.specs.List.{list_any, AllByRecursion, flat_map}
-use Rattle.std.proofs.lemmas.Grind.{flat_map-append}
-use Rattle.std.proofs.lemmas.List.{take_more, append-nil}
-use Rattle.std.proofs.lemmas.List.Concat.{flat_map-cons}
+use Rattle.std.proofs.lemmas.List.{append-nil}
 use Rattle.event_kinds.specs.declared.entry.Event.TheVariants as events
 use Rattle.event_kinds.specs.declared.entry.Item.{Item}
+use Rattle.history_model.proofs.ListSteps.{flat_map_next}
 use Rattle.history_ledger.specs.Reads.{Reads}
 use Rattle.inval_messages.specs.Lists.{Written}
 use Rattle.inval_messages.specs.declared.message.Message.{Message}
@@ -54,10 +53,7 @@ written_takes (Err e) was now xid messages made known same kept none holds = tt
 
 -- the locks of one more item come after those before
 locks_more : (command : ℕ) (items : List Item) (at : ℕ) (item : Item) → at < length items → item ≡ get_or items at item → flat_map (locked_by command) (take (at + 1) items) ≡ flat_map (locked_by command) (take at items) ++ locked_by command item
-locks_more command items at item within is =
-    ap (flat_map (locked_by command)) (take_more items at item within ∙ ap (λ x. take at items ++ x ∷ []) (sym is))
-    ∙ flat_map-append (locked_by command) (take at items) (item ∷ [])
-    ∙ ap (λ l. flat_map (locked_by command) (take at items) ++ l) (flat_map-cons (locked_by command) item [] ∙ append-nil (locked_by command item))
+locks_more command items at item within is = sym (flat_map_next (locked_by command) [] items at item item _ within is refl)
 
 -- an item that makes no relation leaves them
 pub made_still : (items : List Item) (at : ℕ) (item : Item) (made : Option Oid) → at < length items → item ≡ get_or items at item → ((command : ℕ) → locked_by command item ≡ []) → ((command : ℕ) → flat_map (locked_by command) (take at items) ≡ locks_made command made) → (command : ℕ) → flat_map (locked_by command) (take (at + 1) items) ≡ locks_made command made

@@ -13,21 +13,21 @@ given_at all given i x same within is = ap (λ l. slice_get l i) (sym same) ∙ 
 pub none_at : {X : Type 0} (all given : List X) (i : ℕ) → given ≡ all → false ≡ ltb i (length given) → slice_get all i ≡ None
 none_at all given i same past = ap (λ l. slice_get l i) (sym same) ∙ slice_get_past given i (ltb-false i (length given) (sym past))
 
--- what stands before a place, with the element there
-taken_more : {X : Type 0} (xs : List X) (i : ℕ) (x d : X) → i < length xs → x ≡ get_or xs i d → take i xs ++ x ∷ [] ≡ take (i + 1) xs
-taken_more xs i x d within is = sym (take_more xs i d within ∙ ap (λ y. take i xs ++ y ∷ []) (sym is))
+-- the elements up to a place, with the one there
+pub prefix_more : {X : Type 0} (xs : List X) (i : ℕ) (x d : X) → i < length xs → x ≡ get_or xs i d → take (i + 1) xs ≡ take i xs ++ x ∷ []
+prefix_more xs i x d within is = take_more xs i d within ∙ ap (λ y. take i xs ++ y ∷ []) (sym is)
 
 -- what was copied, with one element more
 pub take_next : {X : Type 0} (xs : List X) (i : ℕ) (x d : X) (found : List X) → i < length xs → x ≡ get_or xs i d → found ≡ take i xs → found ++ x ∷ [] ≡ take (i + 1) xs
-take_next xs i x d found within is before = ap (λ l. l ++ x ∷ []) before ∙ taken_more xs i x d within is
+take_next xs i x d found within is before = ap (λ l. l ++ x ∷ []) before ∙ sym (prefix_more xs i x d within is)
 
 -- what is made of each element, with one element more
 pub map_next : {X A : Type 0} (f : X → A) (first : List A) (xs : List X) (i : ℕ) (x d : X) (found : List A) → i < length xs → x ≡ get_or xs i d → found ≡ first ++ map f (take i xs) → found ++ f x ∷ [] ≡ first ++ map f (take (i + 1) xs)
 map_next f first xs i x d found within is before =
-    ap (λ l. l ++ f x ∷ []) before ∙ append_assoc first (map f (take i xs)) (f x ∷ []) ∙ ap (λ l. first ++ l) (sym (map-append f (take i xs) (x ∷ [])) ∙ ap (map f) (taken_more xs i x d within is))
+    ap (λ l. l ++ f x ∷ []) before ∙ append_assoc first (map f (take i xs)) (f x ∷ []) ∙ ap (λ l. first ++ l) (sym (map-append f (take i xs) (x ∷ [])) ∙ ap (map f) (sym (prefix_more xs i x d within is)))
 
-pub flat_map_next : {X A : Type 0} (f : X → List A) (xs : List X) (i : ℕ) (x d : X) (found : List A) → i < length xs → x ≡ get_or xs i d → found ≡ flat_map f (take i xs) → found ++ f x ≡ flat_map f (take (i + 1) xs)
-flat_map_next f xs i x d found within is before = ap (λ l. l ++ f x) before ∙ flat_map_more f [] (take i xs) x ∙ ap (flat_map f) (taken_more xs i x d within is)
+pub flat_map_next : {X A : Type 0} (f : X → List A) (first : List A) (xs : List X) (i : ℕ) (x d : X) (found : List A) → i < length xs → x ≡ get_or xs i d → found ≡ first ++ flat_map f (take i xs) → found ++ f x ≡ first ++ flat_map f (take (i + 1) xs)
+flat_map_next f first xs i x d found within is before = ap (λ l. l ++ f x) before ∙ flat_map_more f first (take i xs) x ∙ ap (λ l. first ++ flat_map f l) (sym (prefix_more xs i x d within is))
 
 -- those that pass a test, with one element more
 pub filter_next : {X : Type 0} (p : X → Bool) (xs : List X) (i : ℕ) (x d : X) (found : List X) (test : Bool) → i < length xs → x ≡ get_or xs i d → p x ≡ test → found ≡ filter p (take i xs) → found ++ cond test (x ∷ []) [] ≡ filter p (take (i + 1) xs)

@@ -151,7 +151,7 @@ module _ {T : Type 0} where
     no_more = λ other differs gone. same.no_more other (changes.no_more other differs gone);
   }
 
-  -- a place with no value is to be had again, where that was so before one place changed
+  -- if every empty place could be used again before one place changed, so it can after
   pub still_reusable : (old new : Slab (Slot T)) (generations : List ℕ) (key : ℕ) (slot : Option (Slot T)) → Updates old new key slot → (slot ≡ None → slice_index generations key < 4294967295) → ((place : ℕ) → place ≢ key → get old place ≡ None → slice_index generations place < 4294967295) → (place : ℕ) → get new place ≡ None → slice_index generations place < 4294967295
   still_reusable old new generations key slot updates at_key before place none =
       elim (cases_eq place key) [
@@ -183,7 +183,7 @@ module _ {T : Type 0} where
               | inr differs ↦ (written slot).others place differs
             ]
 
-  -- a first entry of a new generation at a place that had none
+  -- a reference of a place's next generation was never given, so it hasn't gone
   pub never_given : (old : Pool T) (r : Ref) → r.generation ≡ next_generation old r.place → HasGone old r → ⊥
   unfolding WasGiven
   never_given old r fresh gone = omega (arith, gone.given, fresh)

@@ -32,7 +32,7 @@ use Rattle.shared_seg.proofs.Appended.{appends_free}
 pub request_inside : (k now : Kept) (b c : ℕ) → k ≡ now → MayRequest now.script now.history b c → MayRequest k.script k.history b c
 request_inside k now b c is request = subst (λ (x : Kept). MayRequest x.script x.history b c) (sym is) request
 
--- so a list with an item for each backend reaches to its backend
+-- so the backend is within any list that has an item for each backend
 pub asked_within : (k now : Kept) (b c n : ℕ) → k ≡ now → MayRequest now.script now.history b c → n ≡ k.script.backends + 1 → b < n
 asked_within k now b c n is request same = within k.script b n (request_inside k now b c is request).backend same
 

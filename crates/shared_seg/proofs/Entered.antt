@@ -30,7 +30,7 @@ within script b n is same = omega (arith, is.1, same)
 pub call_inside : (k now : Kept) (e : Entry) → k ≡ now → MayCall now.script now.history e → MayCall k.script k.history e
 call_inside k now e is call = subst (λ (x : Kept). MayCall x.script x.history e) (sym is) call
 
--- so a list with an item for each backend reaches to its backend
+-- so the backend is within any list that has an item for each backend
 pub called_within : (k now : Kept) (e : Entry) (n : ℕ) → k ≡ now → MayCall now.script now.history e → n ≡ k.script.backends + 1 → e.backend < n
 called_within k now e n is call same = within k.script e.backend n (call_inside k now e is call).backend same
 

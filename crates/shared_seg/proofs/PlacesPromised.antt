@@ -12,7 +12,7 @@ use Rattle.shared_seg.proofs.Appended.{promised-own, promised-other}
 use Rattle.shared_seg.proofs.Entered.{within}
 use Rattle.shared_seg.proofs.PromiseSums.{promised_at}
 
--- a backend with promises, of the parts
+-- the same, of the equal value that the code has
 pub placed_within : (p now : Placed) (b : ℕ) → p ≡ now → b < length now.promised → b < length p.promised
 placed_within p now b is within = subst (λ (x : Placed). b < length x.promised) (sym is) within
 

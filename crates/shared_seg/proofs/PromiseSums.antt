@@ -1,4 +1,4 @@
--- The sum of promises, where one of them is taken.
+-- How many places are promised, to one backend and to all, where one of them is taken or promised anew.
 use Rattle.std.proofs.Common.{◌≡◌, ◌≤◌, ◌<◌, ◌+◌, ◌-◌, ◌∙◌, ℕ, List, sum, length, get_or, slice_set, replicate, arith, sym}
 use Rattle.std.proofs.lemmas.List.Sums.{get_or-le-sum_by, sum_by-set}
 use Rattle.std.proofs.lemmas.List.Folds.{sum_by-replicate}
@@ -24,8 +24,8 @@ pub sum-changed : (promised : List ℕ) (b n had : ℕ) → b < length promised 
 sum-changed promised b n had within is = omega (arith, is ∙ get_or_default promised b had 0 within, sum_by-set (λ n. n) promised b n 0 within)
 
 -- the sum of no promises
-pub sum_none : (n : ℕ) → sum (replicate n 0) ≡ 0
-sum_none n = omega (arith, sum_by-replicate (λ n. n) n 0)
+pub sum_of_zeros : (n : ℕ) → sum (replicate n 0) ≡ 0
+sum_of_zeros n = omega (arith, sum_by-replicate (λ n. n) n 0)
 
 -- no places are promised where all numbers are 0
 pub none_promised : (n b : ℕ) → promised_in (replicate n 0) b ≡ 0

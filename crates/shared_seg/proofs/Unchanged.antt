@@ -1,4 +1,4 @@
--- What is shared where a call leaves the history and the rest of it.
+-- What `Shared` keeps after a call that leaves the history, the rows and the locks as they were.
 use Rattle.std.proofs.Common.{◌≡◌, ◌∙◌, ◌+◌, ℕ, Option, List, length, refl, sym, ap, subst}
 use Rattle.base_types.specs.Scenario.{Scenario, IsScript}
 use Rattle.event_kinds.specs.declared.entry.Entry.{Entry}

@@ -1,5 +1,5 @@
 -- A walk without a schedule brings each backend to its stop, one after another.
-use Rattle.std.proofs.Common.{◌≡◌, ◌≢◌, ◌≤◌, ◌<◌, ◌+◌, ◌-◌, ◌∙◌, ℕ, zero, suc, Bool, true, false, not, cond, Some, List, [], ◌∷◌, ◌++◌, ◌==◌, refl, sym, ap, subst, length, filter, slice_get, get_or, arith, ◌⊎◌, inl, inr}
+use Rattle.std.proofs.Common.{◌≡◌, ◌≢◌, ◌≤◌, ◌<◌, ◌+◌, ◌-◌, ◌∙◌, ℕ, true, false, not, Some, List, [], ◌∷◌, ◌++◌, ◌==◌, sym, ap, subst, length, filter, slice_get, get_or, arith, ◌⊎◌, inl, inr}
 use Rattle.std.specs.List.{range_with_len}
 use Rattle.std.proofs.lemmas.Bool.{ne_eqb}
 use Rattle.std.proofs.lemmas.Bool.Decides.{eqb_tells}

@@ -1,10 +1,8 @@
 -- A walk by steps keeps what it keeps, and comes to the end of the schedule.
-use Rattle.std.proofs.Common.{◌≡◌, ◌≢◌, ◌<◌, ◌+◌, ◌-◌, ◌∙◌, ℕ, zero, suc, true, false, Some, List, [], ◌∷◌, ◌++◌, ◌==◌, refl, sym, ap, subst, length, drop, slice_get, slice_set, ◌⊎◌, inl, inr, replicate, nat_eq, get_or, take, add-one, Result, Ok, Err, append_assoc, append-nil, arith}
+use Rattle.std.proofs.Common.{◌≡◌, ◌≢◌, ◌<◌, ◌+◌, ◌-◌, ◌∙◌, ℕ, true, false, Some, List, [], ◌∷◌, ◌++◌, ◌==◌, refl, sym, ap, subst, length, drop, slice_get, slice_set, ◌⊎◌, inl, inr, replicate, nat_eq, get_or, take, Result, Ok, Err, append_assoc, append-nil, arith}
 use Rattle.std.specs.List.{flat_map}
 use Rattle.std.specs.Result.{OnOk}
 use Rattle.std.proofs.lemmas.Option.{slice_get_read}
-use Rattle.std.proofs.Math.Seq.{take-suc}
-use Rattle.std.proofs.lemmas.Grind.{flat_map-append}
 use Rattle.std.proofs.lemmas.Bool.{ne_eqb}
 use Rattle.std.proofs.lemmas.Bool.Decides.{eqb_tells}
 use Rattle.std.proofs.Math.ListN.{length-set}
@@ -13,6 +11,7 @@ use Rattle.base_types.specs.Scenario.{Scenario, IsBackend, schedule_of}
 use Rattle.event_kinds.specs.declared.entry.Entry.{Entry}
 use Rattle.history_model.specs.Prefixes.{EachEntry}
 use Rattle.history_model.proofs.Prefixes.{EachEntry-more, along-more}
+use Rattle.history_model.proofs.ListSteps.{flat_map_next}
 use Rattle.cacheless.specs.MayEnter.{MayEnter}
 use Rattle.cacheless.specs.Schedule.{FollowsSchedule, IsComplete, has_stopped, pass_stopped, steps_after, turns_by, turns_left}
 use Rattle.backend_core.specs.declared.backend.Backend.{Backend}
@@ -182,18 +181,11 @@ step_makes s t h g h' had has bs b was now (Ok x) script history number stand sa
 }
 step_makes s t h g h' had has bs b was now (Err e) script history number stand same steps = steps
 
-replicate_more : (n b : ℕ) → replicate (n + 1) b ≡ replicate n b ++ b ∷ []
-replicate_more zero b = refl
-replicate_more (suc n) b = ap (λ k. replicate k b) (add-one (suc n)) ∙ ap (λ xs. b ∷ xs) (ap (λ k. replicate k b) (sym (add-one n)) ∙ replicate_more n b)
-
 -- one step more of an item
 pub turns_go_on : (s t : Scenario) (h h' h'' : List Entry) (bs' bs'' : List Backend) (n b : ℕ) → t ≡ s → Goes s h h' bs' (replicate n b) → Goes t h' h'' bs'' (b ∷ []) → Goes s h h'' bs'' (replicate (n + 1) b)
-turns_go_on s t h h' h'' bs' bs'' n b same first second = subst (Goes s h h'' bs'') (sym (replicate_more n b)) (goes_then s t h h' h'' bs' bs'' (replicate n b) (b ∷ []) same first second)
-
-flat_take_more : {X : Type 0} (f : X → List ℕ) (xs : List X) (i : ℕ) (x : X) → i < length xs → x ≡ get_or xs i x → flat_map f (take (i + 1) xs) ≡ flat_map f (take i xs) ++ f x
-flat_take_more f xs i x short is = ap (flat_map f) (ap (λ n. take n xs) (add-one i) ∙ take-suc xs i x short ∙ ap (λ y. take i xs ++ y ∷ []) (sym is)) ∙ flat_map-append f (take i xs) (x ∷ []) ∙ ap (λ ys. flat_map f (take i xs) ++ ys) (append-nil (f x))
+turns_go_on s t h h' h'' bs' bs'' n b same first second = subst (Goes s h h'' bs'') (replicate_more n b) (goes_then s t h h' h'' bs' bs'' (replicate n b) (b ∷ []) same first second)
 
 -- one item or line more
 pub items_go_on : {X : Type 0} (f : X → List ℕ) (s t : Scenario) (h h' h'' : List Entry) (bs' bs'' : List Backend) (xs : List X) (i : ℕ) (x : X) → i < length xs → x ≡ get_or xs i x → t ≡ s
     → Goes s h h' bs' (flat_map f (take i xs)) → Goes t h' h'' bs'' (f x) → Goes s h h'' bs'' (flat_map f (take (i + 1) xs))
-items_go_on f s t h h' h'' bs' bs'' xs i x short is same first second = subst (Goes s h h'' bs'') (sym (flat_take_more f xs i x short is)) (goes_then s t h h' h'' bs' bs'' (flat_map f (take i xs)) (f x) same first second)
+items_go_on f s t h h' h'' bs' bs'' xs i x short is same first second = subst (Goes s h h'' bs'') (flat_map_next f [] xs i x x (flat_map f (take i xs)) short is refl) (goes_then s t h h' h'' bs' bs'' (flat_map f (take i xs)) (f x) same first second)

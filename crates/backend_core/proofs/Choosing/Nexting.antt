@@ -13,7 +13,7 @@ use Rattle.ddl_effect.specs.Stages.{plan_at, want_of}
 use Rattle.ddl_effect.specs.declared.want.Want.TheVariants as wants
 use Rattle.history_model.specs.Writes.{is_empty}
 use Rattle.cacheless.specs.ActsDone.{reached, made_in, opening_by}
-use Rattle.cacheless.specs.Ends.{End, Ends, Commits, TakesBack}
+use Rattle.cacheless.specs.Ends.{End, Commits, TakesBack}
 use Rattle.ddl_effect.specs.declared.want.Want.{Want}
 use Rattle.cacheless.specs.May.{owes_no_end, has_failed, is_first_missing, is_next_of_act, lacks_opened, lacks_any, owes_nothing, is_next_of_end, may_end_at}
 use Rattle.cacheless.specs.OnCourse.{Way, Begun, Wrote, Over, FollowsPlan, IsOnCourse, AllOnCourse}
@@ -79,7 +79,7 @@ done_accepted s scan is = by_plan (plan_at s.progress.opens s.progress.exec) is
     by_plan (Absent name) done = absurd (cc done)
     by_plan p done = refl
 
--- a command that says so looks once more where messages came, or where it hasn't looked
+-- where `accepts_again` holds the next step is a look: messages came, or it hasn't looked
 pub once_more : (s : Backend) (command : Command) → IsFree s.progress command → accepts_again s ≡ true → IsAcceptNext s
 once_more s command free again = record { command = command; free = free; finds = Says says.0 says.1; unlooked = by_noted s.looked s.told parts.1 }
   where
@@ -111,11 +111,6 @@ takes_back_next s command next from still free out ready accepted end comes = en
     by_ready : WaitsForNone s command → (s.progress.ended ≡ false) × ((owes_nothing command s.progress ≡ true) ⊎ (s.frames ≡ []))
     by_ready (inl lacks) = ((end_is s.progress command (TakesBack from) still free out lacks end).0, inl (out_owes s.progress command free lacks))
     by_ready (inr gone) = (gone.going, inr gone.bare)
-
--- a command whose end waits for no scan makes an entry
-pub never_ends : (s : Backend) (command : Command) → IsAtRest s.progress → IsFree s.progress command → is_out s.progress ≡ true → WaitsForNone s command → end_at s.progress command ≡ Ends → ⊥
-never_ends s command still free out (inl lacks) end = both_ways _ (end_is s.progress command Ends still free out lacks end).1 refl
-never_ends s command still free out (inr gone) end = let no : Ends ≡ TakesBack gone.from = sym end ∙ gone.end in cc no
 
 -- a plan that wants something isn't that of a command whose writes were taken back
 abbrev pub wants_nothing : Want → Bool

@@ -15,7 +15,7 @@ use Rattle.backend_core.proofs.Stacking.Stacks.{top_push, below_push, on_push, o
 pub scanned_push : (has : Purpose → Bool) (held : List Opening) (under : List Frame) (f : Frame) → frames_scanned has held (under ++ f ∷ []) ≡ scanned_on has held under f
 scanned_push has held under f = ap (λ o. elim o as (λ x. List Frame) [ Some g ↦ scanned_on has held (below (under ++ f ∷ [])) g | None ↦ under ++ f ∷ [] ]) (top_push under f) ∙ ap (λ l. scanned_on has held l f) (below_push under f)
 
--- by what that one lacks still it goes on, or it is done
+-- after a scan of the top rebuild: what it still lacks is rebuilt next, or it is done
 abbrev after_scan : (Purpose → Bool) → List Opening → List Frame → Frame → Option Opening → List Frame
 after_scan has held under f left = elim left as (λ x. List Frame) [ Some o ↦ under ++ new_frame o f.of_reset ∷ [] | None ↦ elim f.of_reset as (λ x. List Frame) [ true ↦ with_rest has held under | false ↦ under ] ]
 

@@ -64,7 +64,7 @@ settled_now s command at stays none going = record {
   answered = answered_at_rest s command at none;
 }
 
--- a test for none tells it
+-- where the test for `None` is true it is `None`
 pub not_some : {X : Type 0} (o : Option X) → is_none o ≡ true → o ≡ None
 not_some None is = refl
 not_some (Some x) is = absurd (cc is)

@@ -2,7 +2,7 @@ use Rattle.std.proofs.Common.{◌∙◌, not, refl, ap, sym}
 use Rattle.ddl_effect.specs.Plans.{Fails}
 use Rattle.history_model.proofs.ListSteps.{given_at, none_at}
 use Rattle.cacheless.specs.Session.{plan_first, plan_admitted, is_blocked}
-use Rattle.cacheless.proofs.Blocking.{unblocked_last, unblocked, blocked_failed, blocked_outside}
+use Rattle.cacheless.proofs.Blocking.{unblocked_last, unblocked, blocked_failed, blocked_unless_open}
 use Rattle.cacheless.proofs.begun.begun.Goals.{then-is_failed, else-is_failed}
 use Rattle.cacheless.proofs.begun.begun.Goals as goal
 
@@ -15,7 +15,7 @@ returns-in_ok-exec-in-Ok-clause-blocked c = sym (ap (is_blocked c.args.blocks.no
 pub returns-after-is_failed-clause-blocked : goal.returns-after-is_failed-clause-blocked
 returns-after-is_failed-clause-blocked c = elim c.if-is_failed.branch [
   | then-is_failed w ↦ w.result-is ∙ w.if-is_failed.true ∙ sym (ap (is_blocked c.args.blocks.now) (given_at c.args.commands.now c.args.commands.now c.args.index c.in-Some.command.now refl (c.in-Some.ensures.lookup.3).0 c.in-Some.ensures.lookup.1) ∙ blocked_failed c.args.blocks.now c.in-Some.command.now _ c.in-Err.ensures.err (sym c.is_failed.ensures ∙ w.if-is_failed.true))
-  | else-is_failed w ↦ w.result-is ∙ ap not w.is_open.ensures ∙ sym (ap (is_blocked c.args.blocks.now) (given_at c.args.commands.now c.args.commands.now c.args.index c.in-Some.command.now refl (c.in-Some.ensures.lookup.3).0 c.in-Some.ensures.lookup.1) ∙ blocked_outside c.args.blocks.now c.in-Some.command.now _ c.in-Err.ensures.err (sym c.is_failed.ensures ∙ w.if-is_failed.false))
+  | else-is_failed w ↦ w.result-is ∙ ap not w.is_open.ensures ∙ sym (ap (is_blocked c.args.blocks.now) (given_at c.args.commands.now c.args.commands.now c.args.index c.in-Some.command.now refl (c.in-Some.ensures.lookup.3).0 c.in-Some.ensures.lookup.1) ∙ blocked_unless_open c.args.blocks.now c.in-Some.command.now _ c.in-Err.ensures.err (sym c.is_failed.ensures ∙ w.if-is_failed.false))
 ]
 
 pub returns-in_default-clause-blocked : goal.returns-in_default-clause-blocked

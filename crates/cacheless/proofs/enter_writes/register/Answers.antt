@@ -3,7 +3,7 @@ use Rattle.std.specs.List.{AllByRecursion}
 use Rattle.inval_messages.specs.Lists.{Written}
 use Rattle.command_lists.specs.Lists.{command_ended, new_list, with_messages}
 use Rattle.command_lists.proofs.Writes.{ended-all}
-use Rattle.cacheless.proofs.Written.Registering.{registering_starts, registering_begins, registering_order, registering_more, registering_ends}
+use Rattle.command_lists.proofs.WriteRegistered.{registering_starts, registering_begins, registering_order, registering_more, registering_ends}
 use Rattle.cacheless.proofs.enter_writes.register.Goals as goal
 
 pub loop-message-init : goal.loop-message-init

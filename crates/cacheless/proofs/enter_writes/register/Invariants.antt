@@ -1,6 +1,6 @@
 use Rattle.std.proofs.Common.{◌-◌, length, take}
 use Rattle.command_lists.specs.Lists.{command_ended}
-use Rattle.cacheless.proofs.Written.Registering.{IsRegistering}
+use Rattle.command_lists.proofs.WriteRegistered.{IsRegistering}
 use Rattle.cacheless.proofs.enter_writes.register.Given as goal
 
 abbrev pub invariant-loop-message : goal.invariant-loop-message

@@ -1,9 +1,10 @@
 use Rattle.std.proofs.Common.{◌≡◌, ◌∙◌, sym, subst, take, false, true, arith}
 use Rattle.base_types.specs.Scenario.{IsBackend}
 use Rattle.history_model.specs.Legal.{MayFollow}
+use Rattle.history_model.proofs.ListSteps.{prefix_more}
 use Rattle.cacheless.specs.Schedule.{AreLooksTrue, LooksTruly}
 use Rattle.check_tool.specs.Turning.{TellPlaces}
-use Rattle.check_tool.proofs.Longest.{prefix_more, each_at, each_next, longest_here, longest_all}
+use Rattle.check_tool.proofs.Longest.{each_at, each_next, longest_here, longest_all}
 use Rattle.check_tool.proofs.looking.true_looks.Goals as goal
 
 pub loop-at-init : goal.loop-at-init

@@ -1,9 +1,9 @@
 use Rattle.std.proofs.Common.{◌≡◌, ◌+◌, ◌∙◌, refl, sym, ap, subst, take, drop, length, replicate, slice_get, true, false, arith}
 use Rattle.std.proofs.lemmas.List.{with_items_is}
 use Rattle.base_types.specs.Scenario.{IsBackend}
+use Rattle.history_model.proofs.ListSteps.{prefix_more}
 use Rattle.cacheless.specs.Schedule.{pass_stopped}
 use Rattle.check_tool.specs.Turning.{TellStopped}
-use Rattle.check_tool.proofs.Longest.{prefix_more}
 use Rattle.check_tool.proofs.Schedule.{Follows, HasTaken, follows_none, follows_more, follows_here, follows_whole, taken_none, taken_more, turn_by_steps, steps_in_range, passed_over, step_within, step_number}
 use Rattle.check_tool.proofs.scheduled.by_steps.Goals as goal
 

@@ -1,6 +1,6 @@
-use Rattle.std.proofs.Common.{◌∙◌, fold, ap, sym, subst, arith}
-use Rattle.std.proofs.lemmas.List.{take_all}
+use Rattle.std.proofs.Common.{◌∙◌, fold, sym, subst, arith}
 use Rattle.base_types.specs.Scans.{goes_before, IsInOrder}
+use Rattle.history_model.proofs.ListSteps.{all_done}
 use Rattle.history_ledger.specs.Writing.{given_after}
 use Rattle.history_ledger.proofs.ScanChanges.{in_order_after, given_next}
 use Rattle.history_ledger.proofs.covering.change_rows.Goals as goal
@@ -12,4 +12,4 @@ loop-item-preserved c = record {
 }
 
 pub returns : goal.returns
-returns c = c.loop-item.invariant.is ∙ ap (fold (given_after c.args.scan.now) c.args.rows.now.items) (take_all c.loop-item.item-index c.args.items.now (omega (arith, c.loop-item-test.false)))
+returns c = all_done (fold (given_after c.args.scan.now) c.args.rows.now.items) c.args.items.now c.loop-item.item-index _ (omega (arith, c.loop-item-test.false)) c.loop-item.invariant.is

@@ -1,6 +1,6 @@
 use Rattle.std.proofs.Common.{◌-◌, length, take}
 use Rattle.command_lists.specs.Lists.{command_ended}
-use Rattle.history_ledger.proofs.Registering.{IsRegistering}
+use Rattle.command_lists.proofs.WriteRegistered.{IsRegistering}
 use Rattle.history_ledger.proofs.own_entering.register.Given as goal
 
 abbrev pub invariant-loop-message : goal.invariant-loop-message

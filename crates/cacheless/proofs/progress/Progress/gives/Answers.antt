@@ -1,7 +1,7 @@
 use Rattle.std.proofs.Common.{◌∙◌, ap, sym, is_some}
 use Rattle.ddl_effect.specs.Stages.{plan_at}
 use Rattle.cacheless.specs.Silently.{looks_up_at}
-use Rattle.cacheless.proofs.WantedPlans.{gives_of_want, gives_wanted, gives_kept, no_gives}
+use Rattle.cacheless.proofs.WantedPlans.{gives_of_want, gives_wanted, gives_always, no_gives}
 use Rattle.cacheless.proofs.progress.Progress.gives.Goals as goal
 
 pub returns-in_default : goal.returns-in_default
@@ -14,7 +14,7 @@ pub returns-in-Open : goal.returns-in-Open
 returns-in-Open c =
     sym (gives_wanted c.args.self.now (plan_at c.args.self.now.opens c.args.self.now.exec)
     ∙ ap (gives_of_want c.args.self.now) (sym (c.next.ensures c.args.self.now.opens))
-    ∙ gives_kept c.args.self.now c.next.result c.in-Open.is)
+    ∙ gives_always c.args.self.now c.next.result c.in-Open.is)
 
 pub returns-in-Lock : goal.returns-in-Lock
 returns-in-Lock c =

@@ -1,7 +1,7 @@
 use Rattle.std.proofs.Common.{◌∙◌, ◌+◌, ◌++◌, None, replicate, length, sum, ap, arith}
 use Rattle.sinval_ring.specs.Queues.{empty_queue}
 use Rattle.shared_seg.specs.Places.{promised_in}
-use Rattle.shared_seg.proofs.PromiseSums.{none_promised, sum_none}
+use Rattle.shared_seg.proofs.PromiseSums.{none_promised, sum_of_zeros}
 use Rattle.shared_seg.proofs.Queue.{shared_start_at}
 use Rattle.shared_seg.proofs.shared.Shared.new.Goals as goal
 
@@ -15,4 +15,4 @@ pub returns-clause-promised : goal.returns-clause-promised
 returns-clause-promised c = λ b. ap (λ l. promised_in l b) c.in_ok-places.ensures.1 ∙ none_promised (c.backends-backends.result + 1) b
 
 pub invariant_of-result : goal.invariant_of-result
-invariant_of-result c = (omega (arith, ap length c.in_ok-places.ensures.0, ap sum c.in_ok-places.ensures.1, sum_none (c.backends-backends.result + 1)), tt)
+invariant_of-result c = (omega (arith, ap length c.in_ok-places.ensures.0, ap sum c.in_ok-places.ensures.1, sum_of_zeros (c.backends-backends.result + 1)), tt)
