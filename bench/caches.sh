@@ -1,32 +1,50 @@
 #!/usr/bin/env bash
-# Measures a backend's caches with 10,000 names: a lookup of one that is absent, a lookup of one that has a row, and a message
-# that takes out nothing. The time that the names take to be put there is taken away. It decides nothing.
-# usage: bench/caches.sh [COUNT]; 20000000 if left out
+# Measures a backend's caches with 10, 1,000 and 20,000 names: a lookup of one that is absent, a lookup of one that has a row, a
+# message that takes one out with the put that brings it back, and a message that takes out nothing. The time that the names take to
+# be put there first is taken away. It decides nothing.
+# usage: bench/caches.sh [COUNT [PROGRAM]]; 20000000 if left out. PROGRAM is a layer_runs of the same words over other crates,
+# which is measured beside
 set -u
 
 cd "$(dirname "${BASH_SOURCE[0]}")/.." || exit 1
 . bench/common.sh
 need_program layer_runs
 count=${1:-20000000}
+beside=${2-}
 
-# The seconds that a word takes for so many.
+# The seconds that a program takes for so many of a word, with so many names.
 seconds() {
     local begun ended
     begun=$(now)
-    "$program" caches "$1" "$2" || exit 1
+    "$1" caches "$2" "$3" "$4" || exit 1
     ended=$(now)
     awk -v begun="$begun" -v ended="$ended" 'BEGIN { printf "%.6f", ended - begun }'
 }
 
-measure() {
-    local none all
-    none=$(seconds "$2" 0) || exit 1
-    all=$(seconds "$2" "$count") || exit 1
-    awk -v name="$1" -v none="$none" -v all="$all" -v count="$count" 'BEGIN {
-        printf "%s: %.1f ns\n", name, (all - none) * 1e9 / count
-    }'
+# Nanoseconds for one of a word, least of three.
+each() {
+    local none all least=
+    for _ in 1 2 3; do
+        none=$(seconds "$1" "$2" 0 "$3") || exit 1
+        all=$(seconds "$1" "$2" "$count" "$3") || exit 1
+        least=$(awk -v none="$none" -v all="$all" -v count="$count" -v least="$least" 'BEGIN {
+            ns = (all - none) * 1e9 / count
+            printf "%.1f", (least == "" || ns < least) ? ns : least
+        }')
+    done
+    echo "$least"
 }
 
-measure "a lookup of an absent name, of 10,000" absent
-measure "a lookup of a name that has a row, of 10,000" present
-measure "a message that takes out none of 10,000 absent names" messages
+measure() {
+    local names line
+    for names in 10 1000 20000; do
+        line="$1, of $names: $(each "$program" "$2" "$names") ns" || exit 1
+        [ -z "$beside" ] || line="$line, beside $(each "$beside" "$2" "$names") ns" || exit 1
+        echo "$line"
+    done
+}
+
+measure "a lookup of an absent name" absent
+measure "a lookup of a name that has a row" present
+measure "a message that takes a name out, and its put" puts
+measure "a message that takes out none of the absent names" messages

@@ -168,9 +168,9 @@ def asked(program, kind, script, output):
     found = re.fullmatch(r"checked (\d+) entries", said)
     if done.returncode == 0 and found:
         return Verdict(int(found[1]), None)
-    found = re.match(r"catsync: entry (\d+) differs: .", said)
+    found = re.match(r"catsync: (?:entry (\d+)|after (\d+) entries line \d+) differs: .", said)
     if done.returncode == 7 and found:
-        return Verdict(None, int(found[1]))
+        return Verdict(None, int(found[1] or int(found[2]) + 1))
     return "status %d: %s" % (done.returncode, said)
 
 

@@ -23,7 +23,7 @@ def load(path):
 def main():
     agree = load(os.path.join(os.environ["CATSYNC_ORACLE"], "checks", "agree"))
     theirs = agree.good_script
-    agree.good_script = lambda seed, stage: script_of(seed).encode() if seed // 4 % 2 else theirs(seed, stage)
+    agree.good_script = lambda seed, stage, *more: script_of(seed).encode() if seed // 4 % 2 else theirs(seed, stage, *more)
     return agree.main()
 
 

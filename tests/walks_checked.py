@@ -61,7 +61,7 @@ def judged(program, kind, text, entries, place):
     status, answer, said = run(program, ["check", kind], text)
     if place is None and (status, answer) != (0, "checked %d entries\n" % entries):
         return ["check %s: status %d, %s" % (kind, status, (answer + said).strip())]
-    if place is not None and (status != 7 or answer or not said.startswith("catsync: entry %d differs: " % place)):
+    if place is not None and (status != 7 or answer or not re.match("catsync: (entry %d|after %d entries line [0-9]+) differs: ." % (place, place - 1), said)):
         return ["check %s: status %d, %s, and not entry %d" % (kind, status, (answer + said).strip(), place)]
     return []
 

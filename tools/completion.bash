@@ -5,11 +5,13 @@ _catsync_options() {
     catsync) echo walk run check make --help --version ;;
     schedule) echo --program --help ;;
     explore)
-        echo --most --random --seed --find --interleaved --places --picture --html --jobs --part --out --merge --program --help
+        echo --most --random --seed --find --interleaved --places --picture --html --replay --jobs --part --out --merge --program --help
         ;;
-    expect) echo --most --program --help ;;
+    expect) echo --most --jobs --passed --program --help ;;
     picture) echo --html --script --brief --width --from --to --help ;;
     server) echo --programs --program --help ;;
+    spec) echo --explore --most --program --help ;;
+    replay) echo --times --all --brief --trace --sweep --programs --program --help ;;
     esac
 }
 
@@ -18,7 +20,7 @@ _catsync() {
     local current=${COMP_WORDS[COMP_CWORD]}
     COMPREPLY=()
     case ${COMP_WORDS[COMP_CWORD - 1]} in
-    --most | --random | --seed | --find | --jobs | --part | --width | --from | --to)
+    --most | --random | --seed | --find | --jobs | --part | --width | --from | --to | --times | --sweep)
         compopt +o default 2>/dev/null
         ;;
     --picture | --programs)
@@ -35,4 +37,4 @@ _catsync() {
     esac
 }
 
-complete -o default -F _catsync catsync {,./}tools/{schedule,explore,expect,picture,server}
+complete -o default -F _catsync catsync {,./}tools/{schedule,explore,expect,picture,server,spec,replay}

@@ -3,17 +3,24 @@
 import glob
 import os
 import re
+import signal
 import subprocess
 import sys
 import tempfile
+import time
 import unittest
+import unittest.mock
 
 sys.dont_write_bytecode = sys.pycache_prefix is None
 
-from testing import HAS_PROGRAM, NO_PROGRAM, PROGRAM, TOOLS, TOP, call, content_of
+from testing import HAS_PROGRAM, NO_PROGRAM, PROGRAM, TOOLS, TOP, call, content_of, hear_signals
 
 from catsync_tools.expected import Answers, Part, read_expectation
 from catsync_tools.faults import Fault
+from catsync_tools.program import Program
+from catsync_tools.progress import Progress
+from catsync_tools.sources import read_source
+from catsync_tools.trial import UNDECIDED, results_of
 
 RACES = os.path.join(TOP, "examples", "races")
 SCRIPTS = sorted(glob.glob(os.path.join(RACES, "*.script")))
@@ -29,6 +36,18 @@ steps 1 to visible, 2 to 1, 1 to end, 2 to end
 """
 
 
+# Two tables bear one name in turn, while a third backend alters the first of them.
+IN_TURN = b"""backends 3
+setup 1: create table a (a int4)
+setup 1: create table t (b int4)
+1: alter table t rename to u
+1: alter table a rename to t
+2: show t columns
+3: alter table t add c text
+%send
+"""
+
+
 class Expectations(unittest.TestCase):
     """Lines that begin with `expect`, and answers."""
 
@@ -39,6 +58,7 @@ class Expectations(unittest.TestCase):
                 (" EXPECT 1.1  Error   42p01\t", "own", (Part(1, 1, "Error 42p01"),)),
                 ("expect some 1.2 ok and 2 . 1 error", "some", (Part(1, 2, "ok"), Part(2, 1, "error"))),
                 ("expect never 1.2 columns and:int4 and 2.1 ok", "never", (Part(1, 2, "columns and:int4"), Part(2, 1, "ok"))),
+                ("expect 1.1 columns a:int4  ..", "own", (Part(1, 1, "columns a:int4 .."),)),
                 ("expect 1.1 fillfactor 70 AS OF 57; name t", "own", (Part(1, 1, "fillfactor 70; name t"),))):
             with self.subTest(text):
                 found = read_expectation(7, text)
@@ -57,14 +77,18 @@ class Expectations(unittest.TestCase):
         "l 1 2 error 42P01 relation t does not exist as of 4", "l 2 1 ok", "l 2 2 columns -"))
 
     def test_what_an_answer_has(self):
-        """A text is looked for in whole words and without places; a `;` ends a field."""
+        """A text is looked for in whole words and without places, up to the end of a field, which a `;` says too; after `..` the
+        field may go on, and an error may in any case."""
         for backend, command, text, has in (
-                (1, 1, "statistics 1:500", True), (1, 1, "statistics 1:500;", False), (1, 1, "statistics 1:500 2:-1;", True),
-                (1, 1, "statistics 1:50", False), (1, 1, "2:-1; fillfactor -;", True), (1, 1, "table 16384", True),
-                (1, 1, "statistics 1:500 2:-1 as of 99", True), (1, 1, "columns a:int4", True), (1, 1, "a:int4;", False),
+                (1, 1, "statistics 1:500", False), (1, 1, "statistics 1:500;", False), (1, 1, "statistics 1:500 2:-1;", True),
+                (1, 1, "statistics 1:500 ..", True), (1, 1, "statistics 1:500..", True), (1, 1, "statistics 1:50 ..", False),
+                (1, 1, "statistics 1:500 2:-1", True), (1, 1, "2:-1; fillfactor -;", True), (1, 1, "table 16384", True),
+                (1, 1, "statistics 1:500 2:-1 as of 99", True), (1, 1, "columns a:int4", False), (1, 1, "columns a:int4 ..", True),
+                (1, 1, "columns a:int4 b:text", True), (1, 1, "columns a:int4 b:text ..", True), (1, 1, "a:int4;", False),
                 (1, 1, "ame t", False), (1, 2, "error 42p01", True), (1, 2, "Error 42P01", True), (1, 2, "does not exist;", True), (1, 2, "ok", False),
-                (2, 1, "ok", True), (2, 1, "ok;", True), (2, 2, "columns -", True), (2, 2, "columns", True), (2, 3, "ok", False),
-                (2, 3, "no answer", True)):
+                (1, 2, "error 42P01 ..", True), (1, 2, "error 42", False),
+                (2, 1, "ok", True), (2, 1, "ok;", True), (2, 2, "columns -", True), (2, 2, "columns", False), (2, 2, "columns ..", True),
+                (2, 3, "ok", False), (2, 3, "no answer", True)):
             with self.subTest((backend, command, text)):
                 part = read_expectation(1, "expect %d.%d %s" % (backend, command, text)).parts[0]
                 self.assertEqual(self.ANSWERS.has(part), has)
@@ -111,6 +135,9 @@ class Tool(unittest.TestCase):
     + 2.2 columns a:int4 b:text
   line 9: expect some 2.1 error 42P01
     none of all %s orders has it
+    + 2.1 columns a:int4 b:text
+    + 2.1 columns a:int4
+    + 2.1 error 55P03 relation 16384 is locked by backend 1 in ax
   line 10: expect never 1.2 error AND 2.1 columns a:int4;
     %s
     + 1.2 error 55P03 relation 16384 is locked by backend 2 in as
@@ -121,15 +148,110 @@ class Tool(unittest.TestCase):
             b"steps 1 to visible, 2 to 1, 1 to end, 2 to end", steps.encode())
         self.assertEqual(self.expect(given=again)[0], 0)
 
+    UNDECIDED = ("not decided within 3 orders: no serial order and no random schedule has it; there are some [0-9]+ orders by an "
+                 "estimate: --most N")
+
     @unittest.skipUnless(HAS_PROGRAM, NO_PROGRAM)
     def test_more_orders_than_are_run(self):
-        """Then nothing is said of all orders, and that is no success."""
-        status, printed, _ = self.expect("--most", "3", given=ALTERED % b"expect never 1.2 error 42P01\n")
-        self.assertEqual((status, printed), (1, """FAILED: standard input
-  line 7: expect never 1.2 error 42P01
-    none of 3 orders has it, but there are more: --most N
+        """Then it isn't decided, which is no failure and no success and has its own exit status; but what isn't met is."""
+        status, printed, said = self.expect("--most", "3", given=ALTERED % b"expect never 1.2 error 42P01\nexpect 2.1 error\n")
+        self.assertEqual((status, said), (3, ""))
+        self.assertRegex(printed, "^not decided: standard input\n  line 7: expect never 1.2 error 42P01\n    %s\n"
+                         "0 passed, 0 failed, 1 not decided\n$" % self.UNDECIDED)
+        status, printed, _ = self.expect("--most", "3", given=ALTERED % b"expect some 1.2 error 42P01\nexpect 2.1 ok\n")
+        self.assertEqual(status, 1)
+        self.assertRegex(printed, "^FAILED: standard input\n  line 7: expect some 1.2 error 42P01\n    %s\n"
+                         "  line 8: expect 2.1 ok\n    - 2.1 ok\n    [+] 2.1 error 55P03 .*\n0 passed, 1 failed\n$" % self.UNDECIDED)
+
+    @unittest.skipUnless(HAS_PROGRAM, NO_PROGRAM)
+    def test_what_came(self):
+        """Where none of all orders has what some should have, the different answers that came are told, of one run together, and
+        at most five."""
+        status, printed, said = self.expect(given=ALTERED % b"expect some 2.1 error and 1.2 error\n")
+        self.assertEqual((status, said), (1, ""))
+        self.assertRegex(printed, """^FAILED: standard input
+  line 7: expect some 2.1 error and 1.2 error
+    none of all [0-9]+ orders has it
+    [+] 2.1 columns a:int4 b:text and 1.2 ok
+    [+] 2.1 columns a:int4 and 1.2 ok
+    [+] 2.1 error 55P03 relation 16384 is locked by backend 1 in ax and 1.2 ok
+    [+] 2.1 columns a:int4 and 1.2 error 55P03 relation 16384 is locked by backend 2 in as
 0 passed, 1 failed
-"""))
+$""")
+        given = ALTERED % b"expect some 1.2 no answer and 2.1 ok and 2.2 columns -\n"
+        shown = [self.expect("--jobs", jobs, given=given) for jobs in ("1", "3")]
+        self.assertEqual(shown[0], shown[1])
+        self.assertRegex(shown[0][1], "orders has it\n(    [+] 1.2 .*\n){5}    [+] [.][.]\n0 passed, 1 failed\n$")
+        lines = re.findall("[+] 1.2 .*", shown[0][1])
+        self.assertEqual(len(set(lines)), 5)
+
+    @unittest.skipUnless(HAS_PROGRAM, NO_PROGRAM)
+    def test_estimates(self):
+        """However few orders the guess is made from, it isn't told where more were run."""
+        source, program = read_source(ALTERED % b"expect never 1.2 error 42P01\n"), Program(PROGRAM)
+        self.addCleanup(program.close)
+        for first, most in ((2, 3), (2, 60), (16, 60)):
+            with self.subTest((first, most)), unittest.mock.patch("catsync_tools.search.FIRST", first):
+                (result,) = results_of(source, program, 1, most, Progress()).values()
+                self.assertEqual(result.verdict, UNDECIDED)
+                found = re.search("; there are (some|more than) ([0-9]+) orders?( by an estimate)?: --most N$", result.lines[0])
+                self.assertEqual(found.group(1) == "some", bool(found.group(3)))
+                self.assertGreater(int(found.group(2)) + (found.group(1) != "some"), most)
+
+    @unittest.skipUnless(HAS_PROGRAM, NO_PROGRAM)
+    def test_serial_orders_decide(self):
+        """What a serial order meets or breaks is decided by it, however many orders there are."""
+        status, printed, said = self.expect("--most", "1", given=IN_TURN % (
+            b"expect some 2.1 columns b:int4\nexpect some 2.1 columns a:int4\nexpect some 2.1 columns b:int4 c:text\n"))
+        self.assertEqual((status, printed, said), (0, "passed: standard input\n1 passed, 0 failed\n", ""))
+        status, printed, said = self.expect("--most", "1", given=IN_TURN % b"expect never 2.1 columns a:int4 and 3.1 ok\n")
+        self.assertEqual((status, said), (1, ""))
+        self.assertRegex(printed, "^FAILED: .*\n  line 8: .*\n    steps .*\n    [+] 2.1 columns a:int4\n    [+] 3.1 ok\n0 passed, ")
+
+    @unittest.skipUnless(HAS_PROGRAM, NO_PROGRAM)
+    def test_jobs(self):
+        """However many processors are used, the same is printed; random schedules decide where not all orders are run."""
+        given = ALTERED % b"expect some 2.1 error 55P03\nexpect some 1.2 error 55P03\nexpect never 1.2 error and 2.1 columns a:int4\n"
+        for words in ((), ("--most", "40", "--passed"), ("--most", "300", "--passed")):
+            with self.subTest(words):
+                shown = [self.expect(*words, "--jobs", jobs, given=given) for jobs in ("1", "3")]
+                self.assertEqual(shown[0], shown[1])
+                self.assertEqual(shown[0][0], 1)
+
+    @unittest.skipUnless(HAS_PROGRAM, NO_PROGRAM)
+    def test_passed(self):
+        """What is met can be listed, each with what came."""
+        given = ALTERED % b"expect 2.1 error 55P03 and 1.2 ok\nexpect some 2.1 columns a:int4\nexpect never 2.1 error 42P01\n"
+        status, printed, said = self.expect("--passed", given=given)
+        self.assertEqual((status, said), (0, ""))
+        self.assertRegex(printed, """^passed: standard input
+  line 7: expect 2.1 error 55P03 and 1.2 ok
+    [+] 2.1 error 55P03 relation 16384 is locked by backend 1 in ax
+    [+] 1.2 ok
+  line 8: expect some 2.1 columns a:int4
+    steps [0-9* ]+
+    [+] 2.1 columns a:int4
+  line 9: expect never 2.1 error 42P01
+    none of all [0-9]+ orders has it
+1 passed, 0 failed
+$""")
+
+    @unittest.skipUnless(HAS_PROGRAM, NO_PROGRAM)
+    def test_signals(self):
+        """A signal ends it with one line, while processes search too."""
+        for number in (signal.SIGINT, signal.SIGTERM):
+            with self.subTest(number):
+                tool = subprocess.Popen([os.path.join(TOOLS, "expect"), "--program", PROGRAM, "--most", "1000000", "--jobs", "2"],
+                                        stdin=subprocess.PIPE, stdout=subprocess.PIPE, stderr=subprocess.PIPE, preexec_fn=hear_signals)
+                with tool:
+                    tool.stdin.write(IN_TURN % b"expect never 2.1 no answer\n")
+                    tool.stdin.close()
+                    until = time.monotonic() + 100
+                    while content_of("/proc/%d/task/%d/children" % (tool.pid, tool.pid)).count(b" ") < 2 and time.monotonic() < until:
+                        time.sleep(0.02)
+                    tool.send_signal(number)
+                    self.assertEqual((tool.stdout.read(), tool.stderr.read()), (b"", b"expect: interrupted\n"))
+                self.assertEqual(tool.returncode, 130)
 
     @unittest.skipUnless(HAS_PROGRAM, NO_PROGRAM)
     def test_schedule_that_ends_early(self):

@@ -4,6 +4,8 @@
 The searches are tested on made-up steps too, for which no program is needed (testing.py says which one is run).
 """
 import functools
+import html
+import io
 import json
 import os
 import pty
@@ -18,7 +20,7 @@ import time
 import unittest
 import unittest.mock
 
-from testing import CAN_WAIT, HAS_PROGRAM, NO_PROGRAM, PROGRAM, TOOLS, TOP, call, content_of
+from testing import CAN_WAIT, HAS_PROGRAM, NO_PROGRAM, PROGRAM, TOOLS, TOP, call, content_of, hear_signals
 
 from catsync_tools import explore
 from catsync_tools.access import Accesses
@@ -28,10 +30,12 @@ from catsync_tools.findings import Found, without_places
 from catsync_tools.history import history_of
 from catsync_tools.orders import Search
 from catsync_tools.program import Program, Run
-from catsync_tools.progress import Progress
+from catsync_tools.progress import Progress, duration
 from catsync_tools.report import led_to
+from catsync_tools.schedules import SWITCHES, random_schedule
 from catsync_tools.scripts import steps_line, turns_of
-from catsync_tools.search import Exploration, Piece, Settings, wanted_of
+from catsync_tools.search import Exploration, Far, Piece, Settings, guess_of, wanted_of
+from catsync_tools.sentences import about, estimate
 from catsync_tools.serial import SerialRuns, WholeAccesses, commands_of, transactions_of
 from catsync_tools.shares import shares
 from catsync_tools.sources import read_source
@@ -120,6 +124,30 @@ class Orders(unittest.TestCase):
                              for answers, history in Search(walks, backends, share).orders() if answers is not None]
                     self.assertEqual(len(found), len(set(found)))
                     self.assertEqual(set(found), self.all_orders(steps))
+
+    def test_how_far(self):
+        """How far a search is stays between 0 and 1, and is 1 at its last order."""
+        draw = random.Random(2)
+        for _ in range(10):
+            steps = {backend: [draw.choice(self.STEPS) for _ in range(length)] + ["stop"]
+                     for backend, length in enumerate(draw.choice(((3, 3, 2), (5, 4))), 1)}
+            search = Search(KnownWalks(self.program(steps), Accesses()), sorted(steps))
+            done = [search.done for _ in search.orders()]
+            with self.subTest(steps):
+                self.assertTrue(all(0 < one < 1.000001 for one in done))
+                self.assertAlmostEqual(done[-1], 1)
+
+    def test_random_schedules(self):
+        """They have few turns, all steps to the last switch, and each backend goes on to its stop."""
+        draw, seen = random.Random(1), set()
+        for _ in range(300):
+            steps = {backend: draw.randint(1, 30) for backend in range(1, draw.randint(2, 5))}
+            first, rest = random_schedule(draw, steps)
+            self.assertEqual(sorted(rest), sorted(steps))
+            self.assertLessEqual(len(turns_of(first)), max(SWITCHES) + len(steps))
+            self.assertTrue(all(first.count(backend) <= count for backend, count in steps.items()))
+            seen.add(len(turns_of(first)))
+        self.assertGreater(len(seen), 5)
 
     def test_serial_orders(self):
         """Each order of whole commands is found once, against all ways to put them one after the other."""
@@ -382,6 +410,53 @@ class FewestTurns(unittest.TestCase):
         self.assertGreater(unsure, 0)
 
 
+class HowFar(unittest.TestCase):
+    """What is said of how far a search is."""
+
+    def test_guess(self):
+        """By how far each task is; tasks that aren't begun are as others."""
+        self.assertIsNone(guess_of([Far(0, 0.0)]))
+        self.assertEqual(guess_of([Far(10, 0.5), Far(30, 1.0)]), 50)
+        self.assertEqual(guess_of([Far(10, 0.5), Far(30, 1.0), Far(0, 0.0), Far(0, 0.0)]), 100)
+        self.assertEqual([about(number) for number in (0, 7, 42, 128, 1250, 197160)], ["0", "7", "42", "130", "1200", "200000"])
+        self.assertEqual([estimate(guess, 5000) for guess in (None, 1300, 5049, 5060)], ["more than 5000 orders"] * 3 + [
+            "some 5100 orders by an estimate"])
+        self.assertEqual([duration(seconds) for seconds in (0, 99, 150, 5000, 9000)], ["0 s", "99 s", "2 min", "83 min", "2.5 h"])
+
+    def test_guess_of_a_search_that_is_cut(self):
+        """It is that of the first orders, and more than were run."""
+        class Cut(Exploration):
+            """A search that never comes to its end."""
+            def __init__(self):
+                self.settings, self.guess, self.far = Settings(), None, []
+
+            def do(self, tasks, most, count, kind, shown=None):
+                """Tells how far the first orders are."""
+                self.far = [Far(256, 0.2)]
+                return False
+
+            def shares(self, count):
+                """None."""
+                return []
+
+        for most, guess in ((100, 1280), (1000, 1280), (1280, 1281), (5000, 5001)):
+            search = Cut()
+            self.assertFalse(search.run_orders(most))
+            self.assertEqual(search.guess, guess)
+
+    def test_lines(self):
+        """Where standard error is no terminal there is a line now and then."""
+        with unittest.mock.patch("sys.stderr", io.StringIO()) as said:
+            progress = Progress("explore")
+            progress.show(1, 4, "1 of at most 4 orders")
+            self.assertEqual(said.getvalue(), "")
+            with unittest.mock.patch("catsync_tools.progress.LINE_PAUSE", 0):
+                progress.begun -= 50
+                progress.show(1, 4, "1 of at most 4 orders")
+            progress.clear()
+            self.assertRegex(said.getvalue(), "^explore: 1 of at most 4 orders, 15[0-9] s left\n$|, [23] min left\n$")
+
+
 # The explorer, with the program.
 
 # Two backends create one name. Who writes first is transaction 1 and gets the name. The other is refused: with 55P03 while
@@ -628,7 +703,7 @@ class Explorer(unittest.TestCase):
                     words = ["--program", PROGRAM, "--random", "200", "--jobs", "2"]
                     done = subprocess.run(
                         [sys.executable, "-c", head % TOOLS + change + tail] + words, input=ROLLED_BACK, stdout=subprocess.PIPE, stderr=subprocess.PIPE,
-                        preexec_fn=lambda: signal.signal(signal.SIGINT, signal.SIG_DFL))
+                        preexec_fn=hear_signals)
                     self.assertEqual((done.returncode, done.stderr), (130, b""))
                     self.assertRegex(done.stdout, b"^stopped after [0-9]+ random schedules? from seed 1: [0-9]+ sets?")
 
@@ -644,8 +719,9 @@ class Explorer(unittest.TestCase):
             status, text, said = call("explore", "--merge", *paths)
             self.assertEqual((status, said), (0, ""))
             if count > 1:
-                some = call("explore", "--merge", *paths[:-1])[1].decode()
-                self.assertRegex(some, "^stopped after [0-9]+ [a-z0-9 ]+ of %d parts, without %d: " % (count, count))
+                status, some, said = call("explore", "--merge", *paths[:-1])
+                self.assertEqual((status, said), (3, ""))
+                self.assertRegex(some.decode(), "^stopped after [0-9]+ [a-z0-9 ]+ of %d parts, without %d: " % (count, count))
                 fields = json.loads(content_of(paths[0]))
                 with open(paths[0], "w", encoding="utf-8") as file:
                     json.dump(dict(fields, is_over=False), file)
@@ -739,7 +815,8 @@ class Explorer(unittest.TestCase):
     def test_random_schedules(self):
         """Where there are more orders than are wanted, schedules are drawn, the same ones for the same seed."""
         report = self.report(TWO_CREATORS, "--most", "3", "--seed", "7")
-        self.assertRegex(report.head, "^3 random schedules from seed 7, as there are more than 3 orders: ")
+        self.assertRegex(report.head, "^3 random schedules from seed 7, as there are more than 3 orders: .*\n"
+                         "there are some ([4-9]|[1-9][0-9]+) orders by an estimate$")
         self.assertLessEqual({without_places(found) for found in report.answers}, TWO_CREATORS_ANSWERS)
         self.assertEqual(self.explore(TWO_CREATORS, "--most", "3"), self.explore(TWO_CREATORS, "--most", "3", "--seed", "1"))
 
@@ -816,12 +893,22 @@ class Explorer(unittest.TestCase):
                     inner = os.path.join(folder, "a", "b")
                     status, found, _ = self.explore(CREATE_AND_SHOW, "--picture", inner, *words, *more)
                     self.assertEqual(status, 0)
-                    self.assertEqual(sorted(os.listdir(inner)), ["%s.%s" % (name, kind) for name in names])
+                    pictures = ["%s.%s" % (name, kind) for name in names]
+                    self.assertEqual(sorted(os.listdir(inner)), sorted(pictures + ([] if words else ["index.html"])))
+                    if not words:
+                        self.check_index(content_of(os.path.join(inner, "index.html")).decode(), found, pictures)
                     lines = [line for line in found.splitlines() if line.startswith("steps ")]
                     for name, line in zip(names, lines):
                         drawn = content_of(os.path.join(inner, "%s.%s" % (name, kind))).decode()
                         for entry in self.run_with(CREATE_AND_SHOW, line).steps:
                             self.assertIn("h %d %d %s" % entry, drawn)
+
+    def check_index(self, page, printed, pictures):
+        """The index has all that is printed, each set with its picture, in order."""
+        text = html.unescape(re.sub("<[^>]*>", "", page))
+        for line in printed.splitlines():
+            self.assertIn(line, text)
+        self.assertEqual(re.findall('src="([^"]*)"', page), pictures)
 
     def test_pictures_of_an_earlier_search(self):
         """Pictures of sets that are no more are removed, as is that of what isn't found any more; and nothing else."""
@@ -831,7 +918,7 @@ class Explorer(unittest.TestCase):
                 with open(os.path.join(folder, name), "w", encoding="utf-8"):
                     pass
             self.assertEqual(self.explore(CREATE_AND_SHOW, "--picture", folder)[0], 0)
-            left = set(earlier) - {"set4.svg", "set40.svg"} | {"set2.svg", "set3.svg"}
+            left = set(earlier) - {"set4.svg", "set40.svg"} | {"set2.svg", "set3.svg", "index.html"}
             self.assertEqual(set(os.listdir(folder)), left)
             self.assertEqual(self.explore(CREATE_AND_SHOW, "--picture", folder, "--find", "42P02")[0], 1)
             self.assertEqual(set(os.listdir(folder)), left - {"found.svg"})
@@ -899,10 +986,9 @@ class Explorer(unittest.TestCase):
         on a terminal shows this."""
         terminal, other_end = pty.openpty()
         with open(os.path.join(TOP, "examples", "three_at_once.script"), "rb") as script:
-            # what runs in a shell's background has Ctrl-C ignored, what runs under nohup SIGHUP, and so would the explorer
             explorer = subprocess.Popen([sys.executable, os.path.join(TOOLS, "explore"), "--program", PROGRAM] + list(words),
                                         stdin=script, stdout=subprocess.PIPE, stderr=other_end,
-                                        preexec_fn=lambda: signal.signal(number, signal.SIG_DFL))
+                                        preexec_fn=hear_signals)
         with explorer:
             os.close(other_end)
             bar = b""
@@ -969,7 +1055,7 @@ class Explorer(unittest.TestCase):
         with open(os.path.join(TOP, "examples", "second_show.script"), "rb") as script:
             explorer = subprocess.Popen(
                 [os.path.join(TOOLS, "explore"), "--program", PROGRAM, "--part", "1/1", "--out", path], stdin=script,
-                stdout=subprocess.PIPE, stderr=subprocess.PIPE, preexec_fn=lambda: signal.signal(signal.SIGINT, signal.SIG_DFL))
+                stdout=subprocess.PIPE, stderr=subprocess.PIPE, preexec_fn=hear_signals)
         with explorer:
             if number is not None:
                 time.sleep(seconds)

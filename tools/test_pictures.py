@@ -266,7 +266,7 @@ class Pictures(unittest.TestCase):
         for more, script, given, shown in (
                 ("", "crates/catsync/stdin", "crates/catsync/stdout", "docs/first_run.svg"),
                 ("", "examples/two_backends.script", "examples/two_backends.output", "docs/two_backends.svg"),
-                ("--brief --from 46 ", "examples/stale_in_the_server.script", "examples/stale_in_the_server.output",
+                ("--brief --from 66 ", "examples/stale_in_the_server.script", "examples/stale_in_the_server.output",
                  "docs/stale_in_the_server.svg")):
             with self.subTest(shown):
                 words = more.split() + ["--script", os.path.join(TOP, script)]
@@ -498,7 +498,7 @@ class Sentences(unittest.TestCase):
         ("rebuilds_nested", 105): "Backend 2 scans pg_class for u, scan 1 of 6 for its descriptor: 1 row. The last one, built at 38 "
                                   "to 48, is stale since 103, but in use: this one is built in its place. The build of t, which "
                                   "began at 76, waits for it.",
-        ("stale_in_the_server", 82): "Backend 2 fetches the 2 messages of 78 and 79: the build of t, which began at 55, starts "
+        ("stale_in_the_server", 102): "Backend 2 fetches the 2 messages of 98 and 99: the build of t, which began at 75, starts "
                                      "over.",
         ("reset_inside_build", 27): "Backend 2 has lost messages: of the 70 that waited the queue keeps only the last ones. So it "
                                     "resets: it drops all that it keeps, and is past all messages. The name t, read at 11, is "
@@ -661,6 +661,43 @@ class Pages(unittest.TestCase):
         self.assertEqual([thing[2:4] for thing in things if thing[0] == 1 and thing[1] == 3],
                          [[12, 69], [16, 26], [26, 48], [48, 55], [57, 67], [67, 69]])
 
+    def test_values(self):
+        """What is cached of a relation is what `show` answers of it, each field read at the entry that the answer names."""
+        compared = 0
+        for path, page, lines in self.pages():
+            data, ends = data_of(page), story_of(read_output(content_of(path))).answers
+            for number, answers in ends.items():
+                for answer in (answer for answer in answers if re.match("(table|index) [0-9]+; ", answer.text)):
+                    fields = dict(part.split(" ", 1) for part in answer.text.split("; ")[1:])
+                    held = values_at(data, answer.backend, number, "descriptor of ")
+                    with self.subTest("%s: %s" % (path, answer.line)):
+                        own = [found for found in held if set(found) == set(fields) and all(
+                            fields[field] in (value, "%s as of %d" % (value, entry)) for field, (entry, value, _) in found.items())]
+                        self.assertTrue(own, held)
+                    compared += 1
+        self.assertGreater(compared, 30)
+
+    def test_true(self):
+        """Beside what is stale stands what is true at the chosen entry, as often as that changes."""
+        data = data_of(next(page for path, page, _ in self.pages() if path.endswith("columns_protected.output")))
+        seen = [values_at(data, 1, number, "descriptor of ")[0]["statistics"] for number in (26, 47, 48, 54)]
+        self.assertEqual(seen, [(18, "1:-1 2:-1", None)] * 2 + [(18, "1:-1 2:-1", "1:100 2:-1")] * 2)
+        names = [values_at(data, 1, number, "name t")[0] for number in (12, 53)]
+        self.assertEqual(names, [{"row": (12, "class(16384,t,r,-)", None)}] * 2)
+
+
+def values_at(data, backend, number, beginning):
+    """What a page shows of the things that a backend keeps at an entry: by field the entry of its scan, its value, and what is
+    true then, if that is something else."""
+    found = []
+    for thing in data["things"]:
+        if thing[:2] == [backend, 3] and thing[4].startswith(beginning) and thing[2] <= number < (thing[3] or number + 1):
+            read, true = data["kept"][str(thing[5])]
+            now = {field: value for entry, field, value in true if entry <= number}
+            found.append({field: (entry, value, now[field] if now.get(field, value) != value else None)
+                          for entry, field, value in read if entry <= number})
+    return found
+
 
 PRESSED = """<script>
 const seen = [];
@@ -688,15 +725,26 @@ document.title = [picture.clientWidth, picture.scrollWidth, rows.clientWidth, lo
 </script></body>"""
 
 
+SIGHT = """<script>
+const edge = what => Math.round(Math.max(...[...document.querySelectorAll(what)].map(one => one.getBoundingClientRect().right)));
+const left = Math.round(Math.min(...[...document.querySelectorAll('text.line')].map(one => one.getBoundingClientRect().left)));
+select(rowOf(data.entries.length - 20));
+const count = () => document.querySelectorAll('#state .value').length, before = count();
+for (const head of document.querySelectorAll('#state h2')) head.dispatchEvent(new MouseEvent('click', {bubbles: true}));
+document.title = [picture.clientWidth, picture.scrollWidth, edge('#rows use'), left, before, count()].join(' ');
+</script></body>"""
+
+
 @unittest.skipUnless(shutil.which("chromium"), "no browser (chromium)")
 class Browser(unittest.TestCase):
     """A page in a browser."""
 
     def title(self, name, script, size):
         """The title that a script gives to the page of an example, in a window of this size."""
-        path = os.path.join(TOP, "examples", name + ".output")
-        output = read_output(content_of(path))
-        page = picture_of(output, True, Span(1, len(output.entries)), script_of(path[:-7] + ".script", output))
+        path = next(path for path in OUTPUTS if os.path.basename(path) == name + ".output")
+        output, source = read_output(content_of(path)), path[:-7] + ".script"
+        commands = script_of(source, output) if os.path.exists(source) else None
+        page = picture_of(output, True, Span(1, len(output.entries)), commands)
         with tempfile.TemporaryDirectory() as folder:
             with open(os.path.join(folder, "page.html"), "w", encoding="utf-8") as file:
                 file.write(page.replace("</body>", script))
@@ -728,7 +776,20 @@ class Browser(unittest.TestCase):
         self.assertTrue(sentence.endswith("The name t, read at 12, serves command 4 without a scan."), sentence)
         self.assertEqual(shown, "backend 1 command lock table t in row share mode transaction since 9 locks AccessShare on t "
                          "since 13, clear since 14 RowShare on t since 53, not clear yet waits 2, for t keeps name t, read at 12 "
-                         "descriptor of t, built at 16 to 26, out of date since 48 | backend 2 has stopped")
+                         "row class(16384,t,r,-) descriptor of t, built at 16 to 26, out of date since 48 statistics 1:-1 2:-1 "
+                         "now 1:100 2:-1 name t; columns a:int4 b:text; no fillfactor, defaults, constraints, referenced, "
+                         "indexes, triggers | backend 2 has stopped")
+
+    def test_eight_backends(self):
+        """With eight backends all lanes and the beginning of each text are in sight, in a window of a laptop and in a narrow
+        one; the boxes of others show what is stale alone, until one is opened."""
+        for size in ("1400,800", "800,800"):
+            with self.subTest(size):
+                room, all_, lane, text, shown, opened = self.title("eight_backends", SIGHT, size).split()
+                self.assertEqual(all_, room)
+                self.assertLess(int(lane), int(text))
+                self.assertLess(int(text), int(room) - 48 * 7)
+                self.assertLess(int(shown), int(opened))
 
 
 HEAD = "h 1 0 start\nh 1 1 look no\n"

@@ -15,11 +15,13 @@ import time
 import unittest
 import unittest.mock
 
-from testing import HAS_PROGRAM, NO_PROGRAM, PROGRAM, TOOLS, TOP, call
+from testing import HAS_PROGRAM, NO_PROGRAM, PROGRAM, TOOLS, TOP, call, hear_signals
 
-from catsync_tools.beside import Compared, Pairs, compare, differences, order_of
-from catsync_tools.differences import KNOWN, all_differences, profile
+from catsync_tools.beside import Pairs, compare, differences, order_of, without
+from catsync_tools.differences import all_differences, profile
+from catsync_tools.documented import ROWS, Case, words_of
 from catsync_tools.folder import Folder
+from catsync_tools.known import Facts
 from catsync_tools.postgres import Server, folder_of_programs
 from catsync_tools.program import Program
 from catsync_tools.sources import read_source
@@ -161,34 +163,74 @@ class Statements(unittest.TestCase):
     def test_profile_names_them(self):
         """The page has the words by which differences are named."""
         text = profile()
-        for known in KNOWN:
-            self.assertTrue(known.words.lower() in text, known.words)
+        for row in ROWS:
+            self.assertTrue(row.words.lower() in text, row.words)
 
-    def test_what_follows(self):
-        """After a command that is done in one of the two alone what is said of its table may follow from that; and in a
-        block what its session is answered to the block's end, and what is said of the block's tables."""
-        alone = ("create table t ()", "ok", "error 42P01 x")
-        ended, other = ("show t", "a", "b"), ("show u", "a", "b")
-        for commands, after in (
-                (((1,) + alone, (2,) + ended, (2,) + other), (None, "1.1", None)),
-                (((1,) + other, (1,) + other), (None, None)),
-                (((1, "create table t ()", "error 42701 x", "error 0A000 x"), (1,) + ended), (None, None)),
-                (((1, "begin", "ok", "ok"), (1, "lock table u in share mode", "ok", "ok"), (1,) + alone, (2,) + other,
-                  (2, "show v", "a", "b"), (1, "show v", "a", "b"), (1, "commit", "ok", "rolled back"), (1, "show v", "a", "b"),
-                  (1,) + other), (None, None, None, "1.3", None, "1.3", "1.3", "1.3", "1.3")),
-                (((1,) + alone, (2, "begin", "ok", "ok"), (2, "show t", "a", "error 42P01 x"), (2, "show u", "a", "error 25P02 x"),
-                  (1, "alter table u drop column a", "error 55P03 x", "ok")), (None, None, "1.1", "1.1", "1.1"))):
-            compared, counts = [], {}
-            for backend, text, here, server in commands:
-                counts[backend] = counts.get(backend, 0) + 1
-                compared.append(Compared((backend, counts[backend]), text, here, Answer(server, []), ["answer"]))
-            with self.subTest(commands):
-                self.assertEqual(tuple(each[0].after for each in all_differences(compared, "")), after)
-                self.assertEqual(tuple(each[0].is_new for each in all_differences(compared, "")),
-                                 tuple(cause is None for cause in after))
-        warned = Compared((2, 1), "show t", "ok", Answer("ok", ["25P01 x"]), ["warning"])
-        first = Compared((1, 1), alone[0], alone[1], Answer(alone[2], []), ["answer"])
-        self.assertTrue(all_differences([first, warned], "")[1][0].is_new)
+    def test_conditions(self):
+        """A difference is a documented one only where its row's condition holds, whatever the messages say."""
+        facts = Facts({("a", "x")})
+        for backend, command, text in (
+                (1, 0, "start"), (1, 1, "write 1 +class(16384,a,r,-) +att(16384,1,x,int4,-1,l) +att(16384,2,y,text,-1,l)"),
+                (1, 1, "visible 1"), (1, 1, "release 1"),
+                (1, 2, "write 2 +class(16385,b,r,-) +att(16385,1,x,int4,-1,l)"), (1, 2, "visible 2"), (1, 2, "release 2"),
+                (1, 3, "write 3 +con(16386,16385,k,f,v,1,16384,1) !16384"), (1, 3, "visible 3"), (1, 3, "release 3"),
+                (1, 4, "write 4 +con(16387,16384,c,c,v,y>0) !16384"), (1, 4, "visible 4"), (1, 4, "release 4"),
+                (1, 5, "write 5 +class(16388,i,i,-) +ind(16388,16384,v,1) !16384"), (1, 5, "visible 5"), (1, 5, "release 5"),
+                (2, 0, "start"), (2, 1, "look no"), (2, 2, "lock 16384 su ok"), (2, 2, "write 6 =class(16384,a,r,70)")):
+            facts.take(backend, command, text)
+        for text in ("begin", "open a"):
+            facts.end(1, text, "ok")
+        refused = "error %s x"
+        for text, here, server, words in (
+                ("drop table b", "55006", "ok", "has a table open that a key of the dropped one refers to"),
+                ("drop table a", "55006", "ok", None), ("drop table a", "55006", "2BP01", "55006 comes before 2BP01"),
+                ("drop table b", "55006", "2BP01", None), ("drop index i", "55006", "ok", "an index whose table is open"),
+                ("alter table a rename to c", "55006", "ok", "renames what is open"), ("alter table b rename to c", "55006", "ok", None),
+                ("create trigger g on a", "55006", "ok", "makes triggers on it"), ("create trigger g on b", "55006", "ok", None),
+                ("create table a ()", "55P03", "42P07", "is 42P07 at once"), ("create table b ()", "55P03", "42P07", None),
+                ("alter table b rename to b", "ok", "42P07", "own is 42P07"), ("alter table b rename to c", "ok", "42P07", None),
+                ("drop index a", "55P03", "42809", "the kind is tested before the lock"), ("drop index b", "55P03", "42809", None),
+                ("lock table i in share mode", "55P03", "42809", None), ("alter table i rename to j", "42809", "ok", "take an index too"),
+                ("alter table i rename column x to y", "42809", "ok", "take an index too"), ("alter table a rename to j", "42809", "ok", None),
+                ("alter table i alter column x set statistics 5", "42809", "0A000", "take an index too"),
+                ("alter table a drop column x", "0A000", "ok", "is refused with 0A000"), ("alter table a drop column y", "0A000", "ok", None),
+                ("alter table a alter column x set default w", "ok", "22P02", "a default is a word"),
+                ("alter table a alter column y set default w", "ok", "22P02", None),
+                ("alter table a alter column x set default 7", "ok", "22P02", None),
+                ("alter table a add constraint l check ( z>0 )", "ok", "42703", "the text of a check"),
+                ("alter table a add constraint l check ( x>0 )", "ok", "42703", None),
+                ("alter table b validate constraint k", "ok", "55P03", None),
+                ("alter table b add constraint l foreign key ( x ) references a ( y )", "ok", "42804", "have to be unique"),
+                ("alter table b add constraint l foreign key ( x ) references a ( x )", "ok", "42830", None),
+                ("create table t ( ctid int4 )", "ok", "42701", "names of system columns"), ("create table ctid ( a int4 )", "ok", "42701", None),
+                ("alter table a drop constraint c", "ok", "42704", None)):
+            with self.subTest((text, here, server)):
+                case = Case(1, text, refused % here if here != "ok" else here, refused % server if server != "ok" else server, facts)
+                part = "error" if "ok" not in (here, server) else "answer"
+                self.assertEqual(words_of(case, part, []), words)
+        for text, warning, words in (("begin", "25001 x", "with a warning (25001, 25P01)"), ("commit", "25P01 x", None),
+                                     ("alter table a alter column x set statistics 10001", "22023 x", "lowered to 10,000"),
+                                     ("alter table a alter column x set statistics 10000", "22023 x", None)):
+            with self.subTest(text):
+                self.assertEqual(words_of(Case(1, text, "ok", "ok", facts), "warning", [warning]), words)
+        facts.take(2, 3, "lock 16384 ex ok")
+        self.assertEqual(words_of(Case(1, "alter table b validate constraint k", "ok", refused % "55P03", facts), "answer", []),
+                         "locks the table that the key refers to")
+
+    def test_checks_that_move(self):
+        """A check whose column goes, or gets another name, isn't compared any more, until that is taken back."""
+        facts = Facts()
+        for command, text in ((1, "write 1 +class(16384,a,r,-) +att(16384,1,x,int4,-1,l)"), (1, "visible 1"), (1, "release 1"),
+                              (2, "write 2 +con(16385,16384,c,c,v,x>0) !16384"), (2, "visible 2"), (2, "release 2"),
+                              (3, "write 3 =att(16384,1,z,int4,-1,l)")):
+            facts.take(1, command, text)
+        case = Case(1, "alter table a drop constraint c", "ok", "error 42704 x", facts)
+        self.assertEqual((facts.moved_checks(16384), words_of(case, "answer", [])), ({"c"}, "dropped with any column that it names"))
+        facts.take(1, 3, "gone 3")
+        self.assertEqual((facts.moved_checks(16384), words_of(case, "answer", [])), (set(), None))
+        for text, expected in (("constraints c:check:v:x>0 k:fk:v:1:5:1", "constraints k:fk:v:1:5:1"), ("constraints c:check:v:x>0", "constraints -"),
+                               ("name t; constraints d:check:v:x>0 c:check:v:x>0; referenced -", "name t; constraints d:check:v:x>0; referenced -")):
+            self.assertEqual(without(text, ["c"]), expected)
 
 
 @unittest.skipUnless(HAS_PROGRAM, NO_PROGRAM)
@@ -227,10 +269,20 @@ class Beside(unittest.TestCase):
         cls.program.close()
 
     def check(self, data, order=None):
-        """All differences are ones that are named, or follow from one."""
+        """All differences are ones that are named."""
         all_compared = compare(read_source(data), self.program, self.server, order)
         for compared, found in zip(all_compared, all_differences(all_compared, profile())):
             self.assertFalse([each for each in found if each.is_new], (data, compared))
+
+    def test_going_on(self):
+        """After a difference both are alike: what one of them has done alone is undone, so that the next difference shows."""
+        with open(os.path.join(TOOLS, "samples", "beside.script"), "rb") as file:
+            all_compared = compare(read_source(file.read()), self.program, self.server)
+        new = [(compared.command, each.part) for compared, found in zip(all_compared, all_differences(all_compared, profile()))
+               for each in found if each.is_new]
+        self.assertEqual(new, [])
+        self.assertEqual([compared.command for compared in all_compared if compared.differences], [
+            (1, 4), (1, 5), (1, 10), (2, 3), (2, 6), (2, 8)])
 
     def test_examples(self):
         """The examples and the races."""
@@ -260,7 +312,7 @@ class Beside(unittest.TestCase):
             with self.subTest(number), self.own_folder() as folder:
                 path = os.path.join(TOP, "examples", "two_backends.script")
                 server = subprocess.Popen([os.path.join(TOOLS, "server"), "--program", PROGRAM, path], stdout=subprocess.PIPE,
-                                          stderr=subprocess.PIPE, preexec_fn=lambda: signal.signal(signal.SIGINT, signal.SIG_DFL))
+                                          stderr=subprocess.PIPE, preexec_fn=hear_signals)
                 with server:
                     while not os.listdir(folder) and server.poll() is None:
                         time.sleep(0.01)

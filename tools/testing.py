@@ -1,9 +1,10 @@
 """What the tests of the tools have in common.
 
-The program that they run is the proved executable, or the one that CATSYNC_PROGRAM names; without one the tests that need
-it are skipped, but where that is set.
+The program that they run is the one that the tools find by themselves, or that CATSYNC_PROGRAM names; without one the tests
+that need it are skipped.
 """
 import os
+import signal
 import subprocess
 import sys
 
@@ -11,12 +12,20 @@ sys.dont_write_bytecode = sys.pycache_prefix is None
 TOOLS = os.path.dirname(os.path.abspath(__file__))
 TOP = os.path.dirname(TOOLS)
 
-from catsync_tools.program import PROVED, is_up_to_date
+from catsync_tools.interrupts import SIGNALS
+from catsync_tools.program import PROVED, built_program
 
-PROGRAM = os.environ.get("CATSYNC_PROGRAM") or PROVED
-HAS_PROGRAM = "CATSYNC_PROGRAM" in os.environ or is_up_to_date(PROVED)
-NO_PROGRAM = "no proved executable that is up to date"
+_FOUND = os.environ.get("CATSYNC_PROGRAM") or built_program()
+PROGRAM, HAS_PROGRAM = _FOUND or PROVED, _FOUND is not None
+NO_PROGRAM = "no executable that is up to date"
 CAN_WAIT = subprocess.run(["env", "--block-signal=INT", "true"], stderr=subprocess.DEVNULL).returncode == 0     # at Python's start
+
+
+def hear_signals():
+    """Called in a tool's process before its start: what runs in a shell's background has Ctrl-C ignored, what runs under nohup
+    SIGHUP, and so would the tool."""
+    for number in SIGNALS:
+        signal.signal(number, signal.SIG_DFL)
 
 
 def content_of(path):

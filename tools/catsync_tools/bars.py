@@ -12,6 +12,7 @@ LABEL_EVERY = 480       # long bars have their label again after so much
 LONG = 120              # a hatched part that is longer has its own label, though another part has one
 CAP = 0.62              # the size of the mark at the end of what is kept, of one in the lane
 RING = 5                # half the height of a ring at a bar
+THIN = 5                # a bar that is narrower has a thin edge
 
 BAND_FILLS = {
     transactions.COMMITTED: ("#d6e7f4", "#7ba9cc"), transactions.TAKEN_BACK: ("url(#taken-back)", PURPLE),
@@ -117,7 +118,9 @@ def lock_bar(layout: Layout, lock, rings=()):
     since = "not clear" if lock.clear is None else "clear from entry %d on" % lock.clear
     title = "%s on %s, held by backend %d, %s; %s" % (
         MODE_NAMES[lock.mode], known(lock.rel, lock.name), lock.backend, how_long(lock), since)
-    shape = {"x": lock_left(layout, lock), "width": lane.lock_width - 2, "stroke": GREEN}
+    shape = {"x": lock_left(layout, lock), "width": lane.lock_width - min(2, lane.lock_width / 3), "stroke": GREEN}
+    if shape["width"] < THIN:
+        shape["stroke_width"] = 0.6
     bar = element("rect", title, y=top, height=bottom - top, fill=MODE_COLOURS[lock.mode],
                   class_="lock " + ending(lock), **shape)
     if clear > top:
@@ -174,11 +177,12 @@ def kept_bar(layout: Layout, kept: Kept, why: Why):
     """The bar of what is kept: dotted while it is built, then filled, hatched once it is out of date; with a mark where it
     serves a command without a scan, and at its end the mark of the entry that makes it stale."""
     lane = layout.lanes[kept.backend]
-    width, x = lane.kept_width - 3, lane.kept + layout.columns[kept] * lane.kept_width
+    width, x = lane.kept_width - min(3, lane.kept_width / 3), lane.kept + layout.columns[kept] * lane.kept_width
     top, bottom = extent(layout, kept)
     parts = kept_parts(layout, kept, top, bottom)
+    thin = {"stroke_width": 0.6} if width < THIN else {}
     drawn = [element("rect", x=x, y=first, width=width, height=last - first, fill=KEPT_FILLS[kind],
-                     class_="kept-" + kind + (" open" if kept.last is None and kind != "build" else ""))
+                     class_="kept-" + kind + (" open" if kept.last is None and kind != "build" else ""), **thin)
              for kind, first, last in parts]
     served = [layout.middle(served.entry) for served in kept.serves if layout.span.holds(served.entry)]
     drawn += [serve_mark(x + width / 2, middle) for middle in served]

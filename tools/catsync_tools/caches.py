@@ -29,6 +29,13 @@ class Served(NamedTuple):
     command: int
 
 
+class Read(NamedTuple):
+    """What a scan gave at an entry, or would have given from there on."""
+    entry: int
+    datum: Datum
+    rows: List[Row]
+
+
 class Kept:
     """What a backend keeps: a descriptor, or, with its scan, an entry or a list of a catalog cache. It is built from its
     first scan to its last, and then kept until its end."""
@@ -45,6 +52,12 @@ class Kept:
         self.cause = ""
         self.replaced: Optional["Kept"] = None      # by a descriptor in use: the whole one before it
         self.serves: List[Served] = []
+        self.read: List[Read] = []                  # by its scans
+        self.true: List[Read] = []                  # what these would give since others changed it, each time that it changes
+
+    def now(self, datum: Datum) -> List[Row]:
+        """What one of its scans would give now, as far as that is noted."""
+        return next(read.rows for read in self.true[::-1] + self.read[::-1] if read.datum == datum)
 
     @property
     def is_descriptor(self):
@@ -163,6 +176,7 @@ class Caches:
         cache, datum = self.cache(entry.backend), datum_of(entry.event)
         kept = self.part_of(cache, entry, datum, rows, name)
         cache.keep(datum, Scanned(rows, kept))
+        kept.read.append(Read(entry.number, datum, rows))
         if not kept.is_descriptor or datum[0] in LAST_SCANS:
             kept.finish(entry.number)
         if datum[0] == "relname" and cache.may_build:
@@ -237,9 +251,11 @@ class Caches:
         found: List[Kept] = []
         for backend, cache in self.of.items():
             for datum in sorted(data.intersection(cache.scans)) if backend != entry.backend else ():
-                scanned = cache.scans[datum]
+                scanned, now = cache.scans[datum], rows.answer(backend, datum)
+                if told(datum, now) != told(datum, scanned.kept.now(datum)):
+                    scanned.kept.true.append(Read(entry.number, datum, now))
                 is_new = scanned.kept.outdated is None and scanned.kept not in found
-                if is_new and told(datum, rows.answer(backend, datum)) != told(datum, scanned.rows):
+                if is_new and told(datum, now) != told(datum, scanned.rows):
                     found.append(scanned.kept)
         for kept in found:
             kept.outdated = entry.number

@@ -4,7 +4,7 @@ from typing import Dict, NamedTuple
 
 from .arrows import message_arrow, refusal_arrow, waiting_number
 from .bars import CAPS, kept_bar, lock_bar, transaction_bar
-from .layout import LINE, MOST_WIDE_LANES, Layout, Wanted, layout_of
+from .layout import LINE, MOST_WIDE_LANES, NAMED_LANE, Layout, Wanted, layout_of
 from .legend import items_of, legend
 from .marks import BLUE, GREEN, INK, KEPT_BROWN, RED, definitions, mark_of_step
 from .sentences import counted
@@ -73,8 +73,8 @@ def life_line(layout: Layout, life):
 def lane_names(layout: Layout, y, height):
     """The names of the lanes; where they are narrow, the numbers of the backends."""
     drawn = [element("rect", x=0, y=y, width=layout.right, height=height, fill="#e4e4e4")]
-    word = "backend %d" if len(layout.lanes) <= MOST_WIDE_LANES else "%d"
     for lane in layout.lanes.values():
+        word = "backend %d" if lane.right - lane.left >= NAMED_LANE and len(layout.lanes) <= MOST_WIDE_LANES else "%d"
         drawn.append(text_at(lane.left + 6, y + 15, word % lane.backend, "head"))
     return "".join(drawn)
 

@@ -8,6 +8,8 @@ from .outputs import PLACE
 OWN, SOME, NEVER = "own", "some", "never"
 NONE = "no answer"                  # what is said of a command that isn't finished
 
+MORE = ".."                         # at the end of a text: its field may go on
+
 _PLACE = re.compile(PLACE.pattern, re.IGNORECASE)
 _PART = re.compile(r"([0-9]{1,9})[ \t]*\.[ \t]*([0-9]{1,9})[ \t]+(\S.*)")
 _AND = re.compile(r"[ \t]+and[ \t]+(?=[0-9]+[ \t]*\.)", re.IGNORECASE)
@@ -67,9 +69,12 @@ class Answers:
         return self.texts.get((part.backend, part.command), NONE)
 
     def has(self, part: Part):
-        """Whether the answer has the part's text, from the beginning of a word to the end of one. A `;` ends the last field of
-        an answer too."""
-        return re.search(r"(?:^|[ ;])%s(?=[ ;]|$)" % re.escape(part.text), plain(self.text(part)) + ";", re.IGNORECASE) is not None
+        """Whether the answer has the part's text, from the beginning of a word to the end of a field; or to that of a word, where
+        the text says that it goes on, and in an error. A `;` ends the last field of an answer too."""
+        text, answer = part.text, plain(self.text(part)) + ";"
+        goes_on = text.endswith(MORE) or text.endswith(";") or answer.startswith("error ")
+        pattern = re.escape(text[:-len(MORE)].rstrip() if text.endswith(MORE) else text)
+        return re.search(r"(?:^|[ ;])%s(?=%s)" % (pattern, "[ ;]|$" if goes_on else ";"), answer, re.IGNORECASE) is not None
 
     def has_all(self, parts):
         """Whether they have all parts."""
@@ -80,6 +85,10 @@ class Answers:
         fields = self.text(part).split("; ")
         same = [field for field in fields if field.split(" ")[0] == part.text.lower().split(" ")[0]]
         return "%s %d.%d %s" % (sign, part.backend, part.command, "; ".join(same or fields))
+
+    def came(self, parts):
+        """What came in one run where these parts were expected."""
+        return "+ " + " and ".join(self.line("", part)[1:] for part in parts)
 
     def differences(self, parts):
         """What was expected and didn't come, each with what came."""

@@ -4,18 +4,21 @@ import os
 import re
 
 from .arguments import MOST_ORDERS, Arguments, count_of
+from .explored import played_text
 from .faults import INTERRUPTED, Fault, check_file, make_folder, names_in, read_file, read_input, remove_file, write_file, write_output
 from .outputs import read_output
 from .parts import MOST_PARTS, Part, check_same, merged, part_text, read_part
 from .picture import commands_shown, picture_of, span_of
-from .program import proved_program
+from .program import own_program
 from .progress import Progress
-from .report import Extent, Serial, found_text, not_found, report, shown_sets
+from .report import Extent, Serial, found_text, index_page, not_found, report, shown_sets
 from .search import Exploration, Settings, processors, wanted_of
 from .sources import read_source
+from .stage import check_stage
 
 NOT_FOUND = 1
-OF_SEARCHES = ("part", "find", "picture", "most", "random", "seed", "places", "jobs", "program")     # and not of --merge
+NOT_WHOLE = 3
+OF_SEARCHES = ("part", "find", "picture", "replay", "most", "random", "seed", "places", "jobs", "program")     # and not of --merge
 
 
 def part_of(text):
@@ -32,7 +35,8 @@ def arguments_of(words):
     """The command line."""
     parser = Arguments("explore", "[OPTION].. < SCRIPT, or explore --merge FILE..", "Runs a script under many schedules, and "
                        "prints each set of answers with the shortest schedule that leads to it.",
-                       ((0, "the search came to its end, or found the texts"), (1, "no schedule has the texts")))
+                       ((0, "the search came to its end, or found the texts"), (NOT_FOUND, "no schedule has the texts"),
+                        (NOT_WHOLE, "of --merge: parts are missing, or were stopped; with --replay: nothing can be played here")))
     parser.option("--most", type=count_of, metavar="N",
                   help="all orders are run where there are at most N, else N random schedules (%d)" % MOST_ORDERS)
     parser.option("--random", type=count_of, metavar="N", help="N random schedules, without a search for all orders")
@@ -44,8 +48,9 @@ def arguments_of(words):
     parser.option("--places", action="store_true", help="answers that name other entries (as of N) are other answers; then "
                   "no two schedules are the same order")
     parser.option("--picture", metavar="DIR", help="draw the schedule of each set, or the one that is found, in DIR, in "
-                  "place of those of an earlier search")
+                  "place of those of an earlier search; index.html there shows all sets")
     parser.option("--html", action="store_true", help="pictures are pages")
+    parser.option("--replay", action="store_true", help="play the schedule of each set in a PostgreSQL server, as tools/replay does")
     parser.option("--jobs", type=count_of, metavar="N", help="use N processors (all; with --part one)")
     parser.option("--part", type=part_of, metavar="K/N", help="do part K of N parts of the search, and print it for --merge")
     parser.option("--out", metavar="FILE", help="with --part: write FILE, whole or not at all")
@@ -63,6 +68,7 @@ def check(parser, options):
     for one, other, is_bad in (
             ("--most", "--random", options.most and options.random), ("--most", "--part", options.most and options.part),
             ("--find", "--part", options.find and options.part), ("--picture", "--part", options.picture and options.part),
+            ("--replay", "--part", options.replay and options.part), ("--replay", "--find", options.replay and options.find),
             ("--interleaved", "--part", options.interleaved and options.part)):
         if is_bad:
             parser.error("%s doesn't go with %s" % (one, other))
@@ -86,11 +92,13 @@ def main(words):
     options = arguments_of(words)
     if options.merge:
         return merge(options)
+    if options.replay:
+        check_stage()
     data = read_input()
     source = read_source(data)
     settings = Settings(options.places, tuple(wanted_of(text) for text in options.find), options.interleaved, options.seed,
                         options.jobs or (1 if options.part else processors()))
-    exploration = Exploration(settings, source, options.program or proved_program(), Progress())
+    exploration = Exploration(settings, source, options.program or own_program(), Progress("explore"))
     status = 0
     exploration.program.interrupts.hold()
     check_outputs(options)
@@ -113,6 +121,7 @@ def check_outputs(options):
     if options.picture:
         make_folder(options.picture)
         check_file(picture_path(options, "found" if options.find else "set1"))
+        check_file(os.path.join(options.picture, "index.html"))
 
 
 def explore(options, exploration):
@@ -134,7 +143,8 @@ def explore(options, exploration):
 def extent_of(options, exploration):
     """What was run."""
     most = None if options.random else options.most or MOST_ORDERS
-    return Extent(exploration.schedules, exploration.is_random, options.seed, most, exploration.is_over, "")
+    return Extent(exploration.schedules, exploration.is_random, options.seed, most, exploration.is_over, "",
+                  exploration.guess if exploration.is_random and most else None)
 
 
 def part_found(options, exploration, data):
@@ -159,10 +169,15 @@ def tell_sets(options, exploration, status):
     sets = shown_sets(exploration)
     if options.interleaved:
         sets = [shown for shown in sets if serial.is_interleaved(shown.answers)]
+    extent = extent_of(options, exploration)
     for number, shown in enumerate(sets, 1):
         draw(options, exploration, "set%d" % number, shown.run)
     remove_earlier(options, "set([0-9]+)", len(sets))
-    write_output(report(extent_of(options, exploration), serial, sets))
+    if options.picture:
+        write_file(os.path.join(options.picture, "index.html"), index_page(extent, serial, sets, options.html))
+    write_output(report(extent, serial, sets))
+    if options.replay and not status:
+        write_output(played_text(exploration, sets))
     return status
 
 
@@ -210,4 +225,4 @@ def merge(options):
     if options.interleaved:
         sets = [shown for shown in sets if serial.is_interleaved(shown.answers)]
     write_output(report(extent, serial, sets))
-    return 0
+    return 0 if extent.is_over else NOT_WHOLE

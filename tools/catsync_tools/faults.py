@@ -10,7 +10,8 @@ INTERRUPTED = 130
 
 
 class Fault(Exception):
-    """Something that the user gave is wrong; its text says what, and where."""
+    """Something that the user gave is wrong; its text says what, and where. The tool's exit status is of its kind."""
+    status = BAD
 
 
 @contextlib.contextmanager

@@ -1,6 +1,7 @@
 """Spreads tasks over processes.
 
-A task is a function that yields what it has found so far after each schedule (a `Piece`), the same object each time. With
+A task is a function that yields what it has found so far after each schedule (a `Piece`, which says by `far` how far that is), the
+same object each time. With
 one job the tasks are done in this process, else in children of it, which are given one task after the other and send how
 far they are, and at the end what they found. Children can be stopped, and then send what they have.
 """
@@ -24,9 +25,9 @@ class Jobs:
         self.pieces: Dict[int, object] = {}
         self.is_done = [False] * len(tasks)
 
-    def run(self) -> Iterator[Tuple[int, int]]:
-        """Does all tasks; yields the number of a task and how many schedules it has run, again and again. What it has found
-        is in `pieces` where the task is over, and of the others too once this has ended or is closed."""
+    def run(self) -> Iterator[Tuple[int, tuple]]:
+        """Does all tasks; yields the number of a task and how far it is, again and again. What it has found is in `pieces`
+        where the task is over, and of the others too once this has ended or is closed."""
         return self.run_here() if self.count <= 1 else self.run_in_children()
 
     def run_here(self):
@@ -34,7 +35,7 @@ class Jobs:
         for number, task in enumerate(self.tasks):
             for piece in task():
                 self.pieces[number] = piece
-                yield number, piece.schedules
+                yield number, piece.far
             self.is_done[number] = True
 
     def run_in_children(self):
@@ -73,11 +74,11 @@ class Jobs:
             busy.update(self.hand_next(end, left))
         while busy:
             for end in multiprocessing.connection.wait(list(busy)):
-                number, schedules, is_done = self.take(end)
+                number, far, is_done = self.take(end)
                 if is_done:
                     busy.discard(end)
                     busy.update(self.hand_next(end, left))
-                yield number, schedules
+                yield number, far
 
     def hand_next(self, end, left):
         """Hands out the next task, if there is one: to whom."""
@@ -89,7 +90,7 @@ class Jobs:
     def take(self, end):
         """One message of a child: the task, how far it is, and whether it is over."""
         try:
-            number, schedules, piece, is_done, fault = end.recv()
+            number, far, piece, is_done, fault = end.recv()
         except EOFError:
             raise Fault("a process of the search ended before its time")
         if fault is not None:
@@ -97,7 +98,7 @@ class Jobs:
         if piece is not None:
             self.pieces[number] = piece
             self.is_done[number] = is_done
-        return number, schedules, piece is not None
+        return number, far, piece is not None
 
     def take_rest(self, end):
         """What a child that is stopped still sends."""
@@ -134,6 +135,6 @@ class Jobs:
                 break
             if time.monotonic() - said > PAUSE:
                 said = time.monotonic()
-                end.send((number, piece.schedules, None, False, None))
+                end.send((number, piece.far, None, False, None))
         if piece is not None:
-            end.send((number, piece.schedules, piece, not is_cut, None))
+            end.send((number, piece.far, piece, not is_cut, None))

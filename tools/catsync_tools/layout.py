@@ -4,6 +4,7 @@ All lengths are in pixels of the picture.
 """
 from typing import Dict, List, NamedTuple, Tuple
 
+from .locks import Lock
 from .steps import steps_of
 from .story import Story
 
@@ -22,6 +23,8 @@ BRIEF_NUMBERS_WIDTH = 84
 LEAST_LANE = 84
 MOST_WIDE_LANES = 12    # with more lanes each may be half as wide
 BAND = 18               # the width of a transaction's bar
+FOLDED, FOLDED_BAR = 28, 5      # of a lane that is folded: its width without bars, and the least distance of bars
+NAMED_LANE = 72         # a lane that is as wide has its name and not the number alone
 KEPT, LOCK = 14, 14     # the distance of two bars of what is kept, and of locks
 WIDEST_BARS = 98        # more bars of a kind than this is wide are drawn narrower
 
@@ -195,15 +198,28 @@ def rows_of(story: Story, wanted: Wanted, y, chars):
 
 
 def lanes_of(story: Story, wanted: Wanted, x) -> Tuple[Dict[int, Lane], Dict[object, int], float]:
-    """The lanes from a place on, the columns of bars in them, and where the last lane ends."""
-    lanes, columns = {}, {}
-    gutter = 34 if story.log.waiting else 10
-    least = LEAST_LANE if len(story.lives) <= MOST_WIDE_LANES else LEAST_LANE / 2
+    """The lanes from a place on, the columns of bars in them, and where the last lane ends. In a page lanes are folded where
+    no room would be left for texts."""
+    columns, counts = {}, {}
     for backend in (life.backend for life in story.lives):
         kept, kept_count = placed_in_columns(_own(story.kept, backend, wanted.span))
         locks, lock_count = placed_in_columns(_own(story.locks, backend, wanted.span))
         columns.update(kept)
         columns.update(locks)
+        counts[backend] = (kept_count, lock_count)
+    lanes = wide_lanes(counts, x, 34 if story.log.waiting else 10)
+    most = wanted.width - LEAST_CHARS * CHAR - 24
+    right = max(lane.right for lane in lanes.values())
+    if wanted.in_page and right > most:
+        lanes, columns = folded_lanes(counts, columns, x, most)
+    return lanes, columns, max(lane.right for lane in lanes.values())
+
+
+def wide_lanes(counts, x, gutter):
+    """Lanes with all their bars side by side."""
+    lanes = {}
+    least = LEAST_LANE if len(counts) <= MOST_WIDE_LANES else LEAST_LANE / 2
+    for backend, (kept_count, lock_count) in counts.items():
         kept_width = min(KEPT, WIDEST_BARS / max(kept_count, 1))
         lock_width = min(LOCK, WIDEST_BARS / max(lock_count, 1))
         mark = x + gutter + BAND / 2
@@ -212,7 +228,28 @@ def lanes_of(story: Story, wanted: Wanted, x) -> Tuple[Dict[int, Lane], Dict[obj
         right = max(at_locks + lock_count * lock_width + 8, x + least)
         lanes[backend] = Lane(backend, x, right, x + gutter - 8, mark, at_kept, kept_width, at_locks, lock_width)
         x = right
-    return lanes, columns, x
+    return lanes
+
+
+def folded_lanes(counts, columns, x, most):
+    """Lanes up to a place, as far as that is wide enough for their marks; bars share the room that is left, and columns where
+    there are more of them."""
+    lanes, placed = {}, dict(columns)
+    wanted = sum(kept + locks for kept, locks in counts.values())
+    bars = max((most - x - FOLDED * len(counts)) / max(wanted, 1), 0)
+    for backend, own in counts.items():
+        width = max(min(bars, KEPT), FOLDED_BAR)
+        fitting = [max(int(bars * count / width), 1) for count in own]
+        for bar, column in columns.items():
+            if bar.backend == backend:
+                placed[bar] = column % fitting[isinstance(bar, Lock)]
+        mark = x + FOLDED - BAND / 2 - 4
+        at_kept = mark + BAND / 2 + 2
+        at_locks = at_kept + fitting[0] * width
+        right = at_locks + fitting[1] * width + 2
+        lanes[backend] = Lane(backend, x, right, mark - BAND / 2 - 2, mark, at_kept, width, at_locks, width)
+        x = right
+    return lanes, placed
 
 
 def _own(bars, backend, span):

@@ -54,6 +54,7 @@ class Branch:
         self.asleep: Dict[int, Access] = asleep
         self.tried: Set[int] = set()
         self.to_try: Dict[int, List[Placed]] = {}
+        self.made = 0       # of those that were tried, how many with all that can follow
 
     def want(self, steps):
         """Puts down that these steps are to be made here, unless one that may be made first of them is tried anyway."""
@@ -64,6 +65,7 @@ class Branch:
 
     def next_one(self):
         """The steps to be tried next, or None."""
+        self.made += 1
         return self.to_try.pop(min(self.to_try)) if self.to_try else None
 
 
@@ -93,6 +95,16 @@ class Search:
     def place(self):
         """How many steps are made before the next one is chosen."""
         return len(self.first) + len(self.branches)
+
+    @property
+    def done(self):
+        """About which part of the orders is made, by the weights of the tree's branches: at each place all steps that were tried or
+        are to be, as far as is known, count alike."""
+        done, weight = 0.0, 1.0
+        for branch in self.branches:
+            weight /= branch.made + 1 + len(branch.to_try)
+            done += weight * branch.made
+        return done + weight
 
     def orders(self):
         """The answers of each order with its history, until the next one is asked for; an order that was given up has None

@@ -5,6 +5,7 @@ const picture = document.getElementById('picture'), rowsBox = document.getElemen
 const lanesHeight = document.getElementById('lanes').offsetHeight;
 const words = ['', 'transaction', 'locks', 'keeps', 'to send'];     // by the sort of a thing; 0 is a command
 let here = -1;                                                      // the index of the row that is shown
+const opened = new Set();                                           // the backends whose box is opened by a click
 
 // The row of an entry.
 function rowOf(number) {
@@ -55,15 +56,39 @@ function waiting(backend, number) {
   return to > from ? `${to - from}, for ${parts.join(', ')}` : '';
 }
 
+// What is kept, as it was read up to an entry, and what is true then where that is something else: [field, value, now].
+function valuesOf(kept, number) {
+  const [read, truth] = data.kept[kept], now = new Map();
+  truth.filter(([entry]) => entry <= number).forEach(([, field, value]) => now.set(field, value));
+  return read.filter(([entry]) => entry <= number)
+    .map(([, field, value]) => [field, value, now.has(field) && now.get(field) !== value ? now.get(field) : null]);
+}
+
+// The values of what is kept: those that have changed on lines of their own, with what is true now; then the others.
+function valuesBox(values) {
+  const box = make('div', 'values'), stale = values.filter(([, , now]) => now !== null);
+  const same = values.filter(([, value, now]) => now === null && value !== '-');
+  const none = values.filter(([, value, now]) => now === null && value === '-').map(([field]) => field);
+  const named = (field, value) => [make('span', 'field', field + ' '), make('span', 'value', value)];
+  stale.forEach(([field, value, now]) => box.append(make('div', 'stale', ...named(field, value), make('span', 'now', ' now '), make('span', 'value true', now))));
+  same.forEach(([field, value], at) => box.append(...(at ? ['; '] : []), ...named(field, value)));
+  if (none.length) box.append(make('span', 'none', (same.length ? '; no ' : 'no ') + none.join(', ')));
+  return box;
+}
+
 // The boxes of the backends, and what they were made of: a box is made anew only where that has changed.
 const boxes = new Map();
 function update(life, indexes, number, active) {
   const [backend, first, last] = life;
   const away = number < first ? ' has not started' : last && number >= last ? ' has stopped' : '';
   const waits = away ? '' : waiting(backend, number);
-  const made = [indexes, waits, away, active].join('|'), box = boxes.get(backend);
+  const things = indexes.map(index => data.things[index]);
+  const isWhole = active || opened.has(backend) || data.lives.length < 4;
+  const values = things.map(thing => thing[5] === null ? null : valuesOf(thing[5], number))
+    .map(all => all && all.filter(([, , now]) => isWhole || now !== null));
+  const made = [indexes, waits, away, active, JSON.stringify(values)].join('|'), box = boxes.get(backend);
   if (box && box.made === made) return;
-  const element = backendBox(backend, away, indexes.map(index => data.things[index]), waits, active);
+  const element = backendBox(backend, away, things.map((thing, at) => [...thing, values[at]]), waits, active);
   if (box) box.element.replaceWith(element); else document.getElementById('state').append(element);
   boxes.set(backend, {element, made});
 }
@@ -71,7 +96,12 @@ function update(life, indexes, number, active) {
 // What holds of a backend.
 function backendBox(backend, away, things, waits, active) {
   const box = make('div', 'backend' + (active ? ' here' : '') + (away ? ' away' : ''));
-  box.append(make('h2', '', `backend ${backend}${away}`));
+  const head = make('h2', '', `backend ${backend}${away}`);
+  head.addEventListener('click', () => {
+    if (!opened.delete(backend)) opened.add(backend);
+    show(here);
+  });
+  box.append(head);
   if (away) return box;
   const list = make('dl', '');
   let latest = '';
@@ -84,7 +114,10 @@ function backendBox(backend, away, things, waits, active) {
   things.filter(thing => thing[1] === 0).forEach(thing => line('command', thing[4]));
   for (const sort of [1, 2, 4]) things.filter(thing => thing[1] === sort).forEach(thing => line(words[sort], thing[4]));
   if (waits) line('waits', waits);
-  things.filter(thing => thing[1] === 3).forEach(thing => line(words[3], thing[4]));
+  things.filter(thing => thing[1] === 3).forEach(thing => {
+    line(words[3], thing[4]);
+    if (thing[6].length) list.lastChild.append(valuesBox(thing[6]));
+  });
   box.append(list);
   return box;
 }

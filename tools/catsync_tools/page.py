@@ -10,7 +10,7 @@ from .state import state_of
 from .story import Story
 from .svg import number
 
-PAGE_WIDTH = 840        # of the picture in a window of 1300 by 800; in a wider one it is wider
+PAGE_WIDTH = 780        # of the picture in a window of 800, with the panel below it; in a wider one it is wider
 HERE = os.path.dirname(os.path.abspath(__file__))
 
 

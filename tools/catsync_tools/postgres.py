@@ -20,6 +20,7 @@ OTHER_USERS = ("postgres", "nobody")        # who runs it where this is root, fo
 SETTINGS = {"listen_addresses": "", "fsync": "off", "autovacuum": "off", "lock_timeout": "20ms", "max_connections": "80",
             "shared_buffers": "16MB", "client_min_messages": "notice", "max_wal_senders": "0"}
 PATIENCE = 60           # seconds for the start, and for the end
+IN_ORDER = 10           # seconds for an end in order, to which a server that is asked for it amid a crash of its own doesn't come
 
 
 def folder_of_programs():
@@ -41,6 +42,14 @@ def account():
         except KeyError:
             continue
     raise Fault("no user to run the server, which doesn't run as root: none of %s" % ", ".join(OTHER_USERS))
+
+
+def become(user):
+    """Called in a child before it runs a program of this account."""
+    if user:
+        os.setgroups([])
+        os.setgid(user[1])
+        os.setuid(user[0])
 
 
 class Server:
@@ -83,10 +92,7 @@ class Server:
         """Called in a child before it runs a program of the server. Ctrl-C is this process's to hear."""
         os.setpgid(0, 0)
         signal.pthread_sigmask(signal.SIG_UNBLOCK, SIGNALS)
-        if self.account:
-            os.setgroups([])
-            os.setgid(self.account[1])
-            os.setuid(self.account[0])
+        become(self.account)
 
     def begin(self, program, *words):
         """Begins a program of the server, which is this one's process then."""
@@ -161,10 +167,10 @@ class Server:
     def stop_process(self):
         """Stops what runs in the folder."""
         if self.process is not None and self.process.poll() is None:
-            for how in (signal.SIGINT, signal.SIGQUIT, signal.SIGKILL):
+            for how, patience in ((signal.SIGINT, IN_ORDER), (signal.SIGQUIT, PATIENCE), (signal.SIGKILL, PATIENCE)):
                 self.process.send_signal(how)
                 try:
-                    self.process.wait(PATIENCE)
+                    self.process.wait(patience)
                     break
                 except subprocess.TimeoutExpired:
                     continue

@@ -1,5 +1,6 @@
 """Runs `catsync walk` on scripts."""
 import glob
+import hashlib
 import os
 import subprocess
 import tempfile
@@ -10,6 +11,7 @@ from .interrupts import SIGNALS, Interrupts
 
 TOP = os.path.dirname(os.path.dirname(os.path.dirname(os.path.abspath(__file__))))
 PROVED = os.path.join(TOP, "crates", "catsync", "out", "catsync")
+UNPROVED = os.path.join(TOP, "crates", "catsync", "out", "unproved-")       # and the sum of the sources it was built of
 
 Step = Tuple[int, int, str]         # a step of a history: its backend, its command, and the text of its event
 
@@ -32,12 +34,37 @@ def is_up_to_date(program):
     return all(os.path.getmtime(source) <= made for source in sources if os.path.isfile(source))
 
 
-def proved_program():
-    """The proved executable."""
-    if not is_up_to_date(PROVED):
-        raise Fault("no proved executable that is up to date: ./prove makes it, or 'rt run' in crates/catsync; "
-                    "--program FILE names another")
-    return PROVED
+def sum_of_sources():
+    """The sum of the sources of which the program is built without proof; ./catsync makes the same."""
+    paths = [os.path.join(TOP, "crates.txt")]
+    for folder in glob.glob(os.path.join(TOP, "crates", "*", "src")):
+        paths += [os.path.join(inner, name) for inner, _, names in os.walk(folder) for name in names]
+    sums = hashlib.sha256()
+    for path in sorted((path for path in paths if os.path.isfile(path) and not os.path.islink(path)), key=os.fsencode):
+        with open(path, "rb") as file:
+            sums.update(b"%s  %s\n" % (hashlib.sha256(file.read()).hexdigest().encode(), os.fsencode(os.path.relpath(path, TOP))))
+    return sums.hexdigest()[:16]
+
+
+def built_program():
+    """The proved executable where it is up to date, else the program that ./catsync has built without proof of the sources as they
+    are; None where there is neither."""
+    if is_up_to_date(PROVED):
+        return PROVED
+    try:
+        unproved = UNPROVED + sum_of_sources()
+    except OSError:
+        return None
+    return unproved if os.access(unproved, os.X_OK) else None
+
+
+def own_program():
+    """The program that is run where the command line names none."""
+    program = built_program()
+    if program is None:
+        raise Fault("no executable that is up to date: './catsync make 1' builds one without proof, in some 75 s of "
+                    "processor time, and ./prove a proved one; --program FILE names another")
+    return program
 
 
 def step_of(line):

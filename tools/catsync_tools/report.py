@@ -1,4 +1,5 @@
 """What tools/explore prints."""
+from html import escape
 from typing import List, NamedTuple, Optional
 
 from .faults import Fault
@@ -6,7 +7,7 @@ from .findings import Answers, Found, without_places
 from .program import Run
 from .scripts import Turns, steps_line
 from .search import COMMANDS, TRANSACTIONS, lines_of
-from .sentences import counted
+from .sentences import counted, estimate
 
 
 class Shown(NamedTuple):
@@ -24,6 +25,7 @@ class Extent(NamedTuple):
     most_orders: Optional[int]      # where there are more orders than this, so that schedules were drawn
     is_over: bool
     parts: str                      # of which parts, or nothing
+    guess: Optional[int] = None     # about how many orders there are, where schedules were drawn
 
     @property
     def ran(self):
@@ -42,6 +44,11 @@ class Extent(NamedTuple):
             ran = "all " + ran
         ran += self.parts
         return ran if self.is_over else "stopped after " + ran
+
+    @property
+    def guessed(self):
+        """Lines of about how many orders there are."""
+        return [] if self.guess is None else ["there are %s" % estimate(self.guess, self.most_orders)]
 
 
 class Serial(NamedTuple):
@@ -87,15 +94,54 @@ def led_to(found: Found, all_schedules):
     return "%s (%d turns; the fewest are %d or more)" % (count, found.size[0], found.least[0])
 
 
-def report(extent: Extent, serial: Serial, sets: List[Shown]):
-    """All sets of answers, with how many schedules led to each, and the shortest of these."""
-    lines = []
-    for number, shown in enumerate(sets, 1):
-        lines += ["", "set %d: %s%s" % (number, led_to(shown.found, extent.ran), serial.mark(shown.answers)),
-                  steps_line(shown.found.turns)] + list(shown.answers)
+def head_of(extent: Extent, serial: Serial, sets: List[Shown]):
+    """What was run, and how many sets there are."""
     interleaved = sum(serial.is_interleaved(shown.answers) for shown in sets)
-    head = "%s: %s of answers, %s only when interleaved" % (extent.text, counted(len(sets), "set"), interleaved or "none")
-    return "\n".join([head] + lines) + "\n"
+    return ["%s: %s of answers, %s only when interleaved" % (extent.text, counted(len(sets), "set"), interleaved or "none")
+            ] + extent.guessed
+
+
+def lines_of_set(extent: Extent, serial: Serial, number, shown: Shown):
+    """A set of answers, with how many schedules led to it, and the shortest of these."""
+    return ["set %d: %s%s" % (number, led_to(shown.found, extent.ran), serial.mark(shown.answers)),
+            steps_line(shown.found.turns)] + list(shown.answers)
+
+
+def report(extent: Extent, serial: Serial, sets: List[Shown]):
+    """All sets of answers."""
+    lines = head_of(extent, serial, sets)
+    for number, shown in enumerate(sets, 1):
+        lines += [""] + lines_of_set(extent, serial, number, shown)
+    return "\n".join(lines) + "\n"
+
+
+INDEX = """<!DOCTYPE html>
+<html lang="en">
+<meta charset="utf-8">
+<meta name="viewport" content="width=device-width">
+<title>%(title)s</title>
+<style>
+body { font: 15px/1.5 sans-serif; margin: 1.5em; max-width: 90em }
+img { max-width: 100%% }
+iframe { width: 100%%; height: 40em; border: 1px solid #bbb }
+pre { white-space: pre-wrap }
+</style>
+%(body)s
+</html>
+"""
+
+
+def index_page(extent: Extent, serial: Serial, sets: List[Shown], are_pages):
+    """A page of all sets, each with its picture, which lies beside it."""
+    head = head_of(extent, serial, sets)
+    body = ["<p>%s</p>" % escape(line) for line in head]
+    for number, shown in enumerate(sets, 1):
+        first, *lines = lines_of_set(extent, serial, number, shown)
+        name = "set%d.%s" % (number, "html" if are_pages else "svg")
+        picture = '<iframe src="%s" loading="lazy" title="set %d"></iframe>' if are_pages else '<img src="%s" loading="lazy" alt="set %d">'
+        body += ['<h2 id="set%d"><a href="%s">%s</a></h2>' % (number, name, escape(first)),
+                 "<pre>%s</pre>" % escape("\n".join(lines)), picture % (name, number)]
+    return INDEX % {"title": escape(head[0]), "body": "\n".join(body)}
 
 
 def found_text(extent: Extent, wanted, turns: Turns, run: Run):
@@ -107,6 +153,5 @@ def found_text(extent: Extent, wanted, turns: Turns, run: Run):
 
 def not_found(extent: Extent, texts):
     """That no schedule has the texts."""
-    if len(texts) == 1:
-        return "%s: no answer and no entry has the text %s\n" % (extent.text, texts[0])
-    return "%s: none has all of these texts: %s\n" % (extent.text, ", ".join(texts))
+    none = "no answer and no entry has the text " if len(texts) == 1 else "none has all of these texts: "
+    return "\n".join(["%s: %s%s" % (extent.text, none, ", ".join(texts))] + extent.guessed) + "\n"

@@ -1,4 +1,6 @@
 """Runs a script after its set-up."""
+from collections import Counter
+
 from .counting import setup_turns
 from .program import Run
 from .runs import Runs
@@ -16,10 +18,7 @@ class Runner:
         stopped = {backend for backend, _, text in self.past if text == "stop"}
         self.backends = [backend for backend in self.runs.backends if backend not in stopped]
 
-    @property
-    def longest(self):
-        """How many steps a run after the set-up has at most, by those that were seen."""
-        return self.runs.longest - len(self.past)
+        self.steps = Counter(backend for backend, _, _ in first.steps[len(self.past):])     # of each, as this run went
 
     def run(self, first, rest):
         """The run in which these backends make the first steps after the set-up, and these then go on to their stop."""

@@ -2,7 +2,7 @@
 from .arguments import Arguments
 from .counting import counted_script
 from .faults import read_input, write_output
-from .program import PROVED, Program, is_up_to_date, proved_program
+from .program import Program, built_program, own_program
 from .sources import read_source
 
 
@@ -17,15 +17,16 @@ def arguments_of(words):
 
 def check(script, program):
     """A script in which nothing had to be counted is run too, where there is a program: a Fault says what that refuses."""
-    if program or is_up_to_date(PROVED):
-        Program(program or PROVED).run(script)
+    program = program or built_program()
+    if program:
+        Program(program).run(script)
 
 
 def main(words):
     """Rewrites the script on standard input."""
     options = arguments_of(words)
     source = read_source(read_input())
-    script = counted_script(source, lambda: Program(options.program or proved_program()))
+    script = counted_script(source, lambda: Program(options.program or own_program()))
     if not source.has_names:
         check(script, options.program)
     write_output(script.decode("utf-8", "surrogateescape"))

@@ -3,7 +3,7 @@ import contextlib
 import os
 import random
 import re
-from typing import Dict, NamedTuple, Optional, Pattern, Tuple
+from typing import Dict, List, NamedTuple, Optional, Pattern, Set, Tuple
 
 from .access import Accesses
 from .findings import Answers, Findings, without_places
@@ -15,6 +15,7 @@ from .program import Program
 from .runner import Runner
 from .schedules import random_schedule
 from .scripts import Turns
+from .sentences import about
 from .serial import SerialRuns, WholeAccesses, commands_of, transactions_of
 from .shares import shares
 from .turns import fewest_turns
@@ -29,13 +30,26 @@ MOST_SERIAL = 1000      # serial orders of each kind
 TRANSACTIONS, COMMANDS = "transactions", "commands"     # what is made one after the other in a serial order
 
 
+class Far(NamedTuple):
+    """How far a task is: how many schedules it has run, and about which part of them that is."""
+    schedules: int
+    part: float
+
+
 class Piece:
     """What a task has found."""
 
     def __init__(self, places):
         self.findings = Findings(places)
-        self.schedules = 0
+        self.schedules, self.part = 0, 0.0
         self.found: Optional[Turns] = None      # the schedule that is looked for
+        self.reached: Dict[int, Tuple[Turns, Answers]] = {}     # of what is expected (trial.py)
+        self.came: Dict[int, Dict[str, None]] = {}              # what came in its place
+
+    @property
+    def far(self):
+        """How far it is."""
+        return Far(self.schedules, self.part)
 
 
 class Settings(NamedTuple):
@@ -54,7 +68,6 @@ class Exploration:
         self.settings, self.source, self.progress = settings, source, progress
         self.program = Program(program)
         self.runner = Runner(source, self.program)
-        self.longest = self.runner.longest      # steps of a random schedule, before all go on to their stop
         self.accesses = Accesses(settings.places, self.runner.past)
         walks = Walks if settings.places else KnownWalks
         self.walks = walks(self.runner.run, self.accesses)
@@ -64,8 +77,28 @@ class Exploration:
         self.schedules = 0
         self.is_random, self.is_over = False, False
         self.found: Optional[Turns] = None      # the schedule that was looked for
+        self.far: List[Far] = []                # how far the last tasks came
+        self.guess: Optional[int] = None        # about how many orders there are, where these are more than are to be run
 
     # What is found
+
+    @property
+    def is_found(self):
+        """Whether what is looked for is found."""
+        return self.found is not None
+
+    @property
+    def looks_for(self):
+        """Whether anything is looked for."""
+        return bool(self.settings.wanted)
+
+    def is_enough(self, piece: Piece, _before: Set[int]):
+        """Whether what is looked for is found with what a task has found, after what those before it have."""
+        return piece.found is not None
+
+    def learn(self, piece: Piece):
+        """Takes what a task has found."""
+        self.findings.merge(piece.findings.sets)
 
     def add(self, piece: Piece, answers, steps):
         """One more schedule of a task; whether it is the one that is looked for."""
@@ -94,7 +127,7 @@ class Exploration:
         commands = self.source.script.commands()
         transactions = transactions_of(commands)
         self.run_serial_of(TRANSACTIONS, transactions)
-        if self.found is None and transactions != commands_of(commands):
+        if not self.is_found and transactions != commands_of(commands):
             self.run_serial_of(COMMANDS, commands_of(commands))
         self.findings.start_counting()
 
@@ -113,7 +146,7 @@ class Exploration:
             self.progress.show(piece.schedules, MOST_SERIAL, "%d serial orders of %s" % (piece.schedules, kind))
             if self.add(piece, answers, history_of(runs.last.steps, self.accesses).steps):
                 break
-        self.findings.merge(piece.findings.sets)
+        self.learn(piece)
         self.found = piece.found
 
     # All orders
@@ -122,23 +155,27 @@ class Exploration:
         """A task: all orders of a share."""
         def task():
             """What is found, after each order."""
-            piece = Piece(self.settings.places)
+            piece, search = Piece(self.settings.places), Search(self.walks, self.runner.backends, share)
             yield piece
-            for answers, history in Search(self.walks, self.runner.backends, share).orders():
+            for answers, history in search.orders():
                 if answers is not None:
                     found = self.add(piece, answers, history.steps)
+                    piece.part = search.done
                     yield piece
                     if found:
                         return
         return task
 
     def run_orders(self, most):
-        """Runs all orders where there are at most so many; whether that is so."""
-        if not self.do([self.orders_of(WHOLE)], min(most, FIRST), 1, "orders", most):
-            if most <= FIRST:
-                return False
-            return self.do([self.orders_of(share) for share in self.shares(SHARES)], most, self.settings.jobs, "orders")
-        return True
+        """Runs all orders where there are at most so many; whether that is so. Where it isn't, the guess is that of the first
+        ones, which is the same for any number of processes, but more than were run."""
+        if self.do([self.orders_of(WHOLE)], min(most, FIRST), 1, "orders", most):
+            return True
+        self.guess = guess_of(self.far) or 0
+        if most > FIRST and self.do([self.orders_of(share) for share in self.shares(SHARES)], most, self.settings.jobs, "orders"):
+            return True
+        self.guess = max(self.guess, most + 1)
+        return False
 
     def shares(self, count):
         """The shares of the search."""
@@ -159,7 +196,7 @@ class Exploration:
             yield piece
             for number in numbers:
                 draw = random.Random("%s/%d" % (self.settings.seed, number))
-                run = self.runner.run(*random_schedule(draw, self.runner.backends, self.longest))
+                run = self.runner.run(*random_schedule(draw, self.runner.steps))
                 found = self.add(piece, run.answers, history_of(run.steps, self.accesses).steps)
                 yield piece
                 if found:
@@ -181,32 +218,33 @@ class Exploration:
         had more schedules than so many: otherwise nothing is kept of several tasks, since what they had found by then isn't
         the same each time."""
         jobs = Jobs(tasks, count, self.program.split_off)
-        schedules = [0] * len(tasks)
+        far = [Far(0, 0.0)] * len(tasks)
         self.is_over, is_within = False, True
+        self.progress.begin()
         try:
             with contextlib.closing(jobs.run()) as going:
-                for number, schedules[number] in going:
+                for number, far[number] in going:
                     self.program.interrupts.check()
-                    self.show(sum(schedules), shown or most, kind)
-                    is_within = most is None or not self.is_beyond(jobs, schedules, most)
+                    self.show(far, shown or most, kind)
+                    is_within = most is None or not self.is_beyond(jobs, [one.schedules for one in far], most)
                     if not is_within or self.first_found(jobs) is not None:
                         break
         finally:
             if is_within or len(tasks) == 1:
                 self.keep(jobs)
-        self.is_over = is_within
+        self.is_over, self.far = is_within, far
         return is_within
 
     def is_beyond(self, jobs, schedules, most):
         """Whether tasks, done one after the other, have more schedules than so many before one of them finds what is looked
         for. That doesn't depend on how far each is, so that it is the same for any number of processes."""
-        if not self.settings.wanted:
+        if not self.looks_for:
             return sum(schedules) > most
-        done = 0
+        done, before = 0, set()
         for number, is_done in enumerate(jobs.is_done):
             piece = jobs.pieces.get(number)
             done += schedules[number]
-            is_found = piece is not None and piece.found is not None
+            is_found = piece is not None and self.is_enough(piece, before)
             may_be_last = piece is None and schedules[number] > 0     # a process says later what it found in its last one
             if done - (is_found or may_be_last) > most:
                 return True
@@ -216,9 +254,12 @@ class Exploration:
 
     def first_found(self, jobs):
         """The first task that has found what is looked for, if all before it have come to their end without it."""
+        if not self.looks_for:
+            return None
+        before = set()
         for number, is_done in enumerate(jobs.is_done):
             piece = jobs.pieces.get(number)
-            if piece is not None and piece.found is not None:
+            if piece is not None and self.is_enough(piece, before):
                 return piece
             if not is_done:
                 return None
@@ -230,19 +271,31 @@ class Exploration:
         self.findings.start_counting()
         self.schedules = 0
         for number, piece in sorted(jobs.pieces.items()):
-            self.findings.merge(piece.findings.sets)
+            self.learn(piece)
             self.schedules += piece.schedules
             if piece is found:
                 break
         self.found = found.found if found is not None else None
 
-    def show(self, done, most, kind):
-        """Shows how far the search is."""
-        if most:
-            self.progress.show(done, most, "%d of at most %d %s, %d sets of answers" % (
-                done, most, kind, len(self.findings.sets)))
-        else:
-            self.progress.show(0, 1, "%d %s" % (done, kind))
+    def show(self, far, most, kind):
+        """Shows how far the search is; of orders also about how many there are."""
+        done, guess = sum(one.schedules for one in far), guess_of(far)
+        text = "%d of at most %d %s, %s" % (done, most, kind, self.so_far()) if most else "%d %s" % (done, kind)
+        if guess is not None and guess >= done:
+            text += "; some %s by an estimate" % about(guess) if int(about(guess)) >= done else ""
+            most = min(guess, most or guess)
+        self.progress.show(done if most else 0, most or 1, text)
+
+    def so_far(self):
+        """What was found before the tasks at hand."""
+        return "%d sets of answers" % len(self.findings.sets)
+
+
+def guess_of(far):
+    """About how many orders there are, by how far each task is: one that isn't begun is guessed to have as many as others. None
+    where nothing is known."""
+    begun = [one.schedules / one.part for one in far if one.schedules and one.part]
+    return round(sum(begun) * len(far) / len(begun)) if begun else None
 
 
 def lines_of(run):

@@ -28,6 +28,18 @@ def counted(count, word):
     return "%d %s" % (count, word if count == 1 else many)
 
 
+def about(number):
+    """A number that is guessed, with two digits that count."""
+    size = 10 ** max(0, len("%d" % number) - 2)
+    return "%d" % (round(number / size) * size)
+
+
+def estimate(guess, done):
+    """About how many orders there are, where so many are done and not all: a guess below that is none."""
+    is_more = guess is not None and int(about(guess)) > done
+    return "some %s orders by an estimate" % about(guess) if is_more else "more than %s" % counted(done, "order")
+
+
 def listed(words, most=6):
     """`a`, `a and b`, `a, b and c`; of more than so many the first ones, and how many more there are."""
     words = list(words)

@@ -5,7 +5,7 @@ from .counting import counted_script
 from .differences import all_differences, profile
 from .faults import faults_of, read_file, write_output
 from .postgres import Server
-from .program import Program, proved_program
+from .program import Program, own_program
 from .sentences import counted
 from .sources import read_source
 
@@ -26,7 +26,7 @@ def arguments_of(words):
 def main(words):
     """Compares a script's answers with those of a server."""
     options = arguments_of(words)
-    data, program = read_file(options.script), Program(options.program or proved_program())
+    data, program = read_file(options.script), Program(options.program or own_program())
     with faults_of(options.script):
         source = read_source(data)
         program.run(counted_script(source, lambda: program))    # what is faulty in it needs no server
@@ -48,7 +48,7 @@ def report(version, all_compared, found):
         ", %d in a way that docs/PROFILE.md doesn't name" % new if new else "")]
     for compared, differences in zip(all_compared, found):
         lines += ["", "%d.%d %s" % (compared.command + (compared.text,))] + answers(compared)
-        lines += ["    " + said(each) for each in differences]
+        lines += ["    " + said(each) for each in differences] + made_alike(compared)
     return "\n".join(lines) + "\n"
 
 
@@ -60,10 +60,17 @@ def answers(compared):
     return ["    here    " + compared.here] + ["    server  " + text for text in server]
 
 
+def made_alike(compared):
+    """How both were made alike after the command, and what of it wasn't compared."""
+    lines = ["    not compared: " + what for what in compared.left_out]
+    refused = [text.startswith("error ") for text in (compared.here, compared.server.text)]
+    if refused[0] != refused[1]:
+        lines.append("    from here on it counts as refused in both")
+    return lines
+
+
 def said(difference):
     """What is said of a difference."""
     if difference.words is not None:
         return "differs in %s, as docs/PROFILE.md says: %s" % (difference.part, difference.words)
-    if difference.after is not None:
-        return "differs in %s, after %s" % (difference.part, difference.after)
     return "differs in %s, and docs/PROFILE.md doesn't say so" % difference.part

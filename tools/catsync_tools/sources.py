@@ -21,12 +21,13 @@ from .scripts import Script
 from .spellings import refused, respelled, tokens_of, without_comment, words_of
 
 MOST_BYTES = 1048576
-OTHER, COMMAND, STEPS, EXPECT = "other", "command", "steps", "expect"
+OTHER, COMMAND, STEPS, EXPECT, SERVER = "other", "command", "steps", "expect", "server"
 
 _COMMAND = re.compile(r"([ \t]*([0-9]{1,9})[ \t]*:)(.*)", re.DOTALL)
 _NUMBER = re.compile("[0-9]{1,9}")
 _OTHER_BYTE = re.compile("[^\t -~]")
 _SETUP = re.compile(r"[ \t]*setup(?=[ \t])[ \t]*", re.IGNORECASE)
+_SERVER = re.compile(r"[ \t]*server[ \t]+([0-9]{1,9})[ \t]*\.[ \t]*([0-9]{1,9})[ \t]*:[ \t]*(.*\S)[ \t]*", re.IGNORECASE)
 
 
 class Line(NamedTuple):
@@ -44,6 +45,7 @@ class Source(NamedTuple):
     commands: Dict[Tuple[int, int], str]
     setup: List[Item]
     expected: List[Expectation]
+    served: Dict[Tuple[int, int], List[str]]        # what tools/replay asks the server alone, after which command
 
     @property
     def script(self):
@@ -61,6 +63,18 @@ class Source(NamedTuple):
         return bool(self.setup) or any(not isinstance(item.until, Count) for item in self.items)
 
 
+def named(text):
+    """What the first byte of a text is, where it has a name or begins a character of UTF-8."""
+    known = {"\r": " (a carriage return that no line feed follows)", "\0": " (NUL)"}
+    for count in (2, 3, 4) if text[:1] >= "\x80" else ():
+        try:
+            code = ord(text[:count].encode("latin-1").decode("utf-8"))
+        except (UnicodeDecodeError, TypeError):
+            continue
+        return " (a byte order mark)" if code == 0xFEFF else " (of the character U+%04X)" % code
+    return known.get(text[:1], "")
+
+
 def no_backends(number):
     """The fault of a script without a line of backends, where another line stands in place of it."""
     return Fault("line %d: NoBackends: the first line, but for a ring line, must read 'backends N'" % number)
@@ -70,7 +84,7 @@ class Reader:
     """Reads the lines of a script one after the other."""
 
     def __init__(self):
-        self.source = Source([], [], {}, [], [])
+        self.source = Source([], [], {}, [], [], {})
         self.backends = 0
         self.counts: Dict[int, int] = {}
         self.latest = OTHER
@@ -108,19 +122,23 @@ class Reader:
         """A line that counts, before `end`."""
         other = _OTHER_BYTE.search(text)
         if other:
-            raise Fault("line %d: BadByte: the byte 0x%02X in column %d is neither printable ASCII nor a tab" % (
-                self.number, ord(other.group()), other.start() + 1))
+            raise Fault("line %d: BadByte: the byte 0x%02X in column %d%s is neither printable ASCII nor a tab" % (
+                self.number, ord(other.group()), other.start() + 1, named(text[other.start():])))
         first = tokens_of(text)[0]
-        if self.has_none and first not in ("ring", "expect"):
+        if self.has_none and first not in ("ring", "expect", "server"):
             if first != "backends":
                 raise no_backends(self.number)
             self.has_none = False
+        if first == "end":
+            raise Fault("line %d: UnknownBackend: the line 'end' has that word alone, without a semicolon" % self.number)
         if words[0] == "steps":
             self.put(STEPS, line, read_items(self.number, text))
             self.latest = STEPS
         elif words[0] == "expect":
             self.source.expected.append(read_expectation(self.number, text))
             self.put(EXPECT, b"-- " + line)
+        elif words[0] == "server":
+            self.take_served(line, text)
         elif words[0] == "setup":
             self.take_setup(line, text)
         elif _COMMAND.fullmatch(text):
@@ -141,6 +159,14 @@ class Reader:
         number = self.number
         backend = self.take_command(command.encode("latin-1"), command)
         self.source.setup.append(Item(number, " ".join(text.split()), backend, Answered(self.counts[backend])))
+
+    def take_served(self, line, text):
+        """What the server alone is asked after a command; 0 stands for before the first."""
+        found = _SERVER.fullmatch(text)
+        if not found:
+            raise Fault("line %d: a line for the server must read 'server B.C: SQL'" % self.number)
+        self.source.served.setdefault((int(found.group(1)), int(found.group(2))), []).append(found.group(3))
+        self.put(SERVER, b"-- " + line)
 
     def take_command(self, line, text):
         """A command line; its backend."""
@@ -166,6 +192,9 @@ class Reader:
                 check_item(item, self.backends, self.counts)
         for expectation in self.source.expected:
             check_expectation(expectation, self.counts)
+        for backend, command in self.source.served:
+            if backend not in self.counts or command > self.counts[backend]:
+                raise Fault("there is no command %d of backend %d, after which the server is asked" % (command, backend))
         return self.source
 
 

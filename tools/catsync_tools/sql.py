@@ -52,6 +52,7 @@ _OPENED = re.compile("(open|close) %s" % _NAME)
 _PEEKED = re.compile("peek %s(?: (%s))?" % (_NAME, "|".join(FIELDS + OTHER_FIELDS)))
 _LISTED = re.compile("(?:columns %s|column %s %s)" % (_NAME, _NAME, _NAME))
 _REGCLASS = re.compile("regclass ([0-9]+)")
+GUARD = "catsync guard"     # a savepoint that no script can name
 NO_OID = 2 ** 32 - 1    # which no relation of a new database has
 
 # Each field of the table `T`, as one row with one value, in the words of an answer here.
@@ -204,6 +205,39 @@ class Asked:
         self.cursors: List[Tuple[str, str, int]] = []       # names, each with that of its cursor and the relation's oid
         self.levels: List[Tuple[str, List[Tuple[str, str, int]]]] = []      # savepoints, each with the cursors there were
         self.opened = 0
+        self.has_failed = False                 # whether the block has
+        self.guard = ""                         # how the latest command can be taken back: its block, or its level in one
+        self.before: List[Tuple[str, str, int]] = []        # the cursors there were before it
+
+    def try_out(self, statement):
+        """The answer to a command, which `end_try` lets stand or takes back. What begins and ends blocks and levels isn't taken back,
+        nor what needs a block and has none."""
+        needs_block = isinstance(statement, (Opened, Peeked, Closed)) or str(statement).startswith("lock table ")
+        self.guard, self.before = "", list(self.cursors)
+        if statement in ("begin", "commit", "rollback") or _LEVEL.fullmatch(str(statement)) or not self.in_block and needs_block:
+            self.has_failed = self.has_failed and not str(statement).startswith(("begin", "commit", "rollback"))
+            return self.ask(statement)
+        if not self.in_block:
+            self.guard, self.in_block = "block", True
+            self.session.ask("begin")
+        elif not self.has_failed:
+            self.guard = "level"
+            self.session.ask('savepoint "%s"' % GUARD)
+        return self.ask(statement)
+
+    def end_try(self, stands, fails):
+        """The latest command stands or is taken back, and with it, where it fails, the level that it is in."""
+        if self.guard == "block":
+            self.session.ask("commit" if stands else "rollback")
+            self.in_block, self.cursors = False, []
+        elif self.guard == "level":
+            if not stands:
+                self.session.ask('rollback to savepoint "%s"' % GUARD)
+                self.cursors = self.before
+            self.session.ask('release savepoint "%s"' % GUARD)
+            if fails:
+                self.refuse("P0001", "as here")
+        self.has_failed = self.has_failed or fails and self.guard != "block" and self.in_block
 
     def ask(self, statement):
         """The answer to a command."""

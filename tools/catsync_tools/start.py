@@ -24,7 +24,7 @@ def run(name):
         return main(sys.argv[1:])
     except Fault as fault:
         say("%s: %s" % (name, fault))
-        return BAD
+        return fault.status
     except KeyboardInterrupt:
         say("%s: interrupted" % name)
         return INTERRUPTED

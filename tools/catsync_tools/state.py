@@ -9,6 +9,7 @@ from typing import Dict, List, NamedTuple, Optional
 from .layout import CHAR, Layout, Wanted
 from .sentences import MODE_NAMES, listed
 from .story import Story
+from .values import shown, values_of
 from .why import Why, at
 
 COMMAND, TRANSACTION, LOCK, KEPT, UNSENT = range(5)
@@ -21,6 +22,7 @@ class Thing(NamedTuple):
     first: int
     last: Optional[int]
     text: str
+    kept: Optional[int] = None          # which one of all that is kept
 
 
 def phases(backend, sort, first, last, changes):
@@ -52,14 +54,25 @@ def lock_things(story: Story):
 def kept_things(story: Story):
     """What is kept."""
     why = Why(story)
-    for kept in story.kept:
+    for index, kept in enumerate(story.kept):
         building, built = why.kept(kept, kept.first, ""), why.kept(kept, None, "")
         outdated = ", out of date since %s" % at(kept.outdated or 0)
         changes = [(kept.first, building), (kept.built, built), (kept.outdated, built + outdated)]
         if kept.outdated and (kept.built is None or kept.outdated < kept.built):
             changes = [(kept.first, building), (kept.outdated, building + outdated), (kept.built, built + outdated)]
         for thing in phases(kept.backend, KEPT, kept.first, kept.last, changes):
-            yield thing._replace(text=thing.text.strip())
+            yield thing._replace(text=thing.text.strip(), kept=index)
+
+
+def values_shown(reads):
+    """The values of some scans, each with its entry and its field."""
+    return [[read.entry, field, shown(value)] for read in reads for field, value in values_of(read.datum, read.rows)]
+
+
+def kept_values(story: Story, things):
+    """What is read and what is true of the things that are kept, by their numbers."""
+    return {str(thing.kept): [values_shown(story.kept[thing.kept].read), values_shown(story.kept[thing.kept].true)]
+            for thing in things if thing.kept is not None}
 
 
 def unsent_things(story: Story):
@@ -131,11 +144,12 @@ def state_of(story: Story, wanted: Wanted, layout: Layout, sentences):
     span = wanted.span
     entries = [[facts.entry.backend, facts.entry.line, sentences[facts.entry.number], int(is_plain_look(facts))]
                for facts in story.facts[span.first - 1:span.last]]
+    things = list(things_of(story, wanted))
     rows = [[row.content.first, row.content.last, round(row.y - layout.rows[0].y, 1), row.height]
             for row in layout.rows if row.kind == "entry"]
     return {
         "first": span.first, "entries": entries, "rows": rows,
-        "things": [list(thing) for thing in things_of(story, wanted)],
+        "things": [list(thing) for thing in things], "kept": kept_values(story, things),
         "lives": [[life.backend, life.first, life.last] for life in story.lives],
         "places": {str(backend): own for backend, own in story.log.places.items()},
         "lanes": {str(lane.backend): [lane.left, lane.right] for lane in layout.lanes.values()},

@@ -2,7 +2,7 @@
 use Rattle.std.proofs.Common.{◌≡◌, ◌≢◌, ◌∙◌, ℕ, Bool, false, List, [], ◌∷◌, ◌++◌, refl, sym, ap, subst, append_assoc, append-nil, ne_eqb}
 use Rattle.std.specs.List.{AllByRecursion}
 use Rattle.std.proofs.lemmas.List.{map_push}
-use Rattle.history_model.specs.Legal.{AllowsLook}
+use Rattle.history_model.specs.MayFollow.{AllowsLook}
 use Rattle.seg_calls.specs.Calls.{MayCall}
 use Rattle.backend_core.specs.Types.{Scenario, Entry, Backend}
 use Rattle.backend_core.specs.declared.turns.HeldLook.{HeldLook}

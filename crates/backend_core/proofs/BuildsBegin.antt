@@ -20,7 +20,7 @@ use Rattle.history_model.specs.Drawn.{next_oid}
 use Rattle.history_model.specs.Log.{fetched_by}
 use Rattle.history_model.specs.Read.{is_usable, usable_by, spares_by}
 use Rattle.history_model.specs.Sent.{messages_written, lists_of}
-use Rattle.history_model.specs.Writes.{is_empty}
+use Rattle.history_model.specs.Changing.{is_empty}
 use Rattle.history_model.proofs.Prefixes.{each-keeps, along-keeps}
 use Rattle.history_model.proofs.Reading.{is_usable-own, is_usable-other}
 use Rattle.cacheless.specs.Types.{OpenRelation}

@@ -33,7 +33,7 @@ makes_look was now look some_wait alive next looks = λ scenario seen stands pla
     let call = looks_call scenario seen was look some_wait ready.waits next allows in
     let well = looks scenario seen ready call.follows in
     let later = played_more scenario seen (look_of was some_wait) ready.played ready.course call.follows well.next in
-    record { id = well.id; number = well.number; call = call; next = well.next; played = later.0; agrees = well.agrees }
+    record { id = well.id; number = well.number; call = call; next = well.next; played = later.0; agrees = well.agrees; goes = well.goes }
 
 -- of looks that may be called for in order each may, after those before it
 call_at : (scenario : Scenario) (before : List Entry) (b : ℕ) (held : List HeldLook) (i : ℕ) (d : HeldLook) → i < length held → MayCallAll scenario before (entries_of b held) → MayCall scenario (before ++ entries_of b (take i held)) (entry_held b (get_or held i d))

@@ -14,4 +14,5 @@ pub mod Locking
 pub mod Unlocking
 pub mod Writing
 pub mod Leaving
+pub mod WhereLeft
 pub mod Noting

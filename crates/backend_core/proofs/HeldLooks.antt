@@ -2,7 +2,8 @@
 use Rattle.std.proofs.Common.{◌≡◌, ◌≢◌, ◌∙◌, ℕ, true, false, List, [], ◌∷◌, ◌++◌, refl, sym, ap, subst, append_assoc, append-nil}
 use Rattle.std.proofs.lemmas.Bool.{eq-eqb, false_from_ne_true, both_ways}
 use Rattle.std.specs.List.{AllByRecursion}
-use Rattle.history_model.specs.Legal.{IsLegal, AllowsLook}
+use Rattle.history_model.specs.Legal.{IsLegal}
+use Rattle.history_model.specs.MayFollow.{AllowsLook}
 use Rattle.history_model.specs.Log.{is_waiting, has_waited}
 use Rattle.history_model.proofs.Waiting.{not_waited, waited_of-look, waited_of-others, waiting-look, waiting-others}
 use Rattle.backend_core.specs.Types.{Entry}

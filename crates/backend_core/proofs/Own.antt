@@ -5,8 +5,9 @@ use Rattle.event_kinds.specs.declared.entry.Event.TheVariants as events
 use Rattle.ddl_effect.specs.Commands.{commands_of}
 use Rattle.history_model.specs.Drawn.{next_oid}
 use Rattle.history_model.specs.Lapped.{FetchesFrom}
-use Rattle.history_model.specs.Legal.{MayFollow}
-use Rattle.history_model.specs.Lives.{Alive, life_by, life_of}
+use Rattle.history_model.specs.MayFollow.{MayFollow}
+use Rattle.history_model.specs.Lives.{life_by, life_of}
+use Rattle.history_model.specs.declared.life.Life.TheVariants.{Alive}
 use Rattle.history_model.proofs.Reading.{life_of-own}
 use Rattle.history_model.proofs.Sound.{sound_is_legal}
 use Rattle.seg_calls.specs.Calls.{places_for, Appends}

@@ -1,6 +1,6 @@
 -- A history that was played so far, with one more entry.
 use Rattle.std.proofs.Common.{List, [], ◌∷◌, ◌++◌}
-use Rattle.history_model.specs.Orderly.{MayComeNext}
+use Rattle.history_model.specs.Sound.{MayComeNext}
 use Rattle.history_model.specs.Prefixes.{EachEntry}
 use Rattle.history_model.proofs.Prefixes.{EachEntry-more, EachEntry-weaker}
 use Rattle.cacheless.specs.Plays.{IsNext}

@@ -58,25 +58,25 @@ settles_nothing was now none (Acts does same) = same ∙ ap (λ (x : Noted). rec
 settles_nothing was now none (Passes less nothing) = nothing
 
 -- what is noted once it has joined, and once a backend that had joined has made its entry
-pub joined_notes : (scenario : Scenario) (seen old new : List Entry) (was now : Backend) → Stands scenario seen was → was.life ≡ lives.Unstarted → noted_of now ≡ noted_of was → NotesAtEntry old new was now
-joined_notes scenario seen old new was now stands life same = let fresh = (not_joined scenario seen was stands life).new in subst (λ l. elim l as (λ y. Type 0) [ lives.Unstarted ↦ noted_of now ≡ nothing_noted | other ↦ NotesEntry old new was now ]) (sym life) (same ∙ new_noted was fresh.looked fresh.frames fresh.told)
+pub joined_notes : (scenario : Scenario) (seen old new : List Entry) (was now : Backend) → Stands scenario seen was → was.life ≡ lives.Unstarted → noted_of now ≡ noted_of was → NotesAtEntry scenario old new was now
+joined_notes scenario seen old new was now stands life same = let fresh = (not_joined scenario seen was stands life).new in subst (λ l. elim l as (λ y. Type 0) [ lives.Unstarted ↦ noted_of now ≡ nothing_noted | other ↦ NotesEntry scenario old new was now ]) (sym life) (same ∙ new_noted was fresh.looked fresh.frames fresh.told)
 
-pub entered_notes : {E : Type 0} (old new : List Entry) (was now : Backend) (result : Result (Unit {0}) E) → was.life ≡ lives.Alive → OnOk result (NotesEntry old new was now) → OnOk result (NotesAtEntry old new was now)
-entered_notes old new was now (Ok x) life notes = subst (λ l. elim l as (λ y. Type 0) [ lives.Unstarted ↦ noted_of now ≡ nothing_noted | other ↦ NotesEntry old new was now ]) (sym life) notes
-entered_notes old new was now (Err e) life notes = tt
+pub entered_notes : {E : Type 0} (scenario : Scenario) (old new : List Entry) (was now : Backend) (result : Result (Unit {0}) E) → was.life ≡ lives.Alive → OnOk result (NotesEntry scenario old new was now) → OnOk result (NotesAtEntry scenario old new was now)
+entered_notes scenario old new was now (Ok x) life notes = subst (λ l. elim l as (λ y. Type 0) [ lives.Unstarted ↦ noted_of now ≡ nothing_noted | other ↦ NotesEntry scenario old new was now ]) (sym life) notes
+entered_notes scenario old new was now (Err e) life notes = tt
 
 -- and once it has gone on
-pub notes_on : (old new : List Entry) (was entered now : Backend) → NotesAtEntry old new was entered → Settles entered now → NotesAtStep old new was now
-notes_on old new was entered now notes settles = by_life was.life notes
+pub notes_on : (scenario : Scenario) (old new : List Entry) (was entered now : Backend) → NotesAtEntry scenario old new was entered → Settles entered now → NotesAtStep scenario old new was now
+notes_on scenario old new was entered now notes settles = by_life was.life notes
   where
-    by_life : (l : Life) → elim l as (λ y. Type 0) [ lives.Unstarted ↦ noted_of entered ≡ nothing_noted | other ↦ NotesEntry old new was entered ] → elim l as (λ y. Type 0) [ lives.Unstarted ↦ noted_of now ≡ nothing_noted | other ↦ NotesStep old new was now ]
+    by_life : (l : Life) → elim l as (λ y. Type 0) [ lives.Unstarted ↦ noted_of entered ≡ nothing_noted | other ↦ NotesEntry scenario old new was entered ] → elim l as (λ y. Type 0) [ lives.Unstarted ↦ noted_of now ≡ nothing_noted | other ↦ NotesStep scenario old new was now ]
     by_life lives.Unstarted none = settles_nothing entered now none settles
     by_life lives.Alive made = record { entered = entered; made = made; settled = settles }
     by_life lives.Stopped made = record { entered = entered; made = made; settled = settles }
 
 -- where it has left it doesn't go on
-pub notes_left : (old new : List Entry) (was now : Backend) → NotesAtEntry old new was now → NotesAtStep old new was now
-notes_left old new was now notes = notes_on old new was now now notes (Stays refl refl)
+pub notes_left : (scenario : Scenario) (old new : List Entry) (was now : Backend) → NotesAtEntry scenario old new was now → NotesAtStep scenario old new was now
+notes_left scenario old new was now notes = notes_on scenario old new was now now notes (Stays refl refl)
 
 -- a backend that has made its next entry and hasn't left agrees after it
 pub remains : (scenario : Scenario) (old new : List Entry) (had has : ℕ → ℕ) (was now : Backend) → MakesNext scenario old new had has was now → has_left now.life ≡ false → Enters scenario old new had has was now

@@ -1,7 +1,9 @@
 -- How a backend agrees with a history.
 use Rattle.std.specs.Prelude.{◌≡◌, ◌≤◌, ◌+◌, ℕ, true, false, Option, None, List, [], slice_get, is_some}
-use Rattle.history_model.specs.Lives.{Life, Unstarted, Alive, Stopped, life_of}
-use Rattle.history_model.specs.Writes.{has_written}
+use Rattle.history_model.specs.Lives.{life_of}
+use Rattle.history_model.specs.declared.life.Life.{Life}
+use Rattle.history_model.specs.declared.life.Life.TheVariants.{Unstarted, Alive, Stopped}
+use Rattle.history_model.specs.Transactions.{has_written}
 pub use Rattle.cacheless.specs.Answering.{AreLastScans, IsWhole, KeepsAbsent, PlacesFit}
 use Rattle.cacheless.specs.Facts.{facts_of}
 use Rattle.cacheless.specs.Holds.{Holds, Rests, HasNotStarted}

@@ -1,7 +1,7 @@
 -- Where a backend stands between two of its turns, while others make entries that it doesn't see.
 use Rattle.std.specs.Prelude.{◌≡◌, ◌≢◌, ⊤, ◌++◌, ◌∷◌, ℕ, List, []}
 use Rattle.std.specs.List.{AllByRecursion}
-use Rattle.history_model.specs.Legal.{AllowsLook}
+use Rattle.history_model.specs.MayFollow.{AllowsLook}
 use Rattle.backend_core.specs.Types.{Scenario, Entry, Backend}
 use Rattle.backend_core.specs.declared.turns.HeldLook.{HeldLook}
 use Rattle.backend_core.specs.Agrees.{IsPlayed, AgreesNow, Stands}

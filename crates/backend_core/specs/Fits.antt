@@ -11,7 +11,7 @@ use Rattle.ddl_effect.specs.Opens.{opens_before}
 use Rattle.ddl_effect.specs.Plans.{Plan, Done, Absent, Do, Lookup, Lock, Open, Search, told_rests_on, left_rests_on}
 use Rattle.txn_blocks.specs.Blocks.{Block, Level, Blocks, Outside, Inside, Failed, is_open}
 use Rattle.history_model.specs.Transactions.{is_visible}
-use Rattle.history_model.specs.Writes.{is_empty}
+use Rattle.history_model.specs.Changing.{is_empty}
 use Rattle.cacheless.specs.Facts.{Facts}
 use Rattle.seg_calls.specs.Calls.{took_back}
 use Rattle.cacheless.specs.Session.{Session, Badly, opening_of, held_before, number_of, outcome_of, is_settled, plan_first, is_blocked}

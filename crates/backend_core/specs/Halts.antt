@@ -2,7 +2,8 @@
 use Rattle.std.specs.Prelude.{◌≡◌, ◌≤◌, ℕ, false, Option, Some, None, List, [], take}
 use Rattle.base_types.specs.Scenario.{IsBackend}
 use Rattle.ddl_effect.specs.Commands.{commands_of}
-use Rattle.history_model.specs.Lives.{Alive, life_of}
+use Rattle.history_model.specs.Lives.{life_of}
+use Rattle.history_model.specs.declared.life.Life.TheVariants.{Alive}
 use Rattle.cacheless.specs.Facts.{facts_of}
 use Rattle.cacheless.specs.Session.{Session, at_command}
 use Rattle.cacheless.specs.Sessions.{session_of}

@@ -1,7 +1,7 @@
 -- What a backend asks for next, and the looks that it makes while others may make entries.
 use Rattle.std.specs.Prelude.{◌≡◌, ◌≢◌, ◌≤◌, ◌^◌, ◌+◌, ◌++◌, ◌∷◌, ℕ, Bool, true, false, List, [], length, map}
 use Rattle.event_kinds.specs.declared.entry.Event.TheVariants as events
-use Rattle.history_model.specs.Legal.{MayFollow, AllowsLook}
+use Rattle.history_model.specs.MayFollow.{MayFollow, AllowsLook}
 use Rattle.history_model.specs.Prefixes.{EachFrom}
 use Rattle.seg_calls.specs.Calls.{entry_of, MayCall}
 use Rattle.cacheless.specs.Plays.{IsNext}
@@ -16,7 +16,7 @@ use Rattle.backend_core.specs.declared.want.Want.{Want}
 use Rattle.backend_core.specs.declared.want.Want.TheVariants as wants
 use Rattle.backend_core.specs.Agrees.{IsPlayed, AgreesNow, AwaitsEntry, IsReady, Stands}
 use Rattle.backend_core.specs.Halts.{AwaitsCommand}
-use Rattle.backend_core.specs.Noted.{noted_of, noted_by, Settles}
+use Rattle.backend_core.specs.Noted.{noted_of, noted_by, IsEntered, Settles}
 use Rattle.backend_core.specs.Steps.{IsNextOf}
 
 -- a look as the entry that comes next
@@ -40,6 +40,7 @@ look_of s some_wait = entry_of s.progress.id (s.progress.finished + 1) (events.L
 pub record LooksWell (scenario : Scenario) (seen : List Entry) (was : Backend) (some_wait : Bool) (now : Backend) : Type 0 where
   pub next : IsNext scenario seen (look_of was some_wait)
   pub agrees : AgreesNow scenario (seen ++ look_of was some_wait ∷ []) now
+  pub goes : IsEntered scenario seen (seen ++ look_of was some_wait ∷ []) was.progress (events.Look some_wait) now.progress
   pub id : now.progress.id ≡ was.progress.id
   pub number : now.progress.finished ≡ was.progress.finished
 
@@ -107,6 +108,7 @@ pub record Looked (scenario : Scenario) (seen : List Entry) (was : Backend) (som
   pub next : IsNext scenario seen (look_of was some_wait)
   pub played : IsPlayed scenario (seen ++ look_of was some_wait ∷ [])
   pub agrees : AgreesNow scenario (seen ++ look_of was some_wait ∷ []) now
+  pub goes : IsEntered scenario seen (seen ++ look_of was some_wait ∷ []) was.progress (events.Look some_wait) now.progress
 
 -- the same in each history in which it stands, that was played and allows the look
 abbrev pub MakesLook : Backend → Bool → Backend → Type 0

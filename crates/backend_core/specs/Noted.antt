@@ -1,14 +1,17 @@
 -- What a backend notes beside how far it is: whether the look for the next scan of its act is made, the rebuilds that are on their way, and whether messages came since its lookup began; and what each entry makes of that.
-use Rattle.std.specs.Prelude.{◌≡◌, ◌<◌, ◌+◌, ◌++◌, ◌∷◌, ◌&&◌, ◌||◌, ℕ, Bool, true, false, not, List, [], map}
+use Rattle.std.specs.Prelude.{◌≡◌, ◌<◌, ◌+◌, ◌++◌, ◌∷◌, ◌&&◌, ◌||◌, ℕ, Bool, true, false, not, Some, List, [], drop, length, map, ⊤}
 use Rattle.event_kinds.specs.declared.entry.Event.TheVariants as events
 use Rattle.history_model.specs.Log.{fetched_by}
 use Rattle.seg_calls.specs.Calls.{entry_of, messages_in}
 use Rattle.ddl_effect.specs.Opens.{opens_before}
 use Rattle.ddl_effect.specs.Stages.{plan_at, acts_left}
+use Rattle.cacheless.specs.Facts.{facts_of}
+use Rattle.cacheless.specs.Holds.{Holds, IsWhere}
 use Rattle.cacheless.specs.May.{has_failed}
-use Rattle.cacheless.specs.Session.{opening_of, held_in}
-use Rattle.cacheless.specs.State.{kept_at, kept_spared, is_kept, is_absent}
-use Rattle.backend_core.specs.Types.{Message, Entry, Event, Frame, Next, Progress, Backend}
+use Rattle.cacheless.specs.Session.{Session, opening_of, held_in}
+use Rattle.cacheless.specs.Sessions.{session_of, entered as session_after}
+use Rattle.cacheless.specs.State.{kept_at, kept_spared, is_kept, is_absent, session_at}
+use Rattle.backend_core.specs.Types.{Scenario, Message, Entry, Event, Frame, Next, Progress, Backend}
 use Rattle.backend_core.specs.declared.life.Life.TheVariants as lives
 use Rattle.backend_core.specs.declared.next.Next.TheVariants as nexts
 use Rattle.backend_core.specs.Frames.{unless, with_rest, frames_after}
@@ -65,11 +68,41 @@ noted_by before s nexts.Write (events.Write xid items) = noted_written s (messag
 noted_by before s (nexts.Release from) event = noted_released s from
 noted_by before s next event = noted_of s
 
--- the entry that came next is made, in the same command, and what is noted is what it makes of it
-pub record IsNoted (old new : List Entry) (was : Backend) (next : Next) (now : Backend) : Type 0 where
+-- an event of the kind that comes next, and of a scan, a lock or an end with what that names
+abbrev pub ComesAs : Next → Event → Type 0
+ComesAs nexts.Look (events.Look some_wait) = ⊤
+ComesAs (nexts.LookBeforeScan rebuilds) (events.Look some_wait) = ⊤
+ComesAs nexts.LookBeforeAbsent (events.Look some_wait) = ⊤
+ComesAs nexts.Fetch (events.Fetch count) = ⊤
+ComesAs nexts.Fetch events.FetchReset = ⊤
+ComesAs (nexts.Scan scan rebuilds) (events.Scan made rows) = made ≡ scan
+ComesAs (nexts.Lock rel mode) (events.LockOk granted in_mode) = (granted ≡ rel) × (in_mode ≡ mode)
+ComesAs (nexts.Lock rel mode) (events.LockHeld refused in_mode holder held) = (refused ≡ rel) × (in_mode ≡ mode)
+ComesAs (nexts.Unlock rel mode) (events.Unlock unlocked in_mode) = (unlocked ≡ rel) × (in_mode ≡ mode)
+ComesAs nexts.Write (events.Write xid items) = ⊤
+ComesAs nexts.Write (events.ClashRow name rel) = ⊤
+ComesAs nexts.Write (events.ClashRunning name xid) = ⊤
+ComesAs (nexts.Commit xid) (events.Visible shown) = shown ≡ xid
+ComesAs nexts.Publish (events.Publish count) = ⊤
+ComesAs (nexts.TakeBack from) (events.Gone first) = first ≡ from
+ComesAs (nexts.Release from) (events.Release first) = first ≡ from
+ComesAs nexts.Leave events.Stop = ⊤
+ComesAs next event = ⊥
+
+-- the backend is where this entry of its command leaves it, before it goes on without one
+pub record IsEntered (scenario : Scenario) (old new : List Entry) (was : Progress) (event : Event) (now : Progress) : Type 0 where
+  pub session : Session
+  pub before : session_of scenario old was.id ≡ Some session
+  pub holds : Holds scenario new now
+  pub after : session_at now holds.rest ≡ session_after (facts_of new was.id) (drop was.finished was.commands) (length old + 1) (was.finished + 1) event session
+  pub moves : IsWhere was now
+
+-- the entry that came next is made, and no other, the backend is where it leaves it, and what is noted is what it makes of it
+pub record IsNoted (scenario : Scenario) (old new : List Entry) (was : Backend) (next : Next) (now : Backend) : Type 0 where
   pub event : Event
+  pub made : ComesAs next event
   pub entered : new ≡ old ++ entry_of was.progress.id (was.progress.finished + 1) event ∷ []
-  pub number : now.progress.finished ≡ was.progress.finished
+  pub goes : IsEntered scenario old new was.progress event now.progress
   pub noted : noted_of now ≡ noted_by old was next event
 
 -- acts are done: fewer are left, and none comes after that of a lookup which has found no relation
@@ -85,21 +118,21 @@ pub data Settles (was now : Backend) : Type 0 where
   Passes : was.progress.finished < now.progress.finished → noted_of now ≡ nothing_noted → Settles was now
 
 -- an entry notes what it makes of it, whichever comes next
-pub record NotesEntry (old new : List Entry) (was now : Backend) : Type 0 where
+pub record NotesEntry (scenario : Scenario) (old new : List Entry) (was now : Backend) : Type 0 where
   pub next : Next
   pub chosen : IsNextOf was next
-  pub noted : IsNoted old new was next now
+  pub noted : IsNoted scenario old new was next now
 
 -- a step makes its entry, and then goes on
-pub record NotesStep (old new : List Entry) (was now : Backend) : Type 0 where
+pub record NotesStep (scenario : Scenario) (old new : List Entry) (was now : Backend) : Type 0 where
   pub entered : Backend
-  pub made : NotesEntry old new was entered
+  pub made : NotesEntry scenario old new was entered
   pub settled : Settles entered now
 
 -- what an entry leaves noted: of a backend that hadn't joined nothing, of any other what its entry makes of it
-abbrev pub NotesAtEntry : List Entry → List Entry → Backend → Backend → Type 0
-NotesAtEntry old new was now = elim was.life [ lives.Unstarted ↦ noted_of now ≡ nothing_noted | life ↦ NotesEntry old new was now ]
+abbrev pub NotesAtEntry : Scenario → List Entry → List Entry → Backend → Backend → Type 0
+NotesAtEntry scenario old new was now = elim was.life [ lives.Unstarted ↦ noted_of now ≡ nothing_noted | life ↦ NotesEntry scenario old new was now ]
 
 -- the same of a step
-abbrev pub NotesAtStep : List Entry → List Entry → Backend → Backend → Type 0
-NotesAtStep old new was now = elim was.life [ lives.Unstarted ↦ noted_of now ≡ nothing_noted | life ↦ NotesStep old new was now ]
+abbrev pub NotesAtStep : Scenario → List Entry → List Entry → Backend → Backend → Type 0
+NotesAtStep scenario old new was now = elim was.life [ lives.Unstarted ↦ noted_of now ≡ nothing_noted | life ↦ NotesStep scenario old new was now ]

@@ -91,7 +91,7 @@ impl Backend {
         requires alive { has_left self.old.life ≡ false }
         ensures script { L.script seg.new ≡ L.script seg.old }
         ensures steps { OnOk result (Steps (L.script seg.old) (L.history seg.old) (L.history seg.new) (L.promised seg.old) (L.promised seg.new) self.old self.new) }
-        ensures noted { OnOk result (NotesAtStep (L.history seg.old) (L.history seg.new) self.old self.new) }
+        ensures noted { OnOk result (NotesAtStep (L.script seg.old) (L.history seg.old) (L.history seg.new) self.old self.new) }
         ensures refused { OnErr result (IsRefused (L.script seg.old) (L.history seg.old) (L.history seg.new) (L.promised seg.old) (L.promised seg.new) self.old.progress.id) }
     {
         self.enter_in_turn(alloc, seg)?;

@@ -20,7 +20,7 @@ impl Backend {
         requires next { IsNextOf self.old (nexts.Commit xid) }
         ensures script { L.script seg.new ≡ L.script seg.old }
         ensures enters { Enters (L.script seg.old) (L.history seg.old) (L.history seg.new) (L.promised seg.old) (L.promised seg.new) self.old self.new }
-        ensures noted { IsNoted (L.history seg.old) (L.history seg.new) self.old (nexts.Commit xid) self.new }
+        ensures noted { IsNoted (L.script seg.old) (L.history seg.old) (L.history seg.new) self.old (nexts.Commit xid) self.new }
     {
         seg.visible(self.progress.id, self.progress.finished + 1, xid);
         self.progress.enter_visible(xid);
@@ -33,7 +33,7 @@ impl Backend {
         requires next { IsNextOf self.old (nexts.Publish) }
         ensures script { L.script seg.new ≡ L.script seg.old }
         ensures enters { Enters (L.script seg.old) (L.history seg.old) (L.history seg.new) (L.promised seg.old) (L.promised seg.new) self.old self.new }
-        ensures noted { IsNoted (L.history seg.old) (L.history seg.new) self.old (nexts.Publish) self.new }
+        ensures noted { IsNoted (L.script seg.old) (L.history seg.old) (L.history seg.new) self.old (nexts.Publish) self.new }
     {
         let messages = self.progress.unpublished();
         let count = messages.len();
@@ -48,7 +48,7 @@ impl Backend {
         requires next { IsNextOf self.old (nexts.TakeBack from) }
         ensures script { L.script seg.new ≡ L.script seg.old }
         ensures enters { Enters (L.script seg.old) (L.history seg.old) (L.history seg.new) (L.promised seg.old) (L.promised seg.new) self.old self.new }
-        ensures noted { IsNoted (L.history seg.old) (L.history seg.new) self.old (nexts.TakeBack from) self.new }
+        ensures noted { IsNoted (L.script seg.old) (L.history seg.old) (L.history seg.new) self.old (nexts.TakeBack from) self.new }
     {
         seg.gone(self.progress.id, self.progress.finished + 1, from);
         self.progress.enter_gone(from);
@@ -68,7 +68,7 @@ impl Backend {
         requires next { IsNextOf self.old (nexts.Release from) }
         ensures script { L.script seg.new ≡ L.script seg.old }
         ensures enters { OnOk result (Enters (L.script seg.old) (L.history seg.old) (L.history seg.new) (L.promised seg.old) (L.promised seg.new) self.old self.new) }
-        ensures noted { OnOk result (IsNoted (L.history seg.old) (L.history seg.new) self.old (nexts.Release from) self.new) }
+        ensures noted { OnOk result (IsNoted (L.script seg.old) (L.history seg.old) (L.history seg.new) self.old (nexts.Release from) self.new) }
         ensures refused { OnErr result (IsRefused (L.script seg.old) (L.history seg.old) (L.history seg.new) (L.promised seg.old) (L.promised seg.new) self.old.progress.id) }
     {
         seg.release(self.progress.id, self.progress.finished + 1, from);
@@ -84,7 +84,7 @@ impl Backend {
         requires next { IsNextOf self.old (nexts.Leave) }
         ensures script { L.script seg.new ≡ L.script seg.old }
         ensures steps { Steps (L.script seg.old) (L.history seg.old) (L.history seg.new) (L.promised seg.old) (L.promised seg.new) self.old self.new }
-        ensures noted { IsNoted (L.history seg.old) (L.history seg.new) self.old (nexts.Leave) self.new }
+        ensures noted { IsNoted (L.script seg.old) (L.history seg.old) (L.history seg.new) self.old (nexts.Leave) self.new }
         ensures left { self.new.life ≡ lives.Stopped }
     {
         seg.stop(self.progress.id, self.progress.finished + 1);

@@ -17,7 +17,7 @@ impl Backend {
         requires next { IsNextOf self.old (nexts.Lock rel mode) }
         ensures script { L.script seg.new ≡ L.script seg.old }
         ensures enters { OnOk result (Enters (L.script seg.old) (L.history seg.old) (L.history seg.new) (L.promised seg.old) (L.promised seg.new) self.old self.new) }
-        ensures noted { OnOk result (IsNoted (L.history seg.old) (L.history seg.new) self.old (nexts.Lock rel mode) self.new) }
+        ensures noted { OnOk result (IsNoted (L.script seg.old) (L.history seg.old) (L.history seg.new) self.old (nexts.Lock rel mode) self.new) }
         ensures refused { OnErr result (IsRefused (L.script seg.old) (L.history seg.old) (L.history seg.new) (L.promised seg.old) (L.promised seg.new) self.old.progress.id) }
     {
         self.progress.reserve_lock()?;
@@ -42,7 +42,7 @@ impl Backend {
         requires next { IsNextOf self.old (nexts.Unlock rel mode) }
         ensures script { L.script seg.new ≡ L.script seg.old }
         ensures enters { Enters (L.script seg.old) (L.history seg.old) (L.history seg.new) (L.promised seg.old) (L.promised seg.new) self.old self.new }
-        ensures noted { IsNoted (L.history seg.old) (L.history seg.new) self.old (nexts.Unlock rel mode) self.new }
+        ensures noted { IsNoted (L.script seg.old) (L.history seg.old) (L.history seg.new) self.old (nexts.Unlock rel mode) self.new }
     {
         seg.unlock(self.progress.id, self.progress.finished + 1, rel, mode);
         self.progress.enter_unlock(rel, mode);

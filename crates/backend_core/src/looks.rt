@@ -41,7 +41,7 @@ impl Backend {
         requires next { IsNextOf self.old (next_of_look look) }
         ensures script { L.script seg.new ≡ L.script seg.old }
         ensures enters { Enters (L.script seg.old) (L.history seg.old) (L.history seg.new) (L.promised seg.old) (L.promised seg.new) self.old self.new }
-        ensures noted { IsNoted (L.history seg.old) (L.history seg.new) self.old (next_of_look look) self.new }
+        ensures noted { IsNoted (L.script seg.old) (L.history seg.old) (L.history seg.new) self.old (next_of_look look) self.new }
     {
         let some_wait = seg.waits(self.progress.id);
         seg.looked(self.progress.id, self.progress.finished + 1, some_wait);
@@ -92,7 +92,7 @@ impl Backend {
         requires next { IsNextOf self.old (nexts.Fetch) }
         ensures script { L.script seg.new ≡ L.script seg.old }
         ensures enters { OnOk result (Enters (L.script seg.old) (L.history seg.old) (L.history seg.new) (L.promised seg.old) (L.promised seg.new) self.old self.new) }
-        ensures noted { OnOk result (IsNoted (L.history seg.old) (L.history seg.new) self.old (nexts.Fetch) self.new) }
+        ensures noted { OnOk result (IsNoted (L.script seg.old) (L.history seg.old) (L.history seg.new) self.old (nexts.Fetch) self.new) }
         ensures refused { OnErr result (IsRefused (L.script seg.old) (L.history seg.old) (L.history seg.new) (L.promised seg.old) (L.promised seg.new) self.old.progress.id) }
     {
         let mut messages = ArrayVec::new();

@@ -24,7 +24,7 @@ impl Backend {
         requires next { IsNextOf self.old (nexts.Scan scan.now rebuilds) }
         ensures script { L.script seg.new ≡ L.script seg.old }
         ensures enters { OnOk result (Enters (L.script seg.old) (L.history seg.old) (L.history seg.new) (L.promised seg.old) (L.promised seg.new) self.old self.new) }
-        ensures noted { OnOk result (IsNoted (L.history seg.old) (L.history seg.new) self.old (nexts.Scan scan.now rebuilds) self.new) }
+        ensures noted { OnOk result (IsNoted (L.script seg.old) (L.history seg.old) (L.history seg.new) self.old (nexts.Scan scan.now rebuilds) self.new) }
         ensures refused { OnErr result (IsRefused (L.script seg.old) (L.history seg.old) (L.history seg.new) (L.promised seg.old) (L.promised seg.new) self.old.progress.id) }
     {
         let scanned = seg.scan(self.progress.id, self.progress.finished + 1, scan)?;

@@ -18,7 +18,7 @@ impl Backend {
         requires place { 0 < L.promised seg.old self.old.progress.id }
         ensures script { L.script seg.new ≡ L.script seg.old }
         ensures makes { OnOk result (MakesNext (L.script seg.old) (L.history seg.old) (L.history seg.new) (L.promised seg.old) (L.promised seg.new) self.old self.new) }
-        ensures noted { OnOk result (NotesEntry (L.history seg.old) (L.history seg.new) self.old self.new) }
+        ensures noted { OnOk result (NotesEntry (L.script seg.old) (L.history seg.old) (L.history seg.new) self.old self.new) }
         ensures refused { OnErr result (IsRefused (L.script seg.old) (L.history seg.old) (L.history seg.new) (L.promised seg.old) (L.promised seg.new) self.old.progress.id) }
     {
         let next = self.next();
@@ -37,7 +37,7 @@ impl Backend {
         requires stays { next.now ≢ nexts.Leave }
         ensures script { L.script seg.new ≡ L.script seg.old }
         ensures enters { OnOk result (Enters (L.script seg.old) (L.history seg.old) (L.history seg.new) (L.promised seg.old) (L.promised seg.new) self.old self.new) }
-        ensures noted { OnOk result (IsNoted (L.history seg.old) (L.history seg.new) self.old next.now self.new) }
+        ensures noted { OnOk result (IsNoted (L.script seg.old) (L.history seg.old) (L.history seg.new) self.old next.now self.new) }
         ensures refused { OnErr result (IsRefused (L.script seg.old) (L.history seg.old) (L.history seg.new) (L.promised seg.old) (L.promised seg.new) self.old.progress.id) }
     {
         match next {

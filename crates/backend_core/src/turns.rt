@@ -66,7 +66,7 @@ impl Backend {
         ensures script { L.script seg.new ≡ L.script seg.old }
         ensures makes { OnOk result (MakesNext (L.script seg.old) (L.history seg.old) (L.history seg.new) (L.promised seg.old) (L.promised seg.new) self.old self.new) }
         ensures starts { OnOk result (self.old.life ≡ lives.Unstarted → AwaitsCommand (L.script seg.old) (L.history seg.new) self.new) }
-        ensures noted { OnOk result (NotesAtEntry (L.history seg.old) (L.history seg.new) self.old self.new) }
+        ensures noted { OnOk result (NotesAtEntry (L.script seg.old) (L.history seg.old) (L.history seg.new) self.old self.new) }
         ensures refused { OnErr result (IsRefused (L.script seg.old) (L.history seg.old) (L.history seg.new) (L.promised seg.old) (L.promised seg.new) self.old.progress.id) }
     {
         match self.life {

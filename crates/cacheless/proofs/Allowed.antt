@@ -1,4 +1,5 @@
 -- What holds of every allowed history.
+pub mod OneBackend
 pub mod Patient
 pub mod StaysOnCourse
 pub mod KindsHeld
@@ -10,3 +11,6 @@ pub mod NamesRead
 pub mod NextKeeps
 pub mod Economical
 pub mod AllowedHistories
+pub mod LooksBound
+pub mod NextEntries
+pub mod StartLooks

@@ -1,6 +1,6 @@
 -- What is carried along a sound history, of which each entry is such.
 use Rattle.std.proofs.Common.{List, [], ◌∷◌, ◌++◌}
-use Rattle.history_model.specs.Orderly.{MayComeNext, IsSound}
+use Rattle.history_model.specs.Sound.{MayComeNext, IsSound}
 use Rattle.history_model.specs.Prefixes.{EachEntry}
 use Rattle.history_model.proofs.Prefixes.{EachEntry-more, EachFrom-both, each-keeps}
 use Rattle.cacheless.specs.Types.{Entry}

@@ -2,6 +2,8 @@
 pub mod ReadPlaces
 pub mod ToldFields
 pub mod ToldAnswers
+pub mod ServingScans
+pub mod PlacesTold
 pub mod JudgedLines
 pub mod OpenedReads
 pub mod ToldAlike

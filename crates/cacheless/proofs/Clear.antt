@@ -17,13 +17,14 @@ use Rattle.lock_modes.specs.Grants.{is_lock, stays}
 use Rattle.lock_modes.specs.Own.{cleared}
 use Rattle.history_model.specs.Reached.{reached_of}
 use Rattle.history_model.specs.Lives.{life_of, is_alive, last_event_of}
-use Rattle.history_model.specs.Transactions.{Running, running_transaction_of, after_release, begun, is_visible}
+use Rattle.history_model.specs.Transactions.{running_transaction_of, after_release, begun, is_visible}
+use Rattle.txn_blocks.specs.declared.transaction.RunningTransaction.{RunningTransaction as Running}
 use Rattle.history_model.specs.Log.{log_of, position_of, is_waiting, waited_by, has_waited}
 use Rattle.history_model.specs.Held.{granted_by, held_by, held_of}
-use Rattle.history_model.specs.Legal.{MayRelease}
-use Rattle.history_model.specs.Orderly.{MayComeNext, IsSound}
+use Rattle.history_model.specs.MayFollow.{MayRelease}
+use Rattle.history_model.specs.Sound.{MayComeNext, IsSound}
 use Rattle.history_model.specs.Prefixes.{EachEntry}
-use Rattle.history_model.specs.Writes.{is_empty}
+use Rattle.history_model.specs.Changing.{is_empty}
 use Rattle.history_model.proofs.Prefixes.{EachEntry-more, EachEntry-weaker, EachFrom-both, each-keeps}
 use Rattle.history_model.proofs.Reading.{held_of-more, life_of-own, last_event_of-own, last_event_of-other, running_transaction_of-own, log_of-more, position_of-own}
 use Rattle.history_model.proofs.Every.{every-weaker, every, every-append, every-filter, every-kept, every-both}

@@ -13,7 +13,7 @@ use Rattle.base_types.specs.Scans.{same_oid, selects, row_name, goes_before, sca
 use Rattle.base_types.specs.declared.row.Row.TheVariants as rows
 use Rattle.base_types.specs.declared.scan.Purpose.TheVariants as scans
 use Rattle.base_types.proofs.ScanOrder.{scan_of-answers}
-use Rattle.history_model.specs.Orderly.{IsSound}
+use Rattle.history_model.specs.Sound.{IsSound}
 use Rattle.history_model.specs.Prefixes.{EachEntry}
 use Rattle.history_model.specs.Versions.{versions_of, sees, rows_of, answer_of}
 use Rattle.history_model.proofs.Asking.{bytes_same, oid_eq}

@@ -23,7 +23,7 @@ use Rattle.history_model.specs.Changes.{item_of, items_of}
 use Rattle.history_model.specs.Names.{has_name}
 use Rattle.history_model.specs.Transactions.{is_visible}
 use Rattle.history_model.specs.Sent.{unsent_in}
-use Rattle.history_model.specs.Writes.{is_empty}
+use Rattle.history_model.specs.Changing.{is_empty}
 use Rattle.history_model.proofs.Decided.{always, never, both_decide, decided_by, mode_decides}
 use Rattle.cacheless.specs.Types.{Oid, Xid, Mode, Kind, Message, Row, Purpose, Command, Scenario, Entry, Item, Event, Opening}
 use Rattle.txn_blocks.specs.declared.transaction.RunningTransaction.{RunningTransaction}
@@ -201,14 +201,6 @@ shown_same : (own : Option RunningTransaction) → is_visible (running_of own) �
 shown_same None = refl
 shown_same (Some t) = refl
 
-xid_same : (own : Option RunningTransaction) → option_map_or (λ t. unwrap_or t.xid 0) (running_of own) 0 ≡ option_map_or (λ t. option_map_or (λ x. x.0) t.xid 0) own 0
-xid_same None = refl
-xid_same (Some t) = by_xid t.xid
-  where
-    by_xid : (o : Option Xid) → unwrap_or (option_map (λ x. x.0) o) 0 ≡ option_map_or (λ x. x.0) o 0
-    by_xid None = refl
-    by_xid (Some x) = refl
-
 unsent_same : (own : Option RunningTransaction) (lists : List Written) → option_map_or (λ t. t.visible) own false ≡ true → unsent_in lists (running_of own) ≡ unsent_after (option_map_or (λ t. t.published) own 0) lists
 unsent_same None lists is = absurd (cc)
 unsent_same (Some t) lists is = refl
@@ -221,7 +213,7 @@ commit_decides facts s first event fits = subst (λ (e : Event). Decides (is_nex
     shown = ap is_visible fits.running ∙ shown_same s.running
 
     xid : xid_of facts ≡ xid_at s
-    xid = ap (λ o. option_map_or (λ t. unwrap_or t.xid 0) o 0) fits.running ∙ xid_same s.running
+    xid = ap (λ (o : Option RunningTransaction). option_map_or (λ t. option_map_or (λ x. x.0) t.xid 0) o 0) fits.running
 
     inner : (v : Bool) → is_visible_at s ≡ v → elim v as (λ x. Event) [ true ↦ next_sent first (length (unsent_in facts.lists facts.running)) | false ↦ events.Visible (record { 0 = xid_of facts }) ] ≡ elim v as (λ x. Event) [ true ↦ next_sent first (length (unsent_at s)) | false ↦ events.Visible (record { 0 = xid_at s }) ]
     inner true is = ap (λ l. next_sent first (length l)) (ap (unsent_in facts.lists) fits.running ∙ unsent_same s.running facts.lists is ∙ ap (unsent_after (published_at s)) fits.lists)

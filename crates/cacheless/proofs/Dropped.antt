@@ -16,8 +16,10 @@ use Rattle.event_kinds.specs.declared.entry.Item.TheVariants as forms
 use Rattle.history_model.specs.Versions.{versions_of, versions_by, change_by, end_by, ends, ended_key, version_of, added_row, is_back, end_back, counts, sees}
 use Rattle.history_model.specs.Held.{granted_by, held_by, held_of}
 use Rattle.history_model.specs.Drawn.{drawn_by, next_oid}
-use Rattle.history_model.specs.Writes.{changed_key, has_row}
-use Rattle.history_model.specs.Orderly.{main_rel, MayComeNext}
+use Rattle.history_model.specs.Changing.{changed_key}
+use Rattle.history_model.specs.Writes.{has_row}
+use Rattle.history_model.specs.Orderly.{main_rel}
+use Rattle.history_model.specs.Sound.{MayComeNext}
 use Rattle.history_model.proofs.Reading.{versions_of-more as versions-more}
 use Rattle.history_model.proofs.Every.{every-weaker, every, every-append, every-map, every-filter, every-both, every-swap, any-flat, SomeOf, some-weaker, from_some}
 use Rattle.history_model.proofs.Asking.{oid_eq}

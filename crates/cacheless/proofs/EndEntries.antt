@@ -12,8 +12,9 @@ use Rattle.ddl_effect.specs.Stages.{plan_at, told_of}
 use Rattle.ddl_effect.specs.declared.told.Told.{Told}
 use Rattle.ddl_effect.specs.declared.told.Told.TheVariants as tells
 use Rattle.history_model.specs.Sent.{unsent_in}
-use Rattle.history_model.specs.Transactions.{Running, begun, is_visible, running_by}
-use Rattle.history_model.specs.Writes.{is_empty}
+use Rattle.history_model.specs.Transactions.{begun, is_visible, running_by}
+use Rattle.txn_blocks.specs.declared.transaction.RunningTransaction.{RunningTransaction as Running}
+use Rattle.history_model.specs.Changing.{is_empty}
 use Rattle.cacheless.specs.Ends.{End, Ends, Commits, TakesBack, end_of_all, end_of_block, end_well, end_badly, end_of, end_left, next_sent, next_of_end, xid_of}
 use Rattle.cacheless.specs.Facts.{Facts}
 use Rattle.cacheless.specs.Holds.{FactsFit}
@@ -61,7 +62,7 @@ taken_back_ends facts command s from is = absurd (by_block s.blocks.block is)
     by_block Failed end = cc end
 
 -- before an entry of its end a command that came out well ends or mends a block, or nothing has to come of it
-ends_or_owes_none : (facts : Facts) (command : Command) (s : Session) → outcome_of s.left ≡ Well → owed_at_end facts command s ≡ [] → (ends_failure command ≡ true) ⊎ (owed_of facts command s ≡ [])
+pub ends_or_owes_none : (facts : Facts) (command : Command) (s : Session) → outcome_of s.left ≡ Well → owed_at_end facts command s ≡ [] → (ends_failure command ≡ true) ⊎ (owed_of facts command s ≡ [])
 ends_or_owes_none facts command s well none = by_end (end_well facts command s) refl (sym (ap (λ o. owed_if (end_if o)) well) ∙ none)
   where
     end_if : Outcome → End
@@ -76,7 +77,7 @@ ends_or_owes_none facts command s well none = by_end (end_well facts command s) 
     by_end (TakesBack from) is after = inl (taken_back_ends facts command s from is)
 
 -- a command that ends or mends blocks tells of no scan
-ends_plainly : (command : Command) (s : Session) → ((told : Told) → plan_of s.opens command ≡ Done told → DoesNoAct s told) → ends_failure command ≡ true → outcome_of s.left ≡ Well → tells_of_scans (told_of s.left) ≡ false
+pub ends_plainly : (command : Command) (s : Session) → ((told : Told) → plan_of s.opens command ≡ Done told → DoesNoAct s told) → ends_failure command ≡ true → outcome_of s.left ≡ Well → tells_of_scans (told_of s.left) ≡ false
 ends_plainly commands.Commit s plain ends well = ap (λ p. tells_of_scans (told_of p)) ((plain tells.Commit refl).left well)
 ends_plainly commands.Rollback s plain ends well = ap (λ p. tells_of_scans (told_of p)) ((plain tells.Ok refl).left well)
 ends_plainly (commands.RollbackTo name) s plain ends well = ap (λ p. tells_of_scans (told_of p)) ((plain tells.Ok refl).left well)

@@ -11,7 +11,8 @@ use Rattle.lock_modes.specs.declared.grant.Grant.{Grant}
 use Rattle.history_model.specs.Transactions.{runs_as, is_committed}
 use Rattle.history_model.specs.Versions.{versions_of, ends, is_back, counts, sees}
 use Rattle.history_model.specs.Held.{granted_by, held_by, held_of}
-use Rattle.history_model.specs.Orderly.{main_rel, MayComeNext}
+use Rattle.history_model.specs.Orderly.{main_rel}
+use Rattle.history_model.specs.Sound.{MayComeNext}
 use Rattle.history_model.proofs.Reading.{held_of-more as held-more}
 use Rattle.history_model.proofs.Every.{every-weaker, every-both, any-left, SomeOf}
 use Rattle.history_model.proofs.Lawful.{EndsOnce, IsLawful}

@@ -8,7 +8,8 @@ use Rattle.base_types.specs.Scans.{selects}
 use Rattle.lock_modes.specs.Own.{has_lock, cleared}
 use Rattle.ddl_effect.specs.Plans.{Lookup, Plan}
 use Rattle.history_model.specs.Drawn.{next_oid}
-use Rattle.history_model.specs.Orderly.{main_rel, IsSound}
+use Rattle.history_model.specs.Orderly.{main_rel}
+use Rattle.history_model.specs.Sound.{IsSound}
 use Rattle.history_model.specs.Prefixes.{EachEntry}
 use Rattle.history_model.specs.Read.{rows_read, is_usable}
 use Rattle.history_model.specs.Versions.{answer_of}

@@ -20,6 +20,8 @@ pub mod DroppedTable
 pub mod ProtectedColumns
 pub mod CatalogCaches
 pub mod SavedBlock
+pub mod Unlocked
+pub mod OpenRelations
 pub mod WrongEntries
 pub mod WrongPlays
 pub mod WrongResets

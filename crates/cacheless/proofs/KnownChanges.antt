@@ -17,7 +17,7 @@ use Rattle.lock_modes.specs.Grants.{is_lock, holds}
 use Rattle.history_model.specs.Held.{held_of}
 use Rattle.history_model.specs.Lives.{last_event_of}
 use Rattle.history_model.specs.Log.{position_of, has_waited}
-use Rattle.history_model.specs.Orderly.{IsSound}
+use Rattle.history_model.specs.Sound.{IsSound}
 use Rattle.history_model.specs.Prefixes.{EachEntry}
 use Rattle.history_model.specs.Reached.{reached_of}
 use Rattle.history_model.proofs.Asking.{oid_eq}

@@ -42,3 +42,4 @@ pub mod OthersEntries
 pub mod EndEntries
 pub mod OwnPlaces
 pub mod OwnAnswers
+pub mod PlacesUsable

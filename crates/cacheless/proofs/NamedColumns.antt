@@ -11,7 +11,8 @@ use Rattle.lock_modes.specs.declared.grant.Grant.{Grant}
 use Rattle.history_model.specs.Prefixes.{EachEntry}
 use Rattle.history_model.specs.Versions.{versions_of, versions_by, end_back, added_row, is_back, sees, rows_of}
 use Rattle.history_model.specs.Held.{held_by, held_of}
-use Rattle.history_model.specs.Orderly.{main_rel, MayComeNext, IsSound}
+use Rattle.history_model.specs.Orderly.{main_rel}
+use Rattle.history_model.specs.Sound.{MayComeNext, IsSound}
 use Rattle.history_model.proofs.Reading.{versions_of-more as versions-more}
 use Rattle.history_model.proofs.Every.{every-weaker, every-map, every-filter, every-both}
 use Rattle.history_model.proofs.Touched.{entry_of}

@@ -16,13 +16,15 @@ use Rattle.event_kinds.specs.declared.entry.Event.TheVariants as events
 use Rattle.event_kinds.specs.declared.entry.Item.TheVariants as forms
 use Rattle.lock_modes.specs.declared.grant.Grant.{Grant}
 use Rattle.row_visibility.specs.declared.version.Stamp.{Stamp}
+use Rattle.history_model.specs.After.{segment_of}
 use Rattle.history_model.specs.Drawn.{next_oid}
 use Rattle.history_model.specs.Held.{held_by, held_of}
-use Rattle.history_model.specs.Legal.{AllowsEvent}
-use Rattle.history_model.specs.Orderly.{IsOrderlyEvent, MayComeNext, IsSound}
+use Rattle.history_model.specs.MayFollow.{AllowsEvent}
+use Rattle.history_model.specs.Orderly.{IsOrderlyEvent}
+use Rattle.history_model.specs.Sound.{MayComeNext, IsSound}
 use Rattle.history_model.specs.Read.{place_read, rows_read}
 use Rattle.history_model.specs.Versions.{versions_of, versions_by, sees, rows_of, answer_of, added_row, old_row, ended_key, row_with, ends, is_back}
-use Rattle.history_model.specs.Writes.{relations_of, relations_changed, is_validation, validates}
+use Rattle.history_model.specs.Changing.{relations_of, relations_changed, is_validation, validates}
 use Rattle.history_model.proofs.Asking.{oid_eq}
 use Rattle.history_model.proofs.EnoughModes.{is_enough, IsHeldFor}
 use Rattle.history_model.proofs.Every.{every, every-weaker, every-append, every-map, every-filter, every-kept, every-both}
@@ -145,7 +147,7 @@ below_by_event history b c event sound comes below = of event refl
         by_row item (Some row) adds held_for = added_below history b c next in_write (subst (AllByRecursion (λ g. g.rel.0 < next)) (held_of-more history (entry_of b c event) ∙ ap (λ x. held_by b c x (held_of history)) is) held) seen item row adds held_for
 
     of : (x : Event) → event ≡ x → AllByRecursion (OfStamps (AreBelowAt next)) (versions_by history b c x (versions_of history))
-    of (events.Write xid items) is = stamps-write (AreBelowAt next) (AreBelow next) history b (record { xid = xid; command = c }) (λ row all. all) items (versions_of history)
+    of (events.Write xid items) is = stamps-write (AreBelowAt next) (AreBelow next) (segment_of history) b (record { xid = xid; command = c }) (λ row all. all) items (versions_of history)
         (every-both (λ item. IfSome (added_row item) (AreBelow next)) (λ item. AllByRecursion (λ v. ends history b item v ≡ true → AreBelow next v.row) (versions_of history)) items (added xid items is)
         (every (λ item. AllByRecursion (λ v. ends history b item v ≡ true → AreBelow next v.row) (versions_of history)) (λ item. every-weaker (OfStamps (AreBelowAt next)) (λ v. ends history b item v ≡ true → AreBelow next v.row) (λ v all ended. all.0) (versions_of history) later) items)) later
     of (events.Gone from) is = stamps-gone (AreBelowAt next) (AreBelowAt next) (is_back history b from) (λ s row back all. all) (versions_of history) later

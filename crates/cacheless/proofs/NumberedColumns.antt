@@ -20,13 +20,15 @@ use Rattle.row_visibility.specs.declared.version.Stamp.{Stamp}
 use Rattle.event_kinds.specs.declared.entry.Event.TheVariants as events
 use Rattle.event_kinds.specs.declared.entry.Item.TheVariants as forms
 use Rattle.lock_modes.specs.declared.grant.Grant.{Grant}
+use Rattle.history_model.specs.After.{segment_of}
 use Rattle.history_model.specs.Prefixes.{EachEntry}
 use Rattle.history_model.specs.Transactions.{running_transaction_of, has_xid, runs_as, is_committed}
 use Rattle.history_model.specs.Versions.{versions_of, versions_by, change_by, end_by, ends, ended_key, version_of, added_row, is_back, end_back, counts, sees, rows_of, row_with, answer_of}
 use Rattle.history_model.specs.Held.{held_of}
 use Rattle.history_model.specs.Sent.{lists_of}
 use Rattle.history_model.specs.Writes.{has_row}
-use Rattle.history_model.specs.Orderly.{has_key, main_rel, MayComeNext, IsSound}
+use Rattle.history_model.specs.Orderly.{has_key, main_rel}
+use Rattle.history_model.specs.Sound.{MayComeNext, IsSound}
 use Rattle.history_model.proofs.Prefixes.{each-keeps}
 use Rattle.history_model.proofs.Reading.{is_committed-kept, running_transaction_of-own as running-own, versions_of-more as versions-more}
 use Rattle.history_model.proofs.Every.{every-weaker, every, every-append, every-map, every-filter, every-both, SomeOf, some-weaker, some_with, from_some, some-right}
@@ -69,7 +71,7 @@ writes_on history b c xid items = ap (has_xid xid.0) (running-own history (entry
 
 lasting_by : (history : List Entry) (b c : ℕ) (event : Event) → AllByRecursion (OfStamps (Lasts (history ++ entry_of b c event ∷ []))) (versions_of history) → AllByRecursion (OfStamps (Lasts (history ++ entry_of b c event ∷ []))) (versions_by history b c event (versions_of history))
 lasting_by history b c (events.Write xid items) old =
-    stamps-write (Lasts after) (λ row. ⊤) history b (record { xid = xid; command = c }) (λ row any. inr (b, writes_on history b c xid items)) items (versions_of history)
+    stamps-write (Lasts after) (λ row. ⊤) (segment_of history) b (record { xid = xid; command = c }) (λ row any. inr (b, writes_on history b c xid items)) items (versions_of history)
     (every (λ item. IfSome (added_row item) (λ row. ⊤) × AllByRecursion (λ v. ends history b item v ≡ true → ⊤) (versions_of history)) (λ item. (any (added_row item), every (λ v. ends history b item v ≡ true → ⊤) (λ v is. tt) (versions_of history))) items) old
   where
     after : List Entry

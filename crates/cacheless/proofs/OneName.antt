@@ -18,8 +18,9 @@ use Rattle.history_model.specs.Prefixes.{EachEntry}
 use Rattle.history_model.specs.Transactions.{runs_as, is_committed}
 use Rattle.history_model.specs.Versions.{versions_of, ends, ended_key, added_row, old_row, counts, sees, rows_of, answer_of}
 use Rattle.history_model.specs.Names.{new_name, has_name, is_others, running_over, users_of}
-use Rattle.history_model.specs.Writes.{is_empty, is_free, has_row}
-use Rattle.history_model.specs.Orderly.{MayComeNext, IsSound}
+use Rattle.history_model.specs.Changing.{is_empty}
+use Rattle.history_model.specs.Writes.{is_free, has_row}
+use Rattle.history_model.specs.Sound.{MayComeNext, IsSound}
 use Rattle.history_model.proofs.Asking.{bytes_same}
 use Rattle.history_model.proofs.Every.{every-weaker, every, every-both, SomeOf, some-weaker, some_with}
 use Rattle.history_model.proofs.GivenRows.{given_seen, row_given}

@@ -11,7 +11,8 @@ use Rattle.event_kinds.specs.declared.entry.Event.TheVariants as events
 use Rattle.history_model.specs.Prefixes.{EachEntry}
 use Rattle.history_model.specs.Versions.{versions_of, versions_by, change_by, end_by, ends, version_of, added_row, is_back, end_back, counts, sees, rows_of}
 use Rattle.history_model.specs.Held.{held_by, held_of}
-use Rattle.history_model.specs.Orderly.{main_rel, MayComeNext, IsSound}
+use Rattle.history_model.specs.Orderly.{main_rel}
+use Rattle.history_model.specs.Sound.{MayComeNext, IsSound}
 use Rattle.history_model.proofs.Reading.{versions_of-more as versions-more}
 use Rattle.history_model.proofs.Every.{every-weaker, every, every-append, every-map, every-both, every-swap, SomeOf, some-weaker, some_with, from_some}
 use Rattle.history_model.proofs.Guards.{IsGuarded}

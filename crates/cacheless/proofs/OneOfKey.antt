@@ -9,7 +9,7 @@ use Rattle.base_types.specs.declared.row.Row.TheVariants as rows
 use Rattle.base_types.specs.declared.row_key.RowKey.TheVariants as keys
 use Rattle.base_types.specs.declared.scan.Purpose.TheVariants as scans
 use Rattle.row_visibility.specs.declared.version.Version.{Version}
-use Rattle.history_model.specs.Orderly.{IsSound}
+use Rattle.history_model.specs.Sound.{IsSound}
 use Rattle.history_model.specs.Prefixes.{EachEntry}
 use Rattle.history_model.specs.Versions.{versions_of, sees, rows_of, answer_of}
 use Rattle.history_model.proofs.Asking.{bytes_same, oid_eq}

@@ -7,7 +7,8 @@ use Rattle.event_kinds.specs.declared.entry.Event.TheVariants as events
 use Rattle.txn_blocks.specs.Blocks.{no_block}
 use Rattle.ddl_effect.specs.Commands.{commands_of}
 use Rattle.history_model.specs.Drawn.{next_oid}
-use Rattle.history_model.specs.Legal.{IsLegal, MayFollow}
+use Rattle.history_model.specs.Legal.{IsLegal}
+use Rattle.history_model.specs.MayFollow.{MayFollow}
 use Rattle.history_model.specs.Lives.{last_event_of}
 use Rattle.history_model.proofs.Reading.{last_event_of-own}
 use Rattle.cacheless.specs.Answering.{PlacesFit, AreLastScans}
@@ -70,7 +71,7 @@ data KeepsAnswer (was now : Progress) (event : Event) : Type 0 where
   Inside : ends_command event ≡ false → now.answer ≡ None → KeepsAnswer was now event
 
 -- an entry inside a command leaves whether its release is made, and takes nothing back
-inside_stands : (event : Event) (s later : Session) → ends_command event ≡ false → later.ended ≡ (noted event s).ended → s.ended ≡ false → is_over (Some event) later ≡ false
+pub inside_stands : (event : Event) (s later : Session) → ends_command event ≡ false → later.ended ≡ (noted event s).ended → s.ended ≡ false → is_over (Some event) later ≡ false
 inside_stands (events.Visible xid) s later is same going = absurd (cc)
 inside_stands (events.Publish count) s later is same going = absurd (cc)
 inside_stands (events.Release from) s later is same going = absurd (cc)
@@ -78,7 +79,7 @@ inside_stands (events.Gone from) s later is same going = absurd (cc)
 inside_stands event s later is same going = same ∙ release_left event s is ∙ going
 
 -- the last entry of a session is its own
-entered_last : (facts : Facts) (left : List Command) (at c : ℕ) (event : Event) (s : Session) → (entered facts left at c event s).last ≡ at
+pub entered_last : (facts : Facts) (left : List Command) (at c : ℕ) (event : Event) (s : Session) → (entered facts left at c event s).last ≡ at
 entered_last facts left at c event s = ap (λ x. x.last) (counted_tally facts event (placed_at at c event s))
 
 -- an entry of an end comes once its command is answered

@@ -11,7 +11,7 @@ use Rattle.ddl_effect.specs.Stages.{plan_at}
 use Rattle.inval_messages.specs.Lists.{cats_in, rels_in, lists_from}
 use Rattle.local_caches.specs.Kept.{Kept, Read as KeptRead, kept_with, kept_spared, is_kept}
 use Rattle.history_model.specs.Drawn.{next_oid}
-use Rattle.history_model.specs.Legal.{FollowsGone, MayFollow}
+use Rattle.history_model.specs.MayFollow.{FollowsGone, MayFollow}
 use Rattle.history_model.specs.Lives.{last_event_of}
 use Rattle.history_model.specs.Log.{fetched_by}
 use Rattle.history_model.specs.Read.{is_scan_of, place_read}
@@ -92,7 +92,7 @@ fetch_there scenario seen was rests = by_plan (plan_at was.opens was.exec) refl
     by_plan p at = ap is_absent at
 
 -- after its write a command has come out well
-write_there : (next : ℕ) (seen : List Entry) (b : ℕ) (s : Session) (command : Command) (items : List Item) → FollowsPlan seen b s command → IsWrite next s.left items → is_absent (written s.left s).left ≡ false
+pub write_there : (next : ℕ) (seen : List Entry) (b : ℕ) (s : Session) (command : Command) (items : List Item) → FollowsPlan seen b s command → IsWrite next s.left items → is_absent (written s.left s).left ≡ false
 write_there next seen b s command items follows writes = by_plan s.left refl writes
   where
     by_plan : (p : Plan) → s.left ≡ p → IsWrite next p items → is_absent (written p s).left ≡ false

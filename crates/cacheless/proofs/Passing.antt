@@ -188,7 +188,7 @@ finish_keeps scenario seen was exec blocked blocks opens opened caches suspects 
     usable = λ scan. f.usable scan ∙ ap (λ k. is_kept k scan) (sym keeps);
     kept = subst (AreRight facts.rows) (sym keeps) f.kept;
   };
-  counts = record { looks = omega arith; scans = omega arith; grants = omega arith; fetches = omega arith; full = omega arith };
+  counts = record { looks = omega arith; scans = omega arith; grants = omega arith; unlocks = omega arith; fetches = omega arith; full = omega arith };
   order = every-weaker (λ (list : Written). list.command ≤ was.finished + 1) (λ (list : Written). list.command ≤ was.finished + 1 + 1) (λ list low. omega (arith, low)) (lists_at was) holds.order;
   sought = λ is. absurd (not_both (is_absent (plan_at opens exec)) is found);
   puts = subst (PutsOpened opened) (sym on) (puts_first opened opens blocks (slice_get was.commands (was.finished + 1)));

@@ -30,7 +30,7 @@ use Rattle.history_model.specs.Reached.{is_writer, reached_of}
 use Rattle.history_model.specs.Covered.{is_covered}
 use Rattle.history_model.specs.Read.{rows_read, is_usable}
 use Rattle.history_model.specs.OfKind.{HasKind, IsOfKind}
-use Rattle.history_model.specs.Orderly.{IsSound}
+use Rattle.history_model.specs.Sound.{IsSound}
 use Rattle.history_model.proofs.Every.{every-weaker, every-both}
 use Rattle.history_model.proofs.Asking.{oid_eq}
 use Rattle.history_model.proofs.Guards.{any_with}

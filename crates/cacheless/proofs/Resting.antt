@@ -9,7 +9,7 @@ use Rattle.base_types.specs.declared.scan.Purpose.TheVariants as scans
 use Rattle.local_caches.specs.Kept.{Read as KeptRead}
 use Rattle.ddl_effect.specs.Plans.{Plan, Act, Done, Fails, Absent, Do, Lookup, Open, Search, Read, Lock, Write}
 use Rattle.ddl_effect.specs.Stages.{plan_at}
-use Rattle.history_model.specs.Writes.{is_empty}
+use Rattle.history_model.specs.Changing.{is_empty}
 use Rattle.lock_modes.specs.Own.{has_lock}
 use Rattle.lock_modes.specs.Rooms.{Roomy}
 use Rattle.cacheless.specs.Types.{Mode, Row, Purpose, Command, Scenario, Entry, Event, OwnLock}

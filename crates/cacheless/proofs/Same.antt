@@ -11,7 +11,7 @@ use Rattle.base_types.specs.declared.scan.Purpose.TheVariants as scans
 use Rattle.ddl_effect.specs.declared.told.Told.TheVariants as tells
 use Rattle.ddl_effect.specs.Plans.{Plan, Done, Do, Lookup, Open, Search, Read, Lock, Write, left_rests_on}
 use Rattle.ddl_effect.specs.Stages.{plan_at}
-use Rattle.history_model.specs.Writes.{is_empty}
+use Rattle.history_model.specs.Changing.{is_empty}
 use Rattle.cacheless.specs.Facts.{Facts}
 use Rattle.cacheless.specs.Session.{Outcome, Unsettled, Well, Badly, outcome_of}
 use Rattle.cacheless.specs.Owed.{OwesLook, OwesFetch, OwesScan, owed_at_start, owed_after, unusable, builds_owed, act_owed, scans_owed, owed_of, act_next, has_looked, is_next_scan, owes_build, owes_build_scan, owes_accept}
@@ -69,7 +69,7 @@ lacks_same facts s rest fits = ap (λ l. elim (outcome_of (plan_at s.opens s.exe
 
 -- a look may come
 pub look_same : (facts : Facts) (s : Progress) (rest : Rest) → FactsFit facts s → may_look facts (session_at s rest) ≡ may_look_at s
-look_same facts s rest fits = ap (λ l. elim l [ OwesFetch ∷ owed ↦ false | owed ↦ nat_le (s.tally.looks + 1) (s.tally.scans + s.tally.grants + 2 * s.tally.fetches + 3) ]) fits.owed
+look_same facts s rest fits = ap (λ l. elim l [ OwesFetch ∷ owed ↦ false | owed ↦ nat_le (s.tally.looks + 1) (s.tally.scans + s.tally.grants + s.tally.unlocks + 2 * s.tally.fetches + 3) ]) fits.owed
 
 -- there was a look for one more scan
 pub looked_same : (facts : Facts) (s : Progress) (rest : Rest) → FactsFit facts s → length rest.finished ≡ s.finished → has_looked facts (session_at s rest) ≡ has_looked_at s

@@ -10,7 +10,7 @@ use Rattle.base_types.specs.declared.command.Command.{Command}
 use Rattle.base_types.proofs.SameScan.{same_scan-itself}
 use Rattle.event_kinds.specs.declared.entry.Event.{Event}
 use Rattle.ddl_effect.specs.Plans.{Plan, Done, Fails, Absent, Do, Act}
-use Rattle.history_model.specs.Writes.{is_empty}
+use Rattle.history_model.specs.Changing.{is_empty}
 use Rattle.cacheless.specs.declared.opening.Opening.{Opening}
 use Rattle.cacheless.specs.Facts.{Facts}
 use Rattle.cacheless.specs.Session.{Session, Outcome, Unsettled, Well, Badly, outcome_of, is_settled, first_of}

@@ -9,7 +9,7 @@ use Rattle.row_visibility.specs.declared.version.Version.{Version}
 use Rattle.row_visibility.specs.declared.version.Stamp.{Stamp}
 use Rattle.row_visibility.specs.Seen.{seen_by}
 use Rattle.history_model.specs.Versions.{change_by, end_by, ends, version_of, ended_key, added_row, end_back, sees}
-use Rattle.history_model.specs.Writes.{changed_key}
+use Rattle.history_model.specs.Changing.{changed_key}
 use Rattle.history_model.proofs.Every.{every-weaker, every-append, every-map, SomeOf, some-weaker, some-left, some-right, some-map, some-filter}
 use Rattle.history_model.proofs.OneVersion.{distinct_split, differ_from, added_key}
 use Rattle.history_model.proofs.Ordered.{if_some}

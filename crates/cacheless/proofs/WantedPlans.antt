@@ -12,7 +12,7 @@ use Rattle.ddl_effect.specs.Stages.{want_of, told_of}
 use Rattle.lock_modes.specs.Own.{has_lock}
 use Rattle.txn_blocks.specs.Blocks.{Block, Blocks, Level, blocks_badly}
 use Rattle.ddl_effect.proofs.Driven.{fails_is}
-use Rattle.history_model.specs.Writes.{is_empty}
+use Rattle.history_model.specs.Changing.{is_empty}
 use Rattle.cacheless.specs.Types.{Oid, Mode, Kind, Row, Purpose, Command, CommandError, OpenRelation, Opening, OwnLock}
 use Rattle.cacheless.specs.Session.{Badly, Unsettled, outcome_of, is_settled}
 use Rattle.cacheless.specs.Settled.{if_locked, opens_badly, opens_passed}

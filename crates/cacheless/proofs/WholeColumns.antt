@@ -20,7 +20,8 @@ use Rattle.history_model.specs.Prefixes.{EachEntry}
 use Rattle.history_model.specs.Versions.{versions_of, versions_by, ends, added_row, is_back, counts, sees, rows_of}
 use Rattle.history_model.specs.Held.{held_by, held_of}
 use Rattle.history_model.specs.Drawn.{next_oid}
-use Rattle.history_model.specs.Orderly.{main_rel, MayComeNext, IsSound}
+use Rattle.history_model.specs.Orderly.{main_rel}
+use Rattle.history_model.specs.Sound.{MayComeNext, IsSound}
 use Rattle.history_model.proofs.Prefixes.{EachEntry-weaker}
 use Rattle.history_model.proofs.Reading.{versions_of-more as versions-more}
 use Rattle.history_model.proofs.Every.{every-weaker, every-both, every-swap, SomeOf, some-weaker}

@@ -21,8 +21,10 @@ use Rattle.history_model.specs.Prefixes.{EachEntry}
 use Rattle.history_model.specs.Versions.{versions_of, versions_by, change_by, end_by, ends, version_of, ended_key, added_row, old_row, row_with, is_back, end_back, counts, sees, rows_of, answer_of}
 use Rattle.history_model.specs.Held.{held_by, held_of}
 use Rattle.history_model.specs.Drawn.{next_oid}
-use Rattle.history_model.specs.Orderly.{main_rel, MayComeNext, IsSound}
-use Rattle.history_model.specs.Writes.{has_row, same_kind, keeps_kind}
+use Rattle.history_model.specs.Orderly.{main_rel}
+use Rattle.history_model.specs.Sound.{MayComeNext, IsSound}
+use Rattle.history_model.specs.Writes.{has_row, keeps_kind}
+use Rattle.history_model.specs.Changing.{same_kind}
 use Rattle.history_model.proofs.Asking.{oid_eq}
 use Rattle.history_model.proofs.DrawnRows.{rows_drawn}
 use Rattle.history_model.proofs.Every.{every-weaker, every-map, every-filter, every-both, every-swap, SomeOf, some-weaker, some-right, from_some}

@@ -7,7 +7,7 @@ use Rattle.lock_modes.specs.Grants.{holds}
 use Rattle.history_model.specs.Drawn.{next_oid}
 use Rattle.history_model.specs.Held.{held_of}
 use Rattle.history_model.specs.Versions.{answer_of}
-use Rattle.history_model.specs.Writes.{relations_of}
+use Rattle.history_model.specs.Changing.{relations_of}
 use Rattle.ddl_effect.specs.Plans.{Act, Lookup, Search, Read, Lock, Write, Plan, Do, after_act}
 use Rattle.cacheless.specs.Types.{Oid, Mode, Kind, Row, Purpose, Opening, Entry}
 use Rattle.cacheless.specs.Settled.{opened_by}

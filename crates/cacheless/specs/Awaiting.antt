@@ -5,7 +5,7 @@ use Rattle.inval_messages.specs.Lists.{cats_in, rels_in, lists_from}
 use Rattle.local_caches.specs.Kept.{nothing_kept, kept_with, kept_spared}
 use Rattle.history_model.specs.Log.{fetched_by}
 use Rattle.history_model.specs.Versions.{answer_of}
-use Rattle.history_model.specs.Writes.{has_written}
+use Rattle.history_model.specs.Transactions.{has_written}
 use Rattle.cacheless.specs.Answering.{PlacesFit}
 use Rattle.cacheless.specs.Facts.{facts_of}
 use Rattle.cacheless.specs.Holds.{Holds, Rests, HasNotStarted, HasEntered}

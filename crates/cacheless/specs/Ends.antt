@@ -46,7 +46,7 @@ end_of facts command s = elim (outcome_of s.left) [ Well ↦ end_well facts comm
 
 -- the Xid of the running transaction
 abbrev pub xid_of : Facts → ℕ
-xid_of facts = option_map_or (λ t. unwrap_or t.xid 0) facts.running 0
+xid_of facts = option_map_or (λ t. option_map_or (λ xid. xid.0) t.xid 0) facts.running 0
 
 -- while messages are unsent a publish of 64 at most, and then the release
 abbrev pub next_sent : ℕ → ℕ → Event

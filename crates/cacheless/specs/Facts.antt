@@ -2,7 +2,8 @@
 use Rattle.std.specs.Prelude.{ℕ, Bool, Option, Some, List}
 use Rattle.inval_messages.specs.Lists.{Written}
 use Rattle.history_model.specs.Lives.{last_event_of}
-use Rattle.history_model.specs.Transactions.{Running, running_by, running_transaction_of}
+use Rattle.history_model.specs.Transactions.{running_by, running_transaction_of}
+use Rattle.txn_blocks.specs.declared.transaction.RunningTransaction.{RunningTransaction as Running}
 use Rattle.history_model.specs.Sent.{lists_by, lists_of}
 use Rattle.history_model.specs.Read.{usable_by, is_usable, rows_by, rows_read}
 use Rattle.cacheless.specs.Types.{Row, Purpose, Entry, Event}

@@ -7,7 +7,7 @@ use Rattle.ddl_effect.specs.Plans.{Plan, Act, Do}
 use Rattle.txn_blocks.specs.Blocks.{no_block}
 use Rattle.ddl_effect.specs.Commands.{commands_of}
 use Rattle.ddl_effect.specs.Stages.{plan_at, plan_again}
-use Rattle.history_model.specs.Writes.{is_empty}
+use Rattle.history_model.specs.Changing.{is_empty}
 use Rattle.cacheless.specs.Types.{Row, Purpose, Command, Scenario, Entry, Event}
 use Rattle.cacheless.specs.declared.progress.Counts.{Counts}
 use Rattle.cacheless.specs.declared.progress.Progress.{Progress}
@@ -38,6 +38,7 @@ pub record CountsFit (c : Counts) (entries : ℕ) : Type 0 where
   pub looks : c.looks ≤ entries
   pub scans : c.scans ≤ entries
   pub grants : c.grants ≤ entries
+  pub unlocks : c.unlocks ≤ entries
   pub fetches : c.fetches ≤ entries
   pub full : c.full ≤ c.fetches
 

@@ -12,6 +12,7 @@ pub mod MayEnter
 pub mod TableWrites
 pub mod Protected
 pub mod Lines
+pub mod Places
 pub mod Schedule
 pub mod Output
 pub mod OnCourse

@@ -12,7 +12,7 @@ use Rattle.txn_blocks.specs.Blocks.{Block, Failed}
 use Rattle.ddl_effect.specs.Effects.{Effect, Nothing, Refuses, Unknown, Writes, effect_at}
 use Rattle.ddl_effect.specs.declared.told.Told.TheVariants as tells
 use Rattle.history_model.specs.Versions.{answer_of, fresh_text}
-use Rattle.history_model.specs.Writes.{has_written}
+use Rattle.history_model.specs.Transactions.{has_written}
 use Rattle.history_model.specs.Read.{place_read}
 use Rattle.cacheless.specs.Types.{Oid, Kind, Field, Row, Command, Scenario, CommandError, Answer, Shown, Told, Entry, Line}
 use Rattle.cacheless.specs.Session.{Finished}

@@ -13,7 +13,7 @@ use Rattle.base_types.specs.declared.change.Change.TheVariants as changes
 use Rattle.ddl_effect.specs.Plans.{Plan, Done, Do, Lookup, Open, Search, Read, Lock, Write, told_rests_on}
 use Rattle.ddl_effect.specs.Stages.{plan_at}
 use Rattle.history_model.specs.Names.{has_name}
-use Rattle.history_model.specs.Writes.{is_empty}
+use Rattle.history_model.specs.Changing.{is_empty}
 use Rattle.cacheless.specs.Types.{Oid, Mode, Kind, Row, Purpose, Message, Command, Item, Event, Opening}
 use Rattle.cacheless.specs.declared.progress.Progress.{Progress}
 use Rattle.cacheless.specs.Session.{Badly, outcome_of}
@@ -25,11 +25,11 @@ use Rattle.cacheless.specs.State.{owed_at, owed_first, one_if, Kept, kept_at, is
 
 -- the counts are small enough to be summed
 abbrev pub HasRoom : Progress → Type 0
-HasRoom s = (nat_lt s.tally.looks 1152921504606846976 ≡ true) × (nat_lt s.tally.scans 1152921504606846976 ≡ true) × (nat_lt s.tally.grants 1152921504606846976 ≡ true) × (nat_lt s.tally.fetches 1152921504606846976 ≡ true) × (nat_lt s.tally.full 1152921504606846976 ≡ true)
+HasRoom s = (nat_lt s.tally.looks 1152921504606846976 ≡ true) × (nat_lt s.tally.scans 1152921504606846976 ≡ true) × (nat_lt s.tally.grants 1152921504606846976 ≡ true) × (nat_lt s.tally.unlocks 1152921504606846976 ≡ true) × (nat_lt s.tally.fetches 1152921504606846976 ≡ true) × (nat_lt s.tally.full 1152921504606846976 ≡ true)
 
 -- no fetch has to come first, and the looks of the command stay within their bound
 abbrev pub may_look_at : Progress → Bool
-may_look_at s = elim (owed_at s.due) [ OwesFetch ∷ owed ↦ false | owed ↦ nat_le (s.tally.looks + 1) (s.tally.scans + s.tally.grants + 2 * s.tally.fetches + 3) ]
+may_look_at s = elim (owed_at s.due) [ OwesFetch ∷ owed ↦ false | owed ↦ nat_le (s.tally.looks + 1) (s.tally.scans + s.tally.grants + s.tally.unlocks + 2 * s.tally.fetches + 3) ]
 
 -- 1 if the running transaction started in the running command
 abbrev pub started_at : Progress → ℕ

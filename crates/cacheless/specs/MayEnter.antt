@@ -1,7 +1,7 @@
 -- What an entry of a backend meets when it is made.
 use Rattle.std.specs.Prelude.{ℕ, List}
 use Rattle.history_model.specs.Lapped.{FetchesFrom}
-use Rattle.history_model.specs.Orderly.{MayComeNext}
+use Rattle.history_model.specs.Sound.{MayComeNext}
 use Rattle.history_model.specs.Read.{ScansOnlyIfNeeded}
 use Rattle.cacheless.specs.Types.{Scenario, Entry, Event}
 use Rattle.cacheless.specs.Plays.{IsNext}

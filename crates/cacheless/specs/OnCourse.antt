@@ -12,7 +12,7 @@ use Rattle.history_model.specs.Lives.{last_event_of}
 use Rattle.history_model.specs.OfKind.{IsOfKind}
 use Rattle.history_model.specs.Read.{rows_read}
 use Rattle.history_model.specs.Versions.{answer_of}
-use Rattle.history_model.specs.Writes.{has_written}
+use Rattle.history_model.specs.Transactions.{has_written}
 use Rattle.cacheless.specs.Types.{Oid, Mode, Row, Command, CommandError, Opening, OpenRelation, Draft, Told, Scenario, Entry, Event}
 use Rattle.cacheless.specs.Facts.{Facts, facts_of}
 use Rattle.cacheless.specs.Owed.{owes_accept}

@@ -6,7 +6,7 @@ use Rattle.base_types.specs.Scans.{same_scan, is_build_scan, build_scans}
 use Rattle.event_kinds.specs.declared.entry.Event.TheVariants as events
 use Rattle.ddl_effect.specs.Plans.{Plan, Do, Read, left_rests_on}
 use Rattle.txn_blocks.specs.Blocks.{Outside, no_block, ends_block, refused_by}
-use Rattle.history_model.specs.Writes.{is_empty}
+use Rattle.history_model.specs.Changing.{is_empty}
 use Rattle.cacheless.specs.Types.{Purpose, Command, Event, Opening}
 use Rattle.cacheless.specs.Facts.{Facts}
 use Rattle.cacheless.specs.Session.{Session, Badly, number_of, outcome_of}

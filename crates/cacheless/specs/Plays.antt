@@ -24,7 +24,7 @@ use Rattle.cacheless.specs.Sessions.{session_of}
 
 -- no fetch has to come first, and the looks of the command stay within their bound
 abbrev pub may_look : Facts → Session → Bool
-may_look facts s = elim (owed_after facts.last) [ OwesFetch ∷ owed ↦ false | owed ↦ nat_le (s.tally.looks + 1) (s.tally.scans + s.tally.grants + 2 * s.tally.fetches + 3) ]
+may_look facts s = elim (owed_after facts.last) [ OwesFetch ∷ owed ↦ false | owed ↦ nat_le (s.tally.looks + 1) (s.tally.scans + s.tally.grants + s.tally.unlocks + 2 * s.tally.fetches + 3) ]
 
 -- the next act asks for this lock
 abbrev pub IsLock : Facts → Plan → Oid → Mode → Type 0

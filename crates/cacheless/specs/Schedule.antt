@@ -5,7 +5,9 @@ use Rattle.event_kinds.specs.declared.entry.Event.TheVariants.{Look}
 use Rattle.cacheless.specs.Types.{Turns, Scenario, Entry, Event}
 use Rattle.base_types.specs.Scenario.{schedule_of}
 use Rattle.history_model.specs.Prefixes.{EachEntry, along}
-use Rattle.history_model.specs.Lives.{Life, Stopped, life_of}
+use Rattle.history_model.specs.Lives.{life_of}
+use Rattle.history_model.specs.declared.life.Life.{Life}
+use Rattle.history_model.specs.declared.life.Life.TheVariants.{Stopped}
 use Rattle.history_model.specs.Log.{is_waiting}
 
 -- a life has ended

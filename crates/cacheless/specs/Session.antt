@@ -14,11 +14,12 @@ pub record Finished : Type 0 where
   pub found : List (Option Oid)
   pub judged : ℕ
 
--- how many looks, scans and fetches the running command has made, how many locks it was granted, and after how many of its fetches of 32 messages no scan for a descriptor was owed, of an opened one or of the one that is opened next
+-- how many looks, scans and fetches the running command has made, how many locks it was granted and gave back before its end, and after how many of its fetches of 32 messages no scan for a descriptor was owed, of an opened one or of the one that is opened next
 pub record Tally : Type 0 where
   pub looks : ℕ
   pub scans : ℕ
   pub grants : ℕ
+  pub unlocks : ℕ
   pub fetches : ℕ
   pub full : ℕ
 
@@ -34,7 +35,7 @@ pub record Tally : Type 0 where
 --   found      the relations with which its lookups ended
 --   sought     what was left of it before its last lookup
 --   ended      its release is made
---   tally      its looks, scans, grants and fetches
+--   tally      its looks, scans, grants, unlocks and fetches
 --   locks      the locks that the backend holds
 --   judged     the number of the backend's last entry but for those that end the running command
 --   last       the number of the backend's last entry
@@ -114,7 +115,7 @@ at_command blocks opens finished locks last command = record {
   found = [];
   sought = Done tells.Ok;
   ended = false;
-  tally = record { looks = 0; scans = 0; grants = 0; fetches = 0; full = 0 };
+  tally = record { looks = 0; scans = 0; grants = 0; unlocks = 0; fetches = 0; full = 0 };
   locks = locks;
   judged = last;
   last = last;

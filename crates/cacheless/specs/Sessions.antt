@@ -35,6 +35,7 @@ abbrev pub tally_by : Event → Tally → Tally
 tally_by (events.Look some_wait) old = record old { looks = old.looks + 1 }
 tally_by (events.Scan scan rows) old = record old { scans = old.scans + 1 }
 tally_by (events.LockOk rel mode) old = record old { grants = old.grants + 1 }
+tally_by (events.Unlock rel mode) old = record old { unlocks = old.unlocks + 1 }
 tally_by (events.Fetch count) old = record old { fetches = old.fetches + 1 }
 tally_by events.FetchReset old = record old { fetches = old.fetches + 1 }
 tally_by event old = old

@@ -10,7 +10,7 @@ use Rattle.lock_modes.specs.Own.{has_lock}
 use Rattle.ddl_effect.specs.Plans.{Act, Lookup, Open, Search, Read, Lock, Write, Plan, Do}
 use Rattle.ddl_effect.specs.Opens.{without_latest, opens_before}
 use Rattle.txn_blocks.specs.Blocks.{Blocks, Level, innermost, levels_up_to, blocks_well, blocks_badly}
-use Rattle.history_model.specs.Writes.{is_empty}
+use Rattle.history_model.specs.Changing.{is_empty}
 use Rattle.cacheless.specs.Types.{Oid, Mode, Row, Command, Event, OpenRelation, Opening}
 use Rattle.cacheless.specs.Facts.{Facts}
 use Rattle.cacheless.specs.Session.{Session, Finished, number_of, first_of, at_command, Well, outcome_of, is_settled}

@@ -18,9 +18,9 @@ use Rattle.ddl_effect.specs.Plans.{Plan, Do, Lookup, left_rests_on}
 use Rattle.txn_blocks.specs.Blocks.{Block, Outside, Inside, Failed, Blocks, no_block, ends_block, refused_by, innermost, levels_up_to, blocks_well, blocks_badly}
 use Rattle.ddl_effect.specs.Stages.{plan_at, plan_again}
 use Rattle.ddl_effect.specs.declared.exec.Exec.TheVariants as stages
-use Rattle.history_model.specs.Writes.{is_empty}
+use Rattle.history_model.specs.Changing.{is_empty}
 use Rattle.history_model.specs.Sent.{cats_by, rels_by}
-use Rattle.history_model.specs.Transactions.{Running}
+use Rattle.txn_blocks.specs.declared.transaction.RunningTransaction.{RunningTransaction as Running}
 pub use Rattle.cacheless.specs.OnCourse.{is_absent}
 use Rattle.txn_blocks.specs.Transactions.{begun_own}
 use Rattle.cacheless.specs.Types.{Oid, Message, Row, Purpose, Command, CommandError, Clash, Item, Entry, Event, Opening, OwnLock}
@@ -63,11 +63,11 @@ one_if false = 0
 
 -- nothing is counted
 abbrev pub no_counts : Counts
-no_counts = record { looks = 0; scans = 0; grants = 0; fetches = 0; full = 0 }
+no_counts = record { looks = 0; scans = 0; grants = 0; unlocks = 0; fetches = 0; full = 0 }
 
 -- the running transaction
 abbrev pub running_of : Option RunningTransaction → Option Running
-running_of own = option_map (λ t. record { first = t.first; xid = option_map (λ x. x.0) t.xid; published = t.published; visible = t.visible }) own
+running_of own = own
 
 -- the transaction is committed, and its locks are still held
 abbrev pub is_visible_at : Progress → Bool
@@ -269,7 +269,7 @@ rest_of s = record { finished = s.finished; refused = s.refused; found = s.found
 
 -- the tally that the code holds
 abbrev pub tally_at : Counts → Tally
-tally_at c = record { looks = c.looks; scans = c.scans; grants = c.grants; fetches = c.fetches; full = c.full }
+tally_at c = record { looks = c.looks; scans = c.scans; grants = c.grants; unlocks = c.unlocks; fetches = c.fetches; full = c.full }
 
 -- the session of a backend: what it holds, and the rest
 abbrev pub session_at : Progress → Rest → Session

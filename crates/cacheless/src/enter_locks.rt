@@ -48,9 +48,11 @@ impl Progress {
         self.answer = None;
     }
 
-    /// It gave a lock back (`UnlockRelationOid` in `src/backend/storage/lmgr/lmgr.c`). Condition: it holds it.
+    /// It gave a lock back (`UnlockRelationOid` in `src/backend/storage/lmgr/lmgr.c`). Conditions: it holds it, and
+    /// its counts are small enough to be summed.
     pub fn enter_unlock(&mut self, rel: Oid, mode: Mode)
         requires few { self.old.finished ≤ 20000 }
+        requires room { HasRoom self.old }
         requires held { has_lock self.old.locks.items rel mode ≡ true }
         ensures kept { kept_at self.new ≡ kept_at self.old }
         ensures answer { self.new.answer ≡ None }
@@ -59,6 +61,7 @@ impl Progress {
     {
         self.running = Some(RunningTransaction::begun(self.finished + 1, self.running));
         self.due = Due::Nothing;
+        self.tally.unlocks += 1;
         self.taken = None;
         self.locks.remove(rel, mode);
         let accepting = self.is_in_acceptance();

@@ -21,7 +21,7 @@ impl Progress {
     ghost use Rattle.std.specs.Prelude.{List, ℕ};
     ghost use Rattle.base_types.specs.Scenario.{Scenario};
     ghost use Rattle.event_kinds.specs.declared.entry.Entry.{Entry};
-    ghost use Rattle.history_model.specs.Writes.{is_empty as none_in};
+    ghost use Rattle.history_model.specs.Changing.{is_empty as none_in};
     ghost use Rattle.cacheless.specs.Facts.{facts_of};
     ghost use Rattle.cacheless.specs.Plays.{MayPlayIn};
     ghost use Rattle.cacheless.specs.State.{kept_at, owed_at, owed_first, act_missing, scans_missing, lacks_builds, session_at};
@@ -104,7 +104,11 @@ impl Progress {
             Due::Fetch => false,
             _ => {
                 self.tally.looks + 1
-                    <= self.tally.scans + self.tally.grants + 2 * self.tally.fetches + 3
+                    <= self.tally.scans
+                        + self.tally.grants
+                        + self.tally.unlocks
+                        + 2 * self.tally.fetches
+                        + 3
             }
         }
     }

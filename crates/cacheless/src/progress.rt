@@ -23,13 +23,14 @@ pub enum Due {
     Fetch,
 }
 
-/// How many looks, scans and fetches the running command has made, how many locks it was granted, and
-/// after how many of its fetches of 32 messages no scan for a descriptor was owed.
+/// How many looks, scans and fetches the running command has made, how many locks it was granted
+/// and gave back before its end, and after how many of its fetches of 32 messages no scan for a descriptor was owed.
 #[derive(Clone, Copy)]
 pub struct Counts {
     pub looks: u64,
     pub scans: u64,
     pub grants: u64,
+    pub unlocks: u64,
     pub fetches: u64,
     pub full: u64,
 }

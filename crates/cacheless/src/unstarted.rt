@@ -26,6 +26,7 @@ impl Counts {
             looks: 0,
             scans: 0,
             grants: 0,
+            unlocks: 0,
             fetches: 0,
             full: 0,
         }
@@ -42,6 +43,7 @@ impl Progress {
         let opens = Listed::new(alloc);
         let first = begun(alloc, &blocks, opens.as_slice(), commands.as_slice(), 0)?;
         let suspects = Suspects::new(alloc);
+        let caches = LocalCaches::new(alloc)?;
         Ok(Progress {
             id,
             commands,
@@ -58,7 +60,7 @@ impl Progress {
             taken: None,
             opened: Listed::new(alloc),
             locks: OwnLocks::new(alloc),
-            caches: LocalCaches::new(alloc),
+            caches,
             suspects,
             answer: None,
         })

@@ -44,7 +44,9 @@ fn any_of(cache: CacheId) -> Message {
 
 // At which entry a scan is kept before it is put, after it, and after a message, or 0; it gave nothing at entry 4.
 fn left(alloc: Global, scan: Purpose, message: Message) -> [u64; 3] {
-    let mut caches = LocalCaches::new(alloc);
+    let Ok(mut caches) = LocalCaches::new(alloc) else {
+        return [9; 3];
+    };
     let before = caches.at(&scan).unwrap_or(0);
     let Ok(()) = caches.put(&scan, Vec::new(alloc), 4) else {
         return [9; 3];
@@ -80,7 +82,9 @@ fn row_counts(alloc: Global, scan: Purpose) -> [usize; 2] {
 fn row_counts_of(alloc: Global, scan: Purpose, rows: Vec<Row>) -> [usize; 2]
     requires { length rows.items ≤ 1 }
 {
-    let mut caches = LocalCaches::new(alloc);
+    let Ok(mut caches) = LocalCaches::new(alloc) else {
+        return [9; 2];
+    };
     let Ok(()) = caches.put(&scan, rows, 4) else {
         return [9; 2];
     };
@@ -102,7 +106,9 @@ fn count(caches: &LocalCaches, scan: &Purpose) -> usize {
 
 // Whether the columns are what a table's descriptor lacks first once its own row is read, and an index's its row.
 fn missing(alloc: Global) -> [bool; 2] {
-    let mut caches = LocalCaches::new(alloc);
+    let Ok(mut caches) = LocalCaches::new(alloc) else {
+        return [false; 2];
+    };
     let Ok(()) = caches.put(&Purpose::Class(REL), Vec::new(alloc), 4) else {
         return [false; 2];
     };
@@ -121,7 +127,9 @@ fn missing(alloc: Global) -> [bool; 2] {
 // A pinned descriptor that a message covers: whether its scans are gone, whether one that is put then is kept, and
 // whether the old one is back (it isn't).
 fn built_anew(alloc: Global) -> [bool; 3] {
-    let mut caches = LocalCaches::new(alloc);
+    let Ok(mut caches) = LocalCaches::new(alloc) else {
+        return [false; 3];
+    };
     let Ok(()) = caches.put(&Purpose::Attribute(REL), Vec::new(alloc), 4) else {
         return [false; 3];
     };
@@ -161,7 +169,9 @@ fn one_column(alloc: Global) -> Option<Vec<Row>>
 // Whether fields have their texts once a table's own row and its columns are kept, and whether they have none of another
 // relation, and after a message.
 fn kept_texts(alloc: Global) -> [bool; 3] {
-    let mut caches = with_texts(alloc);
+    let Some(mut caches) = with_texts(alloc) else {
+        return [false; 3];
+    };
     let there = has_texts(&caches);
     let others = has_none(&caches, OTHER);
     caches.execute(&[OF_REL]);
@@ -169,15 +179,15 @@ fn kept_texts(alloc: Global) -> [bool; 3] {
 }
 
 // The caches with a table's own row and its columns.
-fn with_texts(alloc: Global) -> LocalCaches {
-    let mut caches = LocalCaches::new(alloc);
+fn with_texts(alloc: Global) -> Option<LocalCaches> {
+    let mut caches = LocalCaches::new(alloc).ok()?;
     if let Some(rows) = one_row(alloc) {
         put_rows(&mut caches, Purpose::Class(REL), rows);
     }
     if let Some(rows) = one_column(alloc) {
         put_rows(&mut caches, Purpose::Attribute(REL), rows);
     }
-    caches
+    Some(caches)
 }
 
 // Keeps what a scan gave.

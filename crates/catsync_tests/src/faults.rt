@@ -19,7 +19,7 @@ const HINTS: &[(&[u8], u32, ScriptCause, &str)] = &[
         b"-- one\r\nbackends 1\r\n1: begin transaction\r\nend\r\n",
         3,
         ScriptCause::BadCommand,
-        "BadCommand: after \"begin\" comes the end of the line; found \"transaction\"",
+        "BadCommand: after \"begin\" comes the end of the line; found \"transaction\" (PostgreSQL's, but not in this grammar: leave it out)",
     ),
     (
         b"backends 1\n1: show t\xe2\x88\x92\nend\n",
@@ -28,9 +28,9 @@ const HINTS: &[(&[u8], u32, ScriptCause, &str)] = &[
         "BadByte: the byte 0xE2 in column 10 (of the character U+2212) is neither printable ASCII nor a tab",
     ),
     (
-        b"backends 1\n2: show t\nend\n",
-        2,
-        ScriptCause::UnknownBackend,
+        b"backends 1\nsteps 1\n1: begin\nend\n",
+        3,
+        ScriptCause::LateCommand,
         "",
     ),
 ];

@@ -64,3 +64,24 @@ fn values_stay_in_places_of_their_own_while_they_are_pinned(rt: HostRuntime) {
     assert!(rt; two(rt.alloc()) == [7, 8]);
     assert!(rt; added_again(rt.alloc()) == ([None, Some(7)], [8, 1]));
 }
+
+// Whether the first of two entries, which has gone, and the second one are live, what the second one is, and whether there
+// is room for three more.
+fn reserved(alloc: Global) -> Option<([bool; 2], u32, bool)> {
+    let mut pool = Pool::new(alloc);
+    let gone = pool.add(7u32).ok()?;
+    let _ = pool.mark_dead(&gone);
+    let _ = pool.unpin(&gone);
+    let there = pool.add(8).ok()?;
+    pool.reserve(3).ok()?;
+    Some((
+        [pool.live(&gone), pool.live(&there)],
+        *pool.get(&there),
+        pool.spare() >= 3,
+    ))
+}
+
+#[test]
+fn a_reference_whose_entry_has_gone_is_dead_whatever_is_added(rt: HostRuntime) {
+    assert!(rt; reserved(rt.alloc()) == Some(([false, true], 8, true)));
+}

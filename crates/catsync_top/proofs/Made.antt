@@ -9,6 +9,7 @@ use Rattle.script_text.specs.declared.fault.ScriptCause.{ScriptCause}
 use Rattle.make_script.specs.Scripts.{made_script}
 use Rattle.make_script.specs.Texts.{made_text}
 use Rattle.cacheless.specs.Lines.{lines_of}
+use Rattle.history_model.proofs.Sound.{sound_is_orderly}
 use Rattle.walk_run.specs.Walks.{IsWalk}
 use Rattle.catsync_top.specs.declared.arguments.Word.{Word}
 use Rattle.catsync_top.specs.declared.arguments.Word.TheVariants as words
@@ -24,7 +25,7 @@ has_made script made taken now Writes history seen answers said text sent are wa
     subst (λ s. HasMade s taken now Writes) are (record {
       output = text_of history (lines_of script history);
       is = record { history = history; allowed = walk.allowed; interleaved = record { follows = walk.follows; looks = walk.looks }; complete = walk.complete; text_is = refl };
-      sound = walk.sound;
+      orderly = sound_is_orderly history walk.sound;
       back = subst (IsReadBack script) spelled back;
       written = subst (Writes taken now) (all ∙ spelled) written;
     })

@@ -5,7 +5,8 @@ use Rattle.event_kinds.specs.declared.entry.Line.{Line}
 use Rattle.edge_io.specs.Reads.{ReadsAll}
 use Rattle.script_text.specs.Grammar.{Reading, script_of}
 use Rattle.script_text.specs.declared.fault.Rest.TheVariants.{Refused}
-use Rattle.history_model.specs.Orderly.{IsSound}
+use Rattle.history_model.specs.Sound.{IsSound}
+use Rattle.history_model.proofs.Sound.{sound_is_orderly}
 use Rattle.cacheless.specs.declared.check_kind.CheckKind.{CheckKind}
 use Rattle.cacheless.specs.Lines.{lines_of}
 use Rattle.cacheless.specs.Output.{IsOutput}
@@ -15,6 +16,7 @@ use Rattle.backend_core.specs.declared.backend.Backend.{Backend}
 use Rattle.script_backends.specs.Sessions.{AreSessions}
 use Rattle.out_text.specs.Typed.{IsTyped, IsLine}
 use Rattle.out_text.proofs.OneHistory.{spells_only}
+use Rattle.cacheless.proofs.PlacesUsable.{places_usable}
 use Rattle.cacheless.proofs.Written.WritesChange.{allowed_changes}
 use Rattle.catsync_top.proofs.Readable.{all_read}
 use Rattle.catsync_top.specs.Sessions.{RanCoherently}
@@ -33,8 +35,9 @@ has_run kind left rest taken now Writes items input output reading answers sessi
     spelled = ap (script_of Refused) (sym same) ∙ spelled;
     output = output;
     is = is;
-    sound = sound;
+    orderly = sound_is_orderly is.history sound;
     commands = commands;
+    places = places_usable reading.script is.history commands is.allowed;
     entries = all_read is.history entries (allowed_changes reading.script is.history commands is.allowed);
     answers = lines;
     only = spells_only output is.history (lines_of reading.script is.history) is.text_is entries lines;

@@ -7,7 +7,7 @@ use Rattle.std.specs.List.{All, AllByRecursion}
 use Rattle.base_types.specs.Commands.{IsCommand}
 use Rattle.base_types.specs.Scenario.{Scenario}
 use Rattle.event_kinds.specs.Entries.{IsEntry}
-use Rattle.history_model.specs.Orderly.{IsSound}
+use Rattle.history_model.specs.Orderly.{AreOrderly}
 use Rattle.out_text.specs.Typed.{IsLine, SpellsOnly}
 use Rattle.script_backends.specs.Sessions.{AreSessions}
 use Rattle.thread_run.specs.Stops.{OneRose}
@@ -17,6 +17,7 @@ use Rattle.script_text.specs.declared.fault.Rest.TheVariants.{Refused, Given}
 use Rattle.script_text.specs.declared.fault.ScriptCause.{ScriptCause}
 use Rattle.cacheless.specs.Lines.{lines_of}
 use Rattle.cacheless.specs.Output.{IsOutput}
+use Rattle.cacheless.specs.Places.{ArePlacesUsable}
 use Rattle.backend_core.specs.declared.backend.Backend.{Backend}
 use Rattle.check_tool.specs.Verdicts.{IsOutputOf, DiffersAt}
 use Rattle.script_text.specs.ReadBack.{IsReadBack}
@@ -126,7 +127,7 @@ pub record HasRead (word : Word) (left rest : Option (List ℕ)) : Type 0 where
   pub reading : Reading
   pub spelled : script_of (rest_of word) input ≡ Ok reading
 
--- the input is a script; an output of `walk` or `run` for that script was written, or a prefix of one; its history is sound, and the script's commands have forms that lines may have, so that each law of such histories is one of it; its entries and lines are such as a reader of texts takes, and that output spells them alone; and the sessions are the backends that were run, with their parts of the answers
+-- the input is a script; an output of `walk` or `run` for that script was written, or a prefix of one; its history keeps order, and the script's commands have forms that lines may have, so that each law of such histories is one of it; each `as of P` in its answers is the place of its backend's last scan of what is told, since which the backend fetched no message about it; its entries and lines are such as a reader of texts takes, and that output spells them alone; and the sessions are the backends that were run, with their parts of the answers
 pub record Ran (kind : CheckKind) (left rest : Option (List ℕ)) (taken now : Option (List ℕ)) (Writes : Option (List ℕ) → Option (List ℕ) → List ℕ → Type 0) (sessions : List Backend) : Type 0 where
   pub input : List ℕ
   pub whole : IsInput (words.Output kind) left rest input
@@ -134,8 +135,9 @@ pub record Ran (kind : CheckKind) (left rest : Option (List ℕ)) (taken now : O
   pub spelled : script_of Refused input ≡ Ok reading
   pub output : List ℕ
   pub is : IsOutput kind reading.script output
-  pub sound : IsSound is.history
+  pub orderly : AreOrderly is.history
   pub commands : AllByRecursion (λ p. IsCommand p.command) reading.script.commands
+  pub places : ArePlacesUsable reading.script is.history
   pub entries : All IsEntry is.history
   pub answers : All IsLine (lines_of reading.script is.history)
   pub only : SpellsOnly output is.history (lines_of reading.script is.history)
@@ -146,7 +148,7 @@ pub record Ran (kind : CheckKind) (left rest : Option (List ℕ)) (taken now : O
 abbrev pub checked_text : ℕ → List ℕ
 checked_text entries = codes "checked " ++ decimal entries ++ codes " entries\n"
 
--- what follows the script is an output of `walk` or `run` of it, of a sound history, and spells that history and its answer lines alone (`IsOutputOf` has the rest of what `Ran` says of a history); and the number of its entries was written, or a prefix of that line
+-- what follows the script is an output of `walk` or `run` of it, whose history keeps order, and spells that history and its answer lines alone (`IsOutputOf` has the rest of what `Ran` says of a history); and the number of its entries was written, or a prefix of that line
 pub record HasFound (kind : CheckKind) (left rest : Option (List ℕ)) (taken now : Option (List ℕ)) (Writes : Option (List ℕ) → Option (List ℕ) → List ℕ → Type 0) : Type 0 where
   pub is : HasRead (words.Check kind) left rest
   pub count : ℕ
@@ -165,11 +167,11 @@ pub record HasDifferedAsAsked (arguments : List (List ℕ)) (left rest : Option 
   pub ask : Ask arguments (words.Check kind)
   pub differs : HasDiffered kind left rest entry
 
--- the script was written, or a prefix of it, under a comment that counts what is in an output of it: the entries of the history, those that publish, those that are resets, and the answers that are errors; that history is sound; and the whole text is read as the script
+-- the script was written, or a prefix of it, under a comment that counts what is in an output of it: the entries of the history, those that publish, those that are resets, and the answers that are errors; that history keeps order; and the whole text is read as the script
 pub record HasMade (script : Scenario) (taken now : Option (List ℕ)) (Writes : Option (List ℕ) → Option (List ℕ) → List ℕ → Type 0) : Type 0 where
   pub output : List ℕ
   pub is : IsOutput kinds.Walk script output
-  pub sound : IsSound is.history
+  pub orderly : AreOrderly is.history
   pub back : IsReadBack script (made_text script is.history (lines_of script is.history))
   pub written : Writes taken now (made_text script is.history (lines_of script is.history))
 

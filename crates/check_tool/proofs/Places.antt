@@ -6,8 +6,11 @@ use Rattle.std.proofs.lemmas.List.{length-append, length-take-le}
 use Rattle.std.proofs.lemmas.Option.{slice_get_read}
 use Rattle.base_types.specs.Scenario.{IsBackend}
 use Rattle.event_kinds.specs.declared.entry.Event.TheVariants.{Start, Publish}
-use Rattle.history_model.specs.Legal.{MayFollow, AllowsEvent}
-use Rattle.history_model.specs.Lives.{Life, Unstarted, Alive, Stopped, FollowsLife, is_alive, life_by, life_of}
+use Rattle.history_model.specs.MayFollow.{MayFollow, AllowsEvent}
+use Rattle.history_model.specs.MayFollow.{FollowsLife}
+use Rattle.history_model.specs.Lives.{is_alive, life_by, life_of}
+use Rattle.history_model.specs.declared.life.Life.{Life}
+use Rattle.history_model.specs.declared.life.Life.TheVariants.{Unstarted, Alive, Stopped}
 use Rattle.history_model.specs.Log.{log_of, log_by, position_of, position_by, is_waiting}
 use Rattle.history_model.specs.Sent.{unsent_of}
 use Rattle.history_model.proofs.Reading.{log_of-more, life_of-own, life_of-other, position_of-own, position_of-other}

@@ -11,11 +11,13 @@ use Rattle.event_kinds.specs.Texts.{entries_text, lines_text}
 use Rattle.history_ledger.specs.Longest.{IsLongest}
 use Rattle.history_model.specs.Prefixes.{EachFrom}
 use Rattle.history_model.proofs.Prefixes.{EachEntry-prefix}
+use Rattle.history_model.proofs.Sound.{sound_is_orderly}
 use Rattle.cacheless.specs.Lines.{lines_of}
 use Rattle.cacheless.specs.Output.{IsAllowed, IsInterleaved, HasAllCome}
 use Rattle.cacheless.specs.Played.{AreSpelled}
 use Rattle.cacheless.specs.Plays.{IsNext}
 use Rattle.cacheless.proofs.Allowed.AllowedHistories.{allowed_sound}
+use Rattle.cacheless.proofs.PlacesUsable.{places_usable}
 use Rattle.history_lines.specs.Answered.{IsAnswered}
 use Rattle.check_tool.specs.Types.{CheckKind, Scenario, Entry, Line}
 use Rattle.check_tool.specs.Leading.{Leads}
@@ -90,8 +92,9 @@ is_output kind scenario text entries rest count due lines leads far end typed sa
         };
         entries = leads.entries_are;
       };
-      sound = allowed_sound scenario entries far.spelled reached.allowed;
+      orderly = sound_is_orderly entries (allowed_sound scenario entries far.spelled reached.allowed);
       commands = far.spelled;
+      places = places_usable scenario entries far.spelled reached.allowed;
       answers = subst (All IsLine) (far.lines_are end.0) typed;
       count_is = end.0;
     }

@@ -4,6 +4,7 @@ use Rattle.std.proofs.Common.{◌≤◌, ◌<◌, ℕ, Some, None, List, [], ◌
 use Rattle.std.proofs.lemmas.List.Elements.{All-from_recursion}
 use Rattle.event_kinds.specs.declared.entry.Event.TheVariants.{Start, Stop}
 use Rattle.event_kinds.specs.Entries.{IsEntry, IsLine}
+use Rattle.history_model.proofs.Allows.{legal_by}
 use Rattle.cacheless.specs.declared.check_kind.CheckKind.TheVariants.{Walk}
 use Rattle.check_tool.specs.Leading.{Leads}
 use Rattle.check_tool.specs.Types.{Scenario, Entry, Event}
@@ -39,17 +40,14 @@ at_least_1 = omega arith
 
 started_walked : MayBeReached Walk idle started
 started_walked = record {
-  allowed = record { legal = (record { life = refl; visible = tt; gone = tt; event = tt }, tt); queue = (tt, tt); plays = (((at_least_1, at_least_1), tt), tt); economical = (tt, tt) };
+  allowed = record { legal = legal_by started refl; queue = (tt, tt); plays = (((at_least_1, at_least_1), tt), tt); economical = (tt, tt) };
   interleaved = record { follows = (refl, tt); looks = (tt, tt) };
 }
-
-later : 0 ≤ 1
-later = omega arith
 
 stopped_walked : MayBeReached Walk idle stopped
 stopped_walked = record {
   allowed = record {
-    legal = (record { life = refl; visible = tt; gone = tt; event = tt }, (record { life = later; visible = tt; gone = tt; event = refl }, tt));
+    legal = legal_by stopped refl;
     queue = (tt, (tt, tt));
     plays = (((at_least_1, at_least_1), tt), (((at_least_1, at_least_1), (refl, refl)), tt));
     economical = (tt, (tt, tt));

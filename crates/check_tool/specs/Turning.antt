@@ -2,7 +2,9 @@
 use Rattle.std.specs.Prelude.{◌≡◌, ◌+◌, ℕ, Bool, true, false, Option, Some, None, List, length, slice_get}
 use Rattle.std.specs.Option.{option_map}
 use Rattle.event_kinds.specs.declared.entry.Event.TheVariants.{Start, Fetch, FetchReset, Publish, Stop}
-use Rattle.history_model.specs.Lives.{Life, Alive, life_of}
+use Rattle.history_model.specs.Lives.{life_of}
+use Rattle.history_model.specs.declared.life.Life.{Life}
+use Rattle.history_model.specs.declared.life.Life.TheVariants.{Alive}
 use Rattle.history_model.specs.Log.{log_of, position_of}
 use Rattle.cacheless.specs.Schedule.{has_stopped}
 use Rattle.check_tool.specs.Types.{Entry, Event}

@@ -4,9 +4,10 @@ use Rattle.std.specs.List.{All, AllByRecursion}
 use Rattle.base_types.specs.Commands.{IsCommand}
 use Rattle.event_kinds.specs.Entries.{IsEntry, IsLine}
 use Rattle.history_ledger.specs.Longest.{IsLongest}
-use Rattle.history_model.specs.Orderly.{IsSound}
+use Rattle.history_model.specs.Orderly.{AreOrderly}
 use Rattle.cacheless.specs.Lines.{lines_of}
 use Rattle.cacheless.specs.Output.{IsOutput}
+use Rattle.cacheless.specs.Places.{ArePlacesUsable}
 use Rattle.check_tool.specs.Leading.{Leads}
 use Rattle.check_tool.specs.Types.{CheckKind, Scenario, Entry}
 use Rattle.check_tool.specs.Reached.{MayBeReached}
@@ -18,11 +19,12 @@ pub record IsTypedOutput (kind : CheckKind) (scenario : Scenario) (text : List �
   pub is : IsOutput kind scenario text
   pub entries : All IsEntry is.history
 
--- an output of the script of that kind, with so many entries; its history is sound, and the script's commands have forms that lines may have, so that each law of such histories is one of it; and its answer lines are such as a reader of texts takes
+-- an output of the script of that kind, with so many entries; its history keeps order, and the script's commands have forms that lines may have, so that each law of such histories is one of it; each `as of P` in its answers is the place of its backend's last scan of what is told, since which the backend fetched no message about it; and its answer lines are such as a reader of texts takes
 pub record IsOutputOf (kind : CheckKind) (scenario : Scenario) (text : List ℕ) (count : ℕ) : Type 0 where
   pub is : IsTypedOutput kind scenario text
-  pub sound : IsSound is.is.history
+  pub orderly : AreOrderly is.is.history
   pub commands : AllByRecursion (λ p. IsCommand p.command) scenario.commands
+  pub places : ArePlacesUsable scenario is.is.history
   pub answers : All IsLine (lines_of scenario is.is.history)
   pub count_is : count ≡ length is.is.history
 

@@ -13,7 +13,7 @@ pub(crate) fn wrong_line(
     rest: &[u8],
 ) -> Result<String, NoMemory> {
     let mut text = String::new(alloc);
-    write!(text, "there are {entries} entries, and ")?;
+    write!(text, "after {entries} entries ")?;
     let mut number = entries.saturating_add(1);
     let mut left = rest;
     for line in lines {
@@ -25,7 +25,11 @@ pub(crate) fn wrong_line(
         number = number.saturating_add(1);
     }
     match left.strip_prefix(b"end\n".as_slice()) {
-        Some(_) => text.push_str("something follows the line 'end'")?,
+        Some(_) => write!(
+            text,
+            "line {} differs: nothing follows the line 'end'",
+            number.saturating_add(1)
+        )?,
         None => push_expected(&mut text, number, b"end\n", left)?,
     }
     Ok(text)
@@ -49,7 +53,7 @@ fn push_expected(
     expected: &[u8],
     found: &[u8],
 ) -> Result<(), NoMemory> {
-    write!(text, "line {number} of the output should be '")?;
+    write!(text, "line {number} differs: it should be '")?;
     push_line(text, expected)?;
     if found.is_empty() {
         text.push_str("', and the output ends")?;

@@ -1,7 +1,8 @@
 use crate::following::{most_taken, wanted_after};
-use crate::lines::{command_of, push_ascii, push_quoted};
+use crate::lines::{command_of, push_ascii, push_quoted, token_of};
 use crate::near::is_near;
-use crate::symbols::{FIELDS, Symbol, TYPES};
+use crate::server_words::of_server;
+use crate::symbols::{FIELDS, INDEX_FIELDS, Symbol, TABLE_FIELDS, TYPES, is_wanted};
 use crate::tokens::{Span, is, text_at, tokens_of};
 use base_types::{Name, NameFault, NoMemory};
 use std::alloc::Global;
@@ -24,8 +25,8 @@ pub(crate) fn command_hint(alloc: Global, line: &[u8]) -> Result<Option<String>,
     let mut text = String::from_str(alloc, "BadCommand: ")?;
     push_before(&mut text, command, spans, count)?;
     push_wanted(&mut text, &wanted)?;
-    push_found(&mut text, found_at(command, spans, count))?;
-    push_help(&mut text, found_at(&small, spans, count), &wanted)?;
+    push_found(&mut text, token_of(command, spans, count))?;
+    push_help(&mut text, &small, spans, count, &wanted)?;
     Ok(Some(text))
 }
 
@@ -34,14 +35,6 @@ fn without_semicolon<'a>(line: &[u8], spans: &'a [Span]) -> &'a [Span] {
     match spans {
         [front @ .., last] if is(text_at(line, *last), ";") => front,
         _ => spans,
-    }
-}
-
-// The token after so many others; empty at the end of the line.
-fn found_at<'a>(line: &'a [u8], spans: &[Span], count: usize) -> &'a [u8] {
-    match spans.get(count) {
-        Some(span) => text_at(line, *span),
-        None => &[],
     }
 }
 
@@ -112,39 +105,43 @@ fn push_found(text: &mut String, found: &[u8]) -> Result<(), NoMemory> {
 }
 
 // The word that was meant, or why the word can't be what is wanted, or which words could stand there.
-fn push_help(text: &mut String, found: &[u8], wanted: &[Symbol]) -> Result<(), NoMemory> {
+fn push_help(
+    text: &mut String,
+    line: &[u8],
+    spans: &[Span],
+    count: usize,
+    wanted: &[Symbol],
+) -> Result<(), NoMemory> {
+    let found = token_of(line, spans, count);
+    let last = token_of(line, spans, count.saturating_sub(1));
     if let Some(word) = near_word(found, wanted) {
         text.push_str(" (near \"")?;
         text.push_str(word)?;
         text.push_str("\")")?;
     } else if found.starts_with(b"--") {
         text.push_str(" (a comment has a line of its own)")?;
-    } else if let Some(why) = why_unknown(found, wanted) {
+    } else if let Some(why) = of_server(found, last, wanted) {
         text.push_str(why)?;
     } else if is_wanted(wanted, Symbol::Type) {
-        push_words(text, "types", &TYPES)?;
-    } else if is_wanted(wanted, Symbol::Field) && Name::new(found).is_ok() {
-        push_words(text, "fields", &FIELDS)?;
+        push_words(text, " (types:", &TYPES)?;
+        text.push_str(")")?;
+    } else if is_wanted(wanted, Symbol::Field) && !found.is_empty() && !is_mark(found) {
+        push_words(text, " (fields of a table:", &TABLE_FIELDS)?;
+        push_words(text, "; of an index:", &INDEX_FIELDS)?;
+        text.push_str(")")?;
     } else if let Some(why) = why_not(found, wanted) {
         text.push_str(why)?;
     }
     Ok(())
 }
 
-fn push_words(text: &mut String, what: &str, words: &[&'static str]) -> Result<(), NoMemory> {
-    text.push_str(" (")?;
-    text.push_str(what)?;
-    text.push_str(":")?;
+fn push_words(text: &mut String, head: &str, words: &[&'static str]) -> Result<(), NoMemory> {
+    text.push_str(head)?;
     for word in words {
         text.push_str(" ")?;
         text.push_str(word)?;
     }
-    text.push_str(")")?;
     Ok(())
-}
-
-fn is_wanted(wanted: &[Symbol], symbol: Symbol) -> bool {
-    wanted.iter().any(|other| other.is_same(symbol))
 }
 
 // The first of the words that could stand there that is near.
@@ -172,18 +169,6 @@ fn first_near(found: &[u8], words: &[&'static str]) -> Option<&'static str> {
     None
 }
 
-// What helps with a word of PostgreSQL's that no form has.
-fn why_unknown(found: &[u8], wanted: &[Symbol]) -> Option<&'static str> {
-    if is(found, "type") && is_wanted(wanted, Symbol::Word("set")) {
-        return Some(" (no command changes a column's type: drop the column, and add another)");
-    }
-    let is_option = is(found, "cascade") || is(found, "restrict") || is(found, "nowait");
-    if is_option && is_wanted(wanted, Symbol::End) && !is_wanted(wanted, Symbol::Field) {
-        return Some(" (PostgreSQL's, but not in this grammar: leave it out)");
-    }
-    None
-}
-
 // Whether a token is one of the marks, which stand by themselves.
 fn is_mark(found: &[u8]) -> bool {
     matches!(found, [b'(' | b')' | b',' | b'=' | b':' | b'*' | b';'])
@@ -202,6 +187,9 @@ fn why_not(found: &[u8], wanted: &[Symbol]) -> Option<&'static str> {
             ),
             _ => None,
         };
+    }
+    if is_wanted(wanted, Symbol::Value) && !found.is_empty() && !is_mark(found) {
+        return Some(" (a value has letters, digits, _ and - alone)");
     }
     if is_wanted(wanted, Symbol::Target) && !found.is_empty() {
         return Some(" (a statistics target is from -1 to 10000, and has at most nine digits)");

@@ -1,5 +1,7 @@
 use crate::answers::wrong_line;
-use crate::reasons::reason;
+use crate::coming::entries_to_come;
+use crate::nexts::push_next;
+use crate::reasons::{Case, reason};
 use base_types::NoMemory;
 use check_tool::{CheckKind, leading_entries, reached_prefix};
 use event_kinds::Entry;
@@ -13,8 +15,8 @@ const MOST_READ: usize = 4_294_967_294;
 // How much of a line is shown.
 const MOST_SHOWN: usize = 200;
 
-/// Why the output that the input has after its script isn't one of `walk` or of `run` for it, at the entry that the
-/// checker names. `None` where the input isn't one that is checked.
+/// Where and why the output that the input has after its script isn't one of `walk` or of `run` for it: at the entry that
+/// the checker names, or at the line after all entries. `None` where the input isn't one that is checked.
 pub fn difference(
     alloc: Global,
     kind: CheckKind,
@@ -28,36 +30,49 @@ pub fn difference(
         Err(ScriptFault::NoMemory) => return Err(NoMemory),
         Err(_) => return Ok(None),
     };
-    let output = input.get(read.rest_at..).unwrap_or(&[]);
-    Ok(Some(of_output(alloc, kind, &read.script, output)?))
+    let checked = Checked {
+        kind,
+        script: &read.script,
+        text: input.get(..read.rest_at).unwrap_or(&[]),
+        output: input.get(read.rest_at..).unwrap_or(&[]),
+    };
+    Ok(Some(of_output(alloc, &checked)?))
+}
+
+// What is checked: the script, its text, and what follows that.
+#[derive(Clone, Copy)]
+struct Checked<'a> {
+    kind: CheckKind,
+    script: &'a Script,
+    text: &'a [u8],
+    output: &'a [u8],
 }
 
 // The same of a script and an output.
-fn of_output(
-    alloc: Global,
-    kind: CheckKind,
-    script: &Script,
-    output: &[u8],
-) -> Result<String, NoMemory> {
-    let leading = leading_entries(alloc, output)?;
+fn of_output(alloc: Global, checked: &Checked) -> Result<String, NoMemory> {
+    let leading = leading_entries(alloc, checked.output)?;
     let entries = leading.entries.as_slice();
-    let reached = reached_prefix(alloc, script, kind, entries)?;
-    let rest = output.get(leading.size..).unwrap_or(&[]);
+    let reached = reached_prefix(alloc, checked.script, checked.kind, entries)?;
+    let rest = checked.output.get(leading.size..).unwrap_or(&[]);
+    let before = entries.get(..reached.entries).unwrap_or(entries);
     match (entries.get(reached.entries), reached.due) {
         (Some(e), due) => {
-            let before = entries.get(..reached.entries).unwrap_or(entries);
-            let mut text = String::new(alloc);
-            push_line(&mut text, whole_line(output, reached.entries))?;
+            let mut text = headed(alloc, before.len())?;
+            push_line(&mut text, whole_line(checked.output, before.len()))?;
             text.push_str(": ")?;
-            match kind {
-                CheckKind::Walk => out_of_turn(alloc, &mut text, script, before, e, due)?,
-                CheckKind::Run => reason(alloc, &mut text, kind, script, before, e)?,
-            }
+            wrong_entry(alloc, &mut text, checked, before, e, due)?;
             Ok(text)
         }
-        (None, Some(b)) => missing_entry(alloc, kind, b, rest),
+        (None, Some(b)) => missing_entry(alloc, checked, before, b, rest),
         (None, None) => wrong_line(alloc, entries.len(), reached.lines.as_slice(), rest),
     }
+}
+
+// That the entry after so many differs.
+fn headed(alloc: Global, before: usize) -> Result<String, NoMemory> {
+    let mut text = String::new(alloc);
+    write!(text, "entry {} differs: ", before.saturating_add(1))?;
+    Ok(text)
 }
 
 // The line of this number, from 0, with its end.
@@ -67,27 +82,49 @@ fn whole_line(text: &[u8], number: usize) -> &[u8] {
         .unwrap_or(&[])
 }
 
-// Why `walk` may not make an entry after these, where this is the backend whose turn it is.
-fn out_of_turn(
+// Why an entry may not be made after these, where this is the backend whose entry is due, and what comes in its place.
+fn wrong_entry(
     alloc: Global,
     text: &mut String,
-    script: &Script,
+    checked: &Checked,
     before: &[Entry],
     e: &Entry,
-    turn: Option<u32>,
+    due: Option<u32>,
 ) -> Result<(), NoMemory> {
-    match turn {
-        Some(b) if b == e.backend => reason(alloc, text, CheckKind::Walk, script, before, e)?,
-        Some(b) => write!(text, "it is backend {b}'s turn")?,
-        None => text.push_str("no turn is left")?,
+    let turn = match (checked.kind, due) {
+        (CheckKind::Walk, None) => return Ok(text.push_str("no turn is left")?),
+        (CheckKind::Walk, Some(b)) => b,
+        (CheckKind::Run, _) => e.backend,
+    };
+    let next = entries_to_come(alloc, checked.text, before, checked.output, turn)?;
+    if turn != e.backend {
+        write!(text, "it is backend {turn}'s turn")?;
+        return push_next(alloc, text, &next, before.len(), None, None);
     }
-    Ok(())
+    let case = Case {
+        kind: checked.kind,
+        size: checked.script.size(),
+        before,
+        coming: &next,
+    };
+    reason(alloc, text, &case, e)
 }
 
 // No entry, where one of this backend should come.
-fn missing_entry(alloc: Global, kind: CheckKind, b: u32, rest: &[u8]) -> Result<String, NoMemory> {
-    let mut text = String::from_str(alloc, "there is none, and ")?;
-    match kind {
+fn missing_entry(
+    alloc: Global,
+    checked: &Checked,
+    before: &[Entry],
+    b: u32,
+    rest: &[u8],
+) -> Result<String, NoMemory> {
+    let mut text = headed(alloc, before.len())?;
+    text.push_str(if rest.starts_with(b"h") {
+        "this line is none, and "
+    } else {
+        "there is none, and "
+    })?;
+    match checked.kind {
         CheckKind::Walk => write!(text, "it is backend {b}'s turn: ")?,
         CheckKind::Run => write!(text, "backend {b} hasn't stopped: ")?,
     }
@@ -96,6 +133,8 @@ fn missing_entry(alloc: Global, kind: CheckKind, b: u32, rest: &[u8]) -> Result<
     } else {
         push_line(&mut text, rest)?;
     }
+    let next = entries_to_come(alloc, checked.text, before, checked.output, b)?;
+    push_next(alloc, &mut text, &next, before.len(), None, None)?;
     Ok(text)
 }
 
@@ -103,15 +142,19 @@ fn missing_entry(alloc: Global, kind: CheckKind, b: u32, rest: &[u8]) -> Result<
 pub(crate) fn push_line(text: &mut String, rest: &[u8]) -> Result<(), NoMemory> {
     let end = rest.iter().position(|byte| *byte == b'\n');
     let line = rest.get(..end.unwrap_or(rest.len())).unwrap_or(&[]);
-    for byte in line.get(..MOST_SHOWN).unwrap_or(line) {
+    let shown = line.strip_suffix(b"\r".as_slice()).unwrap_or(line);
+    for byte in shown.get(..MOST_SHOWN).unwrap_or(shown) {
         text.push(if byte.is_ascii_graphic() || *byte == b' ' {
             char::from(*byte)
         } else {
             '?'
         })?;
     }
-    if line.len() > MOST_SHOWN {
+    if shown.len() > MOST_SHOWN {
         text.push_str(" ..")?;
+    }
+    if shown.len() < line.len() {
+        text.push_str(" (with a carriage return at its end)")?;
     }
     if end.is_none() {
         text.push_str(" (without a line's end)")?;

@@ -1,6 +1,7 @@
 use crate::bytes::byte_hint;
 use crate::commands::command_hint;
 use crate::lines::line_at;
+use crate::rings::ring_hint;
 use crate::tool_lines::{backend_hint, steps_hint};
 use base_types::NoMemory;
 use script_text::ScriptCause;
@@ -12,7 +13,9 @@ use std::alloc::Global;
 /// - `BadCommand`: after which words no form of a command goes on, what could stand there, and what
 ///   stands there; with the word that is near, or the reason, where one is known.
 /// - `BadByte`: the byte, and its column from 1.
-/// - `BadSteps`, `UnknownBackend`: which tool reads a line of this form, where one does.
+/// - `BadRing`: whether its place, its size, its first number or its form is wrong.
+/// - `UnknownBackend`: how many backends there are, and what was found; or what the line is in place of a command's.
+/// - `BadSteps`, and that too: which tool reads a line of this form, where one does.
 ///
 /// `text` is the script, and `line` the line's number, from 1. `Err` where out of memory.
 pub fn hint(
@@ -25,7 +28,8 @@ pub fn hint(
         ScriptCause::BadCommand => command_hint(alloc, line_at(text, line)),
         ScriptCause::BadByte => byte_hint(alloc, line_at(text, line)),
         ScriptCause::BadSteps => steps_hint(alloc, line_at(text, line)),
-        ScriptCause::UnknownBackend => backend_hint(alloc, line_at(text, line)),
+        ScriptCause::UnknownBackend => backend_hint(alloc, text, line_at(text, line)),
+        ScriptCause::BadRing => ring_hint(alloc, text, line, line_at(text, line)),
         _ => Ok(None),
     }
 }

@@ -1,3 +1,4 @@
+use crate::tokens::{Span, text_at};
 use base_types::NoMemory;
 
 // The line of this number, from 1, without its line feed and a carriage return before that.
@@ -12,7 +13,8 @@ pub(crate) fn line_at(text: &[u8], number: u32) -> &[u8] {
     &[]
 }
 
-fn bare(line: &[u8]) -> &[u8] {
+// A line without its line feed and a carriage return before that.
+pub(crate) fn bare(line: &[u8]) -> &[u8] {
     match line {
         [front @ .., b'\r', b'\n'] => front,
         [front @ .., b'\n'] => front,
@@ -42,4 +44,12 @@ pub(crate) fn push_quoted(text: &mut String, bytes: &[u8]) -> Result<(), NoMemor
     push_ascii(text, bytes)?;
     text.push('"')?;
     Ok(())
+}
+
+// The token after so many others; empty at the end of the line.
+pub(crate) fn token_of<'a>(line: &'a [u8], spans: &[Span], count: usize) -> &'a [u8] {
+    match spans.get(count) {
+        Some(span) => text_at(line, *span),
+        None => &[],
+    }
 }

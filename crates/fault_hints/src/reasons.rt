@@ -1,9 +1,11 @@
+use crate::coming::{Coming, scan_coming};
 use crate::holding::held;
+use crate::nexts::push_next;
+use crate::watched::Watched;
 use base_types::NoMemory;
 use check_tool::CheckKind;
 use event_kinds::{Entry, Event};
 use history_ledger::Ledger;
-use script_text::Script;
 use std::alloc::Global;
 use std::fmt::Write;
 
@@ -13,31 +15,85 @@ const ALL_MESSAGES: u32 = u32::MAX;
 // The most messages that one fetch takes.
 const MOST_FETCHED: usize = 32;
 
-// Why an entry may not come after these, whose backend may make one here.
+// An entry's place: what is before it over a queue of this size, and what a walk makes there.
+#[derive(Clone, Copy)]
+pub(crate) struct Case<'a> {
+    pub(crate) kind: CheckKind,
+    pub(crate) size: u32,
+    pub(crate) before: &'a [Entry],
+    pub(crate) coming: &'a Coming,
+}
+
+// Why an entry may not come there, whose backend may make one.
 pub(crate) fn reason(
     alloc: Global,
     text: &mut String,
-    kind: CheckKind,
-    script: &Script,
-    before: &[Entry],
+    case: &Case,
     e: &Entry,
 ) -> Result<(), NoMemory> {
-    let Some(ledger) = held(alloc, script.size(), before)? else {
+    let after = case.coming.after(case.before.len());
+    let (mut own, mut next) = (watched(Some(e)), watched(scan_coming(after)));
+    let Some(ledger) = held(alloc, case.size, case.before, &mut own, &mut next)? else {
         return Ok(text.push_str("it may not come here")?);
     };
-    if of_event(text, &ledger, kind, script.size(), e)? {
+    if of_event(text, &ledger, case.kind, case.size, e)? {
         return Ok(());
     }
-    if ledger.may_follow(e, script.size())? {
-        write!(
-            text,
-            "command {} of backend {} does something else next",
-            e.command, e.backend
-        )?;
+    if ledger.may_follow(e, case.size)? {
+        other(text, e, own)?;
+    } else if let Some(why) = standing(case.before, e) {
+        text.push_str(why)?;
     } else {
         text.push_str(rule(&e.event))?;
     }
+    push_next(alloc, text, case.coming, case.before.len(), Some(e), next)
+}
+
+// What a scan's backend reads by it.
+fn watched(e: Option<&Entry>) -> Option<Watched> {
+    let e = e?;
+    match &e.event {
+        Event::Scan { purpose, .. } => Some(Watched::new(e.backend, *purpose)),
+        _ => None,
+    }
+}
+
+// An entry that the history allows, and the command doesn't make.
+fn other(text: &mut String, e: &Entry, own: Option<Watched>) -> Result<(), NoMemory> {
+    match own {
+        Some(own) if own.read > 0 && own.stale == 0 => {
+            write!(
+                text,
+                "the scan is needless, as what entry {} read serves still",
+                own.read
+            )?
+        }
+        _ => write!(
+            text,
+            "command {} of backend {} does something else next",
+            e.command, e.backend
+        )?,
+    }
     Ok(())
+}
+
+// Why a backend may make no entry of this kind now, whatever its command is.
+fn standing(before: &[Entry], e: &Entry) -> Option<&'static str> {
+    let last = before.iter().rev().find(|other| other.backend == e.backend);
+    let ends = matches!(
+        e.event,
+        Event::Publish { .. } | Event::Release { .. } | Event::Stop | Event::Start | Event::Fail
+    );
+    match last.map(|last| &last.event) {
+        _ if ends => None,
+        None => Some("a backend starts first"),
+        Some(Event::Stop) => Some("its backend has stopped"),
+        Some(Event::Visible { .. } | Event::Publish { .. }) => {
+            Some("after 'visible' a backend sends its messages and releases, and does nothing else")
+        }
+        Some(Event::Gone { .. }) => Some("after 'gone' comes the release of these commands"),
+        _ => None,
+    }
 }
 
 // What the entries before say of the entry, where that is a number. Answers whether it is.
@@ -157,6 +213,8 @@ fn rule(event: &Event) -> &'static str {
             "messages are still to send, a write is still open, or another command was the first",
         Event::Gone { .. } => "there is no write to take back",
         Event::Look { .. } => "messages waited at its backend's last entry",
+        Event::Fetch { .. } | Event::FetchReset =>
+            "a look that said yes comes right before a fetch",
         Event::Fail => "no command of an output runs out of memory",
         _ => "the entries before don't allow it",
     }

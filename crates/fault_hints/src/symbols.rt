@@ -55,6 +55,26 @@ pub(crate) const FIELDS: [&str; 11] = [
     "valid",
 ];
 
+// Those of a table, and those of an index.
+pub(crate) const TABLE_FIELDS: [&str; 9] = [
+    "name",
+    "columns",
+    "defaults",
+    "statistics",
+    "fillfactor",
+    "constraints",
+    "referenced",
+    "indexes",
+    "triggers",
+];
+
+pub(crate) const INDEX_FIELDS: [&str; 3] = ["name", "of", "valid"];
+
+// Whether one of the symbols is called so.
+pub(crate) fn is_wanted(wanted: &[Symbol], symbol: Symbol) -> bool {
+    wanted.iter().any(|other| other.is_same(symbol))
+}
+
 impl Symbol {
     // What a word of a form means.
     pub(crate) fn of(word: &'static str) -> Symbol {

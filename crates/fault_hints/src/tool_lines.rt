@@ -1,6 +1,10 @@
-use crate::tokens::{is, text_at, tokens_of};
+use crate::lines::{bare, push_ascii, push_quoted, token_of};
+use crate::tokens::{Span, is, text_at, tokens_of};
 use base_types::NoMemory;
 use std::alloc::Global;
+
+// How much of a token is shown.
+const MOST_SHOWN: usize = 60;
 
 // What is said of a line of steps that has a form which only the tools read; `None` of any other.
 pub(crate) fn steps_hint(alloc: Global, line: &[u8]) -> Result<Option<String>, NoMemory> {
@@ -17,21 +21,92 @@ pub(crate) fn steps_hint(alloc: Global, line: &[u8]) -> Result<Option<String>, N
     Ok(None)
 }
 
-// The same of a line that begins with no backend.
-pub(crate) fn backend_hint(alloc: Global, line: &[u8]) -> Result<Option<String>, NoMemory> {
+// The same of a line that begins with no backend of the script, which the text of the script tells.
+pub(crate) fn backend_hint(
+    alloc: Global,
+    script: &[u8],
+    line: &[u8],
+) -> Result<Option<String>, NoMemory> {
     let mut small = line.to_vec(alloc)?;
     small.make_ascii_lowercase();
-    match tokens_of(alloc, &small)?.first() {
-        Some(span) if is(text_at(&small, *span), "setup") => said(
-            alloc,
-            "UnknownBackend: a 'setup' line is read by the tools alone: tools/schedule < SCRIPT | ./catsync walk",
-        ),
-        Some(span) if is(text_at(&small, *span), "expect") => said(
-            alloc,
-            "UnknownBackend: an 'expect' line is read by the tools alone: tools/expect SCRIPT",
-        ),
-        _ => Ok(None),
+    let spans = tokens_of(alloc, &small)?;
+    let first = token_of(&small, &spans, 0);
+    match of_tools(first).or(of_words(first)) {
+        Some(text) => said(alloc, text),
+        None => found_hint(alloc, script, line, &spans),
     }
+}
+
+// A line that the tools read.
+fn of_tools(first: &[u8]) -> Option<&'static str> {
+    if is(first, "setup") {
+        return Some(
+            "UnknownBackend: a 'setup' line is read by the tools alone: tools/schedule < SCRIPT | ./catsync walk",
+        );
+    }
+    if is(first, "expect") {
+        return Some(
+            "UnknownBackend: an 'expect' line is read by the tools alone: tools/expect SCRIPT",
+        );
+    }
+    None
+}
+
+// A line of a form that comes elsewhere, or a comment of another language.
+fn of_words(first: &[u8]) -> Option<&'static str> {
+    if is(first, "end") {
+        return Some("UnknownBackend: the line 'end' has that word alone, without a semicolon");
+    }
+    if is(first, "backends") {
+        return Some("UnknownBackend: a script has one 'backends' line");
+    }
+    let is_comment = first.starts_with(b"#")
+        || first.starts_with(b"//")
+        || is(first, "/")
+        || is(first, "*")
+        || is(first, ";");
+    is_comment.then_some("UnknownBackend: a comment is a line that begins with --")
+}
+
+// What a command's line begins with, and what this one does.
+fn found_hint(
+    alloc: Global,
+    script: &[u8],
+    line: &[u8],
+    spans: &[Span],
+) -> Result<Option<String>, NoMemory> {
+    let first = token_of(line, spans, 0);
+    let count = backends_of(alloc, script)?;
+    let mut text = String::from_str(
+        alloc,
+        "UnknownBackend: a command line begins with a backend",
+    )?;
+    if is(&count, "1") {
+        text.push_str(", which is 1,")?;
+    } else if !count.is_empty() {
+        text.push_str(" from 1 to ")?;
+        push_ascii(&mut text, &count)?;
+    }
+    text.push_str(" and a colon; found ")?;
+    push_quoted(&mut text, first.get(..MOST_SHOWN).unwrap_or(first))?;
+    let is_number = first.iter().all(|byte| byte.is_ascii_digit());
+    if is_number && !is(token_of(line, spans, 1), ":") {
+        text.push_str(" without a colon")?;
+    }
+    Ok(Some(text))
+}
+
+// The number of backends, as the script has it; empty where no line says it.
+fn backends_of(alloc: Global, script: &[u8]) -> Result<Vec<u8>, NoMemory> {
+    for line in script.split_inclusive(|byte| *byte == b'\n') {
+        let mut small = bare(line).to_vec(alloc)?;
+        small.make_ascii_lowercase();
+        let spans = tokens_of(alloc, &small)?;
+        if is(token_of(&small, &spans, 0), "backends") {
+            return Ok(token_of(&small, &spans, 1).to_vec(alloc)?);
+        }
+    }
+    Ok(Vec::new(alloc))
 }
 
 fn said(alloc: Global, text: &str) -> Result<Option<String>, NoMemory> {

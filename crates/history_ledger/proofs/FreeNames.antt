@@ -1,4 +1,4 @@
--- A name is free in the history where no clash is found in the rows that are kept.
+-- A name is free in the seg where no clash is found in the rows that are kept.
 use Rattle.std.proofs.Common.{◌≡◌, ◌∙◌, ◌||◌, ◌&&◌, ◌==◌, ℕ, Bool, true, false, Option, Some, None, List, [], ◌∷◌, ◌++◌, map, filter, fold, cond, take, drop, is_none, refl, sym, ap, subst}
 use Rattle.std.specs.List.{AllByRecursion, list_any, position_or_len}
 use Rattle.std.specs.Option.{option_map}
@@ -11,9 +11,10 @@ use Rattle.row_visibility.specs.declared.clash.Clash.TheVariants as clashes
 use Rattle.row_visibility.specs.Seen.{seen_by}
 use Rattle.catalog_rows.specs.Store as stores
 use Rattle.catalog_rows.specs.Store.{Store, clash_of, clash_by, row_clash, relation_of, claimant_of}
-use Rattle.history_model.specs.Names.{is_row_of, is_named, users_of}
-use Rattle.history_model.specs.Versions.{versions_of, sees, answer_of}
-use Rattle.history_model.specs.Writes.{is_empty, is_free}
+use Rattle.history_model.specs.Segment.{Standing, Segment, runs_at, xid_at, has_xid, makes_visible, last_xid_by}
+use Rattle.history_model.specs.Rows.{counts_at, sees_at, rows_at, answer_at, row_at, old_at as seg_old, ends_at, change_at, back_at, end_by, version_of, ended_key, added_row, versions_after}
+use Rattle.history_model.specs.InUse.{new_name, has_name, is_row_of, names_at, others_at, over_at, users_at, named_at}
+use Rattle.history_model.specs.Changing.{is_empty, free_at, guarded_at, changed_key}
 use Rattle.history_model.proofs.Every.{any-weaker, any-filter}
 use Rattle.history_ledger.specs.Types.{Oid, Xid, Row, Purpose, RelName, Entry, Clash, Version}
 use Rattle.history_ledger.proofs.Mirrors.{Mirrors, version_counts, found_none, found_some, selects_same, users_none, user_some}
@@ -39,21 +40,21 @@ is_its_row rel (rows.Con oid of own valid what) some = absurd (cc)
 is_its_row rel (rows.Trg oid of own on) some = absurd (cc)
 
 -- no version with the name counts
-none_selected : (history : List Entry) (b : ℕ) (store : Store) (own : Option Xid) → Mirrors history b store own → (name : List ℕ) (versions : List Version)
-    → AllByRecursion (λ v. (stores.is_named name v.row && seen_by (stores.counts store.committed own) v) ≡ false) versions → filter (selects (RelName name)) (map (λ v. v.row) (filter (sees history b) versions)) ≡ []
-none_selected history b store own m name [] none = refl
-none_selected history b store own m name (v ∷ versions) none = by_sight (sees history b v) refl (none_selected history b store own m name versions none.1)
+none_selected : (seg : Segment) (b : ℕ) (store : Store) (own : Option Xid) → Mirrors seg b store own → (name : List ℕ) (versions : List Version)
+    → AllByRecursion (λ v. (stores.is_named name v.row && seen_by (stores.counts store.committed own) v) ≡ false) versions → filter (selects (RelName name)) (map (λ v. v.row) (filter (sees_at seg b) versions)) ≡ []
+none_selected seg b store own m name [] none = refl
+none_selected seg b store own m name (v ∷ versions) none = by_sight (sees_at seg b v) refl (none_selected seg b store own m name versions none.1)
   where
     first_false : (x y : Bool) → (x && y) ≡ false → y ≡ true → x ≡ false
     first_false true y both is = sym is ∙ both
     first_false false y both is = refl
 
-    by_sight : (t : Bool) → sees history b v ≡ t → filter (selects (RelName name)) (map (λ x. x.row) (filter (sees history b) versions)) ≡ []
-        → filter (selects (RelName name)) (map (λ x. x.row) (cond t (v ∷ filter (sees history b) versions) (filter (sees history b) versions))) ≡ []
+    by_sight : (t : Bool) → sees_at seg b v ≡ t → filter (selects (RelName name)) (map (λ x. x.row) (filter (sees_at seg b) versions)) ≡ []
+        → filter (selects (RelName name)) (map (λ x. x.row) (cond t (v ∷ filter (sees_at seg b) versions) (filter (sees_at seg b) versions))) ≡ []
     by_sight true is rest =
-        let counted : seen_by (stores.counts store.committed own) v ≡ true = version_counts history b store own m v ∙ is in
+        let counted : seen_by (stores.counts store.committed own) v ≡ true = version_counts seg b store own m v ∙ is in
         let other : stores.is_named name v.row ≡ false = first_false _ _ none.0 counted in
-        ap (λ t. cond t (v.row ∷ filter (selects (RelName name)) (map (λ x. x.row) (filter (sees history b) versions))) (filter (selects (RelName name)) (map (λ x. x.row) (filter (sees history b) versions)))) (sym (selects_same name v.row) ∙ other) ∙ rest
+        ap (λ t. cond t (v.row ∷ filter (selects (RelName name)) (map (λ x. x.row) (filter (sees_at seg b) versions))) (filter (selects (RelName name)) (map (λ x. x.row) (filter (sees_at seg b) versions)))) (sym (selects_same name v.row) ∙ other) ∙ rest
     by_sight false is rest = rest
 
 standing_none : (store : Store) (own : Option Xid) (name : List ℕ) (standing : Option Version) → stores.standing_version store own name ≡ standing → row_clash standing ≡ None → standing ≡ None
@@ -72,14 +73,14 @@ clash_none committed own None standing none = (refl, none)
 clash_none committed own (Some v) standing none = absurd (cc)
 
 -- a name without a clash is free
-pub free_name : (history : List Entry) (b : ℕ) (store : Store) (own : Option Xid) → Mirrors history b store own → (name : List ℕ) → clash_of store own name ≡ None → is_free history b name ≡ true
-free_name history b store own m name none = λ i. is_empty (users_none history b store own m name parts.0 i) && is_empty (fold (put_in_order (RelName name)) [] (selected i))
+pub free_name : (seg : Segment) (b : ℕ) (store : Store) (own : Option Xid) → Mirrors seg b store own → (name : List ℕ) → clash_of store own name ≡ None → free_at seg b name ≡ true
+free_name seg b store own m name none = λ i. is_empty (users_none seg b store own m name parts.0 i) && is_empty (fold (put_in_order (RelName name)) [] (selected i))
   where
     parts : (stores.claimed_version store own name ≡ None) × (row_clash (stores.standing_version store own name) ≡ None)
     parts = clash_none store.committed own (stores.claimed_version store own name) (stores.standing_version store own name) none
 
-    selected : filter (selects (RelName name)) (map (λ v. v.row) (filter (sees history b) (versions_of history))) ≡ []
-    selected = none_selected history b store own m name (versions_of history) (subst (AllByRecursion (λ v. (stores.is_named name v.row && seen_by (stores.counts store.committed own) v) ≡ false)) m.versions
+    selected : filter (selects (RelName name)) (map (λ v. v.row) (filter (sees_at seg b) (seg.versions))) ≡ []
+    selected = none_selected seg b store own m name (seg.versions) (subst (AllByRecursion (λ v. (stores.is_named name v.row && seen_by (stores.counts store.committed own) v) ≡ false)) m.versions
         (found_none _ store.versions (standing_none store own name (stores.standing_version store own name) refl parts.1)))
 
 -- a scan gives what it selects
@@ -117,17 +118,17 @@ any-map p (v ∷ versions) some = by_first (p v.row) (any-map p versions) some
     by_first false rest h = rest h
 
 -- a version that counts and has the name is given
-pub named_some : (history : List Entry) (b : ℕ) (store : Store) (own : Option Xid) → Mirrors history b store own → (name : List ℕ) (v : Version) (rel : Oid) → stores.standing_version store own name ≡ Some v → relation_of v.row ≡ Some rel → is_named history b name rel ≡ true
-named_some history b store own m name v rel some at =
-    any_fold (is_row_of rel) (RelName name) [] (filter (selects (RelName name)) (map (λ x. x.row) (filter (sees history b) (versions_of history))))
-    (ap (λ t. t || false) (any-weaker (λ row. selects (RelName name) row && is_row_of rel row) (is_row_of rel) (λ row is. (and_parts _ _ is).1) (filter (selects (RelName name)) (map (λ x. x.row) (filter (sees history b) (versions_of history))))
-    (any-filter (λ row. selects (RelName name) row && is_row_of rel row) (selects (RelName name)) (λ row is. (and_parts _ _ is).0) (map (λ x. x.row) (filter (sees history b) (versions_of history)))
-    (any-map (λ row. selects (RelName name) row && is_row_of rel row) (filter (sees history b) (versions_of history))
-    (any-weaker (λ x. sees history b x && (selects (RelName name) x.row && is_row_of rel x.row)) (λ x. selects (RelName name) x.row && is_row_of rel x.row) (λ x is. (and_parts _ _ is).1) (filter (sees history b) (versions_of history))
-    (any-filter (λ x. sees history b x && (selects (RelName name) x.row && is_row_of rel x.row)) (sees history b) (λ x is. (and_parts _ _ is).0) (versions_of history)
-    (subst (λ vs. list_any (λ x. sees history b x && (selects (RelName name) x.row && is_row_of rel x.row)) vs ≡ true) m.versions
-    (found.1 (λ x. sees history b x && (selects (RelName name) x.row && is_row_of rel x.row))
-    (and_from _ _ (sym (version_counts history b store own m v) ∙ parts.1) (and_from _ _ (sym (selects_same name v.row) ∙ parts.0) (is_its_row rel v.row at)))))))))))
+pub named_some : (seg : Segment) (b : ℕ) (store : Store) (own : Option Xid) → Mirrors seg b store own → (name : List ℕ) (v : Version) (rel : Oid) → stores.standing_version store own name ≡ Some v → relation_of v.row ≡ Some rel → named_at seg b name rel ≡ true
+named_some seg b store own m name v rel some at =
+    any_fold (is_row_of rel) (RelName name) [] (filter (selects (RelName name)) (map (λ x. x.row) (filter (sees_at seg b) (seg.versions))))
+    (ap (λ t. t || false) (any-weaker (λ row. selects (RelName name) row && is_row_of rel row) (is_row_of rel) (λ row is. (and_parts _ _ is).1) (filter (selects (RelName name)) (map (λ x. x.row) (filter (sees_at seg b) (seg.versions))))
+    (any-filter (λ row. selects (RelName name) row && is_row_of rel row) (selects (RelName name)) (λ row is. (and_parts _ _ is).0) (map (λ x. x.row) (filter (sees_at seg b) (seg.versions)))
+    (any-map (λ row. selects (RelName name) row && is_row_of rel row) (filter (sees_at seg b) (seg.versions))
+    (any-weaker (λ x. sees_at seg b x && (selects (RelName name) x.row && is_row_of rel x.row)) (λ x. selects (RelName name) x.row && is_row_of rel x.row) (λ x is. (and_parts _ _ is).1) (filter (sees_at seg b) (seg.versions))
+    (any-filter (λ x. sees_at seg b x && (selects (RelName name) x.row && is_row_of rel x.row)) (sees_at seg b) (λ x is. (and_parts _ _ is).0) (seg.versions)
+    (subst (λ vs. list_any (λ x. sees_at seg b x && (selects (RelName name) x.row && is_row_of rel x.row)) vs ≡ true) m.versions
+    (found.1 (λ x. sees_at seg b x && (selects (RelName name) x.row && is_row_of rel x.row))
+    (and_from _ _ (sym (version_counts seg b store own m v) ∙ parts.1) (and_from _ _ (sym (selects_same name v.row) ∙ parts.0) (is_its_row rel v.row at)))))))))))
   where
     found : ((stores.is_named name v.row && seen_by (stores.counts store.committed own) v) ≡ true) × ((q : Version → Bool) → q v ≡ true → list_any q store.versions ≡ true)
     found = found_some (λ x. stores.is_named name x.row && seen_by (stores.counts store.committed own) x) store.versions v some
@@ -148,24 +149,24 @@ no_second true y is = is
 no_second false y is = refl
 
 -- a name is free just where there is no clash
-pub free_is : (history : List Entry) (b : ℕ) (store : Store) (own : Option Xid) → Mirrors history b store own → (name : List ℕ) → is_none (clash_of store own name) ≡ is_free history b name
-free_is history b store own m name = by_clash (clash_of store own name) refl
+pub free_is : (seg : Segment) (b : ℕ) (store : Store) (own : Option Xid) → Mirrors seg b store own → (name : List ℕ) → is_none (clash_of store own name) ≡ free_at seg b name
+free_is seg b store own m name = by_clash (clash_of store own name) refl
   where
-    taken : (clash : Clash) → clash_of store own name ≡ Some clash → is_free history b name ≡ false
+    taken : (clash : Clash) → clash_of store own name ≡ Some clash → free_at seg b name ≡ false
     taken clash is = by_claim (stores.claimed_version store own name) refl is
       where
-        by_row : (standing : Option Version) → stores.standing_version store own name ≡ standing → row_clash standing ≡ Some clash → is_free history b name ≡ false
+        by_row : (standing : Option Version) → stores.standing_version store own name ≡ standing → row_clash standing ≡ Some clash → free_at seg b name ≡ false
         by_row None at some = absurd (cc)
         by_row (Some v) at some = by_relation (relation_of v.row) refl some
           where
-            by_relation : (o : Option Oid) → relation_of v.row ≡ o → option_map clashes.Row o ≡ Some clash → is_free history b name ≡ false
+            by_relation : (o : Option Oid) → relation_of v.row ≡ o → option_map clashes.Row o ≡ Some clash → free_at seg b name ≡ false
             by_relation None of some' = absurd (cc)
-            by_relation (Some rel) of some' = no_second (is_empty (users_of history b name)) (is_empty (answer_of history b (RelName name))) (not_empty (is_row_of rel) (answer_of history b (RelName name)) (named_some history b store own m name v rel at of))
+            by_relation (Some rel) of some' = no_second (is_empty (users_at seg b name)) (is_empty (answer_at seg b (RelName name))) (not_empty (is_row_of rel) (answer_at seg b (RelName name)) (named_some seg b store own m name v rel at of))
 
-        by_claim : (claimed : Option Version) → stores.claimed_version store own name ≡ claimed → clash_by store.committed own claimed (stores.standing_version store own name) ≡ Some clash → is_free history b name ≡ false
+        by_claim : (claimed : Option Version) → stores.claimed_version store own name ≡ claimed → clash_by store.committed own claimed (stores.standing_version store own name) ≡ Some clash → free_at seg b name ≡ false
         by_claim None none some = by_row (stores.standing_version store own name) refl some
-        by_claim (Some v) at some = no_first (is_empty (users_of history b name)) (is_empty (answer_of history b (RelName name))) (not_empty (λ x. x == (claimant_of store.committed own v).0) (users_of history b name) (user_some history b store own m name v at))
+        by_claim (Some v) at some = no_first (is_empty (users_at seg b name)) (is_empty (answer_at seg b (RelName name))) (not_empty (λ x. x == (claimant_of store.committed own v).0) (users_at seg b name) (user_some seg b store own m name v at))
 
-    by_clash : (o : Option Clash) → clash_of store own name ≡ o → is_none (clash_of store own name) ≡ is_free history b name
-    by_clash None none = ap is_none none ∙ sym (free_name history b store own m name none)
+    by_clash : (o : Option Clash) → clash_of store own name ≡ o → is_none (clash_of store own name) ≡ free_at seg b name
+    by_clash None none = ap is_none none ∙ sym (free_name seg b store own m name none)
     by_clash (Some clash) some = ap is_none some ∙ sym (taken clash some)

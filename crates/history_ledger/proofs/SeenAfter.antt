@@ -1,5 +1,5 @@
 -- The rows that a writer sees after its write.
-use Rattle.std.proofs.Common.{◌≡◌, ◌∙◌, ◌||◌, ◌&&◌, ◌==◌, ℕ, Bool, true, false, not, cond, Option, Some, None, List, [], ◌∷◌, ◌++◌, map, filter, fold, refl, sym, ap, append-nil}
+use Rattle.std.proofs.Common.{◌≡◌, ◌∙◌, ◌||◌, ◌&&◌, ◌==◌, ℕ, Bool, true, false, not, cond, Option, Some, None, List, [], ◌∷◌, ◌++◌, map, filter, fold, if◌then◌else◌, refl, sym, ap, append-nil}
 use Rattle.std.specs.List.{AllByRecursion, flat_map}
 use Rattle.std.specs.Option.{option_map_or}
 use Rattle.std.proofs.Math.Bool.{or-false, or-true}
@@ -11,14 +11,15 @@ use Rattle.row_visibility.specs.Seen.{seen_by}
 use Rattle.catalog_rows.specs.Store as stores
 use Rattle.catalog_rows.specs.Store.{Store, has_committed, after_change, end_if, is_ended, new_version, option_items}
 use Rattle.history_model.proofs.Every.{every-weaker}
-use Rattle.history_model.proofs.Reading.{versions_of-more, is_committed-more, running_transaction_of-own}
+use Rattle.history_model.specs.After.{after_event, standing_after}
 use Rattle.history_model.proofs.Touched.{stamps-weaker}
-use Rattle.history_model.specs.Transactions.{is_committed, has_xid, last_xid, xid_for}
-use Rattle.history_model.specs.Versions.{versions_of, counts, sees, rows_of, change_by}
-use Rattle.history_model.specs.Writes.{changed_key}
+use Rattle.history_model.specs.Segment.{Standing, Segment, runs_at, xid_at, has_xid, makes_visible, last_xid_by}
+use Rattle.history_model.specs.Rows.{counts_at, sees_at, rows_at, answer_at, row_at, old_at as seg_old, ends_at, change_at, back_at, end_by, version_of, ended_key, added_row, versions_after}
+use Rattle.history_model.specs.InUse.{new_name, has_name, is_row_of, names_at, others_at, over_at, users_at, named_at}
+use Rattle.history_model.specs.Changing.{is_empty, free_at, guarded_at, changed_key}
 use Rattle.history_ledger.specs.Types.{Xid, Row, Change, Insert, Replace, Delete, Entry, Item, Add, Put, Remove, Force, Write, Stamp, Version}
-use Rattle.history_ledger.specs.Enters.{changes_in}
-use Rattle.history_ledger.specs.Reads.{IsDrawn, AreDrawn}
+use Rattle.history_ledger.specs.Held.{AreDrawn, IsDrawn}
+use Rattle.history_ledger.specs.Words.{changes_in}
 use Rattle.history_ledger.proofs.Mirrors.{Mirrors, filter_each, version_same}
 use Rattle.history_ledger.proofs.Rows.{counts_same, versions_written}
 use Rattle.history_ledger.proofs.ScanChanges.{rows_changed_by}
@@ -98,34 +99,34 @@ items_seen rows (Remove key ∷ list) = items_seen (rows_changed_by rows (Remove
 items_seen rows (Force rel ∷ list) = items_seen rows list ∙ ap (λ rs. fold rows_changed_by rs list) (sym (append-nil (filter (λ row. true) rows) ∙ filter_true rows))
 
 -- so the rows that the backend sees after its write
-pub rows_written : (seen : List Entry) (b c : ℕ) (xid : Xid) (list : List Item) (store : Store) (own : Option Xid) → Mirrors seen b store own → AllByRecursion (AreDrawn (last_xid seen)) (versions_of seen) → xid.0 ≡ xid_for seen b → are_distinct_keys (flat_map changed_key list) ≡ true
-    → rows_of (seen ++ record { backend = b; command = c; event = Write xid list } ∷ []) b ≡ fold rows_changed_by (rows_of seen b) list
-rows_written seen b c xid list store own m drawn is distinct =
+pub rows_written : (seg : Segment) (b c : ℕ) (xid : Xid) (list : List Item) (store : Store) (own : Option Xid) → Mirrors seg b store own → AllByRecursion (AreDrawn (seg.last_xid)) (seg.versions) → xid.0 ≡ xid_at seg b → are_distinct_keys (flat_map changed_key list) ≡ true
+    → rows_at (after_event seg b c (Write xid list)) b ≡ fold rows_changed_by (rows_at seg b) list
+rows_written seg b c xid list store own m drawn is distinct =
     (λ i. map (λ v. v.row) (filter (λ v. sees_is v i) (versions_are i)))
     ∙ changes_seen store.committed stamp store.versions (changes_in list)
     ∙ (λ i. items_seen (map (λ v. v.row) (before i)) list i)
   where
-    e : Entry
-    e = record { backend = b; command = c; event = Write xid list }
-
     stamp : Stamp
     stamp = record { xid = xid; command = c }
 
-    own_entry : (e.backend == b) ≡ true
-    own_entry = eq-eqb b b refl
+    after : Segment
+    after = after_event seg b c (Write xid list)
 
-    counts_is : (s : Stamp) → counts (seen ++ e ∷ []) b s ≡ stores.counts store.committed (Some xid) s
-    counts_is s = λ i. (is_committed-more seen e s.xid.0 ∙ or-false (is_committed seen s.xid.0) ∙ sym (m.committed s.xid.0)) i || ap (has_xid s.xid.0) (running_transaction_of-own seen e b own_entry) i
+    own_standing : after.standing b ≡ standing_after seg b c (Write xid list)
+    own_standing = ap (λ t. if t then standing_after seg b c (Write xid list) else seg.standing b) (eq-eqb b b refl)
 
-    sees_is : (v : Version) → sees (seen ++ e ∷ []) b v ≡ seen_by (stores.counts store.committed (Some xid)) v
+    counts_is : (s : Stamp) → counts_at after b s ≡ stores.counts store.committed (Some xid) s
+    counts_is s = λ i. (or-false (seg.committed s.xid.0) ∙ sym (m.committed s.xid.0)) i || ap (λ (own : Standing). has_xid s.xid.0 own.running) own_standing i
+
+    sees_is : (v : Version) → sees_at after b v ≡ seen_by (stores.counts store.committed (Some xid)) v
     sees_is v = ap (λ (test : Stamp → Bool). seen_by test v) (λ i s. counts_is s i)
 
-    versions_are : versions_of (seen ++ e ∷ []) ≡ fold (after_change store.committed stamp) store.versions (changes_in list)
-    versions_are = versions_of-more seen e ∙ sym (versions_written seen b c xid list store drawn m.versions m.committed is distinct ∙ ap (λ vs. fold (change_by seen b stamp) vs list) m.versions)
+    versions_are : after.versions ≡ fold (after_change store.committed stamp) store.versions (changes_in list)
+    versions_are = sym (versions_written seg b c xid list store drawn m.versions m.committed is distinct ∙ ap (λ vs. fold (change_at seg b stamp) vs list) m.versions)
 
-    before : filter (λ v. seen_by (stores.counts store.committed (Some xid)) v) store.versions ≡ filter (sees seen b) (versions_of seen)
+    before : filter (λ v. seen_by (stores.counts store.committed (Some xid)) v) store.versions ≡ filter (sees_at seg b) (seg.versions)
     before = ap (filter (λ v. seen_by (stores.counts store.committed (Some xid)) v)) m.versions
-        ∙ filter_each (λ v. seen_by (stores.counts store.committed (Some xid)) v) (sees seen b) (versions_of seen)
-        (every-weaker (AreDrawn (last_xid seen)) (λ v. seen_by (stores.counts store.committed (Some xid)) v ≡ sees seen b v)
-        (λ v of. version_same (stores.counts store.committed (Some xid)) (counts seen b) v (stamps-weaker (λ s row. IsDrawn (last_xid seen) s) (λ s row. stores.counts store.committed (Some xid) s ≡ counts seen b s) (λ s row one. counts_same seen b store.committed xid s m.committed is one.xid) v of))
-        (versions_of seen) drawn)
+        ∙ filter_each (λ v. seen_by (stores.counts store.committed (Some xid)) v) (sees_at seg b) (seg.versions)
+        (every-weaker (AreDrawn (seg.last_xid)) (λ v. seen_by (stores.counts store.committed (Some xid)) v ≡ sees_at seg b v)
+        (λ v of. version_same (stores.counts store.committed (Some xid)) (counts_at seg b) v (stamps-weaker (λ s row. IsDrawn (seg.last_xid) s) (λ s row. stores.counts store.committed (Some xid) s ≡ counts_at seg b s) (λ s row one. counts_same seg b store.committed xid s m.committed is one.xid) v of))
+        (seg.versions) drawn)

@@ -1,8 +1,4 @@
 pub mod Types
-pub mod Standing
-pub mod Backends
-pub mod Reads
-pub mod Follows
-pub mod Enters
-pub mod Writing
+pub mod Held
+pub mod Words
 pub mod Longest

@@ -21,7 +21,5 @@ pub use Rattle.lock_modes.specs.declared.grant.Grant.{Grant}
 pub use Rattle.inval_messages.specs.declared.message.Message.{Message}
 pub use Rattle.inval_messages.specs.Lists.{Written}
 pub use Rattle.txn_blocks.specs.declared.transaction.RunningTransaction.{RunningTransaction}
-pub use Rattle.history_ledger.specs.declared.own.LifeState.{LifeState}
-pub use Rattle.history_ledger.specs.declared.own.LifeState.TheVariants.{Unstarted, Alive, Stopped}
-pub use Rattle.history_ledger.specs.declared.own.LastEvent.{LastEvent}
-pub use Rattle.history_ledger.specs.declared.own.LastEvent.TheVariants.{Other, LookedYes, GaveUp}
+pub use Rattle.history_model.specs.declared.life.Life.{Life}
+pub use Rattle.history_model.specs.declared.life.Life.TheVariants.{Unstarted, Alive, Stopped}

@@ -13,8 +13,9 @@ pub(crate) struct Backends {
 }
 
 impl Backends {
-    ghost use Rattle.history_ledger.specs.Standing.{standing_of, no_standing};
-    ghost use Rattle.history_ledger.specs.Backends.{standing_at};
+    ghost use Rattle.history_model.specs.Segment.{no_standing};
+    ghost use Rattle.history_ledger.specs.Held.{standing_of};
+    ghost use Rattle.history_ledger.specs.Held.{standing_at};
 
     // No entries.
     pub(crate) fn new(alloc: Global) -> Backends

@@ -7,10 +7,10 @@ ghost use Rattle.lock_modes.specs.Grants.{holds as do_hold};
 ghost use Rattle.history_model.specs.Drawn.{made_by};
 ghost use Rattle.history_model.specs.Names.{new_name as names_changed};
 ghost use Rattle.history_model.specs.Versions.{added_row as row_added};
-ghost use Rattle.history_model.specs.Writes.{modes_enough, enough_with, update_where as update_if, weaker_mode as mode_weaker, mode_to_add as mode_for_added, mode_to_replace as mode_for_replaced, mode_to_remove as mode_for_removed, refills as does_refill, name_allowed as allowed_name, retargets as does_retarget, validates as does_validate, is_validation as is_validated, same_kind as kinds_match};
-ghost use Rattle.history_ledger.specs.Writing.{is_there as finds_old, leaves_kind as does_leave_kind, frees_names as does_free_names, guards_row as does_guard_row, guards_rows as does_guard_rows, may_change as may_be_changed, old_at};
-ghost use Rattle.history_ledger.specs.Follows.{reader_at};
-ghost use Rattle.history_ledger.specs.Standing.{standing_of, xid_in};
+ghost use Rattle.history_model.specs.Changing.{modes_enough, enough_with, update_where as update_if, weaker_mode as mode_weaker, mode_to_add as mode_for_added, mode_to_replace as mode_for_replaced, mode_to_remove as mode_for_removed, refills as does_refill, name_allowed as allowed_name, retargets as does_retarget, validates as does_validate, is_validation as is_validated, same_kind as kinds_match};
+ghost use Rattle.history_ledger.specs.Words.{frees_names as does_free_names, guards_row as does_guard_row, guards_rows as does_guard_rows, may_change as may_be_changed, old_at};
+ghost use Rattle.history_model.specs.Changing.{is_there as finds_old, leaves_kind as does_leave_kind};
+ghost use Rattle.history_ledger.specs.Held.{standing_of, xid_in, reader_at};
 
 use crate::following::reader;
 use crate::ledger::Ledger;

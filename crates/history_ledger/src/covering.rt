@@ -7,10 +7,9 @@ ghost use Rattle.base_types.specs.Scans.{goes_before, IsInOrder};
 ghost use Rattle.catalog_rows.specs.Store.{rows_with_key};
 ghost use Rattle.inval_messages.specs.Messages.{covers as does_cover, same_message, message_for, is_for_cache as is_of_cache};
 ghost use Rattle.history_model.specs.Covered.{is_covered as has_message, scans_of as scans_giving, counted_for as counts_as, same_rows as rows_match};
-ghost use Rattle.history_ledger.specs.Enters.{messages_at};
-ghost use Rattle.history_ledger.specs.Follows.{reader_at};
-ghost use Rattle.history_ledger.specs.Standing.{standing_of};
-ghost use Rattle.history_ledger.specs.Writing.{covers_item as does_cover_item, covers_row as does_cover_row, covers_scan as does_cover_scan, keeps_given, given_after, with_added, ends_row as does_end_row};
+ghost use Rattle.history_ledger.specs.Words.{messages_at};
+ghost use Rattle.history_ledger.specs.Held.{standing_of, reader_at};
+ghost use Rattle.history_ledger.specs.Words.{covers_item as does_cover_item, covers_row as does_cover_row, covers_scan as does_cover_scan, keeps_given, given_after, with_added, ends_row as does_end_row};
 
 use crate::entering::announced;
 use crate::following::reader;

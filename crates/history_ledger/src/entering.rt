@@ -1,11 +1,16 @@
-ghost use Rattle.std.specs.Prelude.{◌≡◌, ◌++◌, length, take, if◌then◌else◌, OnOk, IfOk};
+ghost use Rattle.std.specs.Prelude.{◌≡◌, ◌++◌, ◌+◌, true, length, take, OnOk, IfOk};
 ghost use Rattle.std.specs.List.{flat_map};
 ghost use Rattle.history_model.specs.Drawn.{drawn_by, next_oid_by};
 ghost use Rattle.history_model.specs.Held.{granted_by, held_by};
 ghost use Rattle.history_model.specs.Transactions.{last_xid_by};
-ghost use Rattle.history_ledger.specs.Enters.{change_in, changes_in as changes_among, messages_at, messages_from, store_after, undone, log_after, IsPlaced};
+ghost use Rattle.history_model.specs.Messages.{log_after};
+ghost use Rattle.history_ledger.specs.Held.{standing_of};
+ghost use Rattle.history_model.specs.Changing.{are_from};
+ghost use Rattle.history_ledger.specs.Words.{change_in, changes_in as changes_among, messages_at, messages_from, store_after, undone, IsPlaced, DrawsNext, PublishesUnsent, IsCounted};
 
 use crate::changing::old_row;
+use crate::own::Own;
+use crate::writing::drawn_oid;
 use base_types::{Change, Mode, NoMemory, Row, Xid};
 use catalog_rows::RowStore;
 use event_kinds::{Event, Item};
@@ -43,8 +48,8 @@ pub(crate) fn enter_rows(
     }
 }
 
-// Takes back what a transaction wrote in commands of this number and above, if it has written.
-fn undo_from(store: &mut RowStore, own: Option<Xid>, from: u32)
+/// Takes back what the transaction of this Xid wrote in commands of this number and above, if it has one.
+pub fn undo_from(store: &mut RowStore, own: Option<Xid>, from: u32)
     ensures { store.new ≡ undone own from store.old }
 {
     if let Some(xid) = own {
@@ -123,17 +128,15 @@ fn grant_new(locks: &mut GrantTable, b: u32, c: u32, items: &[Item]) -> Result<(
     Ok(())
 }
 
-// The log after what a backend did that has these messages to send.
-pub(crate) fn enter_log(
-    log: &mut Vec<Message>,
-    unsent: &[Message],
-    event: &Event,
-) -> Result<(), NoMemory>
-    ensures { OnOk result (log.new.items ≡ log_after unsent.now event.now log.old.items) }
+// The log after what a backend did: a publish is of messages that are unsent, so what is published then can be counted.
+pub(crate) fn enter_log(log: &mut Vec<Message>, own: &Own, event: &Event) -> Result<(), NoMemory>
+    requires { PublishesUnsent (standing_of own.now) event.now }
+    ensures log { OnOk result (log.new.items ≡ log_after (standing_of own.now) event.now log.old.items) }
+    ensures counted { OnOk result (IsCounted event.now (standing_of own.now).running) }
 {
     match event {
         Event::Publish { count } => {
-            log.extend_from_slice(first_of(unsent, *count))?;
+            log.extend_from_slice(first_of(own.unsent(), *count))?;
             Ok(())
         }
         _ => Ok(()),
@@ -150,40 +153,29 @@ pub(crate) fn first_of(messages: &[Message], count: u32) -> &[Message]
     }
 }
 
-// The next oid after a change; out of memory where it isn't a number.
-pub(crate) fn next_oid_after(next: u64, event: &Event) -> Result<u64, NoMemory>
-    ensures { IfOk result (λ after. after ≡ next_oid_by event.now next) }
+// The next oid after an event: the oids that a write draws are the next ones, in order.
+pub(crate) fn next_oid_after(next: u64, event: &Event) -> u64
+    requires { DrawsNext next event.now }
+    ensures { result ≡ next_oid_by event.now next }
 {
     match event {
-        Event::Write { items, .. } => match next.checked_add(count_drawn(items.as_slice())) {
-            Some(after) => Ok(after),
-            None => Err(NoMemory),
-        },
-        _ => Ok(next),
+        Event::Write { items, .. } => after_drawn(next, items.as_slice()),
+        _ => next,
     }
 }
 
-// How many oids a write draws.
-fn count_drawn(items: &[Item]) -> u64
-    ensures { result ≡ length (flat_map drawn_by items.now) }
+// The oid after those that changes draw, which are the next ones, in order.
+fn after_drawn(next: u64, items: &[Item]) -> u64
+    requires { are_from next (flat_map drawn_by items.now) ≡ true }
+    ensures { result ≡ next + length (flat_map drawn_by items.now) }
 {
-    let mut count = 0;
+    let mut after = next;
     for item in items {
-        if draws(item) {
-            count += 1;
+        if let Some(oid) = drawn_oid(item) {
+            after = oid as u64 + 1;
         }
     }
-    count
-}
-
-// Whether a change draws an oid.
-fn draws(item: &Item) -> bool
-    ensures { length (drawn_by item.now) ≡ (if result then 1 else 0) }
-{
-    match item {
-        Item::Add(Row::Class { .. } | Row::Def { .. } | Row::Con { .. } | Row::Trg { .. }) => true,
-        _ => false,
-    }
+    after
 }
 
 // The last Xid after an event.
@@ -211,8 +203,8 @@ pub(crate) fn messages_sent(
     }
 }
 
-// The messages of a write's items, in their order.
-pub(crate) fn announced(
+/// The messages of a write's items, in their order, by the rows that the reader sees.
+pub fn announced(
     alloc: Global,
     store: &RowStore,
     reader: Reader,

@@ -1,8 +1,9 @@
 ghost use Rattle.std.specs.Prelude.{◌≡◌, ◌==◌, IfOk, length};
 ghost use Rattle.std.specs.List.{list_any};
 ghost use Rattle.history_model.specs.Names.{is_row_of as is_of_relation};
-ghost use Rattle.history_ledger.specs.Follows.{is_holder as does_hold, is_unused as is_not_used, reader_at};
-ghost use Rattle.history_ledger.specs.Standing.{standing_of};
+ghost use Rattle.history_model.specs.Allows.{is_holder as does_hold};
+ghost use Rattle.history_ledger.specs.Words.{is_unused as is_not_used};
+ghost use Rattle.history_ledger.specs.Held.{standing_of, reader_at};
 
 use crate::ledger::Ledger;
 use crate::own::Own;
@@ -16,16 +17,19 @@ impl Ledger {
     ghost use Rattle.std.specs.Bool.{Decides};
     ghost use Rattle.event_kinds.specs.declared.entry.Entry.{Entry};
     ghost use Rattle.history_model.specs.Lapped.{FetchesFrom};
-    ghost use Rattle.history_model.specs.Legal.{MayFollow};
-    ghost use Rattle.history_ledger.specs.Reads.{Reads};
-    ghost use Rattle.history_ledger.specs.Writing.{may_do_at, may_follow_at};
+    ghost use Rattle.history_model.specs.MayFollow.{MayFollow};
+    ghost use Rattle.history_ledger.specs.Held.{Keeps, Reads};
+    ghost use Rattle.history_ledger.specs.Words.{may_do_at, may_follow_at, may_come};
     ghost use Rattle.catalog_rows.specs.Store.{rows_of_scan};
-    ghost use Rattle.history_ledger.specs.Follows.{may_lock as does_allow_lock, may_refuse as does_refuse, may_unlock as does_allow_unlock, may_clash as does_allow_clash, allows_at};
+    ghost use Rattle.history_model.specs.Segment.{Segment};
+    ghost use Rattle.history_model.specs.Allows.{may_lock as does_allow_lock, may_refuse as does_refuse, may_unlock as does_allow_unlock};
+    ghost use Rattle.history_ledger.specs.Words.{may_clash as does_allow_clash};
 
     /// Whether the entry may follow, and a fetch be of a queue of this size: exactly what the
     /// definitions say of each history that is read here.
     pub fn may_follow(&self, e: &Entry, size: u32) -> Result<bool, NoMemory>
         ensures now { IfOk result (λ yes. yes ≡ may_follow_at self.now size e.now) }
+        ensures rule { (s : Segment) → Keeps s self.now → IfOk result (λ yes. yes ≡ may_come size s e.now) }
         ensures decides { (seen : List Entry) → Reads seen self.now → IfOk result (λ yes. Decides yes (MayFollow seen e.now × FetchesFrom size seen e.now.backend e.now.event)) }
     {
         self.may_follow_now(e, size)
@@ -37,7 +41,7 @@ impl Ledger {
     {
         let none = Own::new(self.alloc);
         let own = self.backends.get(e.backend, &none);
-        if own.follows(size, self.log.len(), e.command, &e.event) {
+        if own.follows(e.command, &e.event) && own.fetches_from(size, self.log.len(), &e.event) {
             self.may_do(own, e.backend, e.command, &e.event)
         } else {
             Ok(false)
@@ -47,18 +51,6 @@ impl Ledger {
     // Whether the backend of this standing may do this next.
     fn may_do(&self, own: &Own, b: u32, command: u32, event: &Event) -> Result<bool, NoMemory>
         ensures { IfOk result (λ yes. yes ≡ may_do_at self.now.store self.now.locks (length self.now.log.items) self.now.next_oid self.now.last_xid b command (standing_of own.now) event.now) }
-    {
-        match event {
-            Event::Write { xid, items } => {
-                self.may_write(own, b, command, *xid, items.as_slice())
-            }
-            _ => self.allows(own, b, command, event),
-        }
-    }
-
-    // The same, but for writes.
-    fn allows(&self, own: &Own, b: u32, command: u32, event: &Event) -> Result<bool, NoMemory>
-        ensures { IfOk result (λ yes. yes ≡ allows_at self.now.store self.now.locks (length self.now.log.items) b command (standing_of own.now) event.now) }
     {
         let end = self.log.len();
         match event {
@@ -75,6 +67,9 @@ impl Ledger {
                 held,
             } => Ok(self.may_refuse(b, *rel, *mode, *holder, *held)),
             Event::Unlock { rel, mode } => Ok(self.may_unlock(own, b, command, *rel, *mode)),
+            Event::Write { xid, items } => {
+                self.may_write(own, b, command, *xid, items.as_slice())
+            }
             Event::ClashRunning { name, xid } => Ok(self.store.is_used(name, own.xid(), *xid)),
             Event::ClashRow { name, rel } => self.may_clash(own, name, *rel),
             _ => Ok(own.may_end(command, event)),

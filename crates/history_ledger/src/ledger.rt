@@ -25,11 +25,14 @@ pub struct Ledger {
 }
 
 impl Ledger {
-    ghost use Rattle.std.specs.Prelude.{◌++◌, ◌∷◌, List};
+    ghost use Rattle.std.specs.Prelude.{◌≡◌, ◌++◌, ◌∷◌, true, List};
     ghost use Rattle.event_kinds.specs.declared.entry.Entry.{Entry};
-    ghost use Rattle.history_model.specs.Legal.{MayFollow};
-    ghost use Rattle.history_ledger.specs.Enters.{CanEnter, HasEntered};
-    ghost use Rattle.history_ledger.specs.Reads.{Reads};
+    ghost use Rattle.history_model.specs.Segment.{Segment};
+    ghost use Rattle.history_model.specs.After.{after_entry};
+    ghost use Rattle.history_model.specs.Allows.{allows};
+    ghost use Rattle.history_model.specs.MayFollow.{MayFollow};
+    ghost use Rattle.history_ledger.specs.Words.{CanEnter, HasEntered, MayEnter};
+    ghost use Rattle.history_ledger.specs.Held.{Keeps, Reads};
 
     /// What the empty history leaves, which takes no memory.
     pub fn new(alloc: Global) -> Ledger
@@ -46,11 +49,12 @@ impl Ledger {
         }
     }
 
-    /// One more entry, which may follow. Out of memory, it may not be used any more; entries whose
-    /// command has no successor, and numbers that can't be counted, are answered so too.
+    /// One more entry, which may follow. Out of memory, it may not be used any more; an entry whose
+    /// command has no successor is answered so too.
     pub fn enter(&mut self, e: &Entry) -> Result<(), NoMemory>
-        requires { CanEnter self.old e.now }
-        ensures { OnOk result ((seen : List Entry) → Reads seen self.old → MayFollow seen e.now → Reads (seen ++ e.now ∷ []) self.new) }
+        requires { MayEnter self.old e.now }
+        ensures segment { OnOk result ((s : Segment) → Keeps s self.old → allows s e.now ≡ true → Keeps (after_entry s e.now) self.new) }
+        ensures history { OnOk result ((seen : List Entry) → Reads seen self.old → MayFollow seen e.now → Reads (seen ++ e.now ∷ []) self.new) }
     {
         self.enter_all(e)
     }
@@ -67,8 +71,8 @@ impl Ledger {
         let messages = messages_sent(self.alloc, &self.store, reader(&own), &e.event)?;
         enter_rows(self.alloc, &mut self.store, own.xid(), e.command, &e.event)?;
         enter_locks(&mut self.locks, e.backend, e.command, &e.event)?;
-        enter_log(&mut self.log, own.unsent(), &e.event)?;
-        self.next_oid = next_oid_after(self.next_oid, &e.event)?;
+        enter_log(&mut self.log, &own, &e.event)?;
+        self.next_oid = next_oid_after(self.next_oid, &e.event);
         self.last_xid = last_xid_after(self.last_xid, &e.event);
         own.enter(e.command, &e.event, &messages, self.log.len())?;
         self.backends.put(e.backend, own)

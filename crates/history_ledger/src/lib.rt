@@ -9,7 +9,7 @@
 //! entry that is no look, and the command of its last write.
 //!
 //! The promise to the layers above: [`Ledger::may_follow`] says yes exactly where the definitions let the
-//! entry follow, in each history that is read here (`specs/Reads.antt`), and [`Ledger::enter`] keeps that.
+//! entry follow, in each history that is read here (`specs/Held.antt`), and [`Ledger::enter`] keeps that.
 //! [`Ledger::scan`], [`Ledger::fetched`] and [`Ledger::messages_written`] are what a backend gets by an
 //! entry. Nothing else is asked of the history: it may be one that no program would make, with locks on
 //! relations that don't exist yet, with keys that are used twice, and with any backends. So
@@ -25,13 +25,13 @@
 //! }
 //! ```
 //!
-//! How it is proved: what the code answers is a word over what it holds (`specs/Follows.antt`,
-//! `specs/Writing.antt`), and these words decide the definitions (`proofs/MayFollow.antt`). A scan that a
+//! How it is proved: what the code answers is a word over what it holds (`specs/Words.antt`), and these
+//! words decide the definitions (`proofs/MayFollow.antt`). A scan that a
 //! write changes is first looked for among those that its messages cover; only where none does are the
 //! answers before and after it compared.
 //!
-//! An entry whose command has no successor in 32 bits, and numbers that can't be counted, are answered as
-//! out of memory.
+//! Besides want of memory one thing alone is answered as out of memory: an entry whose command has no successor
+//! in 32 bits.
 #![tactic(auto)]
 
 mod backends;
@@ -47,5 +47,7 @@ mod reading;
 mod same;
 mod writing;
 
+pub use entering::{announced, undo_from};
 pub use ledger::Ledger;
+pub use own_entering::running_after;
 pub use prefix::legal_prefix;

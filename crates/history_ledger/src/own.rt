@@ -1,40 +1,24 @@
 ghost use Rattle.std.specs.Prelude.{◌≡◌, ◌==◌, length, drop};
 ghost use Rattle.inval_messages.specs.Lists.{left_after, unsent_after as unsent_of};
 ghost use Rattle.command_lists.specs.Lists.{all_lists};
-ghost use Rattle.history_ledger.specs.Follows.{follows_life as may_live, follows_visible as may_end, follows_gone as may_follow_gone, fetches_from as may_fetch_from, is_lapped_at as does_lap, has_looked as did_look, is_own_xid as is_that_xid};
-ghost use Rattle.history_ledger.specs.Standing.{waits_at};
-ghost use Rattle.history_ledger.specs.Writing.{is_last_write as did_write};
+ghost use Rattle.history_model.specs.Segment.{is_alive, has_xid as do_have_xid};
+ghost use Rattle.history_model.specs.Allows.{follows_life as may_live, follows_visible as may_end_so, follows_gone as may_follow_gone, has_looked as did_look};
+ghost use Rattle.history_model.specs.Changing.{is_last_write as did_write};
+ghost use Rattle.std.specs.Prelude.{◌&&◌, ◌+◌, ◌<◌, ◌^◌, nat_lt};
 
 use base_types::Xid;
 use command_lists::InvalLists;
 use event_kinds::Event;
+use history_model::{Asked, Life};
 use inval_messages::Message;
 use std::alloc::Global;
 use txn_blocks::RunningTransaction;
 
-// How far the life of a backend has come: it has no entry, its last one is of this command, or it
-// was its stop.
-#[derive(Clone, Copy)]
-pub(crate) enum LifeState {
-    Unstarted,
-    Alive(u32),
-    Stopped,
-}
-
-// What the last event of a backend asks of its next one: a look that said yes lets it fetch, and
-// what it took back from a command on it has to release.
-#[derive(Clone, Copy)]
-pub(crate) enum LastEvent {
-    Other,
-    LookedYes,
-    GaveUp(u32),
-}
-
 // What the history so far leaves of one backend.
 #[derive(Drop)]
 pub(crate) struct Own {
-    pub(crate) life: LifeState,
-    pub(crate) last: LastEvent,
+    pub(crate) life: Life,
+    pub(crate) asked: Asked,
     pub(crate) running: Option<RunningTransaction>,
     // the messages of its writes that weren't taken back
     pub(crate) lists: InvalLists,
@@ -48,16 +32,18 @@ pub(crate) struct Own {
 
 impl Own {
     ghost use Rattle.inval_messages.specs.Lists.{has_write_from as has_list_from};
-    ghost use Rattle.history_ledger.specs.Standing.{standing_of, no_standing, left_at, unsent_at, is_visible_at, xid_in};
-    ghost use Rattle.history_ledger.specs.Follows.{follows_own, may_end_at, may_release as does_allow_release, is_all_sent as has_sent_all, may_publish as does_allow_publish, may_look as does_allow_look, may_fetch as does_allow_fetch};
+    ghost use Rattle.history_model.specs.Segment.{no_standing, is_visible as runs_visible};
+    ghost use Rattle.history_model.specs.Messages.{unsent_at};
+    ghost use Rattle.history_model.specs.Allows.{follows_own, fetches_from as may_fetch_from, may_end as does_allow_end, may_release as does_allow_release, is_all_sent as has_sent_all, may_publish as does_allow_publish, may_look as does_allow_look, may_fetch as does_allow_fetch};
+    ghost use Rattle.history_ledger.specs.Held.{standing_of, xid_in, published_in};
 
     // A backend without entries.
     pub(crate) fn new(alloc: Global) -> Own
         ensures { standing_of result ≡ no_standing }
     {
         Own {
-            life: LifeState::Unstarted,
-            last: LastEvent::Other,
+            life: Life::Unstarted,
+            asked: Asked::Nothing,
             running: None,
             lists: InvalLists::new(alloc),
             position: 0,
@@ -78,7 +64,7 @@ impl Own {
 
     // Whether its transaction is committed, and runs still.
     pub(crate) fn is_visible(&self) -> bool
-        ensures { result ≡ is_visible_at (standing_of self.now) }
+        ensures { result ≡ runs_visible (standing_of self.now).running }
     {
         match self.running {
             Some(running) => running.visible,
@@ -86,15 +72,25 @@ impl Own {
         }
     }
 
-    // Whether its life, the ends of its transactions and the queue allow the event next, where the log
-    // has so many messages.
-    pub(crate) fn follows(&self, size: u32, end: usize, command: u32, event: &Event) -> bool
-        ensures { result ≡ follows_own size end command (standing_of self.now) event.now }
+    // Whether its life and the ends of its transactions allow the event next.
+    pub(crate) fn follows(&self, command: u32, event: &Event) -> bool
+        ensures { result ≡ follows_own command (standing_of self.now) event.now }
     {
         follows_life(self.life, command, event)
             && follows_visible(self.is_visible(), event)
-            && follows_gone(self.last, event)
-            && fetches_from(size, self.position, end, event)
+            && follows_gone(self.asked, event)
+    }
+
+    // Whether the event is a fetch of messages of a backend that isn't lapped, a reset of one that is,
+    // or neither, where the log has so many messages.
+    pub(crate) fn fetches_from(&self, size: u32, end: usize, event: &Event) -> bool
+        ensures { result ≡ may_fetch_from size end (standing_of self.now) event.now }
+    {
+        match event {
+            Event::Fetch { .. } => !is_lapped(size, self.position, end),
+            Event::FetchReset => is_lapped(size, self.position, end),
+            _ => true,
+        }
     }
 
     // Whether a look may give this answer.
@@ -112,14 +108,14 @@ impl Own {
     pub(crate) fn may_fetch(&self, end: usize, count: u32) -> bool
         ensures { result ≡ does_allow_fetch end (standing_of self.now) count }
     {
-        has_looked(self.last) && count as usize == end.saturating_sub(self.position).min(32)
+        has_looked(self.asked) && count as usize == end.saturating_sub(self.position).min(32)
     }
 
     // Whether its last event was a look that said yes.
     pub(crate) fn has_looked(&self) -> bool
-        ensures { result ≡ did_look (standing_of self.now).last }
+        ensures { result ≡ did_look (standing_of self.now).asked }
     {
-        has_looked(self.last)
+        has_looked(self.asked)
     }
 
     // Whether its last write was in this command.
@@ -134,10 +130,10 @@ impl Own {
 
     // Whether an event that ends a transaction, or a stop, may come next.
     pub(crate) fn may_end(&self, command: u32, event: &Event) -> bool
-        ensures { result ≡ may_end_at command (standing_of self.now) event.now }
+        ensures { result ≡ does_allow_end command (standing_of self.now) event.now }
     {
         match event {
-            Event::Visible { xid } => is_own_xid(self.xid(), *xid) && self.has_write_from(0),
+            Event::Visible { xid } => has_xid(*xid, &self.running) && self.has_write_from(0),
             Event::Publish { count } => self.may_publish(*count),
             Event::Gone { from } => self.has_write_from(*from),
             Event::Release { from } => *from <= command && self.may_release(*from),
@@ -155,7 +151,8 @@ impl Own {
 
     // The messages that may be sent next: no publish goes over from one part to the other.
     pub(crate) fn unsent(&self) -> &[Message]
-        ensures { result.now ≡ unsent_at (standing_of self.now) }
+        ensures next { result.now ≡ unsent_at (standing_of self.now) }
+        ensures fits { published_in (standing_of self.now).running + length result.now < 2 ^ 64 }
     {
         match self.running {
             Some(running) => unsent_after(&self.lists, running.published),
@@ -165,7 +162,7 @@ impl Own {
 
     // Whether what it was granted in commands of this number and above may be released.
     pub(crate) fn may_release(&self, from: u32) -> bool
-        ensures { result ≡ does_allow_release (is_visible_at (standing_of self.now)) (standing_of self.now) from }
+        ensures { result ≡ does_allow_release (runs_visible (standing_of self.now).running) (standing_of self.now) from }
     {
         if self.is_visible() {
             RunningTransaction::ends(from, self.running) && self.is_all_sent()
@@ -193,20 +190,20 @@ impl Own {
 }
 
 // Whether the event may come next in a life that has come so far.
-fn follows_life(life: LifeState, command: u32, event: &Event) -> bool
+fn follows_life(life: Life, command: u32, event: &Event) -> bool
     ensures { result ≡ may_live life command event.now }
 {
     match (life, event) {
-        (LifeState::Unstarted, Event::Start) => command == 0,
-        (LifeState::Alive(_), Event::Start) => false,
-        (LifeState::Alive(last), _) => last <= command,
+        (Life::Unstarted, Event::Start) => command == 0,
+        (Life::Alive(_), Event::Start) => false,
+        (Life::Alive(last), _) => last <= command,
         _ => false,
     }
 }
 
 // Whether the event may come next, by whether the running transaction is visible.
 fn follows_visible(visible: bool, event: &Event) -> bool
-    ensures { result ≡ may_end visible event.now }
+    ensures { result ≡ may_end_so visible event.now }
 {
     match event {
         Event::Publish { .. } | Event::Release { .. } => true,
@@ -215,62 +212,51 @@ fn follows_visible(visible: bool, event: &Event) -> bool
 }
 
 // Whether the event may come after the last one, where that took writes back.
-fn follows_gone(last: LastEvent, event: &Event) -> bool
-    ensures { result ≡ may_follow_gone last event.now }
+fn follows_gone(asked: Asked, event: &Event) -> bool
+    ensures { result ≡ may_follow_gone asked event.now }
 {
-    match (last, event) {
-        (LastEvent::GaveUp(from), Event::Release { from: to }) => *to == from,
-        (LastEvent::GaveUp(_), _) => false,
-        _ => true,
-    }
-}
-
-// Whether the event is a fetch of messages of a backend that isn't lapped, a reset of one that is, or
-// neither.
-fn fetches_from(size: u32, position: usize, end: usize, event: &Event) -> bool
-    ensures { result ≡ may_fetch_from size position end event.now }
-{
-    match event {
-        Event::Fetch { .. } => !is_lapped(size, position, end),
-        Event::FetchReset => is_lapped(size, position, end),
+    match (asked, event) {
+        (Asked::TookBack(from), Event::Release { from: to }) => *to == from,
+        (Asked::TookBack(_), _) => false,
         _ => true,
     }
 }
 
 // Whether more messages wait than the queue keeps.
 fn is_lapped(size: u32, position: usize, end: usize) -> bool
-    ensures { result ≡ does_lap size position end }
+    ensures { result ≡ nat_lt (position + size) end }
 {
     position < end && (size as usize) < end - position
 }
 
-// Whether this is the own Xid.
-fn is_own_xid(own: Option<Xid>, xid: Xid) -> bool
-    ensures { result ≡ is_that_xid own xid }
+// Whether a running transaction has this Xid.
+fn has_xid(xid: Xid, running: &Option<RunningTransaction>) -> bool
+    ensures { result ≡ do_have_xid xid.0 running.now }
 {
-    match own {
-        Some(own) => own.0 == xid.0,
-        None => false,
+    match running {
+        Some(RunningTransaction { xid: Some(own), .. }) => own.0 == xid.0,
+        _ => false,
     }
 }
 
 // Whether the last event was a look that said yes.
-fn has_looked(last: LastEvent) -> bool
-    ensures { result ≡ did_look last }
+fn has_looked(asked: Asked) -> bool
+    ensures { result ≡ did_look asked }
 {
-    matches!(last, LastEvent::LookedYes)
+    matches!(asked, Asked::LookedYes)
 }
 
 // Whether a message waits at this position.
-pub(crate) fn waits(life: LifeState, position: usize, end: usize) -> bool
-    ensures { result ≡ waits_at life position end }
+pub(crate) fn waits(life: Life, position: usize, end: usize) -> bool
+    ensures { result ≡ (is_alive life && nat_lt position end) }
 {
-    matches!(life, LifeState::Alive(_)) && position < end
+    matches!(life, Life::Alive(_)) && position < end
 }
 
 // What isn't sent of the part at hand, once so many are published.
 fn unsent_after(lists: &InvalLists, published: usize) -> &[Message]
-    ensures { result.now ≡ unsent_of published (all_lists lists.now.lists) }
+    ensures rest { result.now ≡ unsent_of published (all_lists lists.now.lists) }
+    ensures fits { published + length result.now < 2 ^ 64 }
 {
     let cats = lists.cats_from(0);
     let rels = lists.rels_from(0);

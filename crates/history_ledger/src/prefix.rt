@@ -2,7 +2,7 @@ ghost use Rattle.std.specs.Prelude.{[], IfOk};
 ghost use Rattle.history_model.specs.Lapped.{FollowsQueue};
 ghost use Rattle.history_model.specs.Legal.{IsLegal};
 ghost use Rattle.history_ledger.specs.Longest.{IsLongest};
-ghost use Rattle.history_ledger.specs.Reads.{Reads};
+ghost use Rattle.history_ledger.specs.Held.{Reads};
 
 use crate::ledger::Ledger;
 use base_types::NoMemory;

@@ -17,10 +17,9 @@ impl Ledger {
     ghost use Rattle.history_model.specs.Log.{fetched_by};
     ghost use Rattle.history_model.specs.Sent.{cats_by, rels_by};
     ghost use Rattle.history_model.specs.Versions.{answer_of};
-    ghost use Rattle.history_ledger.specs.Backends.{standing_at};
-    ghost use Rattle.history_ledger.specs.Enters.{messages_at};
-    ghost use Rattle.history_ledger.specs.Follows.{reader_at};
-    ghost use Rattle.history_ledger.specs.Reads.{Reads};
+    ghost use Rattle.history_ledger.specs.Held.{standing_at};
+    ghost use Rattle.history_ledger.specs.Words.{messages_at};
+    ghost use Rattle.history_ledger.specs.Held.{reader_at, Reads};
 
     /// The oid that is drawn next.
     pub fn next_oid(&self) -> u64

@@ -2,7 +2,7 @@ ghost use Rattle.std.specs.Prelude.{◌≡◌, ◌==◌};
 ghost use Rattle.std.specs.Option.{option_eq};
 ghost use Rattle.std.specs.Str.{bytes_eq};
 ghost use Rattle.history_model.specs.Covered.{same_row as rows_match, same_demand as demands_match};
-ghost use Rattle.history_ledger.specs.Writing.{same_part_row as parts_match, same_column_row as columns_match, same_key_row as keys_match, same_con_row as cons_match, same_trigger_row as triggers_match};
+ghost use Rattle.history_ledger.specs.Words.{same_part_row as parts_match, same_column_row as columns_match, same_key_row as keys_match, same_con_row as cons_match, same_trigger_row as triggers_match};
 
 use base_types::{ConKind, Name, Row};
 

@@ -3,9 +3,10 @@ ghost use Rattle.std.specs.List.{flat_map, list_any};
 ghost use Rattle.std.specs.Option.{option_to_list};
 ghost use Rattle.base_types.specs.RowKeys.{are_distinct_keys, same_key};
 ghost use Rattle.history_model.specs.Drawn.{drawn_by};
-ghost use Rattle.history_model.specs.Writes.{changed_key};
-ghost use Rattle.history_ledger.specs.Writing.{is_next_xid as has_next_xid, are_from};
-ghost use Rattle.history_ledger.specs.Standing.{standing_of};
+ghost use Rattle.history_model.specs.Changing.{changed_key};
+ghost use Rattle.history_model.specs.Changing.{are_from};
+ghost use Rattle.history_ledger.specs.Words.{is_next_xid as has_next_xid};
+ghost use Rattle.history_ledger.specs.Held.{standing_of};
 
 use crate::following::reader;
 use crate::ledger::Ledger;
@@ -15,7 +16,7 @@ use event_kinds::Item;
 use std::alloc::Global;
 
 impl Ledger {
-    ghost use Rattle.history_ledger.specs.Writing.{may_write_at};
+    ghost use Rattle.history_ledger.specs.Words.{may_write_at};
 
     // Whether a write may follow.
     pub(crate) fn may_write(
@@ -69,7 +70,7 @@ fn draws_next(next: u64, items: &[Item]) -> bool
 }
 
 // The oid that a change draws.
-fn drawn_oid(item: &Item) -> Option<u32>
+pub(crate) fn drawn_oid(item: &Item) -> Option<u32>
     ensures { option_to_list result ≡ drawn_by item.now }
 {
     match item {

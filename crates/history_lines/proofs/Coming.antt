@@ -6,8 +6,11 @@ use Rattle.base_types.specs.Scenario.{IsBackend}
 use Rattle.event_kinds.specs.declared.entry.Event.TheVariants as events
 use Rattle.ddl_effect.specs.Commands.{commands_of}
 use Rattle.history_model.specs.Drawn.{next_oid}
-use Rattle.history_model.specs.Legal.{MayFollow}
-use Rattle.history_model.specs.Lives.{Life, Stopped, FollowsLife, life_of}
+use Rattle.history_model.specs.MayFollow.{MayFollow}
+use Rattle.history_model.specs.MayFollow.{FollowsLife}
+use Rattle.history_model.specs.Lives.{life_of}
+use Rattle.history_model.specs.declared.life.Life.{Life}
+use Rattle.history_model.specs.declared.life.Life.TheVariants.{Stopped}
 use Rattle.history_model.proofs.Decided.{both_decide, decided_by}
 use Rattle.cacheless.specs.Facts.{facts_of}
 use Rattle.cacheless.specs.May.{may_play_now}

@@ -4,30 +4,37 @@ use Rattle.std.specs.Bool.{Decides}
 use Rattle.std.proofs.Math.ListN.{length-set}
 use Rattle.std.proofs.lemmas.Bool.{ne_eqb}
 use Rattle.std.proofs.lemmas.Bool.Decides.{eqb_tells}
-use Rattle.std.proofs.lemmas.List.{take_all}
+use Rattle.std.proofs.lemmas.List.{take_all, length-take-le}
 use Rattle.std.proofs.lemmas.Option.{slice_get_read}
 use Rattle.base_types.specs.Scenario.{IsBackend}
 use Rattle.base_types.specs.declared.memory.NoMemory.{NoMemory}
 use Rattle.history_model.proofs.Prefixes.{EachEntry-more, EachEntry-rest, EachEntry-weaker}
 use Rattle.history_model.specs.Drawn.{next_oid}
 use Rattle.history_model.specs.Lapped.{FetchesFrom}
-use Rattle.history_model.specs.Legal.{IsLegal, MayFollow}
+use Rattle.history_model.specs.Legal.{IsLegal}
+use Rattle.history_model.specs.MayFollow.{MayFollow}
+use Rattle.history_model.specs.Legal.{IsAllowed as Allowed}
+use Rattle.history_model.proofs.Allows.{allows_decides}
 use Rattle.history_model.specs.Read.{ScansOnlyIfNeeded}
 use Rattle.history_model.proofs.ListSteps.{prefix_more}
 use Rattle.by_backend.proofs.Places.{get_of_set, get_beside_set}
-use Rattle.history_ledger.proofs.MayFollow.{can_enter}
-use Rattle.history_ledger.specs.Reads.{Reads}
+use Rattle.history_ledger.proofs.MayFollow.{may_enter}
+use Rattle.history_ledger.specs.Words.{MayEnter}
+use Rattle.history_ledger.specs.Held.{Reads}
 use Rattle.cacheless.specs.Lines.{lines_of}
+use Rattle.cacheless.specs.May.{HasRoom}
 use Rattle.cacheless.specs.Output.{IsAllowed}
 use Rattle.cacheless.specs.Played.{AreSpelled}
 use Rattle.cacheless.specs.Plays.{IsNext, Plays}
 use Rattle.cacheless.proofs.Allowed.Economical.{plays_needed}
 use Rattle.history_lines.specs.Answered.{IsAnswered}
 use Rattle.history_lines.specs.Comes.{comes_at}
-use Rattle.history_lines.specs.Stands.{IsSessionOf, AreSessions, Follows}
+use Rattle.history_lines.specs.Stands.{IsSessionOf, AreSessions, Follows, IsHeld}
+use Rattle.history_lines.specs.Takes.{ComesTo}
 use Rattle.history_lines.specs.declared.answering.Answered.{Answered}
 use Rattle.history_lines.specs.AllowedNext.{IsAllowedNext, CanTake, lines_held}
 use Rattle.history_lines.specs.Types.{Scenario, Entry, Line, Ledger, Session}
+use Rattle.history_lines.proofs.Allowing.{countable}
 use Rattle.history_lines.proofs.Coming.{comes_decides}
 use Rattle.history_lines.proofs.HeldLines.{lines_are}
 use Rattle.history_lines.proofs.Others.{session-other}
@@ -60,45 +67,45 @@ session_decides : (scenario : Scenario) (seen : List Entry) (ledger : Ledger) (s
     → Follows scenario seen ledger sessions → MayFollow seen e → Decides (comes_at next s e.command e.event) (IsNext scenario seen e)
 session_decides scenario seen ledger sessions next e s same there at k follows = comes_decides scenario seen next e s same (subst (λ n. IsBackend n e.backend) k.sessions.count there) (session_there scenario seen ledger sessions e.backend s k there at) follows
 
--- an entry that the session of its backend refuses isn't next
-pub comes_not : (scenario : Scenario) (seen : List Entry) (ledger : Ledger) (sessions : List Session) (next : ℕ) (e : Entry) (s : Session) → comes_at next s e.command e.event ≡ false → next ≡ next_oid seen → IsBackend (length sessions) e.backend → slice_get sessions (e.backend - 1) ≡ Some s
-    → Follows scenario seen ledger sessions → Decides false (IsAllowedNext scenario seen e)
-comes_not scenario seen ledger sessions next e s refuses same there at k = (λ is. absurd (cc), λ is. sym refuses ∙ (session_decides scenario seen ledger sessions next e s same there at k is.0.0).1 is.1)
+-- an entry that the ledger refuses isn't next
+pub follows_not : (scenario : Scenario) (size : ℕ) (seen : List Entry) (e : Entry) → Decides false (MayFollow seen e × FetchesFrom size seen e.backend e.event) → size ≡ scenario.size → Decides false (IsAllowedNext scenario seen e)
+follows_not scenario size seen e decides size_is = (λ is. absurd (cc), λ is. (subst (λ n. Decides false (MayFollow seen e × FetchesFrom n seen e.backend e.event)) size_is decides).1 is.0)
 
--- of one that it lets come next the ledger decides
-pub comes_then : (scenario : Scenario) (size : ℕ) (seen : List Entry) (ledger : Ledger) (sessions : List Session) (next : ℕ) (e : Entry) (s : Session) (t : Bool) → comes_at next s e.command e.event ≡ true → next ≡ next_oid seen → IsBackend (length sessions) e.backend
-    → slice_get sessions (e.backend - 1) ≡ Some s → Decides t (MayFollow seen e × FetchesFrom size seen e.backend e.event) → Follows scenario seen ledger sessions → size ≡ scenario.size → Decides t (IsAllowedNext scenario seen e)
-comes_then scenario size seen ledger sessions next e s t comes same there at decides k size_is =
-    (λ is. let may = here.0 is in (may, (session_decides scenario seen ledger sessions next e s same there at k may.0).0 comes), λ is. here.1 is.0)
+-- of one that may follow its session decides
+pub comes_then : (scenario : Scenario) (size : ℕ) (seen : List Entry) (ledger : Ledger) (sessions : List Session) (next : ℕ) (e : Entry) (s : Session) (t : Bool) → t ≡ comes_at next s e.command e.event → next ≡ next_oid seen → IsBackend (length sessions) e.backend
+    → slice_get sessions (e.backend - 1) ≡ Some s → Decides true (MayFollow seen e × FetchesFrom size seen e.backend e.event) → Follows scenario seen ledger sessions → size ≡ scenario.size → Decides t (IsAllowedNext scenario seen e)
+comes_then scenario size seen ledger sessions next e s t is same there at decides k size_is = subst (λ u. Decides u (IsAllowedNext scenario seen e)) (sym is) (
+    (λ comes. (may, (session_decides scenario seen ledger sessions next e s same there at k may.0).0 comes), λ allowed. (session_decides scenario seen ledger sessions next e s same there at k allowed.0.0).1 allowed.1)
+    )
   where
-    here : Decides t (MayFollow seen e × FetchesFrom scenario.size seen e.backend e.event)
-    here = subst (λ n. Decides t (MayFollow seen e × FetchesFrom n seen e.backend e.event)) size_is decides
+    may : MayFollow seen e × FetchesFrom scenario.size seen e.backend e.event
+    may = (subst (λ n. Decides true (MayFollow seen e × FetchesFrom n seen e.backend e.event)) size_is decides).0 refl
 
--- it can be taken where it may follow
-pub can_take : (scenario : Scenario) (size : ℕ) (seen : List Entry) (ledger : Ledger) (sessions : List Session) (next : ℕ) (e : Entry) (s : Session) (t : Bool) → comes_at next s e.command e.event ≡ true → next ≡ next_oid seen → IsBackend (length sessions) e.backend
-    → slice_get sessions (e.backend - 1) ≡ Some s → Decides t (MayFollow seen e × FetchesFrom size seen e.backend e.event) → Follows scenario seen ledger sessions → t ≡ true → CanTake ledger sessions e
-can_take scenario size seen ledger sessions next e s t comes same there at decides k is = record {
-  backend = there;
-  session = λ x here.
-      let one : s ≡ x = cc in
-      subst (λ y. comes_at ledger.next_oid y e.command e.event ≡ true) one (subst (λ n. comes_at n s e.command e.event ≡ true) (same ∙ sym k.reads.next_oid_is) comes);
-  enters = can_enter seen ledger e k.reads (decides.0 is).0;
-}
+-- the numbers of its session can be counted
+pub session_counted : (ledger : Ledger) (sessions : List Session) (e : Entry) (s : Session) (k : IsHeld ledger sessions) → IsBackend (length sessions) e.backend → slice_get sessions (e.backend - 1) ≡ Some s → MayFollow k.seen e → (s.progress.finished ≤ 20000) × HasRoom s.progress
+session_counted ledger sessions e s k there at follows = countable k.scenario k.seen e s k.counted (session_there k.scenario k.seen ledger sessions e.backend s k.follows there at) follows
 
--- the same of the ledger's answer
-pub comes_answers : (scenario : Scenario) (size : ℕ) (seen : List Entry) (ledger : Ledger) (sessions : List Session) (next : ℕ) (e : Entry) (s : Session) (result : Result Bool NoMemory) → comes_at next s e.command e.event ≡ true → next ≡ next_oid seen → IsBackend (length sessions) e.backend
-    → slice_get sessions (e.backend - 1) ≡ Some s → IfOk result (λ t. Decides t (MayFollow seen e × FetchesFrom size seen e.backend e.event)) → Follows scenario seen ledger sessions → size ≡ scenario.size → IfOk result (λ t. Decides t (IsAllowedNext scenario seen e))
-comes_answers scenario size seen ledger sessions next e s (Ok t) comes same there at decides k size_is = comes_then scenario size seen ledger sessions next e s t comes same there at decides k size_is
-comes_answers scenario size seen ledger sessions next e s (Err error) comes same there at decides k size_is = tt
+-- the backend of an entry that can be taken has a session
+pub can_there : (ledger : Ledger) (sessions : List Session) (e : Entry) → CanTake ledger sessions e → IsBackend (length sessions) e.backend
+can_there ledger sessions e can = subst (λ n. IsBackend n e.backend) (sym can.held.follows.sessions.count) can.allowed.1.0
 
-pub can_answers : (scenario : Scenario) (size : ℕ) (seen : List Entry) (ledger : Ledger) (sessions : List Session) (next : ℕ) (e : Entry) (s : Session) (result : Result Bool NoMemory) → comes_at next s e.command e.event ≡ true → next ≡ next_oid seen → IsBackend (length sessions) e.backend
-    → slice_get sessions (e.backend - 1) ≡ Some s → IfOk result (λ t. Decides t (MayFollow seen e × FetchesFrom size seen e.backend e.event)) → Follows scenario seen ledger sessions → IfOk result (λ t. t ≡ true → CanTake ledger sessions e)
-can_answers scenario size seen ledger sessions next e s (Ok t) comes same there at decides k = can_take scenario size seen ledger sessions next e s t comes same there at decides k
-can_answers scenario size seen ledger sessions next e s (Err error) comes same there at decides k = tt
+-- to which it comes
+pub comes_to : (ledger : Ledger) (sessions : List Session) (e : Entry) (was : Session) → CanTake ledger sessions e → was ≡ get_or sessions (e.backend - 1) was → ComesTo ledger was e
+comes_to ledger sessions e was can read =
+    let k = can.held.follows in
+    let there = can_there ledger sessions e can in
+    record {
+      scenario = can.held.scenario;
+      seen = can.held.seen;
+      reads = k.reads;
+      counted = can.held.counted;
+      session = session_there can.held.scenario can.held.seen ledger sessions e.backend was k there (session_read sessions e.backend was there read);
+      comes = record { spelled = k.spelled; legal = k.legal; plays = k.plays; follows = can.allowed.0.0; next = can.allowed.1 };
+    }
 
--- the session at the place of the backend can take it
-pub come_read : (ledger : Ledger) (sessions : List Session) (e : Entry) (was : Session) → CanTake ledger sessions e → was ≡ get_or sessions (e.backend - 1) was → comes_at ledger.next_oid was e.command e.event ≡ true
-come_read ledger sessions e was can read = can.session was (session_read sessions e.backend was can.backend read)
+-- and the ledger can enter it
+pub can_enter : (ledger : Ledger) (sessions : List Session) (e : Entry) → CanTake ledger sessions e → MayEnter ledger e
+can_enter ledger sessions e can = may_enter can.held.seen ledger e can.held.follows.reads can.allowed.0.0
 
 -- the sessions after an entry that one of them took
 sessions_more : (scenario : Scenario) (seen : List Entry) (sessions : List Session) (e : Entry) (was now : Session) → AreSessions scenario seen sessions → IsBackend (length sessions) e.backend → slice_get sessions (e.backend - 1) ≡ Some was
@@ -124,7 +131,7 @@ pub follows_more : (scenario : Scenario) (seen : List Entry) (old new : Ledger) 
     → slice_get sessions (e.backend - 1) ≡ Some was → (IsSessionOf scenario seen e.backend was → IsSessionOf scenario (seen ++ e ∷ []) e.backend now) → Reads (seen ++ e ∷ []) new → Follows scenario (seen ++ e ∷ []) new (slice_set sessions (e.backend - 1) now)
 follows_more scenario seen old new sessions e was now k next there is takes reads = record {
   reads = reads;
-  legal = EachEntry-more MayFollow seen e k.legal next.0.0;
+  legal = EachEntry-more Allowed seen e k.legal ((allows_decides seen e).1 next.0.0);
   queue = EachEntry-more (λ before x. FetchesFrom scenario.size before x.backend x.event) seen e k.queue next.0.1;
   plays = EachEntry-more (IsNext scenario) seen e k.plays next.1;
   spelled = k.spelled;
@@ -137,8 +144,12 @@ pub entered_follows : (old new : Ledger) (sessions : List Session) (e : Entry) (
     → ((seen : List Entry) → Reads seen old → MayFollow seen e → Reads (seen ++ e ∷ []) new)
     → (scenario : Scenario) (seen : List Entry) → Follows scenario seen old sessions → at ≡ length seen + 1 → IsAllowedNext scenario seen e → Follows scenario (seen ++ e ∷ []) new (slice_set sessions (e.backend - 1) now)
 entered_follows old new sessions e at was now can read takes enters scenario seen k number next =
-    follows_more scenario seen old new sessions e was now k next can.backend (session_read sessions e.backend was can.backend read)
+    follows_more scenario seen old new sessions e was now k next (can_there old sessions e can) (session_read sessions e.backend was (can_there old sessions e can) read)
     (takes scenario seen k.reads number k.spelled k.legal k.plays next.0.0 next.1) (enters seen k.reads next.0.0)
+
+-- what is held before one of the entries
+abbrev pub held_before : (scenario : Scenario) (entries : List Entry) (at : ℕ) (ledger : Ledger) (sessions : List Session) → length entries < 1152921504606846976 → at < length entries → Follows scenario (take at entries) ledger sessions → IsHeld ledger sessions
+held_before scenario entries at ledger sessions few within k = record { scenario = scenario; seen = take at entries; counted = omega (arith, length-take-le at entries (omega (arith, within)), few, within); follows = k }
 
 -- what is held after the next entry of the list
 pub follows_next : (scenario : Scenario) (entries : List Entry) (at : ℕ) (e d : Entry) (ledger : Ledger) (sessions : List Session) → at < length entries → e ≡ get_or entries at d → Follows scenario (take at entries ++ e ∷ []) ledger sessions → Follows scenario (take (at + 1) entries) ledger sessions
@@ -154,7 +165,7 @@ ends_here scenario entries at e d ledger sessions given within is k decides are 
     most = λ less more.
         let all : IsAllowed scenario (take at entries ++ e ∷ []) = subst (IsAllowed scenario) (prefix_more entries at e d within is) more in
         let never : false ≡ true = decides.1 (
-          ((EachEntry-rest MayFollow (take at entries) (e ∷ []) all.legal).0, (EachEntry-rest (λ before x. FetchesFrom scenario.size before x.backend x.event) (take at entries) (e ∷ []) all.queue).0),
+          ((allows_decides (take at entries) e).0 (EachEntry-rest Allowed (take at entries) (e ∷ []) all.legal).0, (EachEntry-rest (λ before x. FetchesFrom scenario.size before x.backend x.event) (take at entries) (e ∷ []) all.queue).0),
           (EachEntry-rest (IsNext scenario) (take at entries) (e ∷ []) all.plays).0,
         ) in absurd (cc);
   };

@@ -7,3 +7,5 @@ pub mod Following
 pub mod TakenEvents
 pub mod TakenWrites
 pub mod Taken
+pub mod PastLast
+pub mod Allowing

@@ -5,7 +5,7 @@ use Rattle.base_types.specs.Scenario.{IsBackend, IsScript}
 use Rattle.ddl_effect.specs.Commands.{commands_of}
 use Rattle.by_backend.proofs.OwnParts.{few_among}
 use Rattle.by_backend.proofs.Places.{last_or_before}
-use Rattle.history_ledger.specs.Reads.{Reads}
+use Rattle.history_ledger.specs.Held.{Reads}
 use Rattle.cacheless.specs.Holds.{HasNotStarted}
 use Rattle.cacheless.specs.State.{IsNew}
 use Rattle.history_lines.specs.Stands.{IsSessionOf, Follows}

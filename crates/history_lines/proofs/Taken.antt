@@ -4,10 +4,14 @@ use Rattle.std.proofs.lemmas.Bool.{eq-eqb, eqb-true, and_parts, both_ways}
 use Rattle.event_kinds.specs.declared.entry.Event.TheVariants as events
 use Rattle.ddl_effect.specs.Commands.{commands_of}
 use Rattle.history_model.specs.Drawn.{next_oid}
-use Rattle.history_model.specs.Legal.{IsLegal, MayFollow}
-use Rattle.history_model.specs.Lives.{Life, Unstarted, Alive, Stopped, FollowsLife, life_of}
+use Rattle.history_model.specs.Legal.{IsLegal}
+use Rattle.history_model.specs.MayFollow.{MayFollow}
+use Rattle.history_model.specs.MayFollow.{FollowsLife}
+use Rattle.history_model.specs.Lives.{life_of}
+use Rattle.history_model.specs.declared.life.Life.{Life}
+use Rattle.history_model.specs.declared.life.Life.TheVariants.{Unstarted, Alive, Stopped}
 use Rattle.history_model.proofs.Reading.{life_of-own}
-use Rattle.history_ledger.specs.Reads.{Reads}
+use Rattle.history_ledger.specs.Held.{Reads}
 use Rattle.cacheless.specs.Answering.{PlacesFit}
 use Rattle.cacheless.specs.Facts.{facts_of}
 use Rattle.cacheless.specs.Holds.{Holds, Rests, HasEntered, HasNotStarted, HasStarted, entry_of, with_own}
@@ -37,11 +41,11 @@ stands_started : (scenario : Scenario) (seen : List Entry) (s : Session) → s.i
 stands_started scenario seen s is going = subst (λ t. elim t as (λ x. Type 0) [ true ↦ IsGoing scenario seen s | false ↦ HasNoEntry scenario seen s ]) (sym is) going
 
 -- and one that hasn't
-new_stands : (scenario : Scenario) (seen : List Entry) (s : Session) → s.is_started ≡ false → Stands scenario seen s → HasNoEntry scenario seen s
+pub new_stands : (scenario : Scenario) (seen : List Entry) (s : Session) → s.is_started ≡ false → Stands scenario seen s → HasNoEntry scenario seen s
 new_stands scenario seen s is stands = subst (λ t. elim t as (λ x. Type 0) [ true ↦ IsGoing scenario seen s | false ↦ HasNoEntry scenario seen s ]) is stands
 
 -- a start comes of a session that hasn't started
-start_comes : (next : ℕ) (s : Session) (c : ℕ) → comes_at next s c events.Start ≡ true → s.is_started ≡ false
+pub start_comes : (next : ℕ) (s : Session) (c : ℕ) → comes_at next s c events.Start ≡ true → s.is_started ≡ false
 start_comes next s c comes = by_started s.is_started refl
   where
     none_plays : (o : Option Command) → (elim o as (λ x. Bool) [ Some command ↦ may_play_at next command s.progress events.Start | None ↦ may_last_at s.progress events.Start ]) ≡ false
@@ -92,7 +96,7 @@ none_after : (scenario : Scenario) (seen : List Entry) (s : Session) (c : ℕ) (
 none_after scenario seen s c event stopped follows = subst (λ life. FollowsLife life c event) stopped.life follows.life
 
 -- so one that has an entry that may come next awaits it
-awaits : (scenario : Scenario) (seen : List Entry) (s : Session) (c : ℕ) (event : Event) → s.is_started ≡ true → Stands scenario seen s → MayFollow seen (entry_of s.progress.id c event) → AwaitsEntry scenario seen s.progress s.lines
+pub awaits : (scenario : Scenario) (seen : List Entry) (s : Session) (c : ℕ) (event : Event) → s.is_started ≡ true → Stands scenario seen s → MayFollow seen (entry_of s.progress.id c event) → AwaitsEntry scenario seen s.progress s.lines
 awaits scenario seen s c event is stands follows = by_case (started_stands scenario seen s is stands)
   where
     by_case : IsGoing scenario seen s → AwaitsEntry scenario seen s.progress s.lines
@@ -100,7 +104,7 @@ awaits scenario seen s c event is stands follows = by_case (started_stands scena
     by_case (Over stopped) = absurd (none_after scenario seen s c event stopped follows)
 
 -- the entry is one that its session may make
-own_plays : (scenario : Scenario) (seen : List Entry) (was : Progress) (event : Event) (rests : Rests scenario seen was) → IsNext scenario seen (entry_of was.id (was.finished + 1) event)
+pub own_plays : (scenario : Scenario) (seen : List Entry) (was : Progress) (event : Event) (rests : Rests scenario seen was) → IsNext scenario seen (entry_of was.id (was.finished + 1) event)
     → MayPlayIn (next_oid seen) (facts_of seen was.id) (slice_get was.commands was.finished) (session_at was rests.holds.rest) event
 own_plays scenario seen was event rests next =
     subst (λ o. MayPlayIn (next_oid seen) (facts_of seen was.id) o (session_at was rests.holds.rest) event)

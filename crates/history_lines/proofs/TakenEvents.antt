@@ -3,7 +3,7 @@ use Rattle.std.proofs.Common.{◌≡◌, ◌≤◌, ◌+◌, ◌∙◌, ◌&&◌
 use Rattle.event_kinds.specs.declared.entry.Event.TheVariants as events
 use Rattle.history_model.specs.Log.{fetched_by}
 use Rattle.history_model.specs.Versions.{answer_of}
-use Rattle.history_ledger.specs.Reads.{Reads}
+use Rattle.history_ledger.specs.Held.{Reads}
 use Rattle.inval_messages.specs.declared.message.Message.{Message}
 use Rattle.base_types.specs.declared.row.Row.{Row}
 use Rattle.base_types.specs.declared.scan.Purpose.{Purpose}
@@ -100,6 +100,17 @@ reserved_takes scenario seen s p event now same takes rests = room_takes scenari
 pub event_takes : (was now : Progress) (given event : Event) → given ≡ event → ((scenario : Scenario) (seen : List Entry) (rests : Rests scenario seen was) → HasEntered scenario seen was event rests now) → ((seen : List Entry) → KeepsScans seen was event now) → now.answer ≡ answer_after event was.answer
     → (scenario : Scenario) (seen : List Entry) (rests : Rests scenario seen was) → HasTaken scenario seen was given rests now
 event_takes was now given event is goes kept answer scenario seen rests = subst (λ e. HasTaken scenario seen was e rests now) (sym is) (record { goes = goes scenario seen rests; kept = kept seen; answer = answer })
+
+-- what was taken is the event that is given
+pub taken_as : (was now : Progress) (given event : Event) → given ≡ event → ((scenario : Scenario) (seen : List Entry) (rests : Rests scenario seen was) → HasTaken scenario seen was event rests now) → (scenario : Scenario) (seen : List Entry) (rests : Rests scenario seen was) → HasTaken scenario seen was given rests now
+taken_as was now given event is takes scenario seen rests = subst (λ e. HasTaken scenario seen was e rests now) (sym is) (takes scenario seen rests)
+
+-- a release, which takes memory
+pub released_takes : {E : Type 0} (result : Result (Unit {0}) E) (ledger : Ledger) (at : ℕ) (was now : Progress) (given : Event) (from : ℕ) → given ≡ events.Release from
+    → OnOk result ((scenario : Scenario) (seen : List Entry) (rests : Rests scenario seen was) → HasEntered scenario seen was (events.Release from) rests now) → OnOk result (kept_at now ≡ kept_at was) → OnOk result (now.answer ≡ was.answer)
+    → OnOk result ((scenario : Scenario) (seen : List Entry) (rests : Rests scenario seen was) → Reads seen ledger → at ≡ length seen + 1 → HasTaken scenario seen was given rests now)
+released_takes (Ok done) ledger at was now given from is goes kept answer = λ scenario seen rests reads place. event_takes was now given (events.Release from) is goes (λ before. kept) answer scenario seen rests
+released_takes (Err e) ledger at was now given from is goes kept answer = tt
 
 -- the event that a class takes is the one that is given
 pub takes_alone : {E : Type 0} (result : Result (Unit {0}) E) (ledger : Ledger) (at : ℕ) (was now : Progress) (given event : Event) → given ≡ event → OnOk result ((scenario : Scenario) (seen : List Entry) (rests : Rests scenario seen was) → HasTaken scenario seen was event rests now)

@@ -1,12 +1,16 @@
 -- What a write makes of a session.
-use Rattle.std.proofs.Common.{◌≡◌, ◌∙◌, ◌<◌, ◌+◌, ◌∷◌, ◌++◌, ◌||◌, [], ℕ, Bool, true, false, not, Option, Some, None, Result, Ok, Err, OnOk, List, nat_le, is_some, length, take, get_or, refl, sym, ap, subst, leb-false}
-use Rattle.std.specs.List.{list_any, AllByRecursion, flat_map}
-use Rattle.std.proofs.lemmas.List.{append-nil}
+use Rattle.std.proofs.Common.{◌≡◌, ◌∙◌, ◌<◌, ◌+◌, ◌∷◌, ◌++◌, [], ℕ, false, Option, Some, None, Result, Ok, Err, OnOk, List, length, take, drop, get_or, refl, sym, ap, subst}
+use Rattle.std.specs.List.{flat_map}
+use Rattle.std.specs.Option.{IfSome}
+use Rattle.std.proofs.lemmas.Grind.{flat_map-append}
+use Rattle.std.proofs.lemmas.List.{take-append-drop}
+use Rattle.base_types.specs.declared.mode.Mode.TheVariants.{AccessExclusive}
 use Rattle.event_kinds.specs.declared.entry.Event.TheVariants as events
 use Rattle.event_kinds.specs.declared.entry.Item.{Item}
 use Rattle.history_model.proofs.ListSteps.{flat_map_next}
-use Rattle.history_ledger.specs.Reads.{Reads}
-use Rattle.inval_messages.specs.Lists.{Written}
+use Rattle.history_ledger.specs.Held.{Reads}
+use Rattle.lock_modes.specs.Own.{has_lock, new_lock}
+use Rattle.lock_modes.specs.declared.own_lock.OwnLock.{OwnLock}
 use Rattle.inval_messages.specs.declared.message.Message.{Message}
 use Rattle.local_caches.specs.Kept.{kept_spared}
 use Rattle.cacheless.specs.Holds.{Rests, HasEntered}
@@ -15,53 +19,57 @@ use Rattle.cacheless.specs.State.{IsLockedIn, kept_at, messages_in, locks_made}
 use Rattle.base_types.specs.declared.ids.Oid.{Oid}
 use Rattle.base_types.specs.declared.ids.Xid.{Xid}
 use Rattle.cacheless.specs.Awaiting.{HasTaken}
+use Rattle.history_lines.specs.Takes.{MakesOne, MayWrite}
 use Rattle.history_lines.specs.Types.{Scenario, Entry, Ledger, Progress}
 use Rattle.history_lines.proofs.TakenEvents.{reserved_takes}
 
--- of two tests of which none holds each fails
-both_false : (a b : Bool) → (a || b) ≡ false → (a ≡ false) × (b ≡ false)
-both_false true b is = absurd (cc)
-both_false false b is = (refl, is)
-
--- where no list is of this command or of a later one, all are of commands before
-none_later : (from : ℕ) (lists : List Written) → list_any (λ w. nat_le from w.command) lists ≡ false → AllByRecursion (λ list. list.command < from) lists
-none_later from [] none = tt
-none_later from (w ∷ lists) none =
-    let parts = both_false (nat_le from w.command) (list_any (λ v. nat_le from v.command) lists) none in
-    (leb-false from w.command parts.0, none_later from lists parts.1)
-
--- a test whose contrary holds fails
-not_true : (t : Bool) → not t ≡ true → t ≡ false
-not_true true is = absurd (cc)
-not_true false is = refl
-
--- the same by what the code found
-pub all_before : (from : ℕ) (lists : List Written) (found : Bool) → found ≡ list_any (λ w. nat_le from w.command) lists → not found ≡ true → AllByRecursion (λ list. list.command < from) lists
-all_before from lists found is none = none_later from lists (sym is ∙ not_true found none)
-
 -- a write with these messages, which makes this relation, if it makes one
-pub written_takes : {E : Type 0} (result : Result (Unit {0}) E) (was now : Progress) (xid : Xid) (messages : List Message) (made known : Option Oid) → known ≡ made
-    → OnOk result (kept_at now ≡ kept_spared messages (kept_at was)) → OnOk result (now.answer ≡ None)
-    → OnOk result ((scenario : Scenario) (seen : List Entry) (items : List Item) → (rests : Rests scenario seen was) → messages ≡ messages_in seen was.id items → flat_map (locked_by (was.finished + 1)) items ≡ locks_made (was.finished + 1) known → HasEntered scenario seen was (events.Write xid items) rests now)
+pub written_takes : {E : Type 0} (result : Result (Unit {0}) E) (was now : Progress) (xid : Xid) (messages : List Message) (made : Option Oid) → OnOk result (kept_at now ≡ kept_spared messages (kept_at was)) → OnOk result (now.answer ≡ None)
+    → OnOk result ((scenario : Scenario) (seen : List Entry) (items : List Item) → (rests : Rests scenario seen was) → messages ≡ messages_in seen was.id items → flat_map (locked_by (was.finished + 1)) items ≡ locks_made (was.finished + 1) made → HasEntered scenario seen was (events.Write xid items) rests now)
     → OnOk result ((scenario : Scenario) (seen : List Entry) (items : List Item) (rests : Rests scenario seen was) → messages ≡ messages_in seen was.id items → flat_map (locked_by (was.finished + 1)) items ≡ locks_made (was.finished + 1) made → HasTaken scenario seen was (events.Write xid items) rests now)
-written_takes (Ok done) was now xid messages made known same kept none holds = λ scenario seen items rests is locks. record {
-  goes = holds scenario seen items rests is (locks ∙ sym (ap (locks_made (was.finished + 1)) same));
+written_takes (Ok done) was now xid messages made kept none holds = λ scenario seen items rests is locks. record {
+  goes = holds scenario seen items rests is locks;
   kept = kept ∙ ap (λ l. kept_spared l (kept_at was)) is;
   answer = none;
 }
-written_takes (Err e) was now xid messages made known same kept none holds = tt
+written_takes (Err e) was now xid messages made kept none holds = tt
 
 -- the locks of one more item come after those before
 locks_more : (command : ℕ) (items : List Item) (at : ℕ) (item : Item) → at < length items → item ≡ get_or items at item → flat_map (locked_by command) (take (at + 1) items) ≡ flat_map (locked_by command) (take at items) ++ locked_by command item
 locks_more command items at item within is = sym (flat_map_next (locked_by command) [] items at item item _ within is refl)
 
--- an item that makes no relation leaves them
-pub made_still : (items : List Item) (at : ℕ) (item : Item) (made : Option Oid) → at < length items → item ≡ get_or items at item → ((command : ℕ) → locked_by command item ≡ []) → ((command : ℕ) → flat_map (locked_by command) (take at items) ≡ locks_made command made) → (command : ℕ) → flat_map (locked_by command) (take (at + 1) items) ≡ locks_made command made
-made_still items at item made within is none before command = locks_more command items at item within is ∙ (λ i. before command i ++ none command i) ∙ append-nil (locks_made command made)
+-- an item that makes no relation takes none
+pub none_still : (items : List Item) (at : ℕ) (item : Item) → at < length items → item ≡ get_or items at item → ((command : ℕ) → locked_by command item ≡ []) → ((command : ℕ) → flat_map (locked_by command) (take at items) ≡ []) → (command : ℕ) → flat_map (locked_by command) (take (at + 1) items) ≡ []
+none_still items at item within is none before command = locks_more command items at item within is ∙ (λ i. before command i ++ none command i)
 
--- and the first that makes one adds its lock
-pub made_first : (items : List Item) (at : ℕ) (item : Item) (rel : Oid) → at < length items → item ≡ get_or items at item → ((command : ℕ) → locked_by command item ≡ locks_made command (Some rel)) → ((command : ℕ) → flat_map (locked_by command) (take at items) ≡ []) → (command : ℕ) → flat_map (locked_by command) (take (at + 1) items) ≡ locks_made command (Some rel)
-made_first items at item rel within is one before command = locks_more command items at item within is ∙ (λ i. before command i ++ one command i)
+-- the first that makes a relation is the only one
+pub made_first : (items : List Item) (at : ℕ) (item : Item) (rel : Oid) → MakesOne items → at < length items → item ≡ get_or items at item → ((command : ℕ) → locked_by command item ≡ locks_made command (Some rel)) → ((command : ℕ) → flat_map (locked_by command) (take at items) ≡ []) → (command : ℕ) → flat_map (locked_by command) items ≡ locks_made command (Some rel)
+made_first items at item rel one within is makes before command = alone one.made (one.locks command)
+  where
+    rest : List OwnLock
+    rest = flat_map (locked_by command) (drop (at + 1) items)
+
+    whole : flat_map (locked_by command) items ≡ new_lock rel command ∷ rest
+    whole = ap (flat_map (locked_by command)) (sym (take-append-drop (at + 1) items)) ∙ flat_map-append (locked_by command) (take (at + 1) items) (drop (at + 1) items)
+        ∙ ap (λ l. l ++ rest) (locks_more command items at item within is ∙ (λ i. before command i ++ makes command i))
+
+    alone : (o : Option Oid) → flat_map (locked_by command) items ≡ locks_made command o → flat_map (locked_by command) items ≡ new_lock rel command ∷ []
+    alone None none = absurd (let both : [] ≡ new_lock rel command ∷ rest = sym none ∙ whole in cc both)
+    alone (Some other) made =
+        let both : new_lock rel command ∷ rest ≡ new_lock other command ∷ [] = sym whole ∙ made in
+        let none : rest ≡ [] = cc both in
+        whole ∙ ap (λ l. new_lock rel command ∷ l) none
+
+-- so the relation that was found is the one that they make
+one_made : (a b : Option Oid) → locks_made 0 a ≡ locks_made 0 b → a ≡ b
+one_made None None is = refl
+one_made None (Some rel) is = absurd (cc is)
+one_made (Some rel) None is = absurd (cc is)
+one_made (Some rel) (Some other) is = let same : new_lock rel 0 ≡ new_lock other 0 = cc is in ap (λ (lock : OwnLock). Some lock.rel) same
+
+-- and isn't locked, also once room for a lock is made
+pub made_new : (s p : Progress) (items : List Item) (found : Option Oid) (may : MayWrite s items) → IsLockedIn s.locks.items s p → ((command : ℕ) → flat_map (locked_by command) items ≡ locks_made command found) → IfSome found (λ rel. has_lock p.locks.items rel AccessExclusive ≡ false)
+made_new s p items found may same are = subst (λ l. IfSome found (λ rel. has_lock l rel AccessExclusive ≡ false)) (sym same.locks_are) (subst (λ o. IfSome o (λ rel. has_lock s.locks.items rel AccessExclusive ≡ false)) (one_made may.one.made found (sym (may.one.locks 0) ∙ are 0)) may.new)
 
 -- a write after room for a lock was made
 pub write_takes : {E : Type 0} (result : Result (Unit {0}) E) (ledger : Ledger) (s p now : Progress) (xid : Xid) (items : List Item) (messages : List Message) (made : Option Oid) → IsLockedIn s.locks.items s p → ((seen : List Entry) → Reads seen ledger → messages ≡ messages_in seen s.id items)
@@ -71,11 +79,6 @@ pub write_takes : {E : Type 0} (result : Result (Unit {0}) E) (ledger : Ledger) 
 write_takes (Ok done) ledger s p now xid items messages made same given locks takes = λ scenario seen rests reads.
     reserved_takes scenario seen s p (events.Write xid items) now same (λ r. takes scenario seen items r (given seen reads ∙ ap (λ (x : Progress). messages_in seen x.id items) (sym same.is)) (locks (p.finished + 1))) rests
 write_takes (Err e) ledger s p now xid items messages made same given locks takes = tt
-
--- no relation, no lock
-pub none_on : (command : ℕ) (made : Option Oid) → is_some made ≡ false → locks_made command made ≡ []
-none_on command None is = refl
-none_on command (Some rel) is = absurd (cc)
 
 -- a write of these items is one of the same
 pub written_as : {E : Type 0} (result : Result (Unit {0}) E) (ledger : Ledger) (was now : Progress) (xid : Xid) (items given : List Item) → items ≡ given → OnOk result ((scenario : Scenario) (seen : List Entry) (rests : Rests scenario seen was) → Reads seen ledger → HasTaken scenario seen was (events.Write xid items) rests now)

@@ -1,9 +1,10 @@
 -- What is held agrees with the entries so far.
-use Rattle.std.specs.Prelude.{◌≡◌, ◌+◌, ℕ, true, false, Some, List, [], length, slice_get}
+use Rattle.std.specs.Prelude.{◌≡◌, ◌<◌, ◌+◌, ℕ, true, false, Some, List, [], length, slice_get}
 use Rattle.history_model.specs.Lapped.{FollowsQueue}
 use Rattle.history_model.specs.Legal.{IsLegal}
-use Rattle.history_model.specs.Lives.{Stopped, life_of}
-use Rattle.history_ledger.specs.Reads.{Reads}
+use Rattle.history_model.specs.Lives.{life_of}
+use Rattle.history_model.specs.declared.life.Life.TheVariants.{Stopped}
+use Rattle.history_ledger.specs.Held.{Reads}
 use Rattle.cacheless.specs.Lines.{lines_of_backend}
 use Rattle.cacheless.specs.Played.{AreSpelled}
 use Rattle.cacheless.specs.Plays.{Plays}
@@ -48,3 +49,14 @@ pub record Follows (scenario : Scenario) (seen : List Entry) (ledger : Ledger) (
   pub plays : Plays scenario seen
   pub spelled : AreSpelled scenario
   pub sessions : AreSessions scenario seen held
+
+-- there are so few entries that they can be counted
+abbrev pub AreCounted : List Entry → Type 0
+AreCounted seen = length seen < 1152921504606846976
+
+-- what is held is that of some history that the script allows
+pub record IsHeld (ledger : Ledger) (sessions : List Session) : Type 0 where
+  pub scenario : Scenario
+  pub seen : List Entry
+  pub counted : AreCounted seen
+  pub follows : Follows scenario seen ledger sessions

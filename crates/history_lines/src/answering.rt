@@ -2,12 +2,12 @@ ghost use Rattle.std.specs.Prelude.{◌≡◌, ◌+◌, ◌++◌, ◌∷◌, [],
 ghost use Rattle.std.specs.Bool.{Decides};
 ghost use Rattle.base_types.specs.Scenario.{Scenario, IsBackend};
 ghost use Rattle.event_kinds.specs.declared.entry.Entry.{Entry};
-ghost use Rattle.history_ledger.specs.Reads.{Reads};
+ghost use Rattle.history_ledger.specs.Held.{Reads};
 ghost use Rattle.history_lines.specs.Answered.{IsAnswered};
-ghost use Rattle.history_lines.specs.Stands.{Follows};
+ghost use Rattle.history_lines.specs.Stands.{Follows, IsHeld};
 ghost use Rattle.history_lines.specs.AllowedNext.{IsAllowedNext, CanTake, lines_held};
 
-use crate::session::{Session, is_countable};
+use crate::session::Session;
 use base_types::{Listed, NoMemory};
 use by_backend::{commands_by_backend, push_copies};
 use event_kinds::{Entry, Line};
@@ -24,11 +24,17 @@ pub struct Answered {
     pub lines: Listed<Line>,
 }
 
+// The most entries of a list: that many fit no memory, and what is counted of fewer can be summed.
+const MOST_ENTRIES: usize = 1_152_921_504_606_846_976;
+
 /// The longest prefix of these entries that the script allows, and the lines that backends without caches
-/// answer by it. `NoMemory` comes where memory is short, or a number can't be counted.
+/// answer by it. `NoMemory` comes where memory is short, or the next oid is above 32 bits.
 pub fn lines(alloc: Global, script: &Script, entries: &[Entry]) -> Result<Answered, NoMemory>
     ensures { IfOk result (λ a. IsAnswered script.now entries.now a.entries a.lines) }
 {
+    if entries.len() >= MOST_ENTRIES {
+        return Err(NoMemory);
+    }
     let mut held = Held::new(alloc, script)?;
     for (at, e) in entries.iter().enumerate() {
         let may_come = held.may_enter(script.size(), e)?;
@@ -60,24 +66,21 @@ impl Held {
 
     // Whether the script, whose queue has this size, allows an entry next.
     fn may_enter(&self, size: u32, e: &Entry) -> Result<bool, NoMemory>
-        ensures decides { (scenario : Scenario) (seen : List Entry) → Follows scenario seen self.now.ledger self.now.sessions.items → size ≡ scenario.size → IfOk result (λ yes. Decides yes (IsAllowedNext scenario seen e.now)) }
-        ensures can { (scenario : Scenario) (seen : List Entry) → Follows scenario seen self.now.ledger self.now.sessions.items → IfOk result (λ yes. yes ≡ true → CanTake self.now.ledger self.now.sessions.items e.now) }
+        requires { IsHeld self.now.ledger self.now.sessions.items }
+        ensures { (scenario : Scenario) (seen : List Entry) → Follows scenario seen self.now.ledger self.now.sessions.items → size ≡ scenario.size → IfOk result (λ yes. Decides yes (IsAllowedNext scenario seen e.now)) }
     {
         if !self.has_session(e.backend) {
+            return Ok(false);
+        }
+        let may_follow = self.ledger.may_follow(e, size)?;
+        if !may_follow {
             return Ok(false);
         }
         let Ok(next_oid) = u32::try_from(self.ledger.next_oid()) else {
             return Err(NoMemory);
         };
         let session = &self.sessions[e.backend as usize - 1];
-        if !is_countable(&session.progress) {
-            return Err(NoMemory);
-        }
-        if session.comes(next_oid, e.command, &e.event) {
-            self.ledger.may_follow(e, size)
-        } else {
-            Ok(false)
-        }
+        Ok(session.comes(next_oid, e.command, &e.event))
     }
 
     // Whether one of the sessions is that of the backend of this number.

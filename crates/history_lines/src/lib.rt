@@ -15,9 +15,9 @@
 //! let is_allowed = answered.entries == entries.len() as u64;
 //! ```
 //!
-//! No `fail` is allowed, since no command's rules have one yet. Numbers that are too large to be counted, and a
-//! next oid above 32 bits, are answered as out of memory; so is what a session's call asks for and doesn't get,
-//! which no allowed history is known to do.
+//! No `fail` is allowed, since no command's rules have one yet. Besides want of memory two things alone are
+//! answered as out of memory: more entries than any memory holds, and a next oid above 32 bits. What a session's
+//! call asks for holds of each entry that a script allows (`proofs/Allowing.antt`).
 #![tactic(auto)]
 
 mod answering;

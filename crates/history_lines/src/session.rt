@@ -10,12 +10,6 @@ use cacheless::Progress;
 use event_kinds::{Event, Line};
 use std::alloc::Global;
 
-// The most commands of a session.
-pub(crate) const MOST_COMMANDS: usize = 20_000;
-
-// What each count of a session stays below, so that sums of them don't wrap.
-const MOST_COUNTED: u64 = 1_152_921_504_606_846_976;
-
 // The session of a backend: how far it is, whether it has an entry, and the lines of its finished commands.
 #[derive(Drop)]
 pub(crate) struct Session {
@@ -52,17 +46,4 @@ impl Session {
             matches!(event, Event::Start)
         }
     }
-}
-
-// Whether its numbers are small enough to be summed.
-pub(crate) fn is_countable(progress: &Progress) -> bool
-    ensures few { result ≡ true → progress.now.finished ≤ 20000 }
-    ensures room { result ≡ true → HasRoom progress.now }
-{
-    progress.finished as usize <= MOST_COMMANDS
-        && progress.tally.looks < MOST_COUNTED
-        && progress.tally.scans < MOST_COUNTED
-        && progress.tally.grants < MOST_COUNTED
-        && progress.tally.fetches < MOST_COUNTED
-        && progress.tally.full < MOST_COUNTED
 }

@@ -8,14 +8,15 @@ use Rattle.event_kinds.specs.declared.entry.Event.TheVariants as events
 use Rattle.inval_messages.specs.declared.message.Message.{Message}
 use Rattle.inval_messages.specs.Messages.{is_spared}
 use Rattle.inval_messages.specs.Lists.{lists_from, sent_in}
-use Rattle.history_model.specs.Lives.{Life, Unstarted, Alive, Stopped, life_of, FollowsLife}
+use Rattle.history_model.specs.Lives.{Life, Unstarted, Alive, Stopped, life_of}
+use Rattle.history_model.specs.MayFollow.{FollowsLife}
 use Rattle.history_model.specs.Sent.{messages_written, lists_of, sent_of}
 use Rattle.history_model.specs.Log.{fetched_by}
 use Rattle.history_model.specs.Covered.{is_covered}
 use Rattle.history_model.specs.Coming.{IsComing, IsAccounted}
-use Rattle.history_model.specs.Legal.{AllowsEvent}
+use Rattle.history_model.specs.MayFollow.{AllowsEvent}
 use Rattle.history_model.specs.Read.{read_at, is_scan_of, place_read, rows_read, spares_by, usable_by, is_usable}
-use Rattle.history_model.specs.Orderly.{MayComeNext, IsSound}
+use Rattle.history_model.specs.Sound.{MayComeNext, IsSound}
 use Rattle.history_model.proofs.Prefixes.{each-keeps, along-keeps, EachEntry-more}
 use Rattle.history_model.proofs.Reading.{life_of-own, life_of-other, position_of-own, position_of-other, is_usable-own, is_usable-other, read_at-own, read_at-other}
 use Rattle.history_model.proofs.Lawful.{IsLawful}

@@ -24,7 +24,7 @@ use Rattle.history_model.specs.Transactions.{running_transaction_of, has_xid, is
 use Rattle.history_model.specs.Versions.{versions_of, change_by, end_by, ends, version_of, added_row, is_back, end_back, counts, sees, answer_of}
 use Rattle.history_model.specs.Sent.{messages_written, lists_of, sent_of}
 use Rattle.history_model.specs.Covered.{is_covered}
-use Rattle.history_model.specs.Orderly.{MayComeNext, IsSound}
+use Rattle.history_model.specs.Sound.{MayComeNext, IsSound}
 use Rattle.history_model.proofs.Reading.{versions_of-more as versions-more, running_transaction_of-own as running-own, running_transaction_of-other as running-other, is_committed-more as committed-more}
 use Rattle.history_model.proofs.Every.{every-weaker, every, every-append, every-map, every-filter, every-swap, any-filter, any-flat, any-split}
 use Rattle.history_model.proofs.Asking.{asked, asked_first, asked-more, first_same, asked-same}

@@ -18,7 +18,7 @@ use Rattle.lock_modes.specs.Grants.{holds}
 use Rattle.history_model.specs.Versions.{rows_of, answer_of}
 use Rattle.history_model.specs.Covered.{counted_for}
 use Rattle.history_model.specs.Held.{held_of}
-use Rattle.history_model.specs.Orderly.{MayComeNext, IsSound}
+use Rattle.history_model.specs.Sound.{MayComeNext, IsSound}
 use Rattle.history_model.proofs.Prefixes.{EachEntry-more}
 use Rattle.history_model.proofs.Every.{every-weaker, every, every-filter, SomeOf, some-weaker, some-map, some-unmap, some-filter, from_some}
 use Rattle.history_model.proofs.Touched.{entry_of}

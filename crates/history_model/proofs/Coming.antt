@@ -18,7 +18,7 @@ use Rattle.history_model.specs.Sent.{lists_of, lists_by, sent_of, left_in, unsen
 use Rattle.history_model.specs.Log.{log_of, log_by, position_of, position_by, fetched_by}
 use Rattle.history_model.specs.Covered.{is_covered}
 use Rattle.history_model.specs.Coming.{unpublished_in, unpublished_of, all_unpublished, IsComing}
-use Rattle.history_model.specs.Legal.{MayRelease, AllowsEvent}
+use Rattle.history_model.specs.MayFollow.{MayRelease, AllowsEvent}
 use Rattle.history_model.proofs.Reading.{running_transaction_of-own as running-own, running_transaction_of-other as running-other, lists_of-own as lists-own, lists_of-other as lists-other, log_of-more as log-more, position_of-own as position-own, position_of-other as position-other}
 use Rattle.history_model.proofs.Every.{any-left, any-right, any-sides}
 use Rattle.history_model.proofs.Lawful.{IsLawfulEvent}

@@ -15,14 +15,17 @@ use Rattle.event_kinds.specs.declared.entry.Event.{Event}
 use Rattle.event_kinds.specs.declared.entry.Event.TheVariants as events
 use Rattle.event_kinds.specs.declared.entry.Item.{Item}
 use Rattle.inval_messages.specs.Lists.{lists_from}
-use Rattle.history_model.specs.Lives.{life_of, FollowsLife}
+use Rattle.history_model.specs.Lives.{life_of}
+use Rattle.history_model.specs.MayFollow.{FollowsLife}
 use Rattle.history_model.specs.Transactions.{running_transaction_of, is_visible, xid_for}
 use Rattle.history_model.specs.Versions.{ended_key, added_row, old_row, answer_of}
 use Rattle.history_model.specs.Sent.{messages_written, lists_of, sent_of}
 use Rattle.history_model.specs.Covered.{is_covered, counted_for}
 use Rattle.history_model.specs.Drawn.{drawn_by, made_by, next_oid}
-use Rattle.history_model.specs.Writes.{changed_key, has_row, is_guarded}
-use Rattle.history_model.specs.Orderly.{IsOrderlyWrite, MayComeNext, IsSound}
+use Rattle.history_model.specs.Changing.{changed_key}
+use Rattle.history_model.specs.Writes.{has_row, is_guarded}
+use Rattle.history_model.specs.Orderly.{IsOrderlyWrite}
+use Rattle.history_model.specs.Sound.{MayComeNext, IsSound}
 use Rattle.history_model.proofs.Every.{every-weaker, any-filter}
 use Rattle.history_model.proofs.Lawful.{IsPlain, IsLawful}
 use Rattle.history_model.proofs.Lives.{begun_at}

@@ -22,8 +22,9 @@ use Rattle.event_kinds.specs.declared.entry.Item.{Item}
 use Rattle.history_model.specs.Versions.{old_row, answer_of}
 use Rattle.history_model.specs.Sent.{messages_written}
 use Rattle.history_model.specs.Covered.{scans_of, is_covered, same_row, same_rows, keeps_answer, rows_changed, covers_changes}
-use Rattle.history_model.specs.Writes.{rows_named, is_validation}
-use Rattle.history_model.specs.Orderly.{scans_told, covers_told, IsSound}
+use Rattle.history_model.specs.Changing.{rows_named, is_validation}
+use Rattle.history_model.specs.Orderly.{scans_told, covers_told}
+use Rattle.history_model.specs.Sound.{IsSound}
 use Rattle.history_model.proofs.Every.{every-weaker}
 use Rattle.history_model.proofs.Ordered.{all_flat, sound_ordered}
 use Rattle.history_model.proofs.CountedAnswers.{IsAllowedWrite, counted, counted_write}

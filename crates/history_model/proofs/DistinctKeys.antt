@@ -11,7 +11,7 @@ use Rattle.base_types.specs.RowKeys.{key_of, same_key, are_distinct_keys}
 use Rattle.base_types.specs.Scans.{selects}
 use Rattle.event_kinds.specs.declared.entry.Entry.{Entry}
 use Rattle.history_model.specs.Versions.{versions_of, sees, rows_of, answer_of}
-use Rattle.history_model.specs.Orderly.{IsSound}
+use Rattle.history_model.specs.Sound.{IsSound}
 use Rattle.history_model.proofs.Every.{every}
 use Rattle.history_model.proofs.Guards.{key_eq}
 use Rattle.history_model.proofs.Seen.{Pairwise, pair-weaker, pair-map, pair-filter}

@@ -18,9 +18,11 @@ use Rattle.event_kinds.specs.declared.entry.Item.{Item}
 use Rattle.event_kinds.specs.declared.entry.Item.TheVariants as forms
 use Rattle.row_visibility.specs.declared.version.Stamp.{Stamp}
 use Rattle.row_visibility.specs.declared.version.Version.{Version}
+use Rattle.history_model.specs.After.{segment_of}
 use Rattle.history_model.specs.Drawn.{drawn_by, next_oid, next_oid_by}
-use Rattle.history_model.specs.Legal.{AllowsEvent}
-use Rattle.history_model.specs.Orderly.{has_key, main_rel, MayComeNext, IsSound}
+use Rattle.history_model.specs.MayFollow.{AllowsEvent}
+use Rattle.history_model.specs.Orderly.{has_key, main_rel}
+use Rattle.history_model.specs.Sound.{MayComeNext, IsSound}
 use Rattle.history_model.specs.Versions.{versions_of, versions_by, sees, rows_of, added_row, ended_key, ends, is_back}
 use Rattle.history_model.specs.Writes.{has_row}
 use Rattle.history_model.proofs.DrawnRows.{rows_drawn}
@@ -125,7 +127,7 @@ drawn_by_event history b c event sound comes drawn = of event refl
     of : (x : Event) → event ≡ x → AllByRecursion (OfStamps (IsDrawnAt next)) (versions_by history b c x (versions_of history))
     of (events.Write xid items) is =
         let allowed : AllowsEvent history b c (events.Write xid items) = subst (AllowsEvent history b c) is comes.follows.event in
-        stamps-write (IsDrawnAt next) (λ row. IsDrawnKey next (key_of row)) history b (record { xid = xid; command = c }) (λ row is'. is') items (versions_of history)
+        stamps-write (IsDrawnAt next) (λ row. IsDrawnKey next (key_of row)) (segment_of history) b (record { xid = xid; command = c }) (λ row is'. is') items (versions_of history)
         (every-both (λ item. IfSome (added_row item) (λ row. IsDrawnKey next (key_of row))) (λ item. AllByRecursion (λ v. ends history b item v ≡ true → IsDrawnKey next (key_of v.row)) (versions_of history)) items
         (all_items_drawn next (has_row history b) items seen
         (subst (AllByRecursion (λ n. (FIRST_OID ≤ n) × (n < next))) (sym allowed.oids) (in_range FIRST_OID next (next_oid history) (length (flat_map drawn_by items)) (next_from_first history sound)

@@ -16,10 +16,12 @@ use Rattle.event_kinds.specs.declared.entry.Item.{Item}
 use Rattle.lock_modes.specs.declared.grant.Grant.{Grant}
 use Rattle.row_visibility.specs.declared.version.Stamp.{Stamp}
 use Rattle.row_visibility.specs.declared.version.Version.{Version}
+use Rattle.history_model.specs.After.{segment_of}
 use Rattle.history_model.specs.Drawn.{next_oid}
 use Rattle.history_model.specs.Held.{held_by, held_of}
-use Rattle.history_model.specs.Legal.{AllowsEvent}
-use Rattle.history_model.specs.Orderly.{main_rel, IsOrderlyEvent, MayComeNext, IsSound}
+use Rattle.history_model.specs.MayFollow.{AllowsEvent}
+use Rattle.history_model.specs.Orderly.{main_rel, IsOrderlyEvent}
+use Rattle.history_model.specs.Sound.{MayComeNext, IsSound}
 use Rattle.history_model.specs.Versions.{versions_of, versions_by, sees, rows_of, answer_of, added_row, old_row, ends, is_back}
 use Rattle.history_model.proofs.Prefixes.{EachEntry-more, each-keeps}
 use Rattle.history_model.proofs.Reading.{versions_of-more, held_of-more}
@@ -70,7 +72,7 @@ drawn_by_event history b c event sound comes drawn = of event refl
         Guarded item = IfSome (added_row item) (IsHeldFor in_write b c (old_row history b item) item) × IfSome (old_row history b item) (IsHeldFor in_write b c (old_row history b item) item)
 
     of : (x : Event) → event ≡ x → AllByRecursion (OfStamps (IsDrawnAt next)) (versions_by history b c x (versions_of history))
-    of (events.Write xid items) is = stamps-write (IsDrawnAt next) (λ row. (main_rel row).0 < next) history b (record { xid = xid; command = c }) (λ row low. low) items (versions_of history)
+    of (events.Write xid items) is = stamps-write (IsDrawnAt next) (λ row. (main_rel row).0 < next) (segment_of history) b (record { xid = xid; command = c }) (λ row low. low) items (versions_of history)
         (every-both (λ item. IfSome (added_row item) (λ row. (main_rel row).0 < next)) (λ item. AllByRecursion (λ v. ends history b item v ≡ true → (main_rel v.row).0 < next) (versions_of history)) items (added xid items is)
         (every (λ item. AllByRecursion (λ v. ends history b item v ≡ true → (main_rel v.row).0 < next) (versions_of history)) (λ item. every-weaker (OfStamps (IsDrawnAt next)) (λ v. ends history b item v ≡ true → (main_rel v.row).0 < next) (λ v low ends'. low.0) (versions_of history) later) items)) later
     of (events.Gone from) is = stamps-gone (IsDrawnAt next) (IsDrawnAt next) (is_back history b from) (λ s row not' low. low) (versions_of history) later

@@ -17,7 +17,7 @@ use Rattle.event_kinds.specs.declared.entry.Item.TheVariants as forms
 use Rattle.lock_modes.specs.declared.grant.Grant.{Grant}
 use Rattle.history_model.specs.Covered.{same_row}
 use Rattle.history_model.specs.Orderly.{main_rel, is_apart}
-use Rattle.history_model.specs.Writes.{relations_changed, is_validation, update_where, name_allowed, mode_to_add, mode_to_replace, mode_to_remove, weaker_mode, enough_with, modes_enough}
+use Rattle.history_model.specs.Changing.{relations_changed, is_validation, update_where, name_allowed, mode_to_add, mode_to_replace, mode_to_remove, weaker_mode, enough_with, modes_enough}
 use Rattle.history_model.proofs.Every.{every-weaker, every, every-both}
 use Rattle.history_model.proofs.Guards.{is_changing, is_exclusive, exclusive_changes, IsHeldIn, held_in-weaker, IsGuarded}
 

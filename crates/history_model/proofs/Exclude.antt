@@ -18,7 +18,7 @@ use Rattle.event_kinds.specs.declared.entry.Item.TheVariants as items
 use Rattle.lock_modes.specs.declared.grant.Grant.{Grant}
 use Rattle.lock_modes.specs.Grants.{is_lock, holds, first_conflict, stays}
 use Rattle.history_model.specs.Held.{granted_by, held_by, held_of}
-use Rattle.history_model.specs.Legal.{is_lock_of}
+use Rattle.history_model.specs.Allows.{is_lock_of}
 use Rattle.history_model.specs.Drawn.{drawn_by, next_oid_by, next_oid}
 use Rattle.history_model.proofs.Reading.{held_of-more as held-more, next_oid-more as next-more}
 use Rattle.history_model.proofs.Every.{every-weaker, every-append, every-filter, every-kept, every-both, every-swap}

@@ -32,7 +32,8 @@ use Rattle.history_model.specs.Reached.{is_writer, reached_of}
 use Rattle.history_model.specs.Covered.{is_covered}
 use Rattle.history_model.specs.Coming.{unpublished_of}
 use Rattle.history_model.specs.Read.{is_scan_of, rows_read, spares_by, is_usable}
-use Rattle.history_model.specs.Orderly.{main_rel, MayComeNext, IsSound}
+use Rattle.history_model.specs.Orderly.{main_rel}
+use Rattle.history_model.specs.Sound.{MayComeNext, IsSound}
 use Rattle.history_model.proofs.Prefixes.{each-keeps, EachEntry-more, EachFrom-both}
 use Rattle.history_model.proofs.Reading.{running_transaction_of-own as running-own, held_of-more as held-more, is_usable-own, is_usable-other, rows_read-own, rows_read-other}
 use Rattle.history_model.proofs.Every.{every, every-weaker, any-weaker, any-left, any-right, any-sides}

@@ -13,7 +13,7 @@ use Rattle.base_types.specs.declared.col_type.ColType.TheVariants as types
 use Rattle.base_types.specs.declared.row.Row.TheVariants as rows
 use Rattle.base_types.specs.Words.{kind_word, type_word, live_word}
 use Rattle.base_types.specs.Scans.{same_oid}
-use Rattle.history_model.specs.Writes.{name_allowed}
+use Rattle.history_model.specs.Changing.{name_allowed}
 use Rattle.history_model.proofs.Asking.{bytes_same, oid_eq}
 
 -- the name of a relation, but for that of an index, which a weak mode may change

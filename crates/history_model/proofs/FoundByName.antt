@@ -16,7 +16,7 @@ use Rattle.event_kinds.specs.declared.entry.Entry.{Entry}
 use Rattle.event_kinds.specs.declared.entry.Event.TheVariants as events
 use Rattle.history_model.specs.Versions.{rows_of, answer_of}
 use Rattle.history_model.specs.Read.{rows_read, is_usable}
-use Rattle.history_model.specs.Orderly.{IsSound}
+use Rattle.history_model.specs.Sound.{IsSound}
 use Rattle.history_model.proofs.Every.{every-weaker, SomeOf, from_some}
 use Rattle.history_model.proofs.Touched.{entry_of}
 use Rattle.history_model.proofs.InOrder.{IsIn}

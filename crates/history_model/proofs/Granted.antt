@@ -16,7 +16,7 @@ use Rattle.lock_modes.specs.Grants.{is_lock, stays}
 use Rattle.history_model.specs.Transactions.{Running, running_transaction_of, running_by}
 use Rattle.history_model.specs.Sent.{lists_of}
 use Rattle.history_model.specs.Held.{granted_by, held_by, held_of}
-use Rattle.history_model.specs.Orderly.{MayComeNext, IsSound}
+use Rattle.history_model.specs.Sound.{MayComeNext, IsSound}
 use Rattle.history_model.proofs.Prefixes.{each-keeps}
 use Rattle.history_model.proofs.Reading.{held_of-more as held-more, running_transaction_of-own as running-own, running_transaction_of-other as running-other}
 use Rattle.history_model.proofs.Every.{every-weaker, every-append, every-filter, every-kept}

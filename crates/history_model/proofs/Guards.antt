@@ -19,6 +19,7 @@ use Rattle.event_kinds.specs.declared.entry.Event.TheVariants as events
 use Rattle.event_kinds.specs.declared.entry.Item.{Item}
 use Rattle.lock_modes.specs.declared.grant.Grant.{Grant}
 use Rattle.lock_modes.specs.Grants.{is_lock, stays}
+use Rattle.history_model.specs.After.{segment_of}
 use Rattle.history_model.specs.Transactions.{Running, running_transaction_of, running_by, begun, after_release, has_xid, runs_as}
 use Rattle.row_visibility.specs.declared.version.Version.{Version}
 use Rattle.row_visibility.specs.declared.version.Stamp.{Stamp}
@@ -261,7 +262,7 @@ GuardBy-kept Q of_held history e s row lawful guarding touch guard a is = of (ru
 guards_by : (Q : Demand) → IsOfHeld Q → (history : List Entry) (b c : ℕ) (event : Event) → IsLawful history (entry_of b c event) → GuardsBy Q history b c event → Runs history → Touched history → AllByRecursion (OfStamps (GuardBy Q history)) (versions_of history)
     → AllByRecursion (OfStamps (GuardBy Q (history ++ entry_of b c event ∷ []))) (versions_by history b c event (versions_of history))
 guards_by Q of_held history b c (events.Write xid changes) lawful guarding r touched guards' =
-    stamps-write (GuardBy Q after) P history b (record { xid = xid; command = c }) new changes (versions_of history) guarding
+    stamps-write (GuardBy Q after) P (segment_of history) b (record { xid = xid; command = c }) new changes (versions_of history) guarding
     (both (versions_of history) touched guards')
   where
     e : Entry

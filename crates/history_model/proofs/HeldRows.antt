@@ -26,8 +26,9 @@ use Rattle.history_model.specs.Transactions.{runs_as}
 use Rattle.history_model.specs.Versions.{versions_of, added_row, old_row, ends, counts, answer_of}
 use Rattle.history_model.specs.Covered.{counted_for}
 use Rattle.history_model.specs.Held.{held_of, held_by}
-use Rattle.history_model.specs.Legal.{AllowsEvent}
-use Rattle.history_model.specs.Orderly.{IsOrderlyEvent, MayComeNext, IsSound}
+use Rattle.history_model.specs.MayFollow.{AllowsEvent}
+use Rattle.history_model.specs.Orderly.{IsOrderlyEvent}
+use Rattle.history_model.specs.Sound.{MayComeNext, IsSound}
 use Rattle.history_model.proofs.Prefixes.{each-keeps}
 use Rattle.history_model.proofs.Reading.{versions_of-more as versions-more}
 use Rattle.history_model.proofs.Every.{every-weaker, every-swap, SomeOf, some-weaker, from_some}

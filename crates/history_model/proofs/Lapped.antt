@@ -10,8 +10,10 @@ use Rattle.inval_messages.specs.declared.message.Message.{Message}
 use Rattle.history_model.specs.Prefixes.{along}
 use Rattle.history_model.specs.Sent.{unsent_of}
 use Rattle.history_model.specs.Log.{log_of, log_by, position_of, position_by}
-use Rattle.history_model.specs.Legal.{AllowsEvent, MayFollow, IsLegal}
+use Rattle.history_model.specs.MayFollow.{AllowsEvent, MayFollow}
+use Rattle.history_model.specs.Legal.{IsLegal}
 use Rattle.history_model.specs.Lapped.{is_lapped, FetchesFrom, FollowsQueue}
+use Rattle.history_model.proofs.Allows.{legal_follows}
 use Rattle.history_model.proofs.Prefixes.{along-more, each-keeps, EachFrom-both}
 use Rattle.history_model.proofs.Reading.{log_of-more, position_of-own, position_of-other}
 use Rattle.history_model.proofs.Touched.{entry_of}
@@ -129,7 +131,7 @@ lapped_step size before a c event b allows fetches = unset (is_lapped size befor
 -- in a legal history whose fetches are of a queue of this size a backend is lapped exactly where a publish has lapped it
 pub lapped_by_publish : (size : ℕ) (history : List Entry) (b : ℕ) → IsLegal history → FollowsQueue size history → was_lapped size history b ≡ is_lapped size history b
 lapped_by_publish size history b legal queue =
-    each-keeps (λ before e. MayFollow before e × FetchesFrom size before e.backend e.event) (λ h. was_lapped size h b ≡ is_lapped size h b) (sym (not_lapped size [] b (omega arith))) step history (EachFrom-both MayFollow (λ before e. FetchesFrom size before e.backend e.event) [] history legal queue)
+    each-keeps (λ before e. MayFollow before e × FetchesFrom size before e.backend e.event) (λ h. was_lapped size h b ≡ is_lapped size h b) (sym (not_lapped size [] b (omega arith))) step history (EachFrom-both MayFollow (λ before e. FetchesFrom size before e.backend e.event) [] history (legal_follows history legal) queue)
   where
     step : (before : List Entry) (e : Entry) → was_lapped size before b ≡ is_lapped size before b → (MayFollow before e × FetchesFrom size before e.backend e.event) → was_lapped size (before ++ e ∷ []) b ≡ is_lapped size (before ++ e ∷ []) b
     step before e was may =
@@ -143,7 +145,7 @@ log_by-few before b c event old allows = omega arith
 
 -- no entry adds more than 64 messages
 pub log_of-few : (history : List Entry) → IsLegal history → length (log_of history) ≤ 64 * length history
-log_of-few history legal = each-keeps MayFollow (λ h. length (log_of h) ≤ 64 * length h) (omega arith) step history legal
+log_of-few history legal = each-keeps MayFollow (λ h. length (log_of h) ≤ 64 * length h) (omega arith) step history (legal_follows history legal)
   where
     step : (before : List Entry) (e : Entry) → length (log_of before) ≤ 64 * length before → MayFollow before e → length (log_of (before ++ e ∷ [])) ≤ 64 * length (before ++ e ∷ [])
     step before e was follows = omega (arith, ap length (log_of-more before e), log_by-few before e.backend e.command e.event (log_of before) follows.event, was, length_push before e)

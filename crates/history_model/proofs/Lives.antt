@@ -7,7 +7,8 @@ use Rattle.event_kinds.specs.declared.entry.Entry.{Entry}
 use Rattle.event_kinds.specs.declared.entry.Event.{Event}
 use Rattle.event_kinds.specs.declared.entry.Event.TheVariants as events
 use Rattle.history_model.specs.Prefixes.{along_own}
-use Rattle.history_model.specs.Lives.{Life, Unstarted, Alive, Stopped, life_by, life_of, FollowsLife}
+use Rattle.history_model.specs.Lives.{Life, Unstarted, Alive, Stopped, life_by, life_of}
+use Rattle.history_model.specs.MayFollow.{FollowsLife}
 use Rattle.history_model.specs.Transactions.{Running, running_transaction_of, running_by, begun, after_release}
 use Rattle.inval_messages.specs.Lists.{Written}
 use Rattle.history_model.specs.Sent.{written_by, lists_of, lists_by, ends_transaction as ends_at}
@@ -98,7 +99,7 @@ timely_by history b c events.Start Stopped command r lists is follows timely k =
 timely_by history b c events.Stop life command None lists is follows timely k = subst (Timely (life_by c events.Stop) c None) (sym (timely.none refl)) (none_timely c events.Stop)
 timely_by history b c events.Stop life command (Some t) lists is follows timely k = some_timely c events.Stop t lists k.low k.high k.first
 timely_by history b c (events.Write xid changes) life command r lists is follows timely k =
-    some_timely c (events.Write xid changes) (record (begun c r) { xid = Some xid.0 }) (lists ++ written_by history b c changes ∷ [])
+    some_timely c (events.Write xid changes) (record (begun c r) { xid = Some xid }) (lists ++ written_by history b c changes ∷ [])
     (every-append (λ w. w.command ≤ c) lists (written_by history b c changes ∷ []) k.low (omega arith, tt)) (every-append (λ w. (begun c r).first ≤ w.command) lists (written_by history b c changes ∷ []) k.high (k.first, tt)) k.first
 timely_by history b c (events.Gone from) life command r lists is follows timely k =
     some_timely c (events.Gone from) (begun c r) (filter (λ w. nat_lt w.command from) lists)

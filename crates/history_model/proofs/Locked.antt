@@ -24,7 +24,7 @@ use Rattle.history_model.specs.Versions.{versions_of, sees, rows_of, answer_of}
 use Rattle.history_model.specs.Covered.{counted_for}
 use Rattle.history_model.specs.Held.{held_by, held_of}
 use Rattle.history_model.specs.Read.{is_scan_of, rows_read}
-use Rattle.history_model.specs.Orderly.{MayComeNext, IsSound}
+use Rattle.history_model.specs.Sound.{MayComeNext, IsSound}
 use Rattle.history_model.proofs.Prefixes.{EachEntry-more, EachEntry-prefix, EachEntry-rest, EachFrom-both, EachFrom-keeps}
 use Rattle.history_model.proofs.Reading.{held_of-more as held-more, rows_read-own, rows_read-other}
 use Rattle.history_model.proofs.Every.{every-weaker, any-weaker, some-weaker, some-filter}

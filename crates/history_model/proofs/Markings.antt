@@ -15,7 +15,7 @@ use Rattle.history_model.specs.Transactions.{Running, running_transaction_of}
 use Rattle.history_model.specs.Held.{held_of, held_by}
 use Rattle.history_model.specs.Covered.{is_covered}
 use Rattle.history_model.specs.Sent.{lists_of, lists_by, written_by}
-use Rattle.history_model.specs.Orderly.{MayComeNext}
+use Rattle.history_model.specs.Sound.{MayComeNext}
 use Rattle.history_model.proofs.Every.{any-left}
 use Rattle.history_model.proofs.Reading.{held_of-more as held-more, lists_of-own as lists-own, lists_of-other as lists-other}
 use Rattle.history_model.proofs.Touched.{entry_of, is_of, of_write, covers_at, below_stays}

@@ -13,12 +13,13 @@ use Rattle.event_kinds.specs.declared.entry.Event.TheVariants as events
 use Rattle.event_kinds.specs.declared.entry.Item.{Item}
 use Rattle.row_visibility.specs.declared.version.Stamp.{Stamp}
 use Rattle.row_visibility.specs.declared.version.Version.{Version}
-use Rattle.history_model.specs.Lives.{life_of, FollowsLife}
+use Rattle.history_model.specs.Lives.{life_of}
+use Rattle.history_model.specs.MayFollow.{FollowsLife}
 use Rattle.history_model.specs.Transactions.{running_transaction_of, runs_as, is_committed, has_xid}
 use Rattle.history_model.specs.Versions.{versions_of, versions_by, added_row, old_row, counts, answer_of}
 use Rattle.history_model.specs.Sent.{lists_of}
-use Rattle.history_model.specs.Writes.{changed_key}
-use Rattle.history_model.specs.Orderly.{MayComeNext, IsSound}
+use Rattle.history_model.specs.Changing.{changed_key}
+use Rattle.history_model.specs.Sound.{MayComeNext, IsSound}
 use Rattle.history_model.proofs.Every.{every}
 use Rattle.history_model.proofs.Lawful.{IsLawful}
 use Rattle.history_model.proofs.Lives.{Begun, begun_at}

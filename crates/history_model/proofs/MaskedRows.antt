@@ -15,12 +15,14 @@ use Rattle.event_kinds.specs.declared.entry.Item.TheVariants as forms
 use Rattle.row_visibility.specs.declared.version.Version.{Version}
 use Rattle.row_visibility.specs.declared.version.Stamp.{Stamp}
 use Rattle.row_visibility.specs.Seen.{seen_by}
+use Rattle.history_model.specs.After.{segment_of}
 use Rattle.history_model.specs.Transactions.{Running, running_transaction_of, running_by, has_xid, is_visible, runs_as, is_committed, makes_visible}
 use Rattle.history_model.specs.Versions.{versions_of, versions_by, change_by, end_by, ends, version_of, added_row, old_row, is_back, end_back, counts, sees}
 use Rattle.history_model.specs.Sent.{lists_of}
 use Rattle.history_model.specs.Held.{held_of}
-use Rattle.history_model.specs.Writes.{changed_key}
-use Rattle.history_model.specs.Orderly.{main_rel, MayComeNext, IsSound}
+use Rattle.history_model.specs.Changing.{changed_key}
+use Rattle.history_model.specs.Orderly.{main_rel}
+use Rattle.history_model.specs.Sound.{MayComeNext, IsSound}
 use Rattle.history_model.proofs.Prefixes.{each-keeps}
 use Rattle.history_model.proofs.Every.{every-weaker, every, every-append, every-map, every-both, every-swap, SomeOf, some-weaker, some_with, some-left, some-right, some-sides, some-map, some-unmap, some-filter, some-unfilter, some_or}
 use Rattle.history_model.proofs.Lawful.{IsLawful}
@@ -379,7 +381,7 @@ write_leaves m history w c xid items lawful k keys leaves low p x cx down pc is 
 write_full : (m : Masking) (history : List Entry) (w c : ℕ) (xid : Xid) (items : List Item) → IsLawful history (entry_of w c (events.Write xid items)) → Ordered history → AllByRecursion (λ l. l.command ≤ c) (lists_of history w)
     → (p q : ℕ → Bool) (x : Row) → IsDown p → IsDown q → p c ≡ true → q c ≡ true → ShowSame m x (counts_at (history ++ entry_of w c (events.Write xid items) ∷ []) w p) (versions_by history w c (events.Write xid items) (versions_of history)) (counts_at (history ++ entry_of w c (events.Write xid items) ∷ []) w q) (versions_by history w c (events.Write xid items) (versions_of history))
 write_full m history w c xid items lawful k low p q x down_p down_q pc qc =
-    counted_all m x (f p) (f q) written (stamps-write (λ s row. f p s ≡ f q s) (λ row. ⊤) history w stamp (λ row n. same_new) items vs (every (λ item. IfSome (added_row item) (λ row. ⊤) × AllByRecursion (λ v. ends history w item v ≡ true → ⊤) vs) (λ item. (any_row (added_row item), every (λ v. ends history w item v ≡ true → ⊤) (λ v is. tt) vs)) items)
+    counted_all m x (f p) (f q) written (stamps-write (λ s row. f p s ≡ f q s) (λ row. ⊤) (segment_of history) w stamp (λ row n. same_new) items vs (every (λ item. IfSome (added_row item) (λ row. ⊤) × AllByRecursion (λ v. ends history w item v ≡ true → ⊤) vs) (λ item. (any_row (added_row item), every (λ v. ends history w item v ≡ true → ⊤) (λ v is. tt) vs)) items)
     (every-weaker (OfStamps (Touch history)) (OfStamps (λ s row. f p s ≡ f q s)) (stamps-weaker (Touch history) (λ s row. f p s ≡ f q s) same_old) vs k.touched))
   where
     after : List Entry

@@ -17,7 +17,8 @@ use Rattle.row_visibility.specs.Seen.{seen_by}
 use Rattle.history_model.specs.Transactions.{runs_as, is_committed}
 use Rattle.history_model.specs.Versions.{versions_of, counts, sees, rows_of, answer_of}
 use Rattle.history_model.specs.Held.{held_of}
-use Rattle.history_model.specs.Orderly.{main_rel, MayComeNext, IsSound}
+use Rattle.history_model.specs.Orderly.{main_rel}
+use Rattle.history_model.specs.Sound.{MayComeNext, IsSound}
 use Rattle.history_model.proofs.Reading.{versions_of-more as versions-more}
 use Rattle.history_model.proofs.Every.{every-weaker, every-map, every-filter, every-both, SomeOf, some-weaker, some-map, some-filter}
 use Rattle.history_model.proofs.Lawful.{IsLawful}

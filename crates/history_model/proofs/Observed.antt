@@ -18,7 +18,8 @@ use Rattle.inval_messages.specs.declared.message.Message.{Message}
 use Rattle.inval_messages.specs.Messages.{covers}
 use Rattle.lock_modes.specs.declared.grant.Grant.{Grant}
 use Rattle.lock_modes.specs.Grants.{is_lock, holds}
-use Rattle.history_model.specs.Lives.{life_of, FollowsLife}
+use Rattle.history_model.specs.Lives.{life_of}
+use Rattle.history_model.specs.MayFollow.{FollowsLife}
 use Rattle.history_model.specs.Transactions.{Running, running_transaction_of, running_by, is_visible}
 use Rattle.history_model.specs.Versions.{answer_of}
 use Rattle.history_model.specs.Sent.{lists_of, sent_of, left_in}
@@ -26,9 +27,9 @@ use Rattle.history_model.specs.Log.{log_of, position_of, fetched_by}
 use Rattle.history_model.specs.Held.{held_by, held_of}
 use Rattle.history_model.specs.Reached.{is_writer, reached_of}
 use Rattle.history_model.specs.Covered.{is_covered}
-use Rattle.history_model.specs.Legal.{FollowsVisible, MayRelease, AllowsEvent}
+use Rattle.history_model.specs.MayFollow.{FollowsVisible, MayRelease, AllowsEvent}
 use Rattle.history_model.specs.Read.{is_scan_of, rows_read, spares_by, usable_by, is_usable}
-use Rattle.history_model.specs.Orderly.{MayComeNext, IsSound}
+use Rattle.history_model.specs.Sound.{MayComeNext, IsSound}
 use Rattle.history_model.proofs.Prefixes.{each-keeps, EachEntry-more}
 use Rattle.history_model.proofs.Reading.{running_transaction_of-own as running-own, running_transaction_of-other as running-other, lists_of-other as lists-other, held_of-more as held-more, log_of-more as log-more, position_of-own as position-own, position_of-other as position-other, reached_of-more, is_usable-own, is_usable-other, rows_read-own, rows_read-other}
 use Rattle.history_model.proofs.Every.{any-weaker, any-left, any-right, any-sides, every}

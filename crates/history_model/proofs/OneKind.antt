@@ -19,12 +19,15 @@ use Rattle.event_kinds.specs.declared.entry.Item.{Item}
 use Rattle.event_kinds.specs.declared.entry.Item.TheVariants as forms
 use Rattle.row_visibility.specs.declared.version.Stamp.{Stamp}
 use Rattle.row_visibility.specs.declared.version.Version.{Version}
+use Rattle.history_model.specs.After.{segment_of}
 use Rattle.history_model.specs.Drawn.{drawn_by, next_oid}
 use Rattle.history_model.specs.OfKind.{HasKind, IsOfKind}
-use Rattle.history_model.specs.Orderly.{main_rel, MayComeNext, IsSound}
+use Rattle.history_model.specs.Orderly.{main_rel}
+use Rattle.history_model.specs.Sound.{MayComeNext, IsSound}
 use Rattle.history_model.specs.Read.{rows_read}
 use Rattle.history_model.specs.Versions.{versions_of, versions_by, ended_key, added_row, old_row, ends, is_back, sees, rows_of, answer_of}
-use Rattle.history_model.specs.Writes.{changed_key, has_row, same_kind, keeps_kind}
+use Rattle.history_model.specs.Changing.{changed_key, same_kind}
+use Rattle.history_model.specs.Writes.{has_row, keeps_kind}
 use Rattle.history_model.proofs.Asking.{oid_eq}
 use Rattle.history_model.proofs.DrawnRows.{rows_drawn, given_each}
 use Rattle.history_model.proofs.Every.{every, every-weaker, every-both, from_some}
@@ -121,7 +124,7 @@ item_kind history e rel kind (forms.Force to) of write = tt
 -- what holds of the rows of all versions, and of those that an event adds, holds after it
 rows_after : (P : Row → Type 0) (history : List Entry) (b c : ℕ) (event : Event) → AllByRecursion (λ item. IfSome (added_row item) P) (items_of event)
     → AllByRecursion (OfStamps (λ s row. P row)) (versions_of history) → AllByRecursion (OfStamps (λ s row. P row)) (versions_by history b c event (versions_of history))
-rows_after P history b c (events.Write xid items) added all = stamps-write (λ s row. P row) P history b (record { xid = xid; command = c }) (λ row is. is) items (versions_of history)
+rows_after P history b c (events.Write xid items) added all = stamps-write (λ s row. P row) P (segment_of history) b (record { xid = xid; command = c }) (λ row is. is) items (versions_of history)
     (every-weaker (λ item. IfSome (added_row item) P) (λ item. IfSome (added_row item) P × AllByRecursion (λ v. ends history b item v ≡ true → P v.row) (versions_of history))
     (λ item is. (is, every-weaker (OfStamps (λ s row. P row)) (λ v. ends history b item v ≡ true → P v.row) (λ v held ends'. held.0) (versions_of history) all)) items added) all
 rows_after P history b c (events.Gone from) added all = stamps-gone (λ s row. P row) (λ s row. P row) (is_back history b from) (λ s row not' is. is) (versions_of history) all

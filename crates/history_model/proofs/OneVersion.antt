@@ -22,7 +22,7 @@ use Rattle.row_visibility.specs.Seen.{seen_by}
 use Rattle.history_model.specs.Versions.{versions_of, versions_by, change_by, end_by, ends, version_of, added_row, is_back, end_back, counts, sees}
 use Rattle.history_model.specs.Sent.{lists_of}
 use Rattle.history_model.specs.Held.{held_of}
-use Rattle.history_model.specs.Writes.{changed_key}
+use Rattle.history_model.specs.Changing.{changed_key}
 use Rattle.history_model.specs.Orderly.{main_rel}
 use Rattle.history_model.proofs.Every.{every-weaker, every, every-append, every-map, every-both, every-swap}
 use Rattle.history_model.proofs.Lawful.{IsLawful}

@@ -28,7 +28,8 @@ use Rattle.event_kinds.specs.declared.entry.Item.{Item}
 use Rattle.event_kinds.specs.declared.entry.Item.TheVariants as forms
 use Rattle.lock_modes.specs.declared.grant.Grant.{Grant}
 use Rattle.lock_modes.specs.Grants.{is_lock, holds, stays}
-use Rattle.history_model.specs.Lives.{Life, Unstarted, Alive, Stopped, life_of, FollowsLife}
+use Rattle.history_model.specs.Lives.{Life, Unstarted, Alive, Stopped, life_of}
+use Rattle.history_model.specs.MayFollow.{FollowsLife}
 use Rattle.history_model.specs.Transactions.{Running, running_transaction_of, is_visible, runs_as, is_committed, xid_for}
 use Rattle.history_model.specs.Versions.{versions_of, rows_of, row_with, ends, ended_key, added_row, old_row, counts, sees}
 use Rattle.inval_messages.specs.declared.message.Message.{Message}
@@ -37,9 +38,11 @@ use Rattle.history_model.specs.Sent.{lists_of, messages_written, ends_transactio
 use Rattle.history_model.specs.Held.{granted_by, held_by, held_of}
 use Rattle.history_model.specs.Drawn.{made_by, drawn_by, next_oid}
 use Rattle.history_model.specs.Covered.{is_covered}
-use Rattle.history_model.specs.Writes.{changed_key, has_row, relations_changed, is_validation, rows_named, modes_enough, is_guarded}
-use Rattle.history_model.specs.Legal.{FollowsVisible, MayRelease, AllowsEvent}
-use Rattle.history_model.specs.Orderly.{has_key, is_fresh, main_rel, keeps_relation, scans_told, covers_told, IsOrderlyWrite, IsOrderlyEvent, MayComeNext, IsSound}
+use Rattle.history_model.specs.Changing.{changed_key, relations_changed, is_validation, rows_named, modes_enough}
+use Rattle.history_model.specs.Writes.{has_row, is_guarded}
+use Rattle.history_model.specs.MayFollow.{FollowsVisible, MayRelease, AllowsEvent}
+use Rattle.history_model.specs.Orderly.{has_key, is_fresh, main_rel, keeps_relation, scans_told, covers_told, IsOrderlyWrite, IsOrderlyEvent}
+use Rattle.history_model.specs.Sound.{MayComeNext, IsSound}
 use Rattle.history_model.proofs.Prefixes.{each-keeps}
 use Rattle.history_model.proofs.Reading.{held_of-more as held-more}
 use Rattle.history_model.proofs.Every.{every-weaker, every, every-append, every-kept, every-both, any-left, any-right}

@@ -17,8 +17,8 @@ use Rattle.history_model.specs.Log.{log_of, position_of, position_by}
 use Rattle.history_model.specs.Held.{granted_by, held_of}
 use Rattle.history_model.specs.Drawn.{drawn_by, next_oid}
 use Rattle.history_model.specs.Reached.{is_writer, reached_of}
-use Rattle.history_model.specs.Legal.{AllowsEvent}
-use Rattle.history_model.specs.Orderly.{IsSound}
+use Rattle.history_model.specs.MayFollow.{AllowsEvent}
+use Rattle.history_model.specs.Sound.{IsSound}
 use Rattle.history_model.proofs.Reading.{position_of-own as position-own, position_of-other as position-other}
 use Rattle.history_model.proofs.Every.{every-weaker}
 use Rattle.history_model.proofs.Touched.{entry_of}

@@ -12,7 +12,7 @@ use Rattle.history_model.specs.Held.{held_of}
 use Rattle.history_model.specs.Drawn.{next_oid, next_oid_by}
 use Rattle.history_model.specs.Log.{log_of}
 use Rattle.history_model.specs.Reached.{is_writer, reached_by, reached_of}
-use Rattle.history_model.specs.Orderly.{MayComeNext, IsSound}
+use Rattle.history_model.specs.Sound.{MayComeNext, IsSound}
 use Rattle.history_model.proofs.Prefixes.{each-keeps, along-keeps}
 use Rattle.history_model.proofs.Reading.{reached_of-more, next_oid-more as next-more}
 use Rattle.history_model.proofs.Waiting.{log_of-grows}

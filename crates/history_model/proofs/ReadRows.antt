@@ -8,7 +8,8 @@ use Rattle.event_kinds.specs.declared.entry.Entry.{Entry}
 use Rattle.history_model.specs.Drawn.{next_oid}
 use Rattle.history_model.specs.Versions.{answer_of}
 use Rattle.history_model.specs.Read.{is_scan_of, rows_read}
-use Rattle.history_model.specs.Orderly.{main_rel, MayComeNext, IsSound}
+use Rattle.history_model.specs.Orderly.{main_rel}
+use Rattle.history_model.specs.Sound.{MayComeNext, IsSound}
 use Rattle.history_model.proofs.Prefixes.{EachEntry-more, each-keeps}
 use Rattle.history_model.proofs.Reading.{rows_read-own, rows_read-other}
 use Rattle.history_model.proofs.Every.{every-weaker}

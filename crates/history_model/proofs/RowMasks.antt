@@ -31,7 +31,8 @@ use Rattle.history_model.specs.Covered.{is_covered, same_demand, same_row, count
 use Rattle.history_model.specs.Sent.{messages_written, written_by, lists_of}
 use Rattle.history_model.specs.Drawn.{made_by}
 use Rattle.history_model.specs.Orderly.{main_rel, scans_told, IsOrderlyWrite}
-use Rattle.history_model.specs.Writes.{rows_named, is_guarded, relations_changed, is_validation, update_where, name_allowed, mode_to_add, weaker_mode}
+use Rattle.history_model.specs.Changing.{rows_named, relations_changed, is_validation, update_where, name_allowed, mode_to_add, weaker_mode}
+use Rattle.history_model.specs.Writes.{is_guarded}
 use Rattle.history_model.proofs.Every.{every-weaker, every-both, any-right}
 use Rattle.history_model.proofs.Asking.{bytes_same, oid_eq, scan_in}
 use Rattle.history_model.proofs.Touched.{entry_of, covers_at}

@@ -3,6 +3,7 @@ use Rattle.std.proofs.Common.{◌≡◌, ◌≤◌, ◌+◌, ◌∙◌, ◌⊎�
 use Rattle.std.specs.Option.{option_map_or}
 use Rattle.std.proofs.Math.Bool.{or-false, or-true}
 use Rattle.std.proofs.lemmas.Bool.{eqb-true, eq-eqb, both_ways, or_cases}
+use Rattle.base_types.specs.declared.ids.Xid.{Xid}
 use Rattle.event_kinds.specs.declared.entry.Entry.{Entry}
 use Rattle.event_kinds.specs.declared.entry.Event.{Event}
 use Rattle.event_kinds.specs.declared.entry.Event.TheVariants as events
@@ -53,11 +54,11 @@ xid-from x c event old is = inl (sym (xid-begun x c old) ∙ is)
 pub xid-of_write : (history : List Entry) (b x : ℕ) → x ≡ xid_for history b → (runs_as history b x ≡ true) ⊎ (x ≡ last_xid history + 1)
 xid-of_write history b x is = by_running (running_transaction_of history b) is
   where
-    by_xid : (o : Option ℕ) → x ≡ unwrap_or o (last_xid history + 1) → (option_map_or (λ y. y == x) o false ≡ true) ⊎ (x ≡ last_xid history + 1)
+    by_xid : (o : Option Xid) → x ≡ option_map_or (λ own. own.0) o (last_xid history + 1) → (option_map_or (λ own. own.0 == x) o false ≡ true) ⊎ (x ≡ last_xid history + 1)
     by_xid None same = inr same
-    by_xid (Some y) same = inl (eq-eqb y x (sym same))
+    by_xid (Some y) same = inl (eq-eqb y.0 x (sym same))
 
-    by_running : (r : Option Running) → x ≡ option_map_or (λ t. unwrap_or t.xid (last_xid history + 1)) r (last_xid history + 1) → (has_xid x r ≡ true) ⊎ (x ≡ last_xid history + 1)
+    by_running : (r : Option Running) → x ≡ option_map_or (λ t. option_map_or (λ own. own.0) t.xid (last_xid history + 1)) r (last_xid history + 1) → (has_xid x r ≡ true) ⊎ (x ≡ last_xid history + 1)
     by_running None same = inr same
     by_running (Some t) same = by_xid t.xid same
 
@@ -147,9 +148,9 @@ pub one_xid : (x y : ℕ) (r : Option Running) → has_xid x r ≡ true → has_
 one_xid x y None is other = absurd (cc)
 one_xid x y (Some t) is other = of t.xid is other
   where
-    of : (o : Option ℕ) → option_map_or (λ z. z == x) o false ≡ true → option_map_or (λ z. z == y) o false ≡ true → x ≡ y
+    of : (o : Option Xid) → option_map_or (λ z. z.0 == x) o false ≡ true → option_map_or (λ z. z.0 == y) o false ≡ true → x ≡ y
     of None h k = absurd (cc)
-    of (Some z) h k = sym (eqb-true z x h) ∙ eqb-true z y k
+    of (Some z) h k = sym (eqb-true z.0 x h) ∙ eqb-true z.0 y k
 
 lawful_unseen : (history : List Entry) (b c x : ℕ) (event : Event) → IsLawfulEvent history b c event → writes_as x event ≡ true → is_visible (running_by c event (running_transaction_of history b)) ≡ false
 lawful_unseen history b c x (events.Write xid items) lawful is = visible-begun c (running_transaction_of history b) ∙ lawful.0

@@ -7,6 +7,7 @@ use Rattle.std.proofs.Math.Bool.{or-false}
 use Rattle.std.proofs.lemmas.Bool.{eqb-true, eq-eqb, both_ways}
 use Rattle.base_types.specs.declared.row.Row.{Row}
 use Rattle.base_types.specs.RowKeys.{key_of}
+use Rattle.base_types.specs.declared.ids.Xid.{Xid}
 use Rattle.event_kinds.specs.declared.entry.Entry.{Entry}
 use Rattle.event_kinds.specs.declared.entry.Event.{Event}
 use Rattle.event_kinds.specs.declared.entry.Event.TheVariants as events
@@ -87,11 +88,11 @@ pair-push R (x ∷ xs) y pairs all = (every-append (R x) xs (y ∷ []) pairs.0 (
 xid-same : (history : List Entry) (b x : ℕ) → runs_as history b x ≡ true → xid_for history b ≡ x
 xid-same history b x runs = of (running_transaction_of history b) runs
   where
-    of_xid : (o : Option ℕ) → option_map_or (λ y. y == x) o false ≡ true → unwrap_or o (last_xid history + 1) ≡ x
+    of_xid : (o : Option Xid) → option_map_or (λ own. own.0 == x) o false ≡ true → option_map_or (λ own. own.0) o (last_xid history + 1) ≡ x
     of_xid None is = absurd (cc)
-    of_xid (Some y) is = eqb-true y x is
+    of_xid (Some y) is = eqb-true y.0 x is
 
-    of : (r : Option Running) → has_xid x r ≡ true → option_map_or (λ t. unwrap_or t.xid (last_xid history + 1)) r (last_xid history + 1) ≡ x
+    of : (r : Option Running) → has_xid x r ≡ true → option_map_or (λ t. option_map_or (λ own. own.0) t.xid (last_xid history + 1)) r (last_xid history + 1) ≡ x
     of None is = absurd (cc)
     of (Some t) is = of_xid t.xid is
 

@@ -13,6 +13,9 @@ use Rattle.event_kinds.specs.declared.entry.Item.{Item}
 use Rattle.history_model.specs.Transactions.{Running, running_transaction_of, running_by, begun, after_release, has_xid, runs_as, last_xid}
 use Rattle.row_visibility.specs.declared.version.Version.{Version}
 use Rattle.row_visibility.specs.declared.version.Stamp.{Stamp}
+use Rattle.history_model.specs.Segment.{Segment}
+use Rattle.history_model.specs.Rows.{ends_at, change_at}
+use Rattle.history_model.specs.After.{segment_of}
 use Rattle.history_model.specs.Versions.{versions_of, versions_by, change_by, end_by, ends, version_of, added_row, is_back, end_back}
 use Rattle.inval_messages.specs.Lists.{Written}
 use Rattle.inval_messages.specs.declared.message.Message.{Message}
@@ -120,43 +123,43 @@ abbrev pub entry_of : ℕ → ℕ → Event → Entry
 entry_of b c event = record { backend = b; command = c; event = event }
 
 -- a version in the middle of a write: both stamps have T, and the row of each that a change that is left ends is named
-abbrev InWrite : (Stamp → Row → Type 0) → (Row → Type 0) → List Entry → ℕ → List Item → Version → Type 0
-InWrite T N before b items v = OfStamps T v × AllByRecursion (λ item. ends before b item v ≡ true → N v.row) items
+abbrev InWrite : (Stamp → Row → Type 0) → (Row → Type 0) → Segment → ℕ → List Item → Version → Type 0
+InWrite T N seg b items v = OfStamps T v × AllByRecursion (λ item. ends_at seg b item v ≡ true → N v.row) items
 
-write_end : (T : Stamp → Row → Type 0) (N : Row → Type 0) (before : List Entry) (b : ℕ) (stamp : Stamp) → ((row : Row) → N row → T stamp row)
-    → (item : Item) (items : List Item) (v : Version) → InWrite T N before b (item ∷ items) v → InWrite T N before b items (end_by (ends before b item) stamp v)
-write_end T N before b stamp new item items v held = by_test (ends before b item v) refl
+write_end : (T : Stamp → Row → Type 0) (N : Row → Type 0) (seg : Segment) (b : ℕ) (stamp : Stamp) → ((row : Row) → N row → T stamp row)
+    → (item : Item) (items : List Item) (v : Version) → InWrite T N seg b (item ∷ items) v → InWrite T N seg b items (end_by (ends_at seg b item) stamp v)
+write_end T N seg b stamp new item items v held = by_test (ends_at seg b item v) refl
   where
-    by_test : (t : Bool) → ends before b item v ≡ t → InWrite T N before b items (elim t [ true ↦ record { row = v.row; by = v.by; ended = Some stamp } | false ↦ v ])
-    by_test true is = ((held.0.0, new v.row (held.1.0 is)), every (λ other. ends before b other (record { row = v.row; by = v.by; ended = Some stamp }) ≡ true → N v.row) (λ other ends'. held.1.0 is) items)
+    by_test : (t : Bool) → ends_at seg b item v ≡ t → InWrite T N seg b items (elim t [ true ↦ record { row = v.row; by = v.by; ended = Some stamp } | false ↦ v ])
+    by_test true is = ((held.0.0, new v.row (held.1.0 is)), every (λ other. ends_at seg b other (record { row = v.row; by = v.by; ended = Some stamp }) ≡ true → N v.row) (λ other ends'. held.1.0 is) items)
     by_test false is = (held.0, held.1.1)
 
-write_add : (T : Stamp → Row → Type 0) (N : Row → Type 0) (before : List Entry) (b : ℕ) (stamp : Stamp) → ((row : Row) → N row → T stamp row)
-    → (items : List Item) (o : Option Row) → IfSome o N → AllByRecursion (InWrite T N before b items) (version_of stamp o)
-write_add T N before b stamp new items None named = tt
-write_add T N before b stamp new items (Some row) named =
-    (((new row named, tt), every (λ other. ends before b other (record { row = row; by = stamp; ended = None }) ≡ true → N row) (λ other ends'. named) items), tt)
+write_add : (T : Stamp → Row → Type 0) (N : Row → Type 0) (seg : Segment) (b : ℕ) (stamp : Stamp) → ((row : Row) → N row → T stamp row)
+    → (items : List Item) (o : Option Row) → IfSome o N → AllByRecursion (InWrite T N seg b items) (version_of stamp o)
+write_add T N seg b stamp new items None named = tt
+write_add T N seg b stamp new items (Some row) named =
+    (((new row named, tt), every (λ other. ends_at seg b other (record { row = row; by = stamp; ended = None }) ≡ true → N row) (λ other ends'. named) items), tt)
 
-write_fold : (T : Stamp → Row → Type 0) (N : Row → Type 0) (before : List Entry) (b : ℕ) (stamp : Stamp) → ((row : Row) → N row → T stamp row)
-    → (items : List Item) (vs : List Version) → AllByRecursion (λ item. IfSome (added_row item) N) items → AllByRecursion (InWrite T N before b items) vs
-    → AllByRecursion (OfStamps T) (fold (change_by before b stamp) vs items)
-write_fold T N before b stamp new [] vs lawful held = every-weaker (InWrite T N before b []) (OfStamps T) (λ v h. h.0) vs held
-write_fold T N before b stamp new (item ∷ items) vs lawful held =
-    write_fold T N before b stamp new items (change_by before b stamp vs item) lawful.1
-    (every-append (InWrite T N before b items) (map (end_by (ends before b item) stamp) vs) (version_of stamp (added_row item))
-    (every-map (InWrite T N before b items) (end_by (ends before b item) stamp) vs (every-weaker (InWrite T N before b (item ∷ items)) (λ v. InWrite T N before b items (end_by (ends before b item) stamp v)) (write_end T N before b stamp new item items) vs held))
-    (write_add T N before b stamp new items (added_row item) lawful.0))
+write_fold : (T : Stamp → Row → Type 0) (N : Row → Type 0) (seg : Segment) (b : ℕ) (stamp : Stamp) → ((row : Row) → N row → T stamp row)
+    → (items : List Item) (vs : List Version) → AllByRecursion (λ item. IfSome (added_row item) N) items → AllByRecursion (InWrite T N seg b items) vs
+    → AllByRecursion (OfStamps T) (fold (change_at seg b stamp) vs items)
+write_fold T N seg b stamp new [] vs lawful held = every-weaker (InWrite T N seg b []) (OfStamps T) (λ v h. h.0) vs held
+write_fold T N seg b stamp new (item ∷ items) vs lawful held =
+    write_fold T N seg b stamp new items (change_at seg b stamp vs item) lawful.1
+    (every-append (InWrite T N seg b items) (map (end_by (ends_at seg b item) stamp) vs) (version_of stamp (added_row item))
+    (every-map (InWrite T N seg b items) (end_by (ends_at seg b item) stamp) vs (every-weaker (InWrite T N seg b (item ∷ items)) (λ v. InWrite T N seg b items (end_by (ends_at seg b item) stamp v)) (write_end T N seg b stamp new item items) vs held))
+    (write_add T N seg b stamp new items (added_row item) lawful.0))
 
 -- what holds of all stamps after a write, and after what is taken back
-pub stamps-write : (T : Stamp → Row → Type 0) (N : Row → Type 0) (before : List Entry) (b : ℕ) (stamp : Stamp) → ((row : Row) → N row → T stamp row) → (items : List Item) (vs : List Version)
-    → AllByRecursion (λ item. IfSome (added_row item) N × AllByRecursion (λ v. ends before b item v ≡ true → N v.row) vs) items → AllByRecursion (OfStamps T) vs → AllByRecursion (OfStamps T) (fold (change_by before b stamp) vs items)
-stamps-write T N before b stamp new items vs named held =
-    write_fold T N before b stamp new items vs (every-weaker Named (λ item. IfSome (added_row item) N) (λ item l. l.0) items named)
-    (every-both (OfStamps T) (λ v. AllByRecursion (λ item. ends before b item v ≡ true → N v.row) items) vs held
-    (every-swap (λ item v. ends before b item v ≡ true → N v.row) items vs (every-weaker Named (λ item. AllByRecursion (λ v. ends before b item v ≡ true → N v.row) vs) (λ item l. l.1) items named)))
+pub stamps-write : (T : Stamp → Row → Type 0) (N : Row → Type 0) (seg : Segment) (b : ℕ) (stamp : Stamp) → ((row : Row) → N row → T stamp row) → (items : List Item) (vs : List Version)
+    → AllByRecursion (λ item. IfSome (added_row item) N × AllByRecursion (λ v. ends_at seg b item v ≡ true → N v.row) vs) items → AllByRecursion (OfStamps T) vs → AllByRecursion (OfStamps T) (fold (change_at seg b stamp) vs items)
+stamps-write T N seg b stamp new items vs named held =
+    write_fold T N seg b stamp new items vs (every-weaker Named (λ item. IfSome (added_row item) N) (λ item l. l.0) items named)
+    (every-both (OfStamps T) (λ v. AllByRecursion (λ item. ends_at seg b item v ≡ true → N v.row) items) vs held
+    (every-swap (λ item v. ends_at seg b item v ≡ true → N v.row) items vs (every-weaker Named (λ item. AllByRecursion (λ v. ends_at seg b item v ≡ true → N v.row) vs) (λ item l. l.1) items named)))
   where
     Named : Item → Type 0
-    Named item = IfSome (added_row item) N × AllByRecursion (λ v. ends before b item v ≡ true → N v.row) vs
+    Named item = IfSome (added_row item) N × AllByRecursion (λ v. ends_at seg b item v ≡ true → N v.row) vs
 
 pub stamps-gone : (T T' : Stamp → Row → Type 0) (back : Stamp → Bool) → ((s : Stamp) (row : Row) → back s ≡ false → T s row → T' s row) → (vs : List Version) → AllByRecursion (OfStamps T) vs
     → AllByRecursion (OfStamps T') (map (end_back back) (filter (λ v. not (back v.by)) vs))
@@ -175,7 +178,7 @@ stamps-gone T T' back kept vs held =
 touched_by : (history : List Entry) (b c : ℕ) (event : Event) → IsLawful history (entry_of b c event) → CoversLawfully history b event → Runs history → Touched history
     → AllByRecursion (OfStamps (Touch (history ++ entry_of b c event ∷ []))) (versions_by history b c event (versions_of history))
 touched_by history b c (events.Write xid changes) lawful covering r touched =
-    stamps-write (Touch after) (CoversRow messages) history b stamp new changes (versions_of history) covering
+    stamps-write (Touch after) (CoversRow messages) (segment_of history) b stamp new changes (versions_of history) covering
     (every-weaker (OfStamps (Touch history)) (OfStamps (Touch after)) (λ v. stamps-weaker (Touch history) (Touch after) (λ s row. Touch-kept history (entry_of b c (events.Write xid changes)) s row lawful (λ runs. refl)) v) (versions_of history) touched)
   where
     after : List Entry

@@ -10,8 +10,8 @@ use Rattle.event_kinds.specs.declared.entry.Event.TheVariants.{Start, LockOk, Un
 use Rattle.event_kinds.specs.declared.entry.Item.{Item}
 use Rattle.event_kinds.specs.declared.entry.Item.TheVariants.{Add}
 use Rattle.history_model.specs.Held.{held_of}
-use Rattle.history_model.specs.Legal.{MayFollow}
-use Rattle.history_model.specs.Orderly.{MayComeNext, IsSound}
+use Rattle.history_model.specs.MayFollow.{MayFollow}
+use Rattle.history_model.specs.Sound.{MayComeNext, IsSound}
 use Rattle.history_model.proofs.Touched.{entry_of}
 
 abbrev oid : ℕ → Oid

@@ -2,18 +2,22 @@
 use Rattle.std.proofs.Common.{◌≡◌, ◌≢◌, ◌≤◌, ◌∙◌, ℕ, Bool, true, false, List, [], ◌∷◌, ◌++◌, ◌==◌, ◌&&◌, sym, ap, length, take, arith, refl, ne_eqb, append_assoc, append-nil}
 use Rattle.std.specs.Prelude.{nat_lt}
 use Rattle.std.specs.List.{AllByRecursion}
-use Rattle.std.proofs.lemmas.Bool.{ltb-true, lt-ltb, false_from_ne_true}
+use Rattle.std.proofs.lemmas.Bool.{eqb-true, ltb-true, lt-ltb, false_from_ne_true}
 use Rattle.std.proofs.lemmas.List.{length-append}
 use Rattle.event_kinds.specs.declared.entry.Entry.{Entry}
 use Rattle.event_kinds.specs.declared.entry.Event.{Event}
 use Rattle.event_kinds.specs.declared.entry.Event.TheVariants as events
-use Rattle.history_model.specs.Legal.{MayFollow, IsLegal}
+use Rattle.history_model.specs.MayFollow.{MayFollow}
+use Rattle.history_model.specs.Legal.{IsLegal}
 use Rattle.history_model.specs.Lives.{is_alive, life_by, life_of}
+use Rattle.history_model.specs.Messages.{position_after, waited_after}
+use Rattle.history_model.specs.Segment.{Standing}
 use Rattle.history_model.specs.Log.{log_by, log_of, position_by, position_of, is_waiting, waited_by, has_waited}
 use Rattle.inval_messages.specs.declared.message.Message.{Message}
 use Rattle.history_model.specs.Sent.{unsent_of}
-use Rattle.history_model.proofs.Prefixes.{each-keeps, own-own, own-other}
-use Rattle.history_model.proofs.Reading.{life_of-own, life_of-other, log_of-more, position_of-own, position_of-other}
+use Rattle.history_model.proofs.Allows.{legal_follows}
+use Rattle.history_model.proofs.Prefixes.{each-keeps}
+use Rattle.history_model.proofs.Reading.{standing_of-own, standing_of-other, life_of-own, life_of-other, log_of-more, position_of-own, position_of-other}
 
 -- no entry shortens the log
 pub log_by-grows : (before : List Entry) (b : ℕ) (event : Event) (old : List Message) → length old ≤ length (log_by before b event old)
@@ -33,11 +37,17 @@ WaitsStill history b = has_waited history b ≡ true → is_waiting history b �
 
 -- what has waited, after the backend's own entry
 pub waited_of-own : (before : List Entry) (e : Entry) (b : ℕ) → (e.backend == b) ≡ true → has_waited (before ++ e ∷ []) b ≡ waited_by (before ++ e ∷ []) b e.event (has_waited before b)
-waited_of-own before e b own = own-own b (λ h old y. waited_by (h ++ y ∷ []) b y.event old) false before e own
+waited_of-own before e b own = ap (λ (s : Standing). s.waited) (standing_of-own before e b own) ∙ ap (λ w. waited_after w e.event (has_waited before b)) (sym waits)
+  where
+    end : ℕ
+    end = length (log_by before b e.event (log_of before))
+
+    waits : is_waiting (before ++ e ∷ []) b ≡ (is_alive (life_by e.command e.event) && nat_lt (position_after end e.event (position_of before b)) end)
+    waits = λ i. is_alive (life_of-own before e b own i) && nat_lt (ap (λ (s : Standing). s.position) (standing_of-own before e b own) i) (length ((log_of-more before e ∙ ap (λ a. log_by before a e.event (log_of before)) (eqb-true e.backend b own)) i))
 
 -- and after another's
 pub waited_of-other : (before : List Entry) (e : Entry) (b : ℕ) → (e.backend == b) ≡ false → has_waited (before ++ e ∷ []) b ≡ has_waited before b
-waited_of-other before e b other = own-other b (λ h old y. waited_by (h ++ y ∷ []) b y.event old) false before e other
+waited_of-other before e b other = ap (λ (s : Standing). s.waited) (standing_of-other before e b other)
 
 -- an entry that leaves the backend alive or not, and its position
 still : (before : List Entry) (e : Entry) (b : ℕ) → is_alive (life_of (before ++ e ∷ []) b) ≡ is_alive (life_of before b) → position_of (before ++ e ∷ []) b ≡ position_of before b
@@ -90,4 +100,4 @@ each_step b before e was follows waited = by_owner (e.backend == b) refl
 
 -- so a look that is true of now may say no
 pub not_waited : (history : List Entry) (b : ℕ) → IsLegal history → is_waiting history b ≡ false → has_waited history b ≡ false
-not_waited history b legal none = false_from_ne_true (has_waited history b) (λ waited. absurd (cc (none, each-keeps MayFollow (λ h. WaitsStill h b) (λ no. absurd (cc)) (each_step b) history legal waited)))
+not_waited history b legal none = false_from_ne_true (has_waited history b) (λ waited. absurd (cc (none, each-keeps MayFollow (λ h. WaitsStill h b) (λ no. absurd (cc)) (each_step b) history (legal_follows history legal) waited)))

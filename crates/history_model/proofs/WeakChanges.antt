@@ -28,7 +28,8 @@ use Rattle.lock_modes.specs.Grants.{holds}
 use Rattle.history_model.specs.Versions.{answer_of}
 use Rattle.history_model.specs.Held.{held_of}
 use Rattle.history_model.specs.Covered.{counted_for}
-use Rattle.history_model.specs.Orderly.{main_rel, MayComeNext, IsSound}
+use Rattle.history_model.specs.Orderly.{main_rel}
+use Rattle.history_model.specs.Sound.{MayComeNext, IsSound}
 use Rattle.history_model.proofs.Asking.{oid_eq}
 use Rattle.history_model.proofs.Every.{every-filter}
 use Rattle.history_model.proofs.EnoughModes.{under_row}

@@ -1,28 +1,9 @@
--- The oids that writes draw.
-use Rattle.std.specs.Prelude.{ℕ, List, [], ◌∷◌, ◌+◌, length, fold}
-use Rattle.std.specs.List.{flat_map}
-use Rattle.base_types.specs.declared.ids.TheConstants.{FIRST_OID}
-use Rattle.base_types.specs.declared.row.Row.TheVariants.{Class, Def, Con, Trg}
-use Rattle.history_model.specs.Types.{Oid, Item, Add, Entry, Event, Write}
-
--- the new oid that a change draws, if it draws one
-abbrev pub drawn_by : Item → List ℕ
-drawn_by (Add (Class oid name kind fill)) = oid.0 ∷ []
-drawn_by (Add (Def oid rel num word)) = oid.0 ∷ []
-drawn_by (Add (Con oid rel name valid what)) = oid.0 ∷ []
-drawn_by (Add (Trg oid rel name on)) = oid.0 ∷ []
-drawn_by item = []
-
--- the relation that a change makes
-abbrev pub made_by : Item → List Oid
-made_by (Add (Class oid name kind fill)) = oid ∷ []
-made_by item = []
-
--- the next oid after an event
-abbrev pub next_oid_by : Event → ℕ → ℕ
-next_oid_by (Write xid items) next = next + length (flat_map drawn_by items)
-next_oid_by event next = next
+-- The oid that is drawn next.
+use Rattle.std.specs.Prelude.{ℕ, List}
+use Rattle.history_model.specs.Types.{Entry}
+use Rattle.history_model.specs.After.{segment_of}
+pub use Rattle.history_model.specs.Oids.{drawn_by, made_by, next_oid_by}
 
 -- the oid that is drawn next
 abbrev pub next_oid : List Entry → ℕ
-next_oid history = fold (λ next e. next_oid_by e.event next) FIRST_OID history
+next_oid history = (segment_of history).next_oid

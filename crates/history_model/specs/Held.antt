@@ -1,23 +1,9 @@
 -- The locks that are held.
-use Rattle.std.specs.Prelude.{ℕ, not, List, [], ◌∷◌, ◌++◌, fold, filter}
-use Rattle.std.specs.List.{flat_map}
-use Rattle.base_types.specs.declared.row.Row.TheVariants.{Class}
-use Rattle.lock_modes.specs.Grants.{is_lock, stays}
-use Rattle.history_model.specs.Types.{AccessExclusive, Grant, Item, Add, Entry, Event, LockOk, Unlock, Write, Release}
-
--- a new relation is locked by its writer
-abbrev pub granted_by : ℕ → ℕ → Item → List Grant
-granted_by b c (Add (Class oid name kind fill)) = record { backend = b; command = c; rel = oid; mode = AccessExclusive } ∷ []
-granted_by b c item = []
-
--- the grants after an event
-abbrev pub held_by : ℕ → ℕ → Event → List Grant → List Grant
-held_by b c (LockOk rel mode) old = old ++ record { backend = b; command = c; rel = rel; mode = mode } ∷ []
-held_by b c (Unlock rel mode) old = filter (λ g. not (is_lock b rel mode g)) old
-held_by b c (Write xid items) old = old ++ flat_map (granted_by b c) items
-held_by b c (Release from) old = filter (stays b from) old
-held_by b c event old = old
+use Rattle.std.specs.Prelude.{List}
+use Rattle.history_model.specs.Types.{Grant, Entry}
+use Rattle.history_model.specs.After.{segment_of}
+pub use Rattle.history_model.specs.Grants.{granted_by, held_by}
 
 -- the grants that weren't released, in the order in which they were given
 abbrev pub held_of : List Entry → List Grant
-held_of history = fold (λ old e. held_by e.backend e.command e.event old) [] history
+held_of history = (segment_of history).held

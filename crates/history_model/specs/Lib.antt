@@ -1,6 +1,16 @@
 pub mod Types
 pub mod Changes
 pub mod Prefixes
+pub mod Segment
+pub mod Rows
+pub mod Messages
+pub mod Grants
+pub mod Oids
+pub mod After
+pub mod InUse
+pub mod Coverage
+pub mod Changing
+pub mod Allows
 pub mod Lives
 pub mod Transactions
 pub mod Versions
@@ -13,8 +23,10 @@ pub mod Names
 pub mod Covered
 pub mod Coming
 pub mod Writes
+pub mod MayFollow
 pub mod Legal
 pub mod Lapped
 pub mod Read
 pub mod Orderly
+pub mod Sound
 pub mod OfKind

@@ -1,47 +1,26 @@
--- The new names of a write, and who has one in use.
-use Rattle.std.specs.Prelude.{ℕ, Bool, false, not, Option, Some, List, [], ◌∷◌, ◌&&◌, if◌then◌else◌, filter}
-use Rattle.std.specs.Option.{option_map_or}
-use Rattle.std.specs.List.{flat_map, list_any}
-use Rattle.std.specs.Str.{bytes_eq}
-use Rattle.base_types.specs.Scans.{same_oid}
-use Rattle.base_types.specs.declared.row.Row.TheVariants as rows
-use Rattle.base_types.specs.declared.scan.Purpose.TheVariants as scans
-use Rattle.history_model.specs.Types.{Oid, Row, Stamp, Version, Item, Entry}
-use Rattle.history_model.specs.Transactions.{is_committed, runs_as}
-use Rattle.history_model.specs.Versions.{versions_of, answer_of, old_row, added_row}
-
--- the name that a change gives a relation, unless the relation has it already
-abbrev pub new_name : Option Row → Option Row → List (List ℕ)
-new_name (Some (rows.Class oid own kind fill)) (Some (rows.Class to name kind' fill')) = if bytes_eq own name then [] else name ∷ []
-new_name old (Some (rows.Class to name kind fill)) = name ∷ []
-new_name old row = []
+-- The new names of a write, and who has one in use, by a history.
+use Rattle.std.specs.Prelude.{ℕ, Bool, List}
+use Rattle.history_model.specs.Types.{Oid, Stamp, Version, Item, Entry}
+use Rattle.history_model.specs.InUse.{names_at, others_at, over_at, users_at, named_at}
+use Rattle.history_model.specs.After.{segment_of}
+pub use Rattle.history_model.specs.InUse.{new_name, has_name, is_row_of}
 
 -- the new names of a write, in order
 abbrev pub new_names : List Entry → ℕ → List Item → List (List ℕ)
-new_names before b items = flat_map (λ item. new_name (old_row before b item) (added_row item)) items
-
--- the row is that of a relation with this name
-abbrev pub has_name : List ℕ → Row → Bool
-has_name name (rows.Class oid own kind fill) = bytes_eq own name
-has_name name row = false
+new_names before b items = names_at (segment_of before) b items
 
 -- another backend's transaction did it and is still running: one that is gone left no version
 abbrev pub is_others : List Entry → ℕ → Stamp → Bool
-is_others history b stamp = not (is_committed history stamp.xid.0) && not (runs_as history b stamp.xid.0)
+is_others history b stamp = others_at (segment_of history) b stamp
 
 -- the running transactions of other backends that added or ended a version
 abbrev pub running_over : List Entry → ℕ → Version → List ℕ
-running_over history b version = flat_map (λ stamp. if is_others history b stamp then stamp.xid.0 ∷ [] else []) (version.by ∷ option_map_or (λ stamp. stamp ∷ []) version.ended [])
+running_over history b version = over_at (segment_of history) b version
 
 -- the running transactions of other backends that have the name in use
 abbrev pub users_of : List Entry → ℕ → List ℕ → List ℕ
-users_of history b name = flat_map (running_over history b) (filter (λ v. has_name name v.row) (versions_of history))
-
--- the relation that a row is of
-abbrev pub is_row_of : Oid → Row → Bool
-is_row_of rel (rows.Class oid own kind fill) = same_oid oid rel
-is_row_of rel row = false
+users_of history b name = users_at (segment_of history) b name
 
 -- a relation with the name is seen
 abbrev pub is_named : List Entry → ℕ → List ℕ → Oid → Bool
-is_named history b name rel = list_any (is_row_of rel) (answer_of history b (scans.RelName name))
+is_named history b name rel = named_at (segment_of history) b name rel

@@ -13,8 +13,7 @@ use Rattle.history_model.specs.Versions.{versions_of, old_row}
 use Rattle.history_model.specs.Drawn.{next_oid}
 use Rattle.history_model.specs.Sent.{messages_written}
 use Rattle.history_model.specs.Covered.{scans_of, is_covered}
-use Rattle.history_model.specs.Writes.{rows_named, is_validation}
-use Rattle.history_model.specs.Legal.{MayFollow}
+use Rattle.history_model.specs.Changing.{rows_named, is_validation}
 
 -- a version has the key
 abbrev pub has_key : List Entry → RowKey → Bool
@@ -71,11 +70,6 @@ IsOrderlyEvent before b event = ⊤
 abbrev pub IsOrderly : List Entry → Entry → Type 0
 IsOrderly before e = IsOrderlyEvent before e.backend e.event
 
--- an entry may follow those before it, and keeps order
-pub record MayComeNext (before : List Entry) (e : Entry) : Type 0 where
-  pub follows : MayFollow before e
-  pub orderly : IsOrderly before e
-
--- a history is legal and orderly
-abbrev pub IsSound : List Entry → Type 0
-IsSound history = EachEntry MayComeNext history
+-- each entry of a history keeps order
+abbrev pub AreOrderly : List Entry → Type 0
+AreOrderly history = EachEntry IsOrderly history

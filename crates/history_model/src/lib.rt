@@ -13,3 +13,7 @@
 //! What each sound history keeps is proved in proofs/Ordered.antt: locks exclude each other, what a
 //! running transaction has touched it holds locked, and no backend sees two versions of one row.
 #![tactic(auto)]
+
+mod life;
+
+pub use life::{Asked, Life};

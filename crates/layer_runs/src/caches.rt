@@ -1,16 +1,14 @@
-//! What `bench/caches.sh` measures of a backend's caches that have 10,000 names: so many lookups of these names in turn where
-//! no name has a row (`absent`) or each has one (`present`), or so many messages that take out none of 10,000 absent names
-//! (`messages`), of each kind in turn. It fails where memory does or a lookup is wrong.
+//! What `bench/caches.sh` measures of a backend's caches that have so many names: lookups of these names in turn where
+//! no name has a row (`absent`) or each has one (`present`), messages that take out none of the absent names
+//! (`messages`), of each kind in turn, or names that a message takes out and that are put there again, in turn (`puts`). It
+//! fails where memory does or a lookup is wrong.
 
 ghost use Rattle.std.specs.Prelude.{◌≤◌, length, IfSome};
 
-use base_types::{CacheId, Kind, Name, Oid, Purpose, Row};
+use base_types::{CacheId, Key, KeyPart, Kind, Name, Oid, Purpose, Row, key_hash};
 use inval_messages::Message;
 use local_caches::LocalCaches;
 use std::alloc::Global;
-
-// How many names are cached.
-const NAMES: u32 = 10_000;
 
 // Messages of each kind that cover nothing that is cached: a hash that no key has, and a relation that isn't known.
 const MESSAGES: [Message; 4] = [
@@ -35,6 +33,7 @@ pub(crate) enum Task {
     Absent,
     Present,
     Messages,
+    Puts,
 }
 
 impl Task {
@@ -44,19 +43,21 @@ impl Task {
             "absent" => Some(Task::Absent),
             "present" => Some(Task::Present),
             "messages" => Some(Task::Messages),
+            "puts" => Some(Task::Puts),
             _ => None,
         }
     }
 }
 
-/// Does a task with so many lookups or messages.
-pub(crate) fn run(alloc: Global, task: Task, count: u64) -> Option<()> {
-    let scans = all_scans(alloc)?;
+/// Does a task with so many lookups, messages or puts, in caches of so many names.
+pub(crate) fn run(alloc: Global, task: Task, count: u64, names: u32) -> Option<()> {
+    let scans = all_scans(alloc, names)?;
     let present = matches!(task, Task::Present);
-    let mut caches = filled(alloc, scans.as_slice(), present);
+    let mut caches = filled(alloc, scans.as_slice(), present)?;
     let done = match task {
         Task::Absent | Task::Present => look_up(&caches, scans.as_slice(), present, count),
         Task::Messages => execute(&mut caches, count),
+        Task::Puts => put_again(alloc, &mut caches, scans.as_slice(), count),
     };
     // the program ends here, so nothing is freed
     std::mem::forget(caches);
@@ -64,9 +65,9 @@ pub(crate) fn run(alloc: Global, task: Task, count: u64) -> Option<()> {
 }
 
 // The scans of all names.
-fn all_scans(alloc: Global) -> Option<Vec<Purpose>> {
+fn all_scans(alloc: Global, names: u32) -> Option<Vec<Purpose>> {
     let mut scans = Vec::new(alloc);
-    for number in 0..NAMES {
+    for number in 0..names {
         scans.push(Purpose::RelName(name_of(number)?)).ok()?;
     }
     Some(scans)
@@ -76,6 +77,7 @@ fn all_scans(alloc: Global) -> Option<Vec<Purpose>> {
 fn name_of(number: u32) -> Option<Name> {
     let digits = [
         b'n',
+        digit(number / 10000),
         digit(number / 1000),
         digit(number / 100),
         digit(number / 10),
@@ -89,15 +91,15 @@ fn digit(number: u32) -> u8 {
     b'0' + (number % 10) as u8
 }
 
-// The caches with what each of these scans gave: a row, or nothing. Where memory is refused some are left out.
-fn filled(alloc: Global, scans: &[Purpose], present: bool) -> LocalCaches {
-    let mut caches = LocalCaches::new(alloc);
+// The caches with what each of these scans gave: a row, or nothing.
+fn filled(alloc: Global, scans: &[Purpose], present: bool) -> Option<LocalCaches> {
+    let mut caches = LocalCaches::new(alloc).ok()?;
     for scan in scans {
         if let Some(rows) = rows_of(alloc, scan, present) {
-            put(&mut caches, scan, rows);
+            put(&mut caches, scan, rows)?;
         }
     }
-    caches
+    Some(caches)
 }
 
 // What a scan for a name gives: its row, if it is present. (Rattle cannot prove a function that has both a row and caches
@@ -122,17 +124,18 @@ fn row_of(name: Name) -> Row {
 }
 
 // Keeps what a scan gave.
-fn put(caches: &mut LocalCaches, scan: &Purpose, rows: Vec<Row>)
+fn put(caches: &mut LocalCaches, scan: &Purpose, rows: Vec<Row>) -> Option<()>
     requires { length rows.items ≤ 1 }
 {
-    if !caches.has(scan) {
-        let _ = caches.put(scan, rows, 1);
+    if caches.has(scan) {
+        return Some(());
     }
+    caches.put(scan, rows, 1).ok()
 }
 
 // Looks so many names up, all of them in turn.
 fn look_up(caches: &LocalCaches, scans: &[Purpose], present: bool, count: u64) -> Option<()> {
-    for _ in 0..count / NAMES as u64 {
+    for _ in 0..count / scans.len().max(1) as u64 {
         for scan in scans {
             if caches.rows(scan)?.is_empty() == present {
                 return None;
@@ -148,4 +151,26 @@ fn execute(caches: &mut LocalCaches, count: u64) -> Option<()> {
         caches.execute(&MESSAGES);
     }
     Some(())
+}
+
+// Takes names out by messages and puts them there again as absent, so many, all of them in turn.
+fn put_again(alloc: Global, caches: &mut LocalCaches, scans: &[Purpose], count: u64) -> Option<()> {
+    for _ in 0..count / scans.len().max(1) as u64 {
+        for scan in scans {
+            caches.execute(&[message_for(scan)]);
+            put(caches, scan, Vec::new(alloc))?;
+        }
+    }
+    Some(())
+}
+
+// The message that takes out what is kept of a name.
+fn message_for(scan: &Purpose) -> Message {
+    match scan {
+        Purpose::RelName(name) => Message::Cat {
+            cache: CacheId::RelName,
+            hash: key_hash(CacheId::RelName, &Key::new(&[KeyPart::Name(*name)])),
+        },
+        _ => Message::Rel { rel: Oid(7) },
+    }
 }

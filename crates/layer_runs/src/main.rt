@@ -19,8 +19,9 @@ const MOST_INPUT: usize = 268_435_456;
 const USAGE: &str = "\
 usage: layer_runs lines answers|count|read < CASES
        layer_runs ring batches|singles|fetches MESSAGES
-       layer_runs caches absent|present LOOKUPS
-       layer_runs caches messages MESSAGES
+       layer_runs caches absent|present LOOKUPS NAMES
+       layer_runs caches messages MESSAGES NAMES
+       layer_runs caches puts PUTS NAMES
        layer_runs texts script|walk < SCRIPT
        layer_runs texts read|copy < HISTORY
 ";
@@ -30,7 +31,7 @@ usage: layer_runs lines answers|count|read < CASES
 enum Asked {
     Lines(lines::Task),
     Ring(ring::Task, u64),
-    Caches(caches::Task, u64),
+    Caches(caches::Task, u64, u32),
     Texts(texts::Task),
 }
 
@@ -52,7 +53,7 @@ fn run<R: Input + Print>(rt: &R, alloc: Global, asked: Asked) -> Option<()> {
     match asked {
         Asked::Lines(task) => lines::run(rt, alloc, task),
         Asked::Ring(task, count) => ring::run(alloc, task, count),
-        Asked::Caches(task, count) => caches::run(alloc, task, count),
+        Asked::Caches(task, count, names) => caches::run(alloc, task, count, names),
         Asked::Texts(task) => texts::run(rt, alloc, task),
     }
 }
@@ -69,7 +70,9 @@ fn read_arguments<R: Env + AllocGlobal>(rt: &R) -> Option<Asked> {
         }
         "caches" => {
             let task = caches::Task::named(word.as_str())?;
-            Some(Asked::Caches(task, arguments.next()?.parse::<u64>().ok()?))
+            let count = arguments.next()?.parse::<u64>().ok()?;
+            let names = arguments.next()?.parse::<u32>().ok()?;
+            Some(Asked::Caches(task, count, names))
         }
         "texts" => Some(Asked::Texts(texts::Task::named(word.as_str())?)),
         _ => None,

@@ -1,4 +1,4 @@
-ghost use Rattle.std.specs.Prelude.{◌≡◌, ◌≤◌, true, None, cond, length, OnOk, OnErr};
+ghost use Rattle.std.specs.Prelude.{◌≡◌, ◌≤◌, true, None, cond, length, IfOk, OnOk, OnErr};
 ghost use Rattle.std.specs.Option.{option_map};
 ghost use Rattle.inval_messages.specs.declared.message.Message.TheVariants as messages;
 ghost use Rattle.local_caches.specs.Homes.{is_whole_key, covers_lookup};
@@ -29,15 +29,18 @@ impl CatCaches {
     ghost use Rattle.local_caches.specs.CatCaches.{cache_of, looked_up, PutsLookup, HasAll};
     ghost use Rattle.local_caches.specs.declared.home.Lookup.TheVariants as lookups;
 
-    // Nothing is kept, which takes no memory.
-    pub(crate) fn new(alloc: Global) -> CatCaches
-        ensures { (lookup : _) → looked_up result lookup ≡ None }
+    // Nothing is kept.
+    pub(crate) fn new(alloc: Global) -> Result<CatCaches, NoMemory>
+        ensures { IfOk result (λ caches. (lookup : _) → looked_up caches lookup ≡ None) }
     {
-        CatCaches {
-            names: CatCache::new(alloc, CacheId::RelName),
-            oids: CatCache::new(alloc, CacheId::RelOid),
-            columns: CatCache::new(alloc, CacheId::AttName),
-        }
+        let names = CatCache::new(alloc, CacheId::RelName)?;
+        let oids = CatCache::new(alloc, CacheId::RelOid)?;
+        let columns = CatCache::new(alloc, CacheId::AttName)?;
+        Ok(CatCaches {
+            names,
+            oids,
+            columns,
+        })
     }
 
     // What is kept of the key of these parts.

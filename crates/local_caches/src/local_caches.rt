@@ -1,4 +1,4 @@
-ghost use Rattle.std.specs.Prelude.{◌≡◌, ◌≤◌, ◌∷◌, [], true, None, not, length, OnOk, OnErr};
+ghost use Rattle.std.specs.Prelude.{◌≡◌, ◌≤◌, ◌∷◌, [], true, None, not, length, IfOk, OnOk, OnErr};
 ghost use Rattle.std.specs.Option.{option_copied, option_map};
 ghost use Rattle.std.specs.List.{find};
 ghost use Rattle.base_types.specs.Scans.{build_scans};
@@ -39,15 +39,16 @@ impl LocalCaches {
     ghost use Rattle.local_caches.specs.Caches.{kept_of};
     ghost use Rattle.local_caches.specs.Kept.{nothing_kept, kept_with, kept_spared, is_kept, is_keyed};
 
-    /// Nothing is kept, which takes no memory (`InitCatalogCache` in `src/backend/utils/cache/syscache.c`,
+    /// Nothing is kept (`InitCatalogCache` in `src/backend/utils/cache/syscache.c`,
     /// `RelationCacheInitialize` in `src/backend/utils/cache/relcache.c`).
-    pub fn new(alloc: Global) -> LocalCaches
-        ensures { kept_of result ≡ nothing_kept }
+    pub fn new(alloc: Global) -> Result<LocalCaches, NoMemory>
+        ensures { IfOk result (λ caches. kept_of caches ≡ nothing_kept) }
     {
-        LocalCaches {
-            catalogs: CatCaches::new(alloc),
+        let catalogs = CatCaches::new(alloc)?;
+        Ok(LocalCaches {
+            catalogs,
             descriptors: Descriptors::new(alloc),
-        }
+        })
     }
 
     /// Whether something is kept of the scan.

@@ -18,7 +18,7 @@ use Rattle.backend_core.specs.Coherent.{IsCoherent}
 use Rattle.backend_core.specs.Words.{has_left}
 use Rattle.backend_core.proofs.Coherent.{stands_coherent}
 use Rattle.backend_core.proofs.Own.{waiting, waiting_is}
-use Rattle.history_model.specs.Orderly.{IsSound}
+use Rattle.history_model.specs.Sound.{IsSound}
 use Rattle.script_backends.specs.Sessions.{transcripts_of, AreSessions}
 use Rattle.script_backends.specs.Standing.{StandsAt, StandTogether}
 

@@ -4,10 +4,13 @@ use Rattle.event_kinds.specs.declared.entry.Entry.{Entry}
 use Rattle.event_kinds.specs.declared.entry.Event.{Event}
 use Rattle.event_kinds.specs.declared.entry.Event.TheVariants as events
 use Rattle.base_types.specs.Scenario.{Scenario}
-use Rattle.history_model.specs.Legal.{MayFollow, AllowsEvent, FollowsVisible, FollowsGone}
-use Rattle.history_model.specs.Lives.{Life, Unstarted, Alive, Stopped, FollowsLife, life_of, last_event_of}
+use Rattle.history_model.specs.MayFollow.{MayFollow, AllowsEvent, FollowsVisible, FollowsGone}
+use Rattle.history_model.specs.MayFollow.{FollowsLife}
+use Rattle.history_model.specs.Lives.{life_of, last_event_of}
+use Rattle.history_model.specs.declared.life.Life.{Life}
+use Rattle.history_model.specs.declared.life.Life.TheVariants.{Unstarted, Alive, Stopped}
 use Rattle.history_model.specs.Transactions.{running_transaction_of, is_visible}
-use Rattle.history_model.specs.Orderly.{MayComeNext, IsSound}
+use Rattle.history_model.specs.Sound.{MayComeNext, IsSound}
 use Rattle.history_model.proofs.Prefixes.{EachEntry-more}
 use Rattle.seg_calls.specs.Calls.{entry_of, MayCall, MayRequest, Appends, took_back}
 

@@ -12,15 +12,19 @@ use Rattle.ddl_effect.specs.Drawing.{changes_of}
 use Rattle.history_model.specs.Changes.{items_of}
 use Rattle.history_model.specs.Drawn.{drawn_by, made_by, next_oid}
 use Rattle.history_model.specs.Lapped.{is_lapped}
-use Rattle.history_model.specs.Legal.{MayFollow}
-use Rattle.history_model.specs.Lives.{Alive, life_of, last_event_of}
+use Rattle.history_model.specs.MayFollow.{MayFollow}
+use Rattle.history_model.specs.Lives.{life_of, last_event_of}
+use Rattle.history_model.specs.declared.life.Life.TheVariants.{Alive}
 use Rattle.history_model.specs.Log.{log_of, position_of, fetched_by}
 use Rattle.history_model.specs.Names.{new_names}
-use Rattle.history_model.specs.Orderly.{IsOrderlyWrite, MayComeNext}
+use Rattle.history_model.specs.Orderly.{IsOrderlyWrite}
+use Rattle.history_model.specs.Sound.{MayComeNext}
 use Rattle.history_model.specs.Sent.{cats_by, rels_by, unsent_of}
 use Rattle.history_model.specs.Transactions.{running_transaction_of, is_visible}
 use Rattle.history_model.specs.Versions.{answer_of, ended_key}
-use Rattle.history_model.specs.Writes.{changed_key, has_row, has_written, is_guarded, keeps_kind}
+use Rattle.history_model.specs.Changing.{changed_key}
+use Rattle.history_model.specs.Writes.{has_row, is_guarded, keeps_kind}
+use Rattle.history_model.specs.Transactions.{has_written}
 use Rattle.seg_calls.specs.Types.{Oid, Fetched, NoMemory, Mode, Purpose, Scanned, Scenario, Entry, Event, Fetch, FetchReset, Gone, LockOk, LockHeld, Scan, Write, ClashRow, ClashRunning, Item, Message, Row, Running, Draft, LockRefusal, WriteRefusal, Written}
 use Rattle.seg_calls.specs.declared.refusal.WriteRefusal.TheVariants as write_refusals
 

@@ -4,7 +4,7 @@ use Rattle.std.proofs.lemmas.List.{get_or-set_other}
 use Rattle.std.proofs.lemmas.Grind.{get_or-set_at}
 use Rattle.std.proofs.lemmas.Option.{unwrap_or-slice_get}
 use Rattle.event_kinds.specs.declared.entry.Entry.{Entry}
-use Rattle.history_model.specs.Orderly.{MayComeNext}
+use Rattle.history_model.specs.Sound.{MayComeNext}
 use Rattle.seg_calls.specs.Calls.{places_for, Appends}
 use Rattle.shared_seg.specs.Places.{promised_in}
 

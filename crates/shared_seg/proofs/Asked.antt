@@ -11,11 +11,12 @@ use Rattle.catalog_rows.specs.Store.{Store}
 use Rattle.ddl_effect.specs.Commands.{commands_of}
 use Rattle.history_model.specs.Drawn.{next_oid_by}
 use Rattle.history_model.specs.Held.{held_by}
-use Rattle.history_model.specs.Legal.{AllowsEvent}
+use Rattle.history_model.specs.MayFollow.{AllowsEvent}
 use Rattle.history_model.specs.Transactions.{last_xid_by, makes_visible}
 use Rattle.history_model.specs.Versions.{versions_by}
 use Rattle.history_model.proofs.Runs.{writes_as}
-use Rattle.history_model.specs.Orderly.{MayComeNext, IsOrderlyEvent}
+use Rattle.history_model.specs.Sound.{MayComeNext}
+use Rattle.history_model.specs.Orderly.{IsOrderlyEvent}
 use Rattle.seg_calls.specs.Calls.{entry_of, MayRequest, Appends}
 use Rattle.seg_calls.proofs.Allowed.{is_start, request_follows}
 use Rattle.txn_blocks.specs.declared.transaction.RunningTransaction.{RunningTransaction}

@@ -27,8 +27,8 @@ use Rattle.shared_seg.specs.Kept.{Kept, places_in}
 use Rattle.shared_seg.specs.KeepsFolds.{KeepsFolds}
 use Rattle.shared_seg.specs.KeepsQueue.{reader_at, KeepsQueue, event_of_fetch}
 use Rattle.shared_seg.specs.Places.{promised_in}
-use Rattle.txn_blocks.specs.Transactions.{begun_own}
-use Rattle.shared_seg.specs.Transactions.{transaction_at}
+use Rattle.history_ledger.specs.Words.{IsCounted}
+use Rattle.shared_seg.specs.Transactions.{transaction_at, transaction_by}
 use Rattle.shared_seg.proofs.Entered.{call_inside, placed_appends, quiet_keeps}
 use Rattle.shared_seg.proofs.Queue.{lives-before, queue_set}
 
@@ -173,10 +173,15 @@ fetches_due k now after has b c answer given is call backends due gives entries 
     appends : Appends now.history after (places_in now) (promised_in has) (entry_of b c (event_of_fetch answer))
     appends = placed_appends k now after has (entry_of b c (event_of_fetch answer)) (places_of_fetch answer) is call (orderly_fetch k.history b answer) backends entries taken
 
+-- what is published is as it was
+pub fetch_counted : (answer : Fetched) (running : Option RunningTransaction) → IsCounted (event_of_fetch answer) running
+fetch_counted (fetches.Messages count) running = tt
+fetch_counted fetches.Reset running = tt
+
 -- what is kept beside the queue
 pub fetch_folds : (k now : Kept) (after : List Entry) (has : List ℕ) (b c : ℕ) (answer : Fetched) (store : Store) (locks : List Grant) (transactions own : List (Option RunningTransaction)) (next last : ℕ)
     → k ≡ now → KeepsFolds k.script k.history k.promised store locks transactions next last → MayCall now.script now.history (entry_of b c (event_of_fetch answer))
-    → after ≡ k.history ++ entry_of b c (event_of_fetch answer) ∷ [] → has ≡ slice_set k.promised b (promised_in k.promised b - 1) → own ≡ slice_set transactions b (Some (begun_own c (transaction_at transactions b)))
+    → after ≡ k.history ++ entry_of b c (event_of_fetch answer) ∷ [] → has ≡ slice_set k.promised b (promised_in k.promised b - 1) → own ≡ slice_set transactions b (transaction_by c (event_of_fetch answer) (transaction_at transactions b))
     → KeepsFolds k.script after has store locks own next last
 fetch_folds k now after has b c (fetches.Messages count) store locks transactions own next last is keeps call entries taken begun =
     quiet_keeps k now after has b c (events.Fetch count) store locks locks transactions own next last is keeps call tt entries taken refl refl refl (λ x. refl) (λ x. refl) refl begun

@@ -8,7 +8,7 @@ use Rattle.lock_modes.specs.declared.grant.Grant.{Grant}
 use Rattle.catalog_rows.specs.Store.{Store, has_committed}
 use Rattle.history_model.specs.Drawn.{next_oid_by}
 use Rattle.history_model.specs.Held.{held_by}
-use Rattle.history_model.specs.Orderly.{MayComeNext}
+use Rattle.history_model.specs.Sound.{MayComeNext}
 use Rattle.history_model.specs.Transactions.{makes_visible, last_xid_by, runs_as, has_xid, running_transaction_of}
 use Rattle.history_model.specs.Versions.{versions_by}
 use Rattle.history_model.proofs.Prefixes.{EachEntry-more}

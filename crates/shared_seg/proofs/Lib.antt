@@ -18,4 +18,3 @@ mod Writing
 mod Written
 pub mod Queue
 mod Fetched
-pub mod Announcing

@@ -15,7 +15,8 @@ use Rattle.lock_modes.specs.Grants.{is_lock, holds, first_conflict}
 use Rattle.lock_modes.specs.Requests.{Grants, IsRefused, Requests, RunsOut}
 use Rattle.history_model.specs.Drawn.{next_oid}
 use Rattle.history_model.specs.Held.{held_of}
-use Rattle.history_model.specs.Legal.{AllowsEvent, is_lock_of}
+use Rattle.history_model.specs.MayFollow.{AllowsEvent}
+use Rattle.history_model.specs.Allows.{is_lock_of}
 use Rattle.history_model.proofs.Every.{any-weaker}
 use Rattle.seg_calls.specs.Calls.{entry_of, MayCall}
 use Rattle.shared_seg.specs.Kept.{Kept}

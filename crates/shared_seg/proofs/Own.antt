@@ -7,33 +7,12 @@ use Rattle.std.proofs.lemmas.Grind.{get_or-set_at}
 use Rattle.event_kinds.specs.declared.entry.Entry.{Entry}
 use Rattle.event_kinds.specs.declared.entry.Event.{Event}
 use Rattle.event_kinds.specs.declared.entry.Event.TheVariants as events
-use Rattle.history_model.specs.Transactions.{Running, running_by, after_release, begun}
+use Rattle.history_model.specs.Transactions.{running_by, after_release, begun}
+use Rattle.txn_blocks.specs.declared.transaction.RunningTransaction.{RunningTransaction as Running}
 use Rattle.history_model.proofs.Reading.{running_transaction_of-own, running_transaction_of-other}
 use Rattle.txn_blocks.specs.declared.transaction.RunningTransaction.{RunningTransaction}
 use Rattle.txn_blocks.specs.Transactions.{released_own}
-use Rattle.shared_seg.specs.Transactions.{kept_of, transaction_of, transaction_at, transaction_by}
-
-released : (from : ℕ) (t : Running) → option_map kept_of (after_release from t) ≡ released_own from (kept_of t)
-released from t = by_end (t.first == from)
-  where
-    by_end : (f : Bool) → option_map kept_of (if f then None else Some t) ≡ (if f then None else Some (kept_of t))
-    by_end true = refl
-    by_end false = refl
-
--- an event does the same to what is kept
-kept-by : (c : ℕ) (event : Event) (old : Option Running) → option_map kept_of (running_by c event old) ≡ transaction_by c event (option_map kept_of old)
-kept-by c events.Start old = refl
-kept-by c events.Stop old = refl
-kept-by c (events.Release from) None = released from (begun c None)
-kept-by c (events.Release from) (Some t) = released from t
-kept-by c (events.Write xid items) None = refl
-kept-by c (events.Write xid items) (Some t) = refl
-kept-by c (events.Visible xid) None = refl
-kept-by c (events.Visible xid) (Some t) = refl
-kept-by c (events.Publish count) None = refl
-kept-by c (events.Publish count) (Some t) = refl
-kept-by c event None = refl
-kept-by c event (Some t) = refl
+use Rattle.shared_seg.specs.Transactions.{transaction_of, transaction_at, transaction_by}
 
 -- what is kept for each backend is what it was, or for the entry's own what the event makes of it
 abbrev pub KeptBy : Entry → List (Option RunningTransaction) → List (Option RunningTransaction) → Type 0
@@ -45,8 +24,8 @@ pub own-more : (history : List Entry) (e : Entry) (old new : List (Option Runnin
 own-more history e old new was kept b = kept b ∙ by_owner (e.backend == b) refl
   where
     by_owner : (t : Bool) → (e.backend == b) ≡ t → (if t then transaction_by e.command e.event (transaction_at old b) else transaction_at old b) ≡ transaction_of (history ++ e ∷ []) b
-    by_owner true own = ap (transaction_by e.command e.event) (was b) ∙ sym (ap (option_map kept_of) (running_transaction_of-own history e b own) ∙ kept-by e.command e.event _)
-    by_owner false other = was b ∙ sym (ap (option_map kept_of) (running_transaction_of-other history e b other))
+    by_owner true own = ap (transaction_by e.command e.event) (was b) ∙ sym (running_transaction_of-own history e b own)
+    by_owner false other = was b ∙ sym (running_transaction_of-other history e b other)
 
 -- a slot that is set
 pub kept_set : (e : Entry) (old new : List (Option RunningTransaction)) → e.backend < length old → new ≡ slice_set old e.backend (transaction_by e.command e.event (transaction_at old e.backend)) → KeptBy e old new

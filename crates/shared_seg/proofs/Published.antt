@@ -7,9 +7,10 @@ use Rattle.event_kinds.specs.declared.entry.Event.{Event}
 use Rattle.event_kinds.specs.declared.entry.Event.TheVariants as events
 use Rattle.lock_modes.specs.declared.grant.Grant.{Grant}
 use Rattle.catalog_rows.specs.Store.{Store}
-use Rattle.history_model.specs.Legal.{AllowsEvent}
-use Rattle.history_model.specs.Orderly.{MayComeNext, IsSound}
-use Rattle.history_model.specs.Transactions.{Running, begun, running_by, running_transaction_of}
+use Rattle.history_model.specs.MayFollow.{AllowsEvent}
+use Rattle.history_model.specs.Sound.{MayComeNext, IsSound}
+use Rattle.history_model.specs.Transactions.{begun, running_by, running_transaction_of}
+use Rattle.txn_blocks.specs.declared.transaction.RunningTransaction.{RunningTransaction as Running}
 use Rattle.history_model.proofs.Coming.{published_of}
 use Rattle.history_model.proofs.Prefixes.{each-keeps}
 use Rattle.history_model.proofs.Reading.{running_transaction_of-own, running_transaction_of-other}
@@ -17,7 +18,7 @@ use Rattle.seg_calls.specs.Calls.{entry_of, MayCall}
 use Rattle.txn_blocks.specs.declared.transaction.RunningTransaction.{RunningTransaction}
 use Rattle.shared_seg.specs.Kept.{Kept}
 use Rattle.shared_seg.specs.KeepsFolds.{KeepsFolds}
-use Rattle.shared_seg.specs.Transactions.{kept_of, published_at}
+use Rattle.shared_seg.specs.Transactions.{published_at}
 use Rattle.shared_seg.proofs.Entered.{call_inside}
 
 -- the transactions have published at most 64 messages for each entry
@@ -57,9 +58,8 @@ few-more history e few comes b = by_owner (e.backend == b) refl
 pub few_published_in : (history : List Entry) → IsSound history → Few history
 few_published_in history sound = each-keeps MayComeNext Few (λ b. omega arith) few-more history sound
 
-kept-published : (r : Option Running) (own : Option RunningTransaction) → own ≡ option_map kept_of r → option_map_or (λ t. t.published) own 0 ≡ published_of r
-kept-published None own is = ap (λ o. option_map_or (λ t. t.published) o 0) is
-kept-published (Some t) own is = ap (λ o. option_map_or (λ t. t.published) o 0) is
+kept-published : (r : Option Running) (own : Option RunningTransaction) → own ≡ r → option_map_or (λ t. t.published) own 0 ≡ published_of r
+kept-published r own is = ap published_of is
 
 -- so what is published with a call can be counted
 pub published_fits : (k now : Kept) (b c count : ℕ) (store : Store) (locks : List Grant) (transactions : List (Option RunningTransaction)) (next last : ℕ) → k ≡ now → KeepsFolds k.script k.history k.promised store locks transactions next last

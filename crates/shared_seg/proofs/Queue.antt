@@ -21,8 +21,11 @@ use Rattle.sinval_ring.specs.Cleaning.{must_clean, signal_of, swept_of, low_of, 
 use Rattle.sinval_ring.specs.Queues.{Queue, empty_queue, reader_of, with_reader}
 use Rattle.catalog_rows.specs.Store.{Store, no_rows}
 use Rattle.history_model.specs.Lapped.{is_lapped}
-use Rattle.history_model.specs.Legal.{AllowsEvent, MayFollow}
-use Rattle.history_model.specs.Lives.{Life, Unstarted, Alive, Stopped, FollowsLife, is_alive, life_by, life_of}
+use Rattle.history_model.specs.MayFollow.{AllowsEvent, MayFollow}
+use Rattle.history_model.specs.MayFollow.{FollowsLife}
+use Rattle.history_model.specs.Lives.{is_alive, life_by, life_of}
+use Rattle.history_model.specs.declared.life.Life.{Life}
+use Rattle.history_model.specs.declared.life.Life.TheVariants.{Unstarted, Alive, Stopped}
 use Rattle.history_model.specs.Log.{log_by, log_of, position_by, position_of, is_waiting}
 use Rattle.history_model.specs.Sent.{unsent_of}
 use Rattle.history_model.proofs.Lapped.{same_test, or_longer, not_lapped, leaves_lapped, other_lapped, publish_laps}

@@ -11,12 +11,13 @@ use Rattle.row_visibility.specs.declared.version.Stamp.{Stamp}
 use Rattle.row_visibility.specs.Seen.{is_own}
 use Rattle.lock_modes.specs.declared.grant.Grant.{Grant}
 use Rattle.catalog_rows.specs.Store.{Store, has_committed, after_commit, taken_back}
-use Rattle.history_model.specs.Transactions.{Running, has_xid, runs_as, running_transaction_of}
+use Rattle.history_model.specs.Transactions.{has_xid, runs_as, running_transaction_of}
+use Rattle.txn_blocks.specs.declared.transaction.RunningTransaction.{RunningTransaction as Running}
 use Rattle.seg_calls.specs.Calls.{entry_of}
 use Rattle.txn_blocks.specs.declared.transaction.RunningTransaction.{RunningTransaction}
 use Rattle.history_ledger.proofs.Rows.{marked, undone_committed, undone_versions}
-use Rattle.shared_seg.specs.Transactions.{transaction_at, transaction_of, transaction_by, kept_of, own_xid_in, xid_at}
-use Rattle.shared_seg.specs.Undone.{undone}
+use Rattle.shared_seg.specs.Transactions.{transaction_at, transaction_of, transaction_by, own_xid_in, xid_at}
+use Rattle.history_ledger.specs.Words.{undone}
 use Rattle.shared_seg.proofs.Own.{kept_set}
 use Rattle.shared_seg.proofs.Keeps.{Steps}
 
@@ -38,17 +39,13 @@ visible_steps history b c xid store after locks transactions own next last after
 })
 
 -- a backend runs as the Xid that is kept of its transaction
-pub runs_kept : (r : Option Running) (x : ℕ) → has_xid x r ≡ option_map_or (λ (xid : Xid). xid.0 == x) (own_xid_in (option_map kept_of r)) false
-runs_kept None x = refl
-runs_kept (Some t) x = by_xid t.xid
-  where
-    by_xid : (o : Option ℕ) → option_map_or (λ own. own == x) o false ≡ option_map_or (λ (xid : Xid). xid.0 == x) (option_map (λ n. record { 0 = n }) o) false
-    by_xid None = refl
-    by_xid (Some y) = refl
+pub runs_kept : (r : Option RunningTransaction) (stamp : Stamp) → has_xid stamp.xid.0 r ≡ is_own (own_xid_in r) stamp
+runs_kept None stamp = refl
+runs_kept (Some t) stamp = refl
 
 -- so the stamps of its own transaction are those that it runs as
 pub runs_own : (history : List Entry) (b : ℕ) (transactions : List (Option RunningTransaction)) (stamp : Stamp) → transaction_at transactions b ≡ transaction_of history b → runs_as history b stamp.xid.0 ≡ is_own (xid_at transactions b) stamp
-runs_own history b transactions stamp own = runs_kept (running_transaction_of history b) stamp.xid.0 ∙ ap (λ t. is_own (own_xid_in t) stamp) (sym own)
+runs_own history b transactions stamp own = runs_kept (running_transaction_of history b) stamp ∙ ap (λ t. is_own (own_xid_in t) stamp) (sym own)
 
 -- a transaction's writes are taken back
 pub gone_steps : (history : List Entry) (b c from : ℕ) (store after : Store) (locks : List Grant) (transactions own : List (Option RunningTransaction)) (next last : ℕ)

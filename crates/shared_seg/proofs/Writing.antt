@@ -24,17 +24,20 @@ use Rattle.sinval_ring.specs.Queues.{Queue}
 use Rattle.catalog_rows.specs.Store.{Store, has_committed, after_write}
 use Rattle.ddl_effect.specs.declared.draft.Draft.{Draft}
 use Rattle.ddl_effect.specs.Drawing.{changes_of}
+use Rattle.history_model.specs.After.{segment_of}
 use Rattle.history_model.specs.Changes.{items_of}
 use Rattle.history_model.specs.Drawn.{drawn_by, next_oid}
-use Rattle.history_model.specs.Lives.{FollowsLife}
+use Rattle.history_model.specs.MayFollow.{FollowsLife}
 use Rattle.history_model.specs.Transactions.{xid_for}
 use Rattle.history_model.specs.Held.{granted_by, held_of}
-use Rattle.history_model.specs.Legal.{AllowsEvent}
+use Rattle.history_model.specs.MayFollow.{AllowsEvent}
 use Rattle.history_model.specs.Names.{new_names}
 use Rattle.history_model.specs.Orderly.{IsOrderlyWrite}
 use Rattle.history_model.specs.Versions.{change_by}
-use Rattle.history_model.specs.Writes.{is_free, changed_key}
+use Rattle.history_model.specs.Writes.{is_free}
+use Rattle.history_model.specs.Changing.{changed_key}
 use Rattle.base_types.specs.RowKeys.{are_distinct_keys}
+use Rattle.history_model.proofs.Allows.{unwritten_last}
 use Rattle.history_model.proofs.Covering.{told_covers}
 use Rattle.history_model.proofs.Ordered.{sound_ordered, locks_exclude}
 use Rattle.seg_calls.specs.Calls.{entry_of, items_drawn, messages_in, MayRequest, MayWrite, MakesWrite, Clashes, Writes}
@@ -48,11 +51,10 @@ use Rattle.shared_seg.specs.KeepsFolds.{KeepsFolds}
 use Rattle.shared_seg.specs.KeepsQueue.{KeepsShared}
 use Rattle.shared_seg.specs.Naming.{NamesFree, IsTaken, clash_with, clash_event_of, refuses}
 use Rattle.shared_seg.specs.Places.{promised_in}
-use Rattle.txn_blocks.specs.Transactions.{begun_own}
+use Rattle.history_ledger.specs.Words.{IsCounted, messages_at}
 use Rattle.shared_seg.specs.Transactions.{transaction_at, transaction_by, own_xid_in, xid_at, own_reader}
 use Rattle.inval_messages.specs.declared.message.Message.{Message}
-use Rattle.shared_seg.specs.Announced.{messages_at}
-use Rattle.shared_seg.proofs.Announcing.{messages_same}
+use Rattle.history_ledger.proofs.Stands.{messages_same}
 use Rattle.shared_seg.proofs.Asked.{request_inside, asked_appends, asked_keeps, asked_quiet}
 use Rattle.history_ledger.proofs.Mirrors.{row_same, Mirrors}
 use Rattle.shared_seg.proofs.Clashes.{all_free, names_same, clash_allowed}
@@ -89,7 +91,7 @@ may_enter k now b c store transactions next last draft drawn reader is request m
 }
 
 module _ (script : Scenario) (history : List Entry) (promised : List ℕ) (store : Store) (locks : List Grant) (transactions : List (Option RunningTransaction)) (next last b c : ℕ) (k : KeepsFolds script history promised store locks transactions next last) where
-  mirrors : Mirrors history b store (xid_at transactions b)
+  mirrors : Mirrors (segment_of history) b store (xid_at transactions b)
   mirrors = record { versions = k.versions; committed = k.committed; own_is = λ s. runs_own history b transactions s (k.own b) }
 
   -- the items of what is drawn
@@ -107,7 +109,7 @@ module _ (script : Scenario) (history : List Entry) (promised : List ℕ) (store
     keys = enter.may.keys;
     there = enter.may.there;
     kinds = enter.may.kinds;
-    only = enter.may.only;
+    only = unwritten_last history b c enter.may.only;
     free = subst (λ items. list_all (is_free history b) (new_names history b items) ≡ true) (ap (λ cs. items_of cs draft.forced) enter.drawn_is.changes ∙ items_are draft)
         (all_free history b store (own_reader transactions b c) mirrors (reads_same script history promised store locks transactions next last b c k enter.request) drawn.changes.items draft.forced enter.free);
     guarded = enter.may.guarded;
@@ -144,7 +146,7 @@ module _ (script : Scenario) (history : List Entry) (promised : List ℕ) (store
   pub write_announced : (draft : Draft) (drawn : Drawn) (reader : Reader) (messages : List Message) → MayEnter script history b c store transactions next last draft drawn → reader ≡ own_reader transactions b c → messages ≡ flat_map (messages_at store reader) drawn.items.items
       → messages ≡ messages_in history b (items_drawn history draft)
   write_announced draft drawn reader messages enter reader_is are = are ∙ ap (λ r. flat_map (messages_at store r) drawn.items.items) reader_is
-      ∙ messages_same history b store (own_reader transactions b c) (row_same history b store (own_reader transactions b c) k.versions (reads_same script history promised store locks transactions next last b c k enter.request)) drawn.items.items
+      ∙ messages_same (segment_of history) b store (own_reader transactions b c) (row_same (segment_of history) b store (own_reader transactions b c) k.versions (reads_same script history promised store locks transactions next last b c k enter.request)) drawn.items.items
       ∙ ap (messages_in history b) (items_made draft drawn enter.drawn_is)
 
   -- what is kept makes its step
@@ -207,10 +209,15 @@ write_keeps k now after has b c draft drawn store stored locks locked transactio
 pub taken_of : (store : Store) (reader own : Reader) (given changes : List Change) (taken : Taken) → reader ≡ own → given ≡ changes → IsTaken store reader given taken → IsTaken store own changes taken
 taken_of store reader own given changes taken is same at = subst (λ r. IsTaken store r changes taken) is (subst (λ cs. IsTaken store reader cs taken) same at)
 
+-- what is published is as it was
+pub clash_counted : (name : List ℕ) (clash : Clash) (running : Option RunningTransaction) → IsCounted (clash_event_of name clash) running
+clash_counted name (Row rel) running = tt
+clash_counted name (Running xid) running = tt
+
 -- what is kept after a clash
 pub clash_keeps : (k now : Kept) (after : List Entry) (has : List ℕ) (b c : ℕ) (name : List ℕ) (clash : Clash) (store : Store) (locks : List Grant) (transactions own : List (Option RunningTransaction)) (next last : ℕ)
     → k ≡ now → KeepsFolds k.script k.history k.promised store locks transactions next last → MayRequest now.script now.history b c → AllowsEvent k.history b c (clash_event_of name clash)
-    → after ≡ k.history ++ entry_of b c (clash_event_of name clash) ∷ [] → has ≡ k.promised → own ≡ slice_set transactions b (Some (begun_own c (transaction_at transactions b))) → KeepsFolds k.script after has store locks own next last
+    → after ≡ k.history ++ entry_of b c (clash_event_of name clash) ∷ [] → has ≡ k.promised → own ≡ slice_set transactions b (transaction_by c (clash_event_of name clash) (transaction_at transactions b)) → KeepsFolds k.script after has store locks own next last
 clash_keeps k now after has b c name (Row rel) store locks transactions own next last is keeps request allows entries same own_is =
     asked_quiet k now after has b c (ClashRow name rel) store locks locks transactions own next last is keeps request refl allows tt entries same refl refl refl (λ x. refl) (λ x. refl) refl own_is
 clash_keeps k now after has b c name (Running xid) store locks transactions own next last is keeps request allows entries same own_is =

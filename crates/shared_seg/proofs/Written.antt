@@ -17,14 +17,16 @@ use Rattle.row_visibility.specs.declared.version.Version.{Version}
 use Rattle.row_visibility.specs.Seen.{is_own}
 use Rattle.catalog_rows.specs.Store as stores
 use Rattle.catalog_rows.specs.Store.{Store, has_committed, after_write}
+use Rattle.history_model.specs.After.{segment_of}
 use Rattle.history_model.specs.Changes.{item_of, items_of}
-use Rattle.history_model.specs.Transactions.{Running, is_committed, last_xid, running_transaction_of, xid_for}
+use Rattle.history_model.specs.Transactions.{is_committed, last_xid, running_transaction_of, xid_for}
+use Rattle.txn_blocks.specs.declared.transaction.RunningTransaction.{RunningTransaction as Running}
 use Rattle.history_model.specs.Versions.{versions_of, counts, change_by}
-use Rattle.history_model.specs.Writes.{changed_key}
+use Rattle.history_model.specs.Changing.{changed_key}
 use Rattle.history_model.proofs.Every.{every-weaker}
 use Rattle.history_model.proofs.Touched.{OfStamps, Touch, Touched, stamps-weaker}
 use Rattle.history_ledger.proofs.Rows.{AllAlike, alike_drawn, change_key, same_changes}
-use Rattle.shared_seg.specs.Transactions.{transaction_of, kept_of, own_xid_in}
+use Rattle.shared_seg.specs.Transactions.{transaction_of, own_xid_in}
 use Rattle.shared_seg.specs.Drawn.{xid_drawn}
 use Rattle.history_ledger.proofs.Rows.{map-same}
 use Rattle.shared_seg.proofs.Rows.{runs_kept}
@@ -47,11 +49,11 @@ keys_are (Delete key ∷ changes) forced = ap (λ ks. key ∷ ks) (keys_are chan
 pub xid_drawn_is : (history : List Entry) (b last : ℕ) → last ≡ last_xid history → (xid_drawn (own_xid_in (transaction_of history b)) last).0 ≡ xid_for history b
 xid_drawn_is history b last same = by_running (running_transaction_of history b)
   where
-    by_xid : (o : Option ℕ) → (xid_drawn (option_map (λ n. record { 0 = n }) o) last).0 ≡ unwrap_or o (last_xid history + 1)
+    by_xid : (o : Option Xid) → (xid_drawn o last).0 ≡ option_map_or (λ own. own.0) o (last_xid history + 1)
     by_xid None = ap (λ n. n + 1) same
     by_xid (Some x) = refl
 
-    by_running : (r : Option Running) → (xid_drawn (own_xid_in (option_map kept_of r)) last).0 ≡ option_map_or (λ t. unwrap_or t.xid (last_xid history + 1)) r (last_xid history + 1)
+    by_running : (r : Option Running) → (xid_drawn (own_xid_in r) last).0 ≡ option_map_or (λ t. option_map_or (λ own. own.0) t.xid (last_xid history + 1)) r (last_xid history + 1)
     by_running None = ap (λ n. n + 1) same
     by_running (Some t) = by_xid t.xid
 
@@ -65,17 +67,17 @@ counts_same : (history : List Entry) (b last : ℕ) (committed : List Bool) (own
     → stores.counts committed (Some (xid_drawn own last)) s ≡ counts history b s
 counts_same history b last committed own s are is same bound =
     ap (λ t. t || is_own (Some (xid_drawn own last)) s) (are s.xid.0)
-    ∙ ap (λ t. is_committed history s.xid.0 || t) (own_is own last s (omega (arith, bound, same)) ∙ ap (λ o. is_own o s) is ∙ sym (runs_kept (running_transaction_of history b) s.xid.0))
+    ∙ ap (λ t. is_committed history s.xid.0 || t) (own_is own last s (omega (arith, bound, same)) ∙ ap (λ o. is_own o s) is ∙ sym (runs_kept (running_transaction_of history b) s))
 
 -- the versions after all changes of a write
 pub versions_written : (history : List Entry) (b c last : ℕ) (store : Store) (own : Option Xid) (changes : List Change) (forced : List Oid) → Touched history → store.versions ≡ versions_of history → ((x : ℕ) → has_committed store.committed x ≡ is_committed history x)
     → own ≡ own_xid_in (transaction_of history b) → last ≡ last_xid history → are_distinct_keys (flat_map changed_key (items_of changes forced)) ≡ true
     → (after_write store (xid_drawn own last) c changes).versions ≡ fold (change_by history b (record { xid = xid_drawn own last; command = c })) store.versions (items_of changes forced)
 versions_written history b c last store own changes forced touched are committed is same distinct =
-    same_changes history b store.committed stamp changes store.versions
-    (subst (AllByRecursion (AllAlike history b store.committed stamp changes)) (sym are)
-    (every-weaker (OfStamps (Touch history)) (AllAlike history b store.committed stamp changes)
-    (λ v touch. alike_drawn history b store.committed stamp v (stamps-weaker (Touch history) (λ s row. stores.counts store.committed (Some stamp.xid) s ≡ counts history b s) (λ s row t. counts_same history b last store.committed own s committed is same t.bound) v touch) changes)
+    same_changes (segment_of history) b store.committed stamp changes store.versions
+    (subst (AllByRecursion (AllAlike (segment_of history) b store.committed stamp changes)) (sym are)
+    (every-weaker (OfStamps (Touch history)) (AllAlike (segment_of history) b store.committed stamp changes)
+    (λ v touch. alike_drawn (segment_of history) b store.committed stamp v (stamps-weaker (Touch history) (λ s row. stores.counts store.committed (Some stamp.xid) s ≡ counts history b s) (λ s row t. counts_same history b last store.committed own s committed is same t.bound) v touch) changes)
     (versions_of history) touched))
     (ap are_distinct_keys (sym (keys_are changes forced)) ∙ distinct)
     ∙ sym (fold-append (change_by history b stamp) store.versions (map item_of changes) (map items.Force forced) ∙ forced_same history b stamp forced (fold (change_by history b stamp) store.versions (map item_of changes)))

@@ -6,7 +6,7 @@ use Rattle.lock_modes.specs.declared.grant.Grant.{Grant}
 use Rattle.catalog_rows.specs.Store.{Store, has_committed}
 use Rattle.history_model.specs.Drawn.{next_oid}
 use Rattle.history_model.specs.Held.{held_of}
-use Rattle.history_model.specs.Orderly.{IsSound}
+use Rattle.history_model.specs.Sound.{IsSound}
 use Rattle.history_model.specs.Transactions.{is_committed, last_xid, runs_as}
 use Rattle.history_model.specs.Versions.{versions_of}
 use Rattle.txn_blocks.specs.declared.transaction.RunningTransaction.{RunningTransaction}

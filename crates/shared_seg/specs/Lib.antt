@@ -4,9 +4,7 @@ pub mod AllPromised
 pub mod Transactions
 pub mod KeepsFolds
 pub mod Kept
-pub mod Undone
 pub mod Drawn
 pub mod Naming
 pub mod IsDrawn
-pub mod Announced
 pub mod KeepsQueue

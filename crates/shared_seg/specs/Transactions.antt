@@ -1,26 +1,16 @@
 -- What is kept of the running transactions.
-use Rattle.std.specs.Prelude.{ℕ, true, Option, Some, None, List, ◌+◌, slice_index_or}
+use Rattle.std.specs.Prelude.{ℕ, Option, Some, None, List, ◌+◌, slice_index_or}
 use Rattle.std.specs.Option.{option_map, option_map_or}
 use Rattle.base_types.specs.declared.ids.Xid.{Xid}
 use Rattle.event_kinds.specs.declared.entry.Entry.{Entry}
 use Rattle.event_kinds.specs.declared.entry.Event.{Event}
-use Rattle.event_kinds.specs.declared.entry.Event.TheVariants.{Start, Write, Visible, Publish, Release, Stop}
 use Rattle.row_visibility.specs.declared.version.Reader.{Reader}
-use Rattle.history_model.specs.Transactions.{Running, running_transaction_of}
+use Rattle.history_model.specs.Transactions.{running_transaction_of, running_by}
 use Rattle.txn_blocks.specs.declared.transaction.RunningTransaction.{RunningTransaction}
-use Rattle.txn_blocks.specs.Transactions.{begun_own, released_own}
-
--- the Xid of this number
-abbrev pub xid_of : ℕ → Xid
-xid_of n = record { 0 = n }
-
--- what is kept of a running transaction
-abbrev pub kept_of : Running → RunningTransaction
-kept_of t = record { first = t.first; xid = option_map xid_of t.xid; published = t.published; visible = t.visible }
 
 -- what is kept of a backend's running transaction
 abbrev pub transaction_of : List Entry → ℕ → Option RunningTransaction
-transaction_of history b = option_map kept_of (running_transaction_of history b)
+transaction_of history b = running_transaction_of history b
 
 -- what is kept for a backend
 abbrev pub transaction_at : List (Option RunningTransaction) → ℕ → Option RunningTransaction
@@ -43,16 +33,6 @@ own_reader transactions b command = record { xid = xid_at transactions b; comman
 abbrev pub published_at : List (Option RunningTransaction) → ℕ → ℕ
 published_at transactions b = option_map_or (λ t. t.published) (transaction_at transactions b) 0
 
--- a transaction that has published so many messages more
-abbrev pub with_published : ℕ → RunningTransaction → RunningTransaction
-with_published count t = record t { published = t.published + count }
-
 -- what is kept after an event of the backend
 abbrev pub transaction_by : ℕ → Event → Option RunningTransaction → Option RunningTransaction
-transaction_by command Start old = None
-transaction_by command Stop old = old
-transaction_by command (Write xid items) old = Some (record (begun_own command old) { xid = Some xid })
-transaction_by command (Visible xid) old = Some (record (begun_own command old) { visible = true })
-transaction_by command (Publish count) old = Some (with_published count (begun_own command old))
-transaction_by command (Release from) old = released_own from (begun_own command old)
-transaction_by command event old = Some (begun_own command old)
+transaction_by command event old = running_by command event old

@@ -34,7 +34,6 @@
 //! would pass 32 bits are answered as out of memory.
 #![tactic(auto)]
 
-mod announce;
 mod drawing;
 mod grants;
 mod naming;

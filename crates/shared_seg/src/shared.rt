@@ -1,23 +1,20 @@
 ghost use Rattle.std.specs.Prelude.{◌≡◌, ◌≤◌, ◌<◌, ◌+◌, ◌++◌, ◌^◌, ℕ, [], false, None, length, sum, replicate, vec_len, vec_capacity, IfOk};
 ghost use Rattle.shared_seg.specs.Places.{promised_in};
-ghost use Rattle.shared_seg.specs.Undone.{undone};
 ghost use Rattle.shared_seg.specs.KeepsQueue.{event_of_fetch};
 
-use crate::announce::announced;
 use crate::drawing::draw;
 use crate::naming::first_taken;
 use crate::places::Places;
 use crate::played_script::PlayedScript;
 use crate::retold::Retold;
-use crate::transaction::{
-    add_published, begin, begin_writing, clear, end_from, make_visible, own_xid, reader_in,
-};
-use crate::write::{clash_entry, enter_write, refusal_of};
+use crate::transaction::{enter_running, own_xid, reader_in};
+use crate::write::{clash_entry, clash_event, enter_write, refusal_of};
 use arrayvec::ArrayVec;
-use base_types::{FIRST_OID, Fetched, Mode, NoMemory, Oid, Purpose, Scanned, Xid};
+use base_types::{FIRST_OID, Fetched, Listed, Mode, NoMemory, Oid, Purpose, Scanned, Xid};
 use catalog_rows::RowStore;
 use ddl_effect::Draft;
 use event_kinds::{Entry, Event};
+use history_ledger::{announced, undo_from};
 use inval_messages::Message;
 use lock_modes::{Granted, LockTable};
 use script_text::Script;
@@ -162,7 +159,7 @@ impl Seg for Shared {
             event: Event::Start,
         });
         self.queue.start(b);
-        clear(&mut self.transactions, b);
+        enter_running(&mut self.transactions, b, 0, &Event::Start);
     }
 
     fn looked(&mut self, b: u32, c: u32, yes: bool) {
@@ -171,17 +168,18 @@ impl Seg for Shared {
             command: c,
             event: Event::Look { yes },
         });
-        begin(&mut self.transactions, b, c);
+        enter_running(&mut self.transactions, b, c, &Event::Look { yes });
     }
 
     fn fetch(&mut self, b: u32, c: u32, into: &mut ArrayVec<Message, 32>) -> Fetched {
         let fetched = self.queue.fetch(b, into);
+        let event = fetch_event(fetched);
+        enter_running(&mut self.transactions, b, c, &event);
         self.places.append(Entry {
             backend: b,
             command: c,
-            event: fetch_event(fetched),
+            event,
         });
-        begin(&mut self.transactions, b, c);
         fetched
     }
 
@@ -197,7 +195,11 @@ impl Seg for Shared {
                 rows: count,
             },
         })?;
-        begin(&mut self.transactions, b, c);
+        let event = Event::Scan {
+            purpose: *purpose,
+            rows: count,
+        };
+        enter_running(&mut self.transactions, b, c, &event);
         Ok(Scanned {
             rows,
             at: self.places.len() as u64,
@@ -215,22 +217,23 @@ impl Seg for Shared {
                     command: c,
                     event: Event::LockOk { rel, mode },
                 });
-                begin(&mut self.transactions, b, c);
+                enter_running(&mut self.transactions, b, c, &Event::LockOk { rel, mode });
                 Ok(())
             }
             Ok(Granted::Held) => unreachable!(),
             Err(LockRefusal::Conflict { holder, mode: held }) => {
+                let event = Event::LockHeld {
+                    rel,
+                    mode,
+                    holder,
+                    held,
+                };
+                enter_running(&mut self.transactions, b, c, &event);
                 self.places.push(Entry {
                     backend: b,
                     command: c,
-                    event: Event::LockHeld {
-                        rel,
-                        mode,
-                        holder,
-                        held,
-                    },
+                    event,
                 });
-                begin(&mut self.transactions, b, c);
                 Err(LockRefusal::Conflict { holder, mode: held })
             }
             Err(LockRefusal::NoMemory) => Err(LockRefusal::NoMemory),
@@ -244,7 +247,7 @@ impl Seg for Shared {
             event: Event::Unlock { rel, mode },
         });
         self.locks.unlock(b, rel, mode);
-        begin(&mut self.transactions, b, c);
+        enter_running(&mut self.transactions, b, c, &Event::Unlock { rel, mode });
     }
 
     fn write(&mut self, b: u32, c: u32, draft: &Draft) -> Result<Written, WriteRefusal> {
@@ -256,7 +259,7 @@ impl Seg for Shared {
             let Ok(()) = self.places.add(clash_entry(b, c, &taken)) else {
                 return Err(WriteRefusal::NoMemory);
             };
-            begin(&mut self.transactions, b, c);
+            enter_running(&mut self.transactions, b, c, &clash_event(&taken));
             return Err(refusal_of(&taken));
         }
         let Ok(messages) = announced(self.alloc, &self.store, reader, &drawn.items) else {
@@ -275,7 +278,11 @@ impl Seg for Shared {
         ) else {
             return Err(WriteRefusal::NoMemory);
         };
-        begin_writing(&mut self.transactions, b, c, xid);
+        let event = Event::Write {
+            xid,
+            items: Listed::new(self.alloc),
+        };
+        enter_running(&mut self.transactions, b, c, &event);
         let first_oid = Oid(self.next_oid);
         self.next_oid = next_oid;
         self.last_xid = self.last_xid.max(xid.0);
@@ -293,7 +300,7 @@ impl Seg for Shared {
             event: Event::Visible { xid },
         });
         self.store.commit(xid);
-        make_visible(&mut self.transactions, b, c);
+        enter_running(&mut self.transactions, b, c, &Event::Visible { xid });
     }
 
     fn publish(&mut self, b: u32, c: u32, messages: &[Message]) -> Cleaned {
@@ -304,7 +311,7 @@ impl Seg for Shared {
             event: Event::Publish { count },
         });
         let cleaned = self.queue.insert(messages);
-        add_published(&mut self.transactions, b, c, count);
+        enter_running(&mut self.transactions, b, c, &Event::Publish { count });
         cleaned
     }
 
@@ -315,7 +322,7 @@ impl Seg for Shared {
             event: Event::Release { from },
         });
         self.locks.release(b, from);
-        end_from(&mut self.transactions, b, c, from);
+        enter_running(&mut self.transactions, b, c, &Event::Release { from });
     }
 
     fn gone(&mut self, b: u32, c: u32, from: u32) {
@@ -326,7 +333,7 @@ impl Seg for Shared {
         });
         let own = own_xid(&self.transactions, b);
         undo_from(&mut self.store, own, from);
-        begin(&mut self.transactions, b, c);
+        enter_running(&mut self.transactions, b, c, &Event::Gone { from });
     }
 
     fn stop(&mut self, b: u32, c: u32) {
@@ -350,15 +357,6 @@ fn fetch_event(fetched: Fetched) -> Event
     match fetched {
         Fetched::Messages(count) => Event::Fetch { count },
         Fetched::Reset => Event::FetchReset,
-    }
-}
-
-// Takes back what a transaction wrote in commands of this number and above, if it has written.
-fn undo_from(store: &mut RowStore, own: Option<Xid>, from: u32)
-    ensures { store.new ≡ undone own from store.old }
-{
-    if let Some(xid) = own {
-        store.undo(xid, from);
     }
 }
 

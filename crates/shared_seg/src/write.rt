@@ -74,7 +74,7 @@ pub(crate) fn clash_entry(b: u32, c: u32, taken: &Taken) -> Entry
 }
 
 // The event of a clash.
-fn clash_event(taken: &Taken) -> Event
+pub(crate) fn clash_event(taken: &Taken) -> Event
     ensures { result ≡ clash_with taken.now }
 {
     let Taken { name, clash } = *taken;

@@ -238,11 +238,11 @@ entered_turn scenario b old new had has was now over may short some command (Lef
 }
 
 pub entry_comes : {b : ℕ} {scenario later last : Scenario} {old now new : List Entry} {had has : ℕ → ℕ} {was s : Backend} {joined joins : Bool} → later ≡ scenario → now ≡ old → MayEnterNext scenario b old was → last ≡ later → length new + all_promised has last.backends ≤ 2 ^ 56 → 17 ≤ had b → joined ≡ has_joined was.life → joins ≡ not joined
-    → MakesNext later now new had has was s → (was.life ≡ lives.Unstarted → AwaitsCommand later new s) → NotesAtEntry now new was s → ComesTo last b new joins was s
+    → MakesNext later now new had has was s → (was.life ≡ lives.Unstarted → AwaitsCommand later new s) → NotesAtEntry later now new was s → ComesTo last b new joins was s
 entry_comes {b} {scenario} {later} {last} {old} {now} {new} {had} {has} {was} {s} {joined} {joins} same is may then short some tells says makes starts notes = record {
   taken = subst (λ (k : Scenario). HasTakenTurn k b new joins s) (sym then) (entered_turn later b now new had has was s joins again (subst (λ (k : Scenario). length new + all_promised has k.backends ≤ 2 ^ 56) then short)
       (let eq = ap had may.id in omega (arith, some, eq)) (λ over. starts (to_join was.life joins (says ∙ ap not tells) over)) makes);
-  number = λ before. (had_joined was.life (noted_of s ≡ nothing_noted) (NotesEntry now new was s) before notes).noted.number ∙ plus_none was.progress.finished joins (says ∙ ap not (tells ∙ before));
+  number = λ before. (had_joined was.life (noted_of s ≡ nothing_noted) (NotesEntry later now new was s) before notes).noted.goes.moves.finished ∙ plus_none was.progress.finished joins (says ∙ ap not (tells ∙ before));
   first = λ starts. says ∙ ap not (tells ∙ starts);
 }
   where

@@ -3,7 +3,7 @@ use Rattle.std.specs.Prelude.{◌≡◌, ◌≤◌, ◌<◌, ◌+◌, ◌-◌, �
 use Rattle.base_types.specs.Scenario.{Scenario}
 use Rattle.event_kinds.specs.declared.entry.Entry.{Entry}
 use Rattle.event_kinds.specs.declared.entry.Line.{Line}
-use Rattle.history_model.specs.Orderly.{IsSound}
+use Rattle.history_model.specs.Sound.{IsSound}
 use Rattle.history_model.specs.Prefixes.{EachEntry}
 use Rattle.cacheless.specs.MayEnter.{MayEnter}
 use Rattle.cacheless.specs.Output.{IsAllowed}

@@ -32,7 +32,7 @@ use Rattle.backend_core.specs.Agrees.{command_at, AwaitsEntry}
 use Rattle.backend_core.specs.Fits.{RunsBy, TransactionFits, OpensIn, Fits}
 use Rattle.backend_core.specs.Steps.{FindsNone, Looks, Says}
 use Rattle.backend_core.specs.Words.{is_unfound}
-use Rattle.history_model.specs.Transactions.{Running}
+use Rattle.txn_blocks.specs.declared.transaction.RunningTransaction.{RunningTransaction as Running}
 use Rattle.backend_core.proofs.Fitting.Levels.{outside_is}
 use Rattle.backend_core.proofs.Fitting.NextTransaction.{some_first}
 use Rattle.backend_core.proofs.Own.{waiting, follows, going, tells_alone}

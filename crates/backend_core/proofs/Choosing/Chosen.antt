@@ -6,9 +6,10 @@ use Rattle.std.proofs.Math.Bool.{and-false}
 use Rattle.std.proofs.lemmas.Bool.{both_ways, eq-eqb, le-leb}
 use Rattle.event_kinds.specs.declared.entry.Event.TheVariants as events
 use Rattle.history_model.specs.Drawn.{next_oid}
-use Rattle.history_model.specs.Legal.{AllowsEvent}
-use Rattle.history_model.specs.Transactions.{Running, begun, is_visible}
-use Rattle.history_model.specs.Writes.{is_empty}
+use Rattle.history_model.specs.MayFollow.{AllowsEvent}
+use Rattle.history_model.specs.Transactions.{begun, is_visible}
+use Rattle.txn_blocks.specs.declared.transaction.RunningTransaction.{RunningTransaction as Running}
+use Rattle.history_model.specs.Changing.{is_empty}
 use Rattle.seg_calls.specs.Calls.{entry_of, took_back, MayCall, MayRequest}
 use Rattle.seg_calls.proofs.Allowed.{is_start, request_follows}
 use Rattle.cacheless.specs.Facts.{Facts, facts_of}
@@ -60,12 +61,12 @@ started_still n m (Some t) some = refl
 pub look_may : (facts : Facts) (s : Session) → (owed_after facts.last ≡ []) ⊎ (owed_after facts.last ≡ OwesLook ∷ []) → s.tally.looks + 1 ≤ s.tally.scans + s.tally.grants + 2 * s.tally.fetches + 3 → may_look facts s ≡ true
 look_may facts s owes low = by_owed (owed_after facts.last) owes
   where
-    by_owed : (l : List Owing) → (l ≡ []) ⊎ (l ≡ OwesLook ∷ []) → elim l [ OwesFetch ∷ owed ↦ false | owed ↦ nat_le (s.tally.looks + 1) (s.tally.scans + s.tally.grants + 2 * s.tally.fetches + 3) ] ≡ true
-    by_owed [] is = le-leb _ _ low
-    by_owed (OwesLook ∷ owed) is = le-leb _ _ low
+    by_owed : (l : List Owing) → (l ≡ []) ⊎ (l ≡ OwesLook ∷ []) → elim l [ OwesFetch ∷ owed ↦ false | owed ↦ nat_le (s.tally.looks + 1) (s.tally.scans + s.tally.grants + s.tally.unlocks + 2 * s.tally.fetches + 3) ] ≡ true
+    by_owed [] is = le-leb _ _ (omega (arith, low))
+    by_owed (OwesLook ∷ owed) is = le-leb _ _ (omega (arith, low))
     by_owed (OwesFetch ∷ owed) (inl none) = absurd (cc none)
     by_owed (OwesFetch ∷ owed) (inr look) = absurd (cc look)
-    by_owed (OwesScan scan ∷ owed) is = le-leb _ _ low
+    by_owed (OwesScan scan ∷ owed) is = le-leb _ _ (omega (arith, low))
 
 -- in a command that runs no end is on its way: nothing is published or released; scans for what is held may be missing where writes were taken back, and aren't made then
 pub data Busy (last : Option Event) (p : Progress) (command : Command) : Type 0 where

@@ -13,8 +13,9 @@ use Rattle.ddl_effect.specs.Opens.{opens_before}
 use Rattle.ddl_effect.specs.Plans.{Done, left_rests_on}
 use Rattle.ddl_effect.specs.declared.told.Told.TheVariants as tells
 use Rattle.history_model.specs.Sent.{unsent_in}
-use Rattle.history_model.specs.Transactions.{Running, is_visible}
-use Rattle.history_model.specs.Writes.{is_empty}
+use Rattle.history_model.specs.Transactions.{is_visible}
+use Rattle.txn_blocks.specs.declared.transaction.RunningTransaction.{RunningTransaction as Running}
+use Rattle.history_model.specs.Changing.{is_empty}
 use Rattle.cacheless.specs.Ends.{End, Ends, Commits, TakesBack, end_of_all, end_of_block, end_well, end_badly, end_of, xid_of, next_sent, next_of_end}
 use Rattle.cacheless.specs.Facts.{Facts}
 use Rattle.cacheless.specs.Owed.{Owes, OwesScan, owed_at_start, owed_after, scans_owed, owed_of}

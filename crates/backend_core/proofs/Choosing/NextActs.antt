@@ -14,7 +14,7 @@ use Rattle.ddl_effect.specs.Plans.{Plan, Act, Done, Fails, Absent, Do, Lookup, O
 use Rattle.ddl_effect.specs.Stages.{plan_at, want_of_act, want_of}
 use Rattle.ddl_effect.specs.declared.want.Want.{Want}
 use Rattle.ddl_effect.specs.declared.want.Want.TheVariants as wants
-use Rattle.history_model.specs.Writes.{is_empty}
+use Rattle.history_model.specs.Changing.{is_empty}
 use Rattle.cacheless.specs.May.{has_failed, names_relation, is_lock_at, is_first_missing, is_next_of_act, is_next_at, lacks_opened, lacks_any, owes_nothing, is_unlock_at}
 use Rattle.cacheless.specs.OpenedReads.{ReadsOpened}
 use Rattle.cacheless.specs.Session.{Badly, outcome_of}

@@ -11,7 +11,7 @@ use Rattle.ddl_effect.specs.Commands.{plan_of, commands_of}
 use Rattle.ddl_effect.specs.Plans.{Plan, Act, Done, Fails, Absent, Do, Lookup, Open, Search, Read, Lock, Write}
 use Rattle.ddl_effect.specs.Stages.{plan_at, want_of}
 use Rattle.ddl_effect.specs.declared.want.Want.TheVariants as wants
-use Rattle.history_model.specs.Writes.{is_empty}
+use Rattle.history_model.specs.Changing.{is_empty}
 use Rattle.cacheless.specs.ActsDone.{reached, made_in, opening_by}
 use Rattle.cacheless.specs.Ends.{End, Commits, TakesBack}
 use Rattle.ddl_effect.specs.declared.want.Want.{Want}

@@ -7,7 +7,7 @@ use Rattle.ddl_effect.specs.Effects.{Effect, Nothing}
 use Rattle.ddl_effect.specs.declared.told.Told.{Told}
 use Rattle.ddl_effect.specs.declared.told.Told.TheVariants as tells
 use Rattle.history_model.specs.Versions.{fresh_text}
-use Rattle.history_model.specs.Writes.{has_written}
+use Rattle.history_model.specs.Transactions.{has_written}
 use Rattle.cacheless.specs.Lines.{read_field, answer_well, answer_by, effect_judged, answer_judged, line_of, lines_from}
 use Rattle.cacheless.specs.Protected.{is_protected}
 use Rattle.cacheless.specs.Session.{Finished}

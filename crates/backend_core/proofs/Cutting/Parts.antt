@@ -8,8 +8,13 @@ use Rattle.ddl_effect.specs.Commands.{commands_of}
 use Rattle.ddl_effect.specs.Plans.{Plan, Do}
 use Rattle.txn_blocks.specs.Blocks.{no_block}
 use Rattle.history_model.specs.Drawn.{next_oid}
-use Rattle.history_model.specs.Legal.{MayFollow, IsLegal}
-use Rattle.history_model.specs.Lives.{Life, Unstarted, Alive, Stopped, life_by, life_of, FollowsLife}
+use Rattle.history_model.specs.MayFollow.{MayFollow}
+use Rattle.history_model.specs.Legal.{IsLegal}
+use Rattle.history_model.specs.Lives.{life_by, life_of}
+use Rattle.history_model.specs.MayFollow.{FollowsLife}
+use Rattle.history_model.specs.declared.life.Life.{Life}
+use Rattle.history_model.specs.declared.life.Life.TheVariants.{Unstarted, Alive, Stopped}
+use Rattle.history_model.proofs.Allows.{legal_follows}
 use Rattle.history_model.proofs.Prefixes.{EachEntry-more, EachFrom-both, each-keeps}
 use Rattle.history_model.proofs.Reading.{life_of-own, life_of-other}
 use Rattle.cacheless.specs.Facts.{Facts, facts_of, facts_by}
@@ -229,7 +234,7 @@ Highest b history (Alive last) = (n : ℕ) → last ≤ n → EndsBy b n history
 Highest b history Stopped = ⊤
 
 highest : (b : ℕ) (history : List Entry) → IsLegal history → Highest b history (life_of history b)
-highest b history legal = each-keeps MayFollow (λ h. Highest b h (life_of h b)) (λ n. tt) (λ before e now may. more before e now may (e.backend == b) refl) history legal
+highest b history legal = each-keeps MayFollow (λ h. Highest b h (life_of h b)) (λ n. tt) (λ before e now may. more before e now may (e.backend == b) refl) history (legal_follows history legal)
   where
     own_more : (before : List Entry) (e : Entry) (life : Life) → Highest b before life → FollowsLife life e.command e.event → Highest b (before ++ e ∷ []) (life_by e.command e.event)
     own_more before e life now follows = by_event e.event follows

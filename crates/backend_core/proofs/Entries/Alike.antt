@@ -5,7 +5,7 @@ use Rattle.lock_modes.specs.Rooms.{Roomy}
 use Rattle.ddl_effect.specs.Commands.{writing}
 use Rattle.ddl_effect.specs.Stages.{plan_at, plan_again}
 use Rattle.ddl_effect.specs.declared.exec.Exec.TheVariants as stages
-use Rattle.history_model.specs.Writes.{is_empty}
+use Rattle.history_model.specs.Changing.{is_empty}
 use Rattle.cacheless.specs.Facts.{facts_of}
 use Rattle.cacheless.specs.Holds.{Holds}
 use Rattle.cacheless.specs.May.{lacks_opened, owes_nothing}

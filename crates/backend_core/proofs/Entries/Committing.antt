@@ -1,14 +1,15 @@
 -- A commit becomes visible, and publishes its messages.
 use Rattle.std.proofs.Common.{◌≡◌, ◌+◌, ◌∙◌, ◌==◌, ℕ, Bool, true, false, Option, Some, None, List, [], refl, sym, ap, subst, length, take, is_some}
-use Rattle.std.specs.Option.{option_map_or, unwrap_or}
+use Rattle.std.specs.Option.{option_map_or}
 use Rattle.std.proofs.lemmas.Bool.{eq-eqb}
 use Rattle.std.proofs.lemmas.List.{length-take, take_min}
 use Rattle.event_kinds.specs.declared.entry.Event.TheVariants as events
 use Rattle.inval_messages.specs.Lists.{Written, unsent_after}
 use Rattle.history_model.specs.Drawn.{next_oid}
-use Rattle.history_model.specs.Legal.{FollowsVisible, FollowsGone}
+use Rattle.history_model.specs.MayFollow.{FollowsVisible, FollowsGone}
 use Rattle.history_model.specs.Sent.{unsent_in, unsent_of}
-use Rattle.history_model.specs.Transactions.{Running, begun, has_xid, is_visible}
+use Rattle.history_model.specs.Transactions.{begun, has_xid, is_visible}
+use Rattle.txn_blocks.specs.declared.transaction.RunningTransaction.{RunningTransaction as Running}
 use Rattle.seg_calls.specs.Calls.{entry_of, ArePublishedNext, MayCall, Appends, took_back}
 use Rattle.txn_blocks.specs.declared.transaction.RunningTransaction.{RunningTransaction}
 use Rattle.cacheless.specs.Ends.{Ends, Commits, TakesBack}
@@ -32,13 +33,13 @@ use Rattle.backend_core.proofs.Own.{waiting}
 use Rattle.backend_core.proofs.Fitting.Rebuilding.{same_fits}
 
 -- the Xid of a transaction that has written
-xid_own : (own : Option Running) (xid : ℕ) → option_map_or (λ t. is_some t.xid) own false ≡ true → xid ≡ option_map_or (λ t. unwrap_or t.xid 0) own 0 → has_xid xid own ≡ true
+xid_own : (own : Option Running) (xid : ℕ) → option_map_or (λ t. is_some t.xid) own false ≡ true → xid ≡ option_map_or (λ t. option_map_or (λ (x : Xid). x.0) t.xid 0) own 0 → has_xid xid own ≡ true
 xid_own None xid some is = absurd (cc some)
 xid_own (Some t) xid some is = by_xid t.xid some is
   where
-    by_xid : (o : Option ℕ) → is_some o ≡ true → xid ≡ unwrap_or o 0 → option_map_or (λ own. own == xid) o false ≡ true
+    by_xid : (o : Option Xid) → is_some o ≡ true → xid ≡ option_map_or (λ (x : Xid). x.0) o 0 → option_map_or (λ (own : Xid). own.0 == xid) o false ≡ true
     by_xid None none at = absurd (cc none)
-    by_xid (Some x) there at = eq-eqb x xid (sym at)
+    by_xid (Some x) there at = eq-eqb x.0 xid (sym at)
 
 -- where a commit comes next nothing was taken back
 untaken : (facts : Facts) (o : Option Command) (s : Session) (looked : Bool) (frames : List Frame) (told : Bool) → Fits facts o s looked frames told → IsCommit facts (end_by facts o s) → (from : ℕ) → facts.last ≡ Some (events.Gone from) → ⊥

@@ -9,7 +9,8 @@ use Rattle.ddl_effect.specs.Plans.{Fails}
 use Rattle.ddl_effect.specs.Stages.{plan_at}
 use Rattle.history_model.specs.Drawn.{next_oid}
 use Rattle.history_model.specs.Lapped.{FetchesFrom}
-use Rattle.history_model.specs.Lives.{Alive, life_by}
+use Rattle.history_model.specs.Lives.{life_by}
+use Rattle.history_model.specs.declared.life.Life.TheVariants.{Alive}
 use Rattle.history_model.specs.Transactions.{begun}
 use Rattle.seg_calls.specs.Calls.{entry_of, Appends, took_back}
 use Rattle.cacheless.specs.Facts.{Facts, facts_of, facts_by}

@@ -12,10 +12,11 @@ use Rattle.ddl_effect.specs.Plans.{Plan, Done, Absent, Do, Lookup, Search, told_
 use Rattle.ddl_effect.specs.Stages.{plan_at}
 use Rattle.history_model.specs.Drawn.{next_oid}
 use Rattle.history_model.specs.Lapped.{is_lapped}
-use Rattle.history_model.specs.Lives.{Alive, life_by, last_event_of}
+use Rattle.history_model.specs.Lives.{life_by, last_event_of}
+use Rattle.history_model.specs.declared.life.Life.TheVariants.{Alive}
 use Rattle.history_model.specs.Log.{log_of, position_of, fetched_by}
 use Rattle.history_model.specs.Transactions.{begun, is_visible}
-use Rattle.history_model.specs.Writes.{is_empty}
+use Rattle.history_model.specs.Changing.{is_empty}
 use Rattle.seg_calls.specs.Calls.{entry_of, due_to, MayCall, Appends, Fetches, took_back}
 use Rattle.cacheless.specs.declared.progress.Due.TheVariants as dues
 use Rattle.cacheless.specs.Facts.{Facts, facts_of, facts_by}
@@ -41,6 +42,7 @@ use Rattle.backend_core.proofs.Fitting.Entered.{fits_at}
 use Rattle.backend_core.proofs.Fitting.FitsEntries.{StaysAt, Goes, fits_inside}
 use Rattle.backend_core.proofs.Fitting.Sought.{takes_cleared, unfound_held, well_there}
 use Rattle.backend_core.proofs.Entries.Looking.{begun_written}
+use Rattle.backend_core.proofs.Entries.WhereLeft.{entered_here}
 use Rattle.cacheless.proofs.Tests.{not_true}
 use Rattle.backend_core.proofs.Own.{waiting, over, unlost, OwnEntry, own_enters, follows, own_makes}
 use Rattle.inval_messages.specs.Messages.{is_spared}
@@ -631,20 +633,25 @@ reset_frames false before kept held frames none = ap (λ k. with_rest (is_kept k
 -- what is noted with the messages
 pub messages_noted : (scenario : Scenario) (old new : List Entry) (had has : ℕ → ℕ) (was now : Backend) (count : ℕ) (taken given : List Message) (waits : AwaitsEntry scenario old was) → Fetches scenario.size old new had has was.progress.id (was.progress.finished + 1) taken (fetches.Messages count) → given ≡ taken
     → (given ≡ fetched_by old was.progress.id (length given) → HasEntered scenario old was.progress (events.Fetch (length given)) waits.rests now.progress)
-    → now ≡ record was { progress = now.progress; looked = looked_after was (finds_none was.progress) (marks_build was.progress given); frames = frames_given was given; told = told_after was (finds_none was.progress) (marks_build was.progress given) } → IsNoted old new was nexts.Fetch now
+    → now ≡ record was { progress = now.progress; looked = looked_after was (finds_none was.progress) (marks_build was.progress given); frames = frames_given was given; told = told_after was (finds_none was.progress) (marks_build was.progress given) } → IsNoted scenario old new was nexts.Fetch now
 messages_noted scenario old new had has was now count taken given waits gives same goes is = record {
   event = events.Fetch count;
+  made = tt;
   entered = gives.appends.entries;
-  number = (goes (same ∙ gives.messages ∙ ap (fetched_by old was.progress.id) (given_count scenario old new had has was count taken given gives same))).moves.finished;
+  goes = entered_here scenario old new was.progress now.progress (events.Fetch count) waits.rests (subst (λ n. HasEntered scenario old was.progress (events.Fetch n) waits.rests now.progress) (sym counts) (goes (same ∙ gives.messages ∙ ap (fetched_by old was.progress.id) counts))) gives.appends.entries;
   noted = ap noted_of is ∙ ap (noted_given was) (same ∙ gives.messages);
 }
+  where
+    counts : count ≡ length given
+    counts = given_count scenario old new had has was count taken given gives same
 
 -- and with a reset
 pub reset_noted : (scenario : Scenario) (old new : List Entry) (had has : ℕ → ℕ) (was now : Backend) (given : List Message) (waits : AwaitsEntry scenario old was) → Fetches scenario.size old new had has was.progress.id (was.progress.finished + 1) given fetches.Reset → HasEntered scenario old was.progress events.FetchReset waits.rests now.progress
-    → now ≡ record was { progress = now.progress; looked = looked_after was (finds_none was.progress) (has_begun was.progress); frames = frames_reset_of was now.progress.opened; told = told_after was (finds_none was.progress) (has_begun was.progress) } → IsNoted old new was nexts.Fetch now
+    → now ≡ record was { progress = now.progress; looked = looked_after was (finds_none was.progress) (has_begun was.progress); frames = frames_reset_of was now.progress.opened; told = told_after was (finds_none was.progress) (has_begun was.progress) } → IsNoted scenario old new was nexts.Fetch now
 reset_noted scenario old new had has was now given waits gives goes is = record {
   event = events.FetchReset;
+  made = tt;
   entered = gives.appends.entries;
-  number = goes.moves.finished;
+  goes = entered_here scenario old new was.progress now.progress events.FetchReset waits.rests goes gives.appends.entries;
   noted = ap noted_of is ∙ (λ i. record (noted_reset was) { frames = frames_reset_of was ((ap (λ (x : Session). x.opened) goes.session ∙ (is_resumed (waiting waits).left (waiting waits)).opened) i) });
 }

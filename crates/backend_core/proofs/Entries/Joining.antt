@@ -5,10 +5,12 @@ use Rattle.event_kinds.specs.declared.entry.Event.TheVariants as events
 use Rattle.txn_blocks.specs.Blocks.{no_block}
 use Rattle.inval_messages.specs.Lists.{has_write_from}
 use Rattle.std.specs.Option.{option_map_or}
-use Rattle.history_model.specs.Legal.{MayFollow, FollowsVisible, FollowsGone}
-use Rattle.history_model.specs.Lives.{FollowsLife, life_of}
-use Rattle.history_model.specs.Transactions.{Running, is_visible}
-use Rattle.history_model.specs.Writes.{is_empty}
+use Rattle.history_model.specs.MayFollow.{MayFollow, FollowsVisible, FollowsGone}
+use Rattle.history_model.specs.MayFollow.{FollowsLife}
+use Rattle.history_model.specs.Lives.{life_of}
+use Rattle.history_model.specs.Transactions.{is_visible}
+use Rattle.txn_blocks.specs.declared.transaction.RunningTransaction.{RunningTransaction as Running}
+use Rattle.history_model.specs.Changing.{is_empty}
 use Rattle.history_model.proofs.Sound.{sound_is_legal}
 use Rattle.history_model.proofs.Reading.{life_of-own}
 use Rattle.seg_calls.specs.Calls.{entry_of, MayCall, Appends}

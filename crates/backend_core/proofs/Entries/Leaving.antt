@@ -3,9 +3,10 @@ use Rattle.std.proofs.Common.{◌≡◌, ◌+◌, ◌∙◌, ◌∷◌, ◌++◌
 use Rattle.std.proofs.lemmas.Bool.{eq-eqb, both_ways}
 use Rattle.event_kinds.specs.declared.entry.Event.TheVariants as events
 use Rattle.history_model.specs.Drawn.{next_oid}
-use Rattle.history_model.specs.Legal.{FollowsVisible, FollowsGone}
-use Rattle.history_model.specs.Lives.{FollowsLife, life_of, last_event_of}
-use Rattle.history_model.specs.Orderly.{MayComeNext}
+use Rattle.history_model.specs.MayFollow.{FollowsVisible, FollowsGone}
+use Rattle.history_model.specs.MayFollow.{FollowsLife}
+use Rattle.history_model.specs.Lives.{life_of, last_event_of}
+use Rattle.history_model.specs.Sound.{MayComeNext}
 use Rattle.history_model.specs.Transactions.{is_visible}
 use Rattle.history_model.proofs.Prefixes.{EachEntry-more}
 use Rattle.history_model.proofs.Reading.{life_of-own}

@@ -6,10 +6,12 @@ use Rattle.std.proofs.Math.Bool.{and-false, or-false, or-true}
 use Rattle.event_kinds.specs.declared.entry.Event.TheVariants as events
 use Rattle.txn_blocks.specs.Blocks.{Block, Outside, Inside, Failed, no_block, ends_block, refused_by}
 use Rattle.history_model.specs.Drawn.{next_oid}
-use Rattle.history_model.specs.Legal.{IsLegal, MayFollow, AllowsLook}
+use Rattle.history_model.specs.Legal.{IsLegal}
+use Rattle.history_model.specs.MayFollow.{MayFollow, AllowsLook}
 use Rattle.history_model.specs.Log.{is_waiting}
-use Rattle.history_model.specs.Transactions.{Running, begun, is_visible}
-use Rattle.history_model.specs.Writes.{is_empty}
+use Rattle.history_model.specs.Transactions.{begun, is_visible}
+use Rattle.txn_blocks.specs.declared.transaction.RunningTransaction.{RunningTransaction as Running}
+use Rattle.history_model.specs.Changing.{is_empty}
 use Rattle.history_model.proofs.Waiting.{not_waited}
 use Rattle.seg_calls.specs.Calls.{took_back, MayCall, Appends}
 use Rattle.cacheless.specs.declared.progress.Due.TheVariants as dues
@@ -28,10 +30,12 @@ use Rattle.backend_core.specs.Types.{Command, Scenario, Entry, Event, Progress, 
 use Rattle.backend_core.specs.Agrees.{IsPlayed, command_at, AgreesNow, AwaitsEntry, IsReady}
 use Rattle.backend_core.specs.Fits.{looks_due, LooksFit, Fits, IsLookedFor, Lacks, Unfound, Said, FramesFit, IsTakenBack, IsUnheld, looked_in, looked_on_top, told_owed, lacks_scan, is_lost}
 use Rattle.backend_core.specs.Looks.{next_of_look, look_of, LooksWell}
+use Rattle.backend_core.specs.Noted.{ComesAs}
 use Rattle.backend_core.specs.declared.look_for.LookFor.{LookFor}
 use Rattle.backend_core.specs.declared.look_for.LookFor.TheVariants as looks
 use Rattle.backend_core.specs.Steps.{OwesLookNow, IsLookNext, Enters, IsScanNext, FindsNone, Looks, Says, IsAcceptNext, IsInTurn, IsNextOf}
 use Rattle.backend_core.specs.Words.{has_error, is_looked_for, is_unfound, scan_on_top, frames_looked}
+use Rattle.backend_core.proofs.Entries.WhereLeft.{entered_here}
 use Rattle.backend_core.proofs.Choosing.ActsRun.{scan_runs, find_runs}
 use Rattle.backend_core.proofs.Choosing.Chosen.{Busy, Due, Begins, Scans, StartsNow, starts_now, may_call, hidden, started_most, started_by, started_now, started_still, look_may, Acts, Sought, standing}
 use Rattle.backend_core.proofs.Fitting.Entered.{fits_at}
@@ -204,6 +208,7 @@ module _ (scenario : Scenario) (old : List Entry) (was : Backend) (waits : Await
       agrees = own_agrees scenario old was (record was { progress = p; looked = looked; frames = frames; told = told }) event waits played courses plays follows goes kept
           (fits_at scenario old was event waits p goes looked frames told (look_fits (hidden scenario old was waits command at busy) (look_rebuilds busy rebuilds) sought))
           refl refl refl (λ stop. cc stop) none;
+      goes = entered_here scenario old (old ++ look_of was some_wait ∷ []) was.progress p event waits.rests goes refl;
       id = goes.moves.id;
       number = goes.moves.finished;
     }
@@ -400,6 +405,12 @@ accept_well scenario old was p some_wait told waits played courses next follows 
 
     runs : is_some facts.running ≡ true
     runs = find_runs scenario old was waits courses next.command next.free.at next.free.first next.finds
+
+-- each look comes as one
+pub look_comes : (look : LookFor) (some_wait : Bool) → ComesAs (next_of_look look) (events.Look some_wait)
+look_comes looks.Accept some_wait = tt
+look_comes (looks.Scan rebuilds) some_wait = tt
+look_comes looks.Absent some_wait = tt
 
 -- a look that comes next may be called for, where the history allows it
 pub looks_call : (scenario : Scenario) (seen : List Entry) (s : Backend) (look : LookFor) (some_wait : Bool) → AwaitsEntry scenario seen s → IsNextOf s (next_of_look look) → AllowsLook seen s.progress.id some_wait → MayCall scenario seen (look_of s some_wait)

@@ -13,42 +13,45 @@ use Rattle.ddl_effect.specs.Stages.{plan_at, acts_left}
 use Rattle.backend_core.specs.Types.{Oid, Mode, Exec, OwnLock, Scenario, Entry, Event, Line, Frame, Next, Progress, Backend}
 use Rattle.backend_core.specs.declared.next.Next.TheVariants as nexts
 use Rattle.backend_core.specs.Agrees.{AgreesNow}
-use Rattle.backend_core.specs.Noted.{Noted, noted_of, noted_by, IsNoted, Settles, Stays, Acts, Passes}
+use Rattle.backend_core.specs.Noted.{Noted, noted_of, noted_by, ComesAs, IsEntered, IsNoted, Settles, Stays, Acts, Passes}
 use Rattle.backend_core.specs.Words.{is_unfound, finds_none}
 use Rattle.backend_core.proofs.Silent.{act_finds}
 use Rattle.backend_core.proofs.Entries.Inside.{then_so}
+use Rattle.backend_core.proofs.Entries.WhereLeft.{entered_here, entered_alike}
 
--- an entry that is appended, by which the backend stays in its command
+-- an entry that is appended, and is what comes next
 pub noted_with : (scenario : Scenario) (old new : List Entry) (had has : ℕ → ℕ) (was now : Backend) (next : Next) (event : Event) (rests : Rests scenario old was.progress) → HasEntered scenario old was.progress event rests now.progress
-    → Appends old new had has (entry_of was.progress.id (was.progress.finished + 1) event) → noted_of now ≡ noted_by old was next event → IsNoted old new was next now
-noted_with scenario old new had has was now next event rests goes appends same = record { event = event; entered = appends.entries; number = goes.moves.finished; noted = same }
+    → Appends old new had has (entry_of was.progress.id (was.progress.finished + 1) event) → ComesAs next event → noted_of now ≡ noted_by old was next event → IsNoted scenario old new was next now
+noted_with scenario old new had has was now next event rests goes appends made same = record { event = event; made = made; entered = appends.entries; goes = entered_here scenario old new was.progress now.progress event rests goes appends.entries; noted = same }
 
 -- where there is room for a lock, the backend is in the same command
-module _ (old new : List Entry) (had has : ℕ → ℕ) (was : Backend) (q p : Progress) (same : IsLockedIn was.progress.locks.items was.progress q) (number : p.finished ≡ q.finished) (rel : Oid) (mode : Mode) where
+module _ (scenario : Scenario) (old new : List Entry) (had has : ℕ → ℕ) (was : Backend) (q p : Progress) (same : IsLockedIn was.progress.locks.items was.progress q) (rests : Rests scenario old q) (rel : Oid) (mode : Mode) where
   entered_same : (event : Event) → Appends old new had has (entry_of q.id (q.finished + 1) event) → new ≡ old ++ entry_of was.progress.id (was.progress.finished + 1) event ∷ []
   entered_same event appends = appends.entries ∙ ap (λ (x : Progress). old ++ entry_of x.id (x.finished + 1) event ∷ []) same.is
 
-  number_same : p.finished ≡ was.progress.finished
-  number_same = number ∙ ap (λ (x : Progress). x.finished) same.is
+  goes_same : (event : Event) → HasEntered scenario old q event rests p → Appends old new had has (entry_of q.id (q.finished + 1) event) → IsEntered scenario old new was.progress event p
+  goes_same event goes appends = entered_alike scenario old new was.progress q p event (ap (λ (x : Progress). x.id) same.is) (ap (λ (x : Progress). x.commands) same.is) (ap (λ (x : Progress). x.finished) same.is)
+      (entered_here scenario old new q p event rests goes appends.entries)
 
   -- a lock is granted: what came since the lookup began doesn't count
-  pub granted_noted : Appends old new had has (entry_of q.id (q.finished + 1) (events.LockOk rel mode)) → IsNoted old new was (nexts.Lock rel mode) (record was { progress = p; told = false })
-  granted_noted appends = record { event = events.LockOk rel mode; entered = entered_same (events.LockOk rel mode) appends; number = number_same; noted = refl }
+  pub granted_noted : HasEntered scenario old q (events.LockOk rel mode) rests p → Appends old new had has (entry_of q.id (q.finished + 1) (events.LockOk rel mode)) → IsNoted scenario old new was (nexts.Lock rel mode) (record was { progress = p; told = false })
+  granted_noted goes appends = let event = events.LockOk rel mode in record { event = event; made = (refl, refl); entered = entered_same event appends; goes = goes_same event goes appends; noted = refl }
 
   -- and one is refused
-  pub held_noted : (holder : ℕ) (held : Mode) → Appends old new had has (entry_of q.id (q.finished + 1) (events.LockHeld rel mode holder held)) → IsNoted old new was (nexts.Lock rel mode) (record was { progress = p })
-  held_noted holder held appends = record { event = events.LockHeld rel mode holder held; entered = entered_same (events.LockHeld rel mode holder held) appends; number = number_same; noted = refl }
+  pub held_noted : (holder : ℕ) (held : Mode) → HasEntered scenario old q (events.LockHeld rel mode holder held) rests p → Appends old new had has (entry_of q.id (q.finished + 1) (events.LockHeld rel mode holder held)) → IsNoted scenario old new was (nexts.Lock rel mode) (record was { progress = p })
+  held_noted holder held goes appends = let event = events.LockHeld rel mode holder held in record { event = event; made = (refl, refl); entered = entered_same event appends; goes = goes_same event goes appends; noted = refl }
 
 -- a write is noted by what is kept and open alone
 write_alike : (old : List Entry) (was : Backend) (locks : Roomy OwnLock) (exec : Exec) (event : Event) → noted_by old (record was { progress = record was.progress { locks = locks; exec = exec } }) nexts.Write event ≡ noted_by old was nexts.Write event
 write_alike old was locks exec (events.Write xid items) = refl
 write_alike old was locks exec event = refl
 
-pub written_noted : (old new : List Entry) (was now : Backend) (q : Progress) (exec : Exec) (known : AreKnown (is_kept (kept_at q)) q.opened q.suspects) → IsLockedIn was.progress.locks.items was.progress q → IsNoted old new (record was { progress = record q { exec = exec; known = known } }) nexts.Write now → IsNoted old new was nexts.Write now
-written_noted old new was now q exec known same noted = record {
+pub written_noted : (scenario : Scenario) (old new : List Entry) (was now : Backend) (q : Progress) (exec : Exec) (known : AreKnown (is_kept (kept_at q)) q.opened q.suspects) → IsLockedIn was.progress.locks.items was.progress q → IsNoted scenario old new (record was { progress = record q { exec = exec; known = known } }) nexts.Write now → IsNoted scenario old new was nexts.Write now
+written_noted scenario old new was now q exec known same noted = record {
   event = noted.event;
+  made = noted.made;
   entered = noted.entered ∙ ap (λ (x : Progress). old ++ entry_of x.id (x.finished + 1) noted.event ∷ []) same.is;
-  number = noted.number ∙ ap (λ (x : Progress). x.finished) same.is;
+  goes = entered_alike scenario old new was.progress (record q { exec = exec; known = known }) now.progress noted.event (ap (λ (x : Progress). x.id) same.is) (ap (λ (x : Progress). x.commands) same.is) (ap (λ (x : Progress). x.finished) same.is) noted.goes;
   noted = noted.noted ∙ sym (λ i. noted_by old (record was { progress = record q { exec = exec; known = another_known q known i } }) nexts.Write noted.event) ∙ ap (λ (x : Progress). noted_by old (record was { progress = record x { exec = exec } }) nexts.Write noted.event) same.is ∙ write_alike old was q.locks exec noted.event;
 }
 

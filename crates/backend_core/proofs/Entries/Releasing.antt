@@ -6,9 +6,10 @@ use Rattle.std.proofs.lemmas.Bool.{both_ways, ltb-true, ne_eqb, false_from_ne_tr
 use Rattle.std.proofs.lemmas.List.{length-drop}
 use Rattle.event_kinds.specs.declared.entry.Event.TheVariants as events
 use Rattle.inval_messages.specs.Lists.{Written, has_write_from, cats_in, sent_in, left_after, unsent_after}
-use Rattle.history_model.specs.Legal.{FollowsVisible, FollowsGone, MayRelease}
+use Rattle.history_model.specs.MayFollow.{FollowsVisible, FollowsGone, MayRelease}
 use Rattle.history_model.specs.Sent.{left_in, unsent_in}
-use Rattle.history_model.specs.Transactions.{Running, is_visible}
+use Rattle.history_model.specs.Transactions.{is_visible}
+use Rattle.txn_blocks.specs.declared.transaction.RunningTransaction.{RunningTransaction as Running}
 use Rattle.seg_calls.specs.Calls.{entry_of, MayCall, Appends}
 use Rattle.cacheless.specs.Ends.{Commits, TakesBack}
 use Rattle.cacheless.specs.Facts.{Facts, facts_of, facts_by}
@@ -28,6 +29,7 @@ use Rattle.backend_core.specs.Frames.{unless, with_rest}
 use Rattle.backend_core.specs.Noted.{noted_of, IsNoted}
 use Rattle.backend_core.specs.declared.next.Next.TheVariants as nexts
 use Rattle.backend_core.specs.Steps.{EndsNext, InCommand, AfterAll, MakesEntry, Enters}
+use Rattle.backend_core.proofs.Entries.WhereLeft.{entered_here}
 use Rattle.backend_core.proofs.Entries.EndEntries.{end_now, end_own, end_call, end_enters, end_bare}
 use Rattle.backend_core.proofs.Fitting.Released.{fails_at, frames_left, left_fits, left_unlooked, left_top, left_looks, plain_unlooked}
 use Rattle.backend_core.proofs.Fitting.Rebuilding.{usable_is}
@@ -231,11 +233,12 @@ release_makes scenario old new had has was from waits played courses next append
 
 -- what is noted with it
 pub release_noted : (scenario : Scenario) (old new : List Entry) (had has : ℕ → ℕ) (was : Backend) (from : ℕ) (p : Progress) (frames : List Frame) (rests : Rests scenario old was.progress) → HasEntered scenario old was.progress (events.Release from) rests p → kept_at p ≡ kept_at was.progress
-    → frames ≡ unless (has_failed p) was.frames (with_rest (is_kept (kept_at p)) p.opened was.frames) → Appends old new had has (entry_of was.progress.id (was.progress.finished + 1) (events.Release from)) → IsNoted old new was (nexts.Release from) (record was { progress = p; frames = frames })
+    → frames ≡ unless (has_failed p) was.frames (with_rest (is_kept (kept_at p)) p.opened was.frames) → Appends old new had has (entry_of was.progress.id (was.progress.finished + 1) (events.Release from)) → IsNoted scenario old new was (nexts.Release from) (record was { progress = p; frames = frames })
 release_noted scenario old new had has was from p frames rests goes kept are appends = record {
   event = events.Release from;
+  made = refl;
   entered = appends.entries;
-  number = goes.moves.finished;
+  goes = entered_here scenario old new was.progress p (events.Release from) rests goes appends.entries;
   noted = ap (λ l. record (noted_of was) { frames = l }) (are ∙ (λ i. unless (fails_at (ap (λ (x : Session). x.left) goes.session i)) was.frames (with_rest (is_kept (kept i)) (ap (λ (x : Session). x.opened) goes.session i) was.frames)));
 }
 

@@ -5,8 +5,9 @@ use Rattle.std.specs.Option.{option_map_or}
 use Rattle.std.proofs.lemmas.Bool.{both_ways, false_from_ne_true}
 use Rattle.event_kinds.specs.declared.entry.Event.TheVariants as events
 use Rattle.inval_messages.specs.Lists.{has_write_from, lists_from, cats_in, rels_in, sent_in}
-use Rattle.history_model.specs.Legal.{FollowsVisible, FollowsGone}
-use Rattle.history_model.specs.Transactions.{Running, is_visible}
+use Rattle.history_model.specs.MayFollow.{FollowsVisible, FollowsGone}
+use Rattle.history_model.specs.Transactions.{is_visible}
+use Rattle.txn_blocks.specs.declared.transaction.RunningTransaction.{RunningTransaction as Running}
 use Rattle.seg_calls.specs.Calls.{entry_of, MayCall, Appends}
 use Rattle.cacheless.specs.Ends.{End, Ends, Commits, TakesBack, end_of, end_well, end_badly}
 use Rattle.cacheless.specs.Facts.{Facts, facts_of, facts_by}

@@ -8,8 +8,8 @@ use Rattle.inval_messages.specs.Lists.{Written, has_write_from}
 use Rattle.ddl_effect.specs.Plans.{Act, Plan, Done, Fails, Absent, Do, Lookup, Open, Search, Read, Lock, Write}
 use Rattle.ddl_effect.specs.Stages.{plan_at}
 use Rattle.history_model.specs.Held.{held_of}
-use Rattle.history_model.specs.Legal.{AllowsUnlock}
-use Rattle.history_model.specs.Writes.{has_written}
+use Rattle.history_model.specs.MayFollow.{AllowsUnlock}
+use Rattle.history_model.specs.Transactions.{has_written}
 use Rattle.history_model.proofs.Every.{any-weaker}
 use Rattle.seg_calls.specs.Calls.{entry_of, MayCall, Appends, took_back}
 use Rattle.cacheless.specs.Facts.{Facts, facts_of, facts_by}
@@ -40,7 +40,7 @@ use Rattle.history_model.specs.Drawn.{next_oid}
 use Rattle.history_model.specs.Transactions.{begun}
 use Rattle.cacheless.specs.May.{may_play_at, may_last_at}
 use Rattle.history_model.proofs.Prefixes.{EachEntry-weaker}
-use Rattle.history_model.specs.Orderly.{MayComeNext}
+use Rattle.history_model.specs.Sound.{MayComeNext}
 use Rattle.std.specs.Prelude.{nat_le}
 use Rattle.backend_core.proofs.Fitting.Rebuilding.{same_fits, owed_bare}
 

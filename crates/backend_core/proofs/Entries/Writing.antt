@@ -23,7 +23,7 @@ use Rattle.ddl_effect.specs.Stages.{plan_at}
 use Rattle.history_model.specs.Drawn.{next_oid}
 use Rattle.history_model.specs.Held.{held_of}
 use Rattle.history_model.specs.Transactions.{begun}
-use Rattle.history_model.specs.Writes.{has_written}
+use Rattle.history_model.specs.Transactions.{has_written}
 use Rattle.history_model.proofs.Ordered.{locks_exclude}
 use Rattle.seg_calls.specs.declared.refusal.Written.{Written as Made}
 use Rattle.seg_calls.specs.declared.refusal.WriteRefusal.TheVariants as refusals
@@ -52,10 +52,11 @@ use Rattle.backend_core.specs.Types.{Oid, Xid, Command, Draft, Item, Message, Op
 use Rattle.backend_core.specs.Agrees.{IsPlayed, command_at, AwaitsEntry}
 use Rattle.backend_core.specs.Fits.{looks_due, looked_on_top, came_well, LooksFit, IsLookedFor, TakesFit, FramesFit, keeps_whole, is_lost}
 use Rattle.backend_core.specs.Steps.{IsWriteNext, MakesEntry, Enters, IsRefused}
-use Rattle.backend_core.specs.Noted.{noted_of, noted_by, IsNoted}
+use Rattle.backend_core.specs.Noted.{noted_of, noted_by, ComesAs, IsNoted}
 use Rattle.backend_core.specs.declared.next.Next.TheVariants as nexts
 use Rattle.backend_core.proofs.Choosing.ActsRun.{act_runs}
 use Rattle.backend_core.proofs.Entries.Alike.{alike_enters}
+use Rattle.backend_core.proofs.Entries.WhereLeft.{entered_here}
 use Rattle.backend_core.proofs.Choosing.Chosen.{Acts, may_request, started_still}
 use Rattle.backend_core.proofs.Fitting.Entered.{fits_at}
 use Rattle.backend_core.proofs.Entries.Failing.{IsActing, clash_shows, failed_enters}
@@ -87,6 +88,11 @@ clashes_as old new had has b c draft name (clashes.Running xid) writes = writes
 clash_plays : (next : ℕ) (facts : Facts) (command : Command) (s : Session) (name : List ℕ) (clash : Clash) → owed_of facts command s ≡ [] → IsClash facts next s.left name → MayPlay next facts command s (clash_event name clash)
 clash_plays next facts command s name (clashes.Row rel) none clashes = (none, clashes)
 clash_plays next facts command s name (clashes.Running xid) none clashes = (none, clashes)
+
+-- which is one of a write
+clash_comes : (name : List ℕ) (clash : Clash) → ComesAs nexts.Write (clash_event name clash)
+clash_comes name (clashes.Row rel) = tt
+clash_comes name (clashes.Running xid) = tt
 
 -- one that is refused leaves what is noted
 clash_leaves : (old : List Entry) (was : Backend) (name : List ℕ) (clash : Clash) → noted_of was ≡ noted_by old was nexts.Write (clash_event name clash)
@@ -190,7 +196,7 @@ module _ (scenario : Scenario) (old : List Entry) (was : Backend) (draft : Draft
       kept
       (fits_at scenario old was event waits p goes was.looked (frames_wrote kept_then) was.told
       (entry_fits scenario old was waits courses next.command next.free.at later now was.looked (frames_wrote kept_then) was.told
-      (record { runs = λ i. Some (record (begun (sym waits.rests.holds.count i + 1) facts.running) { xid = Some xid.0 }); written = λ is. refl; last = λ from is. cc is })
+      (record { runs = λ i. Some (record (begun (sym waits.rests.holds.count i + 1) facts.running) { xid = Some xid }); written = λ is. refl; last = λ from is. cc is })
       (record { blocks = ap (λ q. (written q s).blocks) at; opens = ap (λ q. (written q s).opens) at; held = inr (ap (λ q. (written q s).opened) at, going_on); finished = ap (λ q. length (written q s).finished) at; blocked = ap (λ q. (written q s).blocked) at; ended = ap (λ q. (written q s).ended) at; left = λ is there. absurd (both_ways _ acting.unsettled is) })
       acting.runs (Acts acting.unsettled) looks rebuilds
       (λ made. absurd (unlooked made)) (subst (λ q. TakesFit (number_of now) now.locks (written q s).taken (written q s).left) (sym at) tt)))
@@ -267,12 +273,13 @@ module _ (scenario : Scenario) (old : List Entry) (was : Backend) (draft : Draft
   -- what is noted with it
   pub wrote_noted : {D : Type 0} (new : List Entry) (had has : ℕ → ℕ) (p : Progress) (frames : List Frame) (result : Result (Unit {0}) D) (made : Made) (messages : List Message) (known : Option Oid) → known ≡ relation_made draft.changes made.first_oid → MakesWrite old new had has was.progress.id (was.progress.finished + 1) draft made → messages ≡ made.messages.items → kept_at p ≡ kept_spared messages (kept_at was.progress)
       → ((scenario : Scenario) (seen : List Entry) (items : List Item) → (rests : Rests scenario seen was.progress) → messages ≡ messages_in seen was.progress.id items → flat_map (locked_by (was.progress.finished + 1)) items ≡ locks_made (was.progress.finished + 1) known → HasEntered scenario seen was.progress (events.Write made.xid items) rests p)
-      → (held : List Opening) (given : List Message) → held ≡ p.opened → given ≡ made.messages.items → OnOk result (frames ≡ frames_after (is_kept (kept_at p)) held given was.frames) → OnOk result (IsNoted old new was nexts.Write (record was { progress = p; frames = frames }))
+      → (held : List Opening) (given : List Message) → held ≡ p.opened → given ≡ made.messages.items → OnOk result (frames ≡ frames_after (is_kept (kept_at p)) held given was.frames) → OnOk result (IsNoted scenario old new was nexts.Write (record was { progress = p; frames = frames }))
   wrote_noted new had has p frames (Err e) made messages known same makes are kept goes held given opens gives told = tt
   wrote_noted new had has p frames (Ok x) made messages known same makes are kept goes held given opens gives told = record {
     event = events.Write made.xid (items_drawn old draft);
+    made = tt;
     entered = makes.appends.entries;
-    number = entered_it.moves.finished;
+    goes = entered_here scenario old new was.progress p (events.Write made.xid (items_drawn old draft)) waits.rests entered_it makes.appends.entries;
     noted = λ i. record (noted_of was) { frames = (told ∙ frames_are) i };
   }
     where
@@ -286,10 +293,14 @@ module _ (scenario : Scenario) (old : List Entry) (was : Backend) (draft : Draft
       frames_are = λ i. frames_after (is_kept (now_kept i)) ((opens ∙ ap (λ (x : Session). x.opened) entered_it.session ∙ ap (λ q. (written q s).opened) at) i) ((gives ∙ makes.messages) i) was.frames
 
   -- and with one that is refused
-  pub clash_noted : (new : List Entry) (had has : ℕ → ℕ) (p : Progress) (name : List ℕ) (clash : Clash) → HasEntered scenario old was.progress (clash_event name clash) waits.rests p → Writes old new had has was.progress.id (was.progress.finished + 1) draft (Err (refusals.Clash name clash)) → IsNoted old new was nexts.Write (record was { progress = p })
+  pub clash_noted : (new : List Entry) (had has : ℕ → ℕ) (p : Progress) (name : List ℕ) (clash : Clash) → HasEntered scenario old was.progress (clash_event name clash) waits.rests p → Writes old new had has was.progress.id (was.progress.finished + 1) draft (Err (refusals.Clash name clash)) → IsNoted scenario old new was nexts.Write (record was { progress = p })
   clash_noted new had has p name clash goes writes = record {
     event = clash_event name clash;
-    entered = (clashes_as old new had has was.progress.id (was.progress.finished + 1) draft name clash writes).appends.entries;
-    number = goes.moves.finished;
+    made = clash_comes name clash;
+    entered = appended;
+    goes = entered_here scenario old new was.progress p (clash_event name clash) waits.rests goes appended;
     noted = clash_leaves old was name clash;
   }
+    where
+      appended : new ≡ with_own old was.progress (clash_event name clash)
+      appended = (clashes_as old new had has was.progress.id (was.progress.finished + 1) draft name clash writes).appends.entries

@@ -18,6 +18,7 @@ has_room scenario seen s waits short = let c : CountsFit s.progress.tally (lengt
   lt-ltb s.progress.tally.looks 1152921504606846976 (omega (arith, c.looks, short)),
   lt-ltb s.progress.tally.scans 1152921504606846976 (omega (arith, c.scans, short)),
   lt-ltb s.progress.tally.grants 1152921504606846976 (omega (arith, c.grants, short)),
+  lt-ltb s.progress.tally.unlocks 1152921504606846976 (omega (arith, c.unlocks, short)),
   lt-ltb s.progress.tally.fetches 1152921504606846976 (omega (arith, c.fetches, short)),
   lt-ltb s.progress.tally.full 1152921504606846976 (omega (arith, c.full, c.fetches, short)),
 )

@@ -6,8 +6,9 @@ use Rattle.std.proofs.Math.Bool.{and-false}
 use Rattle.event_kinds.specs.declared.entry.Event.TheVariants as events
 use Rattle.inval_messages.specs.Lists.{has_write_from}
 use Rattle.txn_blocks.specs.Blocks.{Block, Level, Blocks, Outside, Inside, Failed, no_block, is_open, ends_block, refused_by, blocks_well, blocks_badly}
-use Rattle.history_model.specs.Transactions.{Running, begun, is_visible}
-use Rattle.history_model.specs.Writes.{is_empty}
+use Rattle.history_model.specs.Transactions.{begun, is_visible}
+use Rattle.txn_blocks.specs.declared.transaction.RunningTransaction.{RunningTransaction as Running}
+use Rattle.history_model.specs.Changing.{is_empty}
 use Rattle.cacheless.specs.Facts.{Facts}
 use Rattle.cacheless.specs.Session.{Session, Well, opening_of, held_in, held_before, number_of, outcome_of, is_settled, plan_first, is_blocked}
 use Rattle.cacheless.specs.Settled.{blocks_after, opens_passed, opens_after}

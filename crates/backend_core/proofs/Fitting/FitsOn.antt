@@ -9,8 +9,8 @@ use Rattle.ddl_effect.specs.Opens.{opens_before}
 use Rattle.base_types.specs.declared.scan.Purpose.TheVariants as scans
 use Rattle.ddl_effect.specs.Plans.{Act, Plan, Do, Lookup, Absent, Open}
 use Rattle.event_kinds.specs.declared.entry.Event.TheVariants as events
-use Rattle.history_model.specs.Transactions.{Running}
-use Rattle.history_model.specs.Writes.{is_empty}
+use Rattle.txn_blocks.specs.declared.transaction.RunningTransaction.{RunningTransaction as Running}
+use Rattle.history_model.specs.Changing.{is_empty}
 use Rattle.cacheless.specs.Facts.{Facts}
 use Rattle.cacheless.specs.Session.{Session, Outcome, Well, Badly, Unsettled, opening_of, held_in, held_before, number_of, outcome_of, is_settled}
 use Rattle.cacheless.specs.Owed.{OwesScan, owed_at_start, owed_after, scans_owed, owed_of, started_in, act_owed}

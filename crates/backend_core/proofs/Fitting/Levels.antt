@@ -5,7 +5,7 @@ use Rattle.std.specs.Str.{bytes_eq}
 use Rattle.std.proofs.lemmas.Bool.{both_ways}
 use Rattle.command_answers.specs.declared.error.CommandError.TheVariants as errors
 use Rattle.txn_blocks.specs.Blocks.{Level, Blocks, Outside, no_block, is_open, refused_without, is_savepoint, place_of, place_with, levels_around, levels_up_to, innermost}
-use Rattle.history_model.specs.Writes.{is_empty}
+use Rattle.history_model.specs.Changing.{is_empty}
 use Rattle.backend_core.specs.Fits.{LevelsRise, IsOutermostPlain}
 
 pub rise_more : (from n : ℕ) (levels : List Level) → LevelsRise from n levels → LevelsRise from (n + 1) levels

@@ -1,8 +1,10 @@
 -- An allowed history is sound, its writes keep columns in order and names apart, and each of its backends is on its course.
 use Rattle.std.proofs.Common.{ℕ, List, [], ◌∷◌, ◌++◌, refl}
-use Rattle.history_model.specs.Legal.{MayFollow, IsLegal}
-use Rattle.history_model.specs.Orderly.{MayComeNext, IsSound}
+use Rattle.history_model.specs.MayFollow.{MayFollow}
+use Rattle.history_model.specs.Legal.{IsLegal}
+use Rattle.history_model.specs.Sound.{MayComeNext, IsSound}
 use Rattle.history_model.specs.Read.{ScansOnlyIfNeeded, IsEconomical}
+use Rattle.history_model.proofs.Allows.{legal_follows}
 use Rattle.history_model.proofs.Prefixes.{EachEntry-more, EachEntry-weaker, EachFrom-both, each-keeps}
 use Rattle.cacheless.specs.Types.{Scenario, Entry, CheckKind}
 use Rattle.cacheless.specs.OnCourse.{AllOnCourse}
@@ -42,7 +44,7 @@ played_start scenario spelled = (record { sound = tt; plays = tt; columns = tt; 
 pub plays_on_course : (scenario : Scenario) (history : List Entry) → AreSpelled scenario → IsLegal history → Plays scenario history → IsPlayed scenario history × AllOnCourse scenario history
 plays_on_course scenario history spelled legal plays =
     each-keeps (λ before e. MayFollow before e × IsNext scenario before e) (λ h. IsPlayed scenario h × AllOnCourse scenario h) (played_start scenario spelled) (λ before e k may. played_more scenario before e k.0 k.1 may.0 may.1) history
-    (EachFrom-both MayFollow (IsNext scenario) [] history legal plays)
+    (EachFrom-both MayFollow (IsNext scenario) [] history (legal_follows history legal) plays)
 
 -- a history in which backends do what their commands say is economical: nobody scans again what it may still rely on
 pub plays_economical : (scenario : Scenario) (history : List Entry) → Plays scenario history → IsEconomical history

@@ -10,7 +10,7 @@ use Rattle.ddl_effect.specs.Opens.{place_latest, without_latest, opens_before}
 use Rattle.ddl_effect.specs.Plans.{Act, Lookup, Open, Search, Read, Lock, Write, Plan, Do, Done, Fails, Absent}
 use Rattle.txn_blocks.specs.Blocks.{Block, Blocks, Outside, Inside, Failed, Level}
 use Rattle.history_model.specs.OfKind.{IsOfKind}
-use Rattle.history_model.specs.Orderly.{MayComeNext, IsSound}
+use Rattle.history_model.specs.Sound.{MayComeNext, IsSound}
 use Rattle.history_model.specs.Versions.{answer_of}
 use Rattle.history_model.proofs.Every.{every-weaker, every-append, every-kept, every-map, from_some}
 use Rattle.history_model.proofs.OneKind.{TellsKind, given_kinds, kind_more}

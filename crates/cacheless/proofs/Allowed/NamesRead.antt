@@ -11,7 +11,7 @@ use Rattle.ddl_effect.specs.Commands.{plan_of, commands_of}
 use Rattle.history_model.specs.Covered.{counted_for}
 use Rattle.history_model.specs.Read.{rows_read, is_usable}
 use Rattle.history_model.specs.Versions.{answer_of}
-use Rattle.history_model.specs.Writes.{is_empty}
+use Rattle.history_model.specs.Changing.{is_empty}
 use Rattle.cacheless.specs.Types.{Oid, Kind, Row, Purpose, Command, Draft, Opening, Scenario, Entry}
 use Rattle.cacheless.specs.ActsDone.{LockOn, locks_by, IsHeldOn, made_in, opening_by}
 use Rattle.cacheless.specs.Facts.{Facts, facts_of}

@@ -9,7 +9,8 @@ use Rattle.event_kinds.specs.declared.entry.Event.TheVariants as events
 use Rattle.ddl_effect.specs.Plans.{Act, Lookup, Open, Search, Read, Lock, Write, Plan, Done, Fails, Absent, Do}
 use Rattle.ddl_effect.specs.Commands.{plan_of, commands_of}
 use Rattle.history_model.specs.Drawn.{next_oid}
-use Rattle.history_model.specs.Orderly.{IsOrderlyWrite, IsOrderlyEvent, IsSound}
+use Rattle.history_model.specs.Orderly.{IsOrderlyWrite, IsOrderlyEvent}
+use Rattle.history_model.specs.Sound.{IsSound}
 use Rattle.history_model.specs.Prefixes.{EachEntry}
 use Rattle.history_model.specs.Read.{rows_read}
 use Rattle.history_model.proofs.Every.{every-weaker, every-map, every-filter, SomeOf, from_some}

@@ -8,7 +8,7 @@ use Rattle.ddl_effect.specs.Plans.{Write, Plan, Absent, Do}
 use Rattle.txn_blocks.specs.Blocks.{no_block}
 use Rattle.ddl_effect.specs.Commands.{commands_of}
 use Rattle.history_model.specs.Drawn.{next_oid}
-use Rattle.history_model.specs.Writes.{has_written}
+use Rattle.history_model.specs.Transactions.{has_written}
 use Rattle.history_model.proofs.Reading.{last_event_of-other, rows_read-other}
 use Rattle.history_model.proofs.Touched.{entry_of}
 use Rattle.cacheless.specs.Types.{OwnLock, Scenario, Command, Entry, Event}
@@ -181,7 +181,7 @@ alone_on_course scenario history b event s may plays course command at over = al
     later = entered (facts_of (with_entry history b (number_of s) event) b) (commands_left scenario b s) (length history + 1) (number_of s) event s
 
 -- no session starts
-no_start : (next : ℕ) (facts : Facts) (command : Option Command) (s : Session) → MayPlayIn next facts command s events.Start → ⊥
+pub no_start : (next : ℕ) (facts : Facts) (command : Option Command) (s : Session) → MayPlayIn next facts command s events.Start → ⊥
 no_start next facts None s may = may
 no_start next facts (Some command) s may = may
 

@@ -18,7 +18,7 @@ use Rattle.lock_modes.specs.Grants.{holds}
 use Rattle.history_model.specs.Held.{held_of}
 use Rattle.history_model.specs.Lives.{last_event_of}
 use Rattle.history_model.specs.Read.{is_scan_of}
-use Rattle.history_model.specs.Writes.{has_written, is_write}
+use Rattle.history_model.specs.Transactions.{has_written, is_write}
 use Rattle.history_model.proofs.Every.{every-weaker}
 use Rattle.history_model.proofs.Locked.{IsQuiet}
 use Rattle.history_model.proofs.Reading.{has_written-more, last_event_of-own}
@@ -161,7 +161,7 @@ error_follows seen b s later command error plain held unwritten noted = record {
 }
 
 -- a command that failed to find a relation makes no scan
-scan_there : (facts : Facts) (s : Session) (scan : Purpose) (plan : Plan) → s.left ≡ plan → is_next_scan scan facts s ≡ true → is_absent plan ≡ false
+pub scan_there : (facts : Facts) (s : Session) (scan : Purpose) (plan : Plan) → s.left ≡ plan → is_next_scan scan facts s ≡ true → is_absent plan ≡ false
 scan_there facts s scan (Absent name) at is = absurd (let no : false ≡ true = sym (ap (λ p. list_any (same_scan scan) (elim (outcome_of p) as (λ x. List Purpose) [ Badly ↦ [] | other ↦ flat_map (λ (o : Opening). take 1 (unusable facts (build_scans o.kind o.rel))) s.opened ++ act_next facts p ])) at) ∙ is in cc no)
 scan_there facts s scan plan at is = refl
 

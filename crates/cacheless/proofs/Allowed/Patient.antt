@@ -37,7 +37,7 @@ right_empty : {X : Type 0} (xs ys : List X) → xs ++ ys ≡ [] → ys ≡ []
 right_empty [] ys none = none
 right_empty (x ∷ xs) ys none = absurd (cc)
 
-nothing_owed : (facts : Facts) (command : Command) (s : Session) → owed_of facts command s ≡ [] → owed_after facts.last ≡ []
+pub nothing_owed : (facts : Facts) (command : Command) (s : Session) → owed_of facts command s ≡ [] → owed_after facts.last ≡ []
 nothing_owed facts command s none = right_empty _ (owed_after facts.last) (left_empty _ _ none)
 
 at_end : (facts : Facts) (command : Command) (s : Session) → owed_at_end facts command s ≡ [] → owed_after facts.last ≡ []

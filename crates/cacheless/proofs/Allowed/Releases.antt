@@ -12,10 +12,11 @@ use Rattle.ddl_effect.specs.declared.told.Told.TheVariants as tells
 use Rattle.ddl_effect.specs.Commands.{plan_of}
 use Rattle.ddl_effect.specs.Opens.{opens_before}
 use Rattle.history_model.specs.Drawn.{next_oid}
-use Rattle.history_model.specs.Transactions.{Running}
+use Rattle.txn_blocks.specs.declared.transaction.RunningTransaction.{RunningTransaction as Running}
 use Rattle.ddl_effect.specs.Stages.{told_of}
 use Rattle.ddl_effect.specs.Plans.{Plan, told_rests_on, left_rests_on, Done, Fails, Absent, Do, Write}
-use Rattle.history_model.specs.Writes.{is_empty, has_written, is_write}
+use Rattle.history_model.specs.Changing.{is_empty}
+use Rattle.history_model.specs.Transactions.{has_written, is_write}
 use Rattle.history_model.proofs.Touched.{entry_of}
 use Rattle.cacheless.specs.Types.{Purpose, Command, OpenRelation, Opening, Told, Entry, Event}
 use Rattle.cacheless.specs.Ends.{End, Ends, Commits, TakesBack, end_of, next_of_end, end_left, end_well, end_of_block, end_badly}

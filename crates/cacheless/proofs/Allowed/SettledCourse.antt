@@ -8,7 +8,8 @@ use Rattle.std.specs.List.{AllByRecursion}
 use Rattle.ddl_effect.specs.Plans.{Act, Plan, Done, Do}
 use Rattle.txn_blocks.specs.Blocks.{Blocks, refused_by}
 use Rattle.ddl_effect.specs.Commands.{plan_of, commands_of}
-use Rattle.history_model.specs.Writes.{has_written, is_empty}
+use Rattle.history_model.specs.Transactions.{has_written}
+use Rattle.history_model.specs.Changing.{is_empty}
 use Rattle.cacheless.specs.Types.{Row, Purpose, Scenario, Command, CommandError, OpenRelation, Told, OwnLock, Entry}
 use Rattle.cacheless.specs.Facts.{Facts, facts_of}
 use Rattle.cacheless.specs.OnCourse.{is_absent, Begun, FollowsPlan, TellsAlone, IsOnCourse, ClearUnlessOwed, EntersCourse, AreOfKinds}
@@ -110,7 +111,7 @@ first_left commands n = by_place (slice_get_cases commands n).1
     by_place (inl (x, within, at, get)) = ap first_of (drop_more commands n x within) ∙ ap Some get ∙ sym at
     by_place (inr (past, none)) = ap first_of (drop_all n commands past) ∙ sym none
 
-rest_left : (commands : List Command) (n : ℕ) (command : Command) (rest : List Command) → command ∷ rest ≡ drop n commands → rest ≡ drop (n + 1) commands
+pub rest_left : (commands : List Command) (n : ℕ) (command : Command) (rest : List Command) → command ∷ rest ≡ drop n commands → rest ≡ drop (n + 1) commands
 rest_left commands n command rest are = let both : command ∷ rest ≡ command ∷ drop (n + 1) commands = are ∙ drop_more commands n command within ∙ ap (λ x. x ∷ drop (n + 1) commands) (get_or_from_slice_get commands n command command at) in cc both
   where
     at : slice_get commands n ≡ Some command

@@ -6,11 +6,11 @@ use Rattle.base_types.specs.declared.scan.Purpose.TheVariants as scans
 use Rattle.event_kinds.specs.declared.entry.Event.TheVariants as events
 use Rattle.ddl_effect.specs.Plans.{Plan, Absent}
 use Rattle.ddl_effect.specs.Commands.{plan_of}
-use Rattle.history_model.specs.Legal.{FollowsGone}
+use Rattle.history_model.specs.MayFollow.{FollowsGone}
 use Rattle.history_model.specs.Lives.{last_event_of}
 use Rattle.history_model.specs.Read.{is_scan_of, rows_read}
 use Rattle.history_model.specs.Versions.{answer_of}
-use Rattle.history_model.specs.Writes.{has_written, is_write}
+use Rattle.history_model.specs.Transactions.{has_written, is_write}
 use Rattle.history_model.proofs.Locked.{IsQuiet, IsIdle}
 use Rattle.history_model.proofs.Reading.{has_written-more, rows_read-own, rows_read-other}
 use Rattle.cacheless.specs.Types.{Row, Purpose, Command, OpenRelation, Told, Entry, Event}

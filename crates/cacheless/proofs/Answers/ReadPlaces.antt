@@ -5,7 +5,8 @@ use Rattle.std.proofs.lemmas.List.{take-append-le, take_all, length_push}
 use Rattle.base_types.specs.Scans.{scan_of}
 use Rattle.event_kinds.specs.declared.entry.Event.TheVariants as events
 use Rattle.history_model.specs.Read.{is_scan_of, read_at, place_read, rows_read}
-use Rattle.history_model.specs.Transactions.{Running, running_by, running_transaction_of, has_xid, runs_as, makes_visible, is_committed}
+use Rattle.history_model.specs.Transactions.{running_by, running_transaction_of, has_xid, runs_as, makes_visible, is_committed}
+use Rattle.txn_blocks.specs.declared.transaction.RunningTransaction.{RunningTransaction as Running}
 use Rattle.history_model.specs.Versions.{counts, versions_by, versions_of, answer_of}
 use Rattle.history_model.proofs.Prefixes.{along-keeps}
 use Rattle.history_model.proofs.Reading.{versions_of-more, is_committed-more, running_transaction_of-own, running_transaction_of-other, rows_read-own, rows_read-other, read_at-own, place_read-short, place_read-other}

@@ -13,6 +13,7 @@ use Rattle.ddl_effect.specs.Plans.{Plan, Done, Fails, Absent, Do}
 use Rattle.history_model.specs.Lives.{last_event_of}
 use Rattle.history_model.specs.Read.{place_read, rows_read, is_usable}
 use Rattle.history_model.specs.Versions.{answer_of}
+use Rattle.history_model.specs.Transactions.{has_written}
 use Rattle.std.proofs.lemmas.List.Elements.{All-contains, All-from_recursion}
 use Rattle.history_model.specs.OfKind.{IsOfKind}
 use Rattle.cacheless.specs.Types.{Oid, Command, CommandError, Answer, Told, Opening, OpenRelation, Scenario, Entry, Line}
@@ -104,29 +105,21 @@ left_told scenario seen b s command (Fails error) out well = refl
 left_told scenario seen b s command (Absent name) out well = refl
 left_told scenario seen b s command (Do act rest) out well = absurd (cc)
 
--- what a command answers that no error of an entry has ended
-stays_told : (scenario : Scenario) (seen : List Entry) (b : ℕ) (s : Session) (command : Command) → HasComeOut scenario seen b s command → Stays seen b s command → answer_judged scenario seen b (number_of s) (finished_as s) command None ≡ told_read seen b command s
-stays_told scenario seen b s command come (Written wrote) =
-    ap (λ t. answer_by scenario seen b (finished_as s) command (effect_judged seen b (finished_as s) t command)) wrote.written
-    ∙ sym (ap (told_left (rows_read seen b) (place_read seen b) s.locks s.blocks.block command) wrote.plan)
-stays_told scenario seen b s command come (Plain alone) =
-    ap (λ t. answer_by scenario seen b (finished_as s) command (effect_judged seen b (finished_as s) t command)) alone.unwritten
-    ∙ ap (λ p. answer_by scenario seen b (finished_as s) command (effect_at (answer_of seen b) s.found p)) alone.plan
-    ∙ by_told alone.told alone.alone
-    ∙ sym (ap (told_left (rows_read seen b) (place_read seen b) s.locks s.blocks.block command) alone.left)
-  where
-    by_told : (told : Told) → tells_of_scans told ≡ false → answer_well scenario seen b (finished_as s) told ≡ well_read seen b s told
-    by_told tells.Ok plain = refl
-    by_told tells.Commit plain = refl
-    by_told told plain = absurd (cc plain)
-stays_told scenario seen b s command come (Unwritten way admitted) =
-    ap (λ t. answer_by scenario seen b (finished_as s) command (effect_judged seen b (finished_as s) t command)) way.unwritten
-    ∙ ap (answer_by scenario seen b (finished_as s) command) (
-    ap (λ l. effect_at (answer_of seen b) l (plan_of s.opens command)) (way.found ∙ sym (append-nil (made_in found_by way.gave (plan_of s.opens command))))
+-- what a command comes to is what is left of it
+pub left_effect : (seen : List Entry) (b : ℕ) (s : Session) (command : Command) → Stays seen b s command → effect_judged seen b (finished_as s) (has_written seen b (number_of s)) command ≡ effect_at (answer_of seen b) [] s.left
+left_effect seen b s command (Written wrote) = ap (λ t. effect_judged seen b (finished_as s) t command) wrote.written ∙ sym (ap (effect_at (answer_of seen b) []) wrote.plan)
+left_effect seen b s command (Plain alone) = ap (λ t. effect_judged seen b (finished_as s) t command) alone.unwritten ∙ ap (effect_at (answer_of seen b) s.found) alone.plan ∙ sym (ap (effect_at (answer_of seen b) []) alone.left)
+left_effect seen b s command (Unwritten way admitted) =
+    ap (λ t. effect_judged seen b (finished_as s) t command) way.unwritten
+    ∙ ap (λ l. effect_at (answer_of seen b) l (plan_of s.opens command)) (way.found ∙ sym (append-nil (made_in found_by way.gave (plan_of s.opens command))))
     ∙ effect_along (answer_of seen b) (plan_of s.opens command) way.gave [] (goes_by_relation s.opens command) way.holds.still
     ∙ ap (effect_at (answer_of seen b) []) (sym way.plan)
-    )
-    ∙ left_told scenario seen b s command s.left come.out (λ told done. well_told scenario seen b s command told come done (tells_open seen b s command told way admitted done))
+
+-- what a command answers that no error of an entry has ended
+stays_told : (scenario : Scenario) (seen : List Entry) (b : ℕ) (s : Session) (command : Command) → HasComeOut scenario seen b s command → Stays seen b s command → answer_judged scenario seen b (number_of s) (finished_as s) command None ≡ told_read seen b command s
+stays_told scenario seen b s command come stays =
+    ap (answer_by scenario seen b (finished_as s) command) (left_effect seen b s command stays)
+    ∙ left_told scenario seen b s command s.left come.out (λ told done. well_told scenario seen b s command told come done (stays_open seen b s command told stays done))
 
 -- what a command has to answer that has come out, at the entry where it is judged, is what its backend tells by its last scans and its locks
 pub answer_told : (scenario : Scenario) (seen : List Entry) (b : ℕ) (s : Session) (command : Command) → HasComeOut scenario seen b s command → answer_judged scenario seen b (number_of s) (finished_as s) command s.refused ≡ told_read seen b command s

@@ -148,7 +148,7 @@ fetch_holds scenario old was count messages caches suspects known exec locks res
   moves = record { id = refl; commands = refl; finished = refl };
   session = whole ∙ sym (ap (λ t. session_at now (rest_of t)) whole);
   facts = record { running = fits.running; lists = fits.lists; owed = fits.owed; quiet = fits.quiet; usable = fits.usable; kept = fits.kept };
-  counts = let c = rests.holds.counts in record { looks = omega (arith, c.looks); scans = omega (arith, c.scans); grants = omega (arith, c.grants); fetches = omega (arith, c.fetches); full = omega (arith, c.full, one_at_most (is_full count first)) };
+  counts = let c = rests.holds.counts in record { looks = omega (arith, c.looks); scans = omega (arith, c.scans); grants = omega (arith, c.grants); unlocks = omega (arith, c.unlocks); fetches = omega (arith, c.fetches); full = omega (arith, c.full, one_at_most (is_full count first)) };
   order = rests.holds.order;
   sought = λ is. absurd (not_both (is_absent (plan_at was.opens exec)) is (ap is_absent again ∙ never_absent was.opens was.exec));
   puts = subst (PutsOpened was.opened) (sym again) (puts_again was.opened was.opens was.exec rests.holds.puts);
@@ -225,7 +225,7 @@ reset_holds scenario old was caches suspects known exec locks rests keeps again 
     usable = λ scan. ap (λ k. is_kept k scan) (sym keeps);
     kept = subst (AreRight after.rows) (sym keeps) (λ scan. tt);
   };
-  counts = let c = rests.holds.counts in record { looks = omega (arith, c.looks); scans = omega (arith, c.scans); grants = omega (arith, c.grants); fetches = omega (arith, c.fetches); full = omega (arith, c.full) };
+  counts = let c = rests.holds.counts in record { looks = omega (arith, c.looks); scans = omega (arith, c.scans); grants = omega (arith, c.grants); unlocks = omega (arith, c.unlocks); fetches = omega (arith, c.fetches); full = omega (arith, c.full) };
   order = rests.holds.order;
   sought = λ is. absurd (not_both (is_absent (plan_at was.opens exec)) is (ap is_absent again ∙ never_absent was.opens was.exec));
   puts = subst (PutsOpened was.opened) (sym again) (puts_again was.opened was.opens was.exec rests.holds.puts);

@@ -10,8 +10,9 @@ use Rattle.local_caches.specs.Kept.{Read}
 use Rattle.inval_messages.specs.Lists.{Written}
 use Rattle.history_model.specs.Read.{usable_by, rows_by}
 use Rattle.history_model.specs.Sent.{lists_by}
-use Rattle.history_model.specs.Transactions.{Running, begun, running_by}
-use Rattle.history_model.specs.Writes.{is_empty}
+use Rattle.history_model.specs.Transactions.{begun, running_by}
+use Rattle.txn_blocks.specs.declared.transaction.RunningTransaction.{RunningTransaction as Running}
+use Rattle.history_model.specs.Changing.{is_empty}
 use Rattle.cacheless.specs.Types.{Oid, Mode, Row, Purpose, Command, CommandError, Clash, Scenario, Entry, Event, OwnLock}
 use Rattle.cacheless.specs.declared.progress.Due.TheVariants as dues
 use Rattle.cacheless.specs.declared.progress.Progress.{Progress}
@@ -47,7 +48,7 @@ granted_holds scenario old was rel mode locks rests items = own_entered scenario
     usable = f.usable;
     kept = f.kept;
   };
-  counts = let c = rests.holds.counts in record { looks = omega (arith, c.looks); scans = omega (arith, c.scans); grants = omega (arith, c.grants); fetches = omega (arith, c.fetches); full = c.full };
+  counts = let c = rests.holds.counts in record { looks = omega (arith, c.looks); scans = omega (arith, c.scans); grants = omega (arith, c.grants); unlocks = omega (arith, c.unlocks); fetches = omega (arith, c.fetches); full = c.full };
   order = rests.holds.order;
   sought = rests.holds.sought;
   puts = rests.holds.puts;
@@ -55,7 +56,7 @@ granted_holds scenario old was rel mode locks rests items = own_entered scenario
 
 -- the state after a lock is given back
 abbrev pub gave_back : Progress → Roomy OwnLock → Progress
-gave_back was locks = record was { due = dues.Nothing; running = Some (begun_own (was.finished + 1) was.running); taken = None; locks = locks; answer = None }
+gave_back was locks = record was { due = dues.Nothing; running = Some (begun_own (was.finished + 1) was.running); tally = record was.tally { unlocks = was.tally.unlocks + 1 }; taken = None; locks = locks; answer = None }
 
 pub unlock_holds : (scenario : Scenario) (old : List Entry) (was : Progress) (rel : Oid) (mode : Mode) (left locks : Roomy OwnLock) (rests : Rests scenario old was) → left.items ≡ filter (λ lock. not (is_own rel mode lock)) was.locks.items
     → locks.items ≡ locks_accepted (is_in_accept (gave_back was left) (slice_get was.commands was.finished)) left.items
@@ -71,7 +72,7 @@ unlock_holds scenario old was rel mode left locks rests stay items = own_entered
     usable = f.usable;
     kept = f.kept;
   };
-  counts = counts_stay rests.holds.counts;
+  counts = let c = rests.holds.counts in record { looks = omega (arith, c.looks); scans = omega (arith, c.scans); grants = omega (arith, c.grants); unlocks = omega (arith, c.unlocks); fetches = omega (arith, c.fetches); full = c.full };
   order = rests.holds.order;
   sought = rests.holds.sought;
   puts = rests.holds.puts;

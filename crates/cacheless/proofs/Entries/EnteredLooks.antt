@@ -56,7 +56,7 @@ look_holds scenario old was some_wait locks rests items = own_entered scenario o
     usable = f.usable;
     kept = f.kept;
   };
-  counts = let c = rests.holds.counts in record { looks = omega (arith, c.looks); scans = omega (arith, c.scans); grants = omega (arith, c.grants); fetches = omega (arith, c.fetches); full = c.full };
+  counts = let c = rests.holds.counts in record { looks = omega (arith, c.looks); scans = omega (arith, c.scans); grants = omega (arith, c.grants); unlocks = omega (arith, c.unlocks); fetches = omega (arith, c.fetches); full = c.full };
   order = rests.holds.order;
   sought = rests.holds.sought;
   puts = rests.holds.puts;
@@ -107,7 +107,7 @@ start_holds scenario old was waits = record {
       ∙ ap (λ n. Some (settled after (drop n was.commands) (session_at (started was) rest))) (sym new.finished)
       ∙ ap (λ f. Some (settled f (drop was.finished was.commands) (session_at (started was) rest))) (sym facts);
   facts = subst (λ f. FactsFit f (started was)) (sym facts) (let f = waits.facts in record { running = refl; lists = f.lists; owed = refl; quiet = refl; usable = f.usable; kept = f.kept });
-  counts = subst (λ c. CountsFit c (length (old ++ e ∷ []))) (sym new.tally) (record { looks = omega arith; scans = omega arith; grants = omega arith; fetches = omega arith; full = omega arith });
+  counts = subst (λ c. CountsFit c (length (old ++ e ∷ []))) (sym new.tally) (record { looks = omega arith; scans = omega arith; grants = omega arith; unlocks = omega arith; fetches = omega arith; full = omega arith });
   order = subst (AllByRecursion (λ list. list.command ≤ was.finished + 1)) (sym (ap all_lists new.lists)) tt;
   sought = λ is. absurd (not_both (is_absent (plan_at was.opens was.exec)) is found);
   puts = subst (PutsOpened was.opened) (sym new.plan) (puts_first was.opened none_open no_block first);

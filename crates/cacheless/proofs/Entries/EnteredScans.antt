@@ -122,7 +122,7 @@ built_holds scenario old was scan count given at caches suspects known locks res
     usable = λ other. ap (λ t. same_scan scan other || t) (f.usable other) ∙ kept_more (kept_at was) scan given at other ∙ ap (λ k. is_kept k other) (sym pushed);
     kept = subst (AreRight after.rows) (sym pushed) (right_more old was.id (kept_at was) scan given at count are f.kept);
   };
-  counts = let c = rests.holds.counts in record { looks = omega (arith, c.looks); scans = omega (arith, c.scans); grants = omega (arith, c.grants); fetches = omega (arith, c.fetches); full = c.full };
+  counts = let c = rests.holds.counts in record { looks = omega (arith, c.looks); scans = omega (arith, c.scans); grants = omega (arith, c.grants); unlocks = omega (arith, c.unlocks); fetches = omega (arith, c.fetches); full = c.full };
   order = rests.holds.order;
   sought = rests.holds.sought;
   puts = rests.holds.puts;

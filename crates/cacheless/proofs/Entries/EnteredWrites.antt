@@ -115,7 +115,7 @@ wrote was xid caches suspects known lists exec locks = record was {
   answer = None;
 }
 
-runs_written : (number : ℕ) (xid : Xid) (own : Option RunningTransaction) → Some (record (begun number (running_of own)) { xid = Some xid.0 }) ≡ running_of (Some (record (begun_own number own) { xid = Some xid }))
+runs_written : (number : ℕ) (xid : Xid) (own : Option RunningTransaction) → Some (record (begun number (running_of own)) { xid = Some xid }) ≡ running_of (Some (record (begun_own number own) { xid = Some xid }))
 runs_written number xid None = refl
 runs_written number xid (Some t) = refl
 
@@ -128,7 +128,7 @@ write_holds scenario old was xid items messages made caches suspects known lists
   moves = record { id = refl; commands = refl; finished = refl };
   session = whole ∙ sym (ap (λ t. session_at now (rest_of t)) whole);
   facts = let f = rests.holds.facts in record {
-    running = ap (λ o. Some (record (begun (was.finished + 1) o) { xid = Some xid.0 })) f.running ∙ runs_written (was.finished + 1) xid was.running;
+    running = ap (λ o. Some (record (begun (was.finished + 1) o) { xid = Some xid })) f.running ∙ runs_written (was.finished + 1) xid was.running;
     lists = ap (λ l. l ++ written_by old was.id (was.finished + 1) items ∷ []) f.lists ∙ sym listed;
     owed = refl;
     quiet = refl;

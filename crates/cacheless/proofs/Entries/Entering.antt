@@ -10,7 +10,8 @@ use Rattle.lock_modes.specs.Own.{cleared}
 use Rattle.lock_modes.specs.Rooms.{Roomy}
 use Rattle.ddl_effect.specs.Commands.{commands_of}
 use Rattle.ddl_effect.specs.Stages.{plan_at, plan_again}
-use Rattle.history_model.specs.Transactions.{Running, begun, after_release}
+use Rattle.history_model.specs.Transactions.{begun, after_release}
+use Rattle.txn_blocks.specs.declared.transaction.RunningTransaction.{RunningTransaction as Running}
 use Rattle.history_model.specs.Sent.{ends_transaction}
 use Rattle.cacheless.specs.Types.{Command, Scenario, Entry, Event, OwnLock}
 use Rattle.cacheless.specs.declared.progress.Counts.{Counts}
@@ -147,15 +148,8 @@ pub runs_begun : (number : ℕ) (own : Option RunningTransaction) → Some (begu
 runs_begun number None = refl
 runs_begun number (Some t) = refl
 
-released_same : (from : ℕ) (own : RunningTransaction) → after_release from (record { first = own.first; xid = option_map (λ x. x.0) own.xid; published = own.published; visible = own.visible }) ≡ running_of (released_own from own)
-released_same from own = by_test (own.first == from)
-  where
-    running : Running
-    running = record { first = own.first; xid = option_map (λ x. x.0) own.xid; published = own.published; visible = own.visible }
-
-    by_test : (t : Bool) → (if t then None else Some running) ≡ running_of (if t then None else Some own)
-    by_test true = refl
-    by_test false = refl
+released_same : (from : ℕ) (own : RunningTransaction) → after_release from own ≡ running_of (released_own from own)
+released_same from own = refl
 
 pub release_begun : (from number : ℕ) (own : Option RunningTransaction) → after_release from (begun number (running_of own)) ≡ running_of (released_own from (begun_own number own))
 release_begun from number None = released_same from (record { first = number; xid = None; published = 0; visible = false })
@@ -167,4 +161,4 @@ ends_same from (Some t) = refl
 
 -- the counts of one more entry
 pub counts_stay : {c : Counts} {entries : ℕ} → CountsFit c entries → CountsFit c (entries + 1)
-counts_stay c = record { looks = omega (arith, c.looks); scans = omega (arith, c.scans); grants = omega (arith, c.grants); fetches = omega (arith, c.fetches); full = c.full }
+counts_stay c = record { looks = omega (arith, c.looks); scans = omega (arith, c.scans); grants = omega (arith, c.grants); unlocks = omega (arith, c.unlocks); fetches = omega (arith, c.fetches); full = c.full }

@@ -105,8 +105,8 @@ granted_code was rel mode own locks known begins items scenario seen rests =
     subst (HasEntered scenario seen was (events.LockOk rel mode) rests) (λ i. record (granted was rel locks) { running = Some (sym begins i); known = another_known was known i }) (granted_holds scenario seen was rel mode locks rests items)
 
 pub unlock_code : (was : Progress) (rel : Oid) (mode : Mode) (own : RunningTransaction) (left locks : Roomy OwnLock) (known : AreKnown (is_kept (kept_of was.caches)) was.opened was.suspects) → own ≡ begun_own (was.finished + 1) was.running → left.items ≡ filter (λ lock. not (is_own rel mode lock)) was.locks.items
-    → locks.items ≡ locks_accepted (is_in_accept (record was { running = Some own; due = dues.Nothing; taken = None; locks = left }) (slice_get was.commands was.finished)) left.items
-    → (scenario : Scenario) (seen : List Entry) → (rests : Rests scenario seen was) → HasEntered scenario seen was (events.Unlock rel mode) rests (record was { due = dues.Nothing; running = Some own; taken = None; locks = locks; answer = None; known = known })
+    → locks.items ≡ locks_accepted (is_in_accept (record was { running = Some own; due = dues.Nothing; tally = record was.tally { unlocks = was.tally.unlocks + 1 }; taken = None; locks = left }) (slice_get was.commands was.finished)) left.items
+    → (scenario : Scenario) (seen : List Entry) → (rests : Rests scenario seen was) → HasEntered scenario seen was (events.Unlock rel mode) rests (record was { due = dues.Nothing; running = Some own; tally = record was.tally { unlocks = was.tally.unlocks + 1 }; taken = None; locks = locks; answer = None; known = known })
 unlock_code was rel mode own left locks known begins stay items scenario seen rests =
     subst (HasEntered scenario seen was (events.Unlock rel mode) rests) (λ i. record (gave_back was locks) { running = Some (sym begins i); known = another_known was known i }) (unlock_holds scenario seen was rel mode left locks rests stay items)
 

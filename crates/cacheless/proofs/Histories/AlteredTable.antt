@@ -10,7 +10,8 @@ use Rattle.event_kinds.specs.declared.entry.Entry.{Entry}
 use Rattle.event_kinds.specs.declared.entry.Event.TheVariants.{Start, Look, Fetch, LockOk, Scan, Write, Visible, Publish, Release}
 use Rattle.event_kinds.specs.declared.entry.Item.TheVariants.{Put}
 use Rattle.history_model.specs.Prefixes.{EachEntry}
-use Rattle.history_model.specs.Orderly.{has_key, MayComeNext, IsSound}
+use Rattle.history_model.specs.Orderly.{has_key}
+use Rattle.history_model.specs.Sound.{MayComeNext, IsSound}
 use Rattle.history_model.proofs.Prefixes.{EachEntry-prefix}
 use Rattle.cacheless.specs.TableWrites.{KeepsColumns, WritesColumns}
 use Rattle.cacheless.proofs.Plans.Given.{oid, xid, entry, wide_table}

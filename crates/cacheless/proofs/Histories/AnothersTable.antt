@@ -9,9 +9,8 @@ use Rattle.event_kinds.specs.declared.entry.Entry.{Entry}
 use Rattle.event_kinds.specs.declared.entry.Event.TheVariants.{Start, Look, Fetch, LockOk, Scan, Write, Visible, Publish, Release, Stop}
 use Rattle.event_kinds.specs.Texts.{text_of}
 use Rattle.history_model.specs.Lapped.{FollowsQueue}
-use Rattle.history_model.specs.Orderly.{MayComeNext, IsSound}
 use Rattle.history_model.specs.Read.{IsEconomical}
-use Rattle.history_model.proofs.Sound.{sound_is_legal}
+use Rattle.history_model.proofs.Allows.{legal_by}
 use Rattle.cacheless.specs.Plays.{IsNext, Plays}
 use Rattle.cacheless.specs.Schedule.{FollowsSchedule, AreLooksTrue, IsComplete}
 use Rattle.cacheless.specs.Lines.{lines_of}
@@ -40,14 +39,8 @@ started = entry 2 0 Start ∷ entry 2 1 (Look false) ∷ []
 started_plays_1 : IsNext show_of_anothers_table [] (entry 2 0 Start)
 started_plays_1 = ((at_least_2, at_most_2), tt)
 
-started_comes_1 : MayComeNext [] (entry 2 0 Start)
-started_comes_1 = record { follows = record { life = refl; visible = tt; gone = tt; event = tt }; orderly = tt }
-
 started_plays_2 : IsNext show_of_anothers_table (entry 2 0 Start ∷ []) (entry 2 1 (Look false))
 started_plays_2 = ((at_least_2, at_most_2), (refl, refl))
-
-started_comes_2 : MayComeNext (entry 2 0 Start ∷ []) (entry 2 1 (Look false))
-started_comes_2 = record { follows = record { life = omega arith; visible = tt; gone = tt; event = refl }; orderly = tt }
 
 abbrev pub written : List Entry
 written = started ++ entry 1 0 Start ∷ entry 1 1 (Look false) ∷ entry 1 1 (Write (xid 1) (new_table 16384 (codes "t") (codes "a"))) ∷ []
@@ -55,20 +48,11 @@ written = started ++ entry 1 0 Start ∷ entry 1 1 (Look false) ∷ entry 1 1 (W
 written_plays_1 : IsNext show_of_anothers_table started (entry 1 0 Start)
 written_plays_1 = ((at_least_1, at_most_1), tt)
 
-written_comes_1 : MayComeNext started (entry 1 0 Start)
-written_comes_1 = record { follows = record { life = refl; visible = tt; gone = tt; event = tt }; orderly = tt }
-
 written_plays_2 : IsNext show_of_anothers_table (started ++ entry 1 0 Start ∷ []) (entry 1 1 (Look false))
 written_plays_2 = ((at_least_1, at_most_1), (refl, refl))
 
-written_comes_2 : MayComeNext (started ++ entry 1 0 Start ∷ []) (entry 1 1 (Look false))
-written_comes_2 = record { follows = record { life = omega arith; visible = tt; gone = tt; event = refl }; orderly = tt }
-
 written_plays_3 : IsNext show_of_anothers_table (started ++ entry 1 0 Start ∷ entry 1 1 (Look false) ∷ []) (entry 1 1 (Write (xid 1) (new_table 16384 (codes "t") (codes "a"))))
 written_plays_3 = ((at_least_1, at_most_1), (refl, (refl, refl)))
-
-written_comes_3 : MayComeNext (started ++ entry 1 0 Start ∷ entry 1 1 (Look false) ∷ []) (entry 1 1 (Write (xid 1) (new_table 16384 (codes "t") (codes "a"))))
-written_comes_3 = record { follows = record { life = omega arith; visible = tt; gone = tt; event = record { xid_is = refl; oids = refl; keys = refl; there = refl; kinds = refl; only = refl; free = refl; guarded = refl; covered = refl } }; orderly = record { fresh = refl; keeps = refl; told = refl } }
 
 abbrev pub visible : List Entry
 visible = written ++ entry 1 1 (Visible (xid 1)) ∷ []
@@ -76,23 +60,14 @@ visible = written ++ entry 1 1 (Visible (xid 1)) ∷ []
 visible_plays : IsNext show_of_anothers_table written (entry 1 1 (Visible (xid 1)))
 visible_plays = ((at_least_1, at_most_1), (refl, (refl, refl)))
 
-visible_comes : MayComeNext written (entry 1 1 (Visible (xid 1)))
-visible_comes = record { follows = record { life = omega arith; visible = tt; gone = tt; event = (refl, refl) }; orderly = tt }
-
 abbrev pub published : List Entry
 published = visible ++ entry 1 1 (Publish 3) ∷ entry 1 1 (Publish 1) ∷ []
 
 published_plays_1 : IsNext show_of_anothers_table visible (entry 1 1 (Publish 3))
 published_plays_1 = ((at_least_1, at_most_1), (refl, (refl, refl)))
 
-published_comes_1 : MayComeNext visible (entry 1 1 (Publish 3))
-published_comes_1 = record { follows = record { life = omega arith; visible = tt; gone = tt; event = (refl, omega arith, refl) }; orderly = tt }
-
 published_plays_2 : IsNext show_of_anothers_table (visible ++ entry 1 1 (Publish 3) ∷ []) (entry 1 1 (Publish 1))
 published_plays_2 = ((at_least_1, at_most_1), (refl, (refl, refl)))
-
-published_comes_2 : MayComeNext (visible ++ entry 1 1 (Publish 3) ∷ []) (entry 1 1 (Publish 1))
-published_comes_2 = record { follows = record { life = omega arith; visible = tt; gone = tt; event = (refl, omega arith, refl) }; orderly = tt }
 
 abbrev pub released : List Entry
 released = published ++ entry 1 1 (Release 1) ∷ []
@@ -100,17 +75,11 @@ released = published ++ entry 1 1 (Release 1) ∷ []
 released_plays : IsNext show_of_anothers_table published (entry 1 1 (Release 1))
 released_plays = ((at_least_1, at_most_1), (refl, (refl, refl)))
 
-released_comes : MayComeNext published (entry 1 1 (Release 1))
-released_comes = record { follows = record { life = omega arith; visible = tt; gone = tt; event = (omega arith, (refl, refl)) }; orderly = tt }
-
 abbrev pub writer_stopped : List Entry
 writer_stopped = released ++ entry 1 2 Stop ∷ []
 
 writer_stopped_plays : IsNext show_of_anothers_table released (entry 1 2 Stop)
 writer_stopped_plays = ((at_least_1, at_most_1), (refl, refl))
-
-writer_stopped_comes : MayComeNext released (entry 1 2 Stop)
-writer_stopped_comes = record { follows = record { life = omega arith; visible = tt; gone = tt; event = refl }; orderly = tt }
 
 abbrev pub looked : List Entry
 looked = writer_stopped ++ entry 2 1 (Look true) ∷ []
@@ -118,17 +87,11 @@ looked = writer_stopped ++ entry 2 1 (Look true) ∷ []
 looked_plays : IsNext show_of_anothers_table writer_stopped (entry 2 1 (Look true))
 looked_plays = ((at_least_2, at_most_2), (refl, refl))
 
-looked_comes : MayComeNext writer_stopped (entry 2 1 (Look true))
-looked_comes = record { follows = record { life = omega arith; visible = tt; gone = tt; event = refl }; orderly = tt }
-
 abbrev pub fetched : List Entry
 fetched = looked ++ entry 2 1 (Fetch 4) ∷ []
 
 fetched_plays : IsNext show_of_anothers_table looked (entry 2 1 (Fetch 4))
 fetched_plays = ((at_least_2, at_most_2), (refl, tt))
-
-fetched_comes : MayComeNext looked (entry 2 1 (Fetch 4))
-fetched_comes = record { follows = record { life = omega arith; visible = tt; gone = tt; event = (refl, refl) }; orderly = tt }
 
 abbrev pub name_scanned : List Entry
 name_scanned = fetched ++ entry 2 1 (Scan (scans.RelName (codes "t")) 1) ∷ []
@@ -136,17 +99,11 @@ name_scanned = fetched ++ entry 2 1 (Scan (scans.RelName (codes "t")) 1) ∷ []
 name_scanned_plays : IsNext show_of_anothers_table fetched (entry 2 1 (Scan (scans.RelName (codes "t")) 1))
 name_scanned_plays = ((at_least_2, at_most_2), (refl, (refl, refl, refl)))
 
-name_scanned_comes : MayComeNext fetched (entry 2 1 (Scan (scans.RelName (codes "t")) 1))
-name_scanned_comes = record { follows = record { life = omega arith; visible = tt; gone = tt; event = refl }; orderly = tt }
-
 abbrev pub locked : List Entry
 locked = name_scanned ++ entry 2 1 (LockOk (oid 16384) AccessShare) ∷ []
 
 locked_plays : IsNext show_of_anothers_table name_scanned (entry 2 1 (LockOk (oid 16384) AccessShare))
 locked_plays = ((at_least_2, at_most_2), (refl, (refl, refl, (refl, refl))))
-
-locked_comes : MayComeNext name_scanned (entry 2 1 (LockOk (oid 16384) AccessShare))
-locked_comes = record { follows = record { life = omega arith; visible = tt; gone = tt; event = (refl, refl) }; orderly = omega arith }
 
 abbrev pub looked_after_lock : List Entry
 looked_after_lock = locked ++ entry 2 1 (Look false) ∷ []
@@ -154,23 +111,14 @@ looked_after_lock = locked ++ entry 2 1 (Look false) ∷ []
 looked_after_lock_plays : IsNext show_of_anothers_table locked (entry 2 1 (Look false))
 looked_after_lock_plays = ((at_least_2, at_most_2), (refl, refl))
 
-looked_after_lock_comes : MayComeNext locked (entry 2 1 (Look false))
-looked_after_lock_comes = record { follows = record { life = omega arith; visible = tt; gone = tt; event = refl }; orderly = tt }
-
 abbrev pub class_scanned : List Entry
 class_scanned = looked_after_lock ++ entry 2 1 (Look false) ∷ entry 2 1 (Scan (scans.Class (oid 16384)) 1) ∷ []
 
 class_scanned_plays_1 : IsNext show_of_anothers_table looked_after_lock (entry 2 1 (Look false))
 class_scanned_plays_1 = ((at_least_2, at_most_2), (refl, refl))
 
-class_scanned_comes_1 : MayComeNext looked_after_lock (entry 2 1 (Look false))
-class_scanned_comes_1 = record { follows = record { life = omega arith; visible = tt; gone = tt; event = refl }; orderly = tt }
-
 class_scanned_plays_2 : IsNext show_of_anothers_table (looked_after_lock ++ entry 2 1 (Look false) ∷ []) (entry 2 1 (Scan (scans.Class (oid 16384)) 1))
 class_scanned_plays_2 = ((at_least_2, at_most_2), (refl, (refl, refl, refl)))
-
-class_scanned_comes_2 : MayComeNext (looked_after_lock ++ entry 2 1 (Look false) ∷ []) (entry 2 1 (Scan (scans.Class (oid 16384)) 1))
-class_scanned_comes_2 = record { follows = record { life = omega arith; visible = tt; gone = tt; event = refl }; orderly = tt }
 
 abbrev pub attribute_scanned : List Entry
 attribute_scanned = class_scanned ++ entry 2 1 (Look false) ∷ entry 2 1 (Scan (scans.Attribute (oid 16384)) 1) ∷ []
@@ -178,14 +126,8 @@ attribute_scanned = class_scanned ++ entry 2 1 (Look false) ∷ entry 2 1 (Scan 
 attribute_scanned_plays_1 : IsNext show_of_anothers_table class_scanned (entry 2 1 (Look false))
 attribute_scanned_plays_1 = ((at_least_2, at_most_2), (refl, refl))
 
-attribute_scanned_comes_1 : MayComeNext class_scanned (entry 2 1 (Look false))
-attribute_scanned_comes_1 = record { follows = record { life = omega arith; visible = tt; gone = tt; event = refl }; orderly = tt }
-
 attribute_scanned_plays_2 : IsNext show_of_anothers_table (class_scanned ++ entry 2 1 (Look false) ∷ []) (entry 2 1 (Scan (scans.Attribute (oid 16384)) 1))
 attribute_scanned_plays_2 = ((at_least_2, at_most_2), (refl, (refl, refl, refl)))
-
-attribute_scanned_comes_2 : MayComeNext (class_scanned ++ entry 2 1 (Look false) ∷ []) (entry 2 1 (Scan (scans.Attribute (oid 16384)) 1))
-attribute_scanned_comes_2 = record { follows = record { life = omega arith; visible = tt; gone = tt; event = refl }; orderly = tt }
 
 abbrev pub attrdef_scanned : List Entry
 attrdef_scanned = attribute_scanned ++ entry 2 1 (Look false) ∷ entry 2 1 (Scan (scans.AttrDef (oid 16384)) 0) ∷ []
@@ -193,14 +135,8 @@ attrdef_scanned = attribute_scanned ++ entry 2 1 (Look false) ∷ entry 2 1 (Sca
 attrdef_scanned_plays_1 : IsNext show_of_anothers_table attribute_scanned (entry 2 1 (Look false))
 attrdef_scanned_plays_1 = ((at_least_2, at_most_2), (refl, refl))
 
-attrdef_scanned_comes_1 : MayComeNext attribute_scanned (entry 2 1 (Look false))
-attrdef_scanned_comes_1 = record { follows = record { life = omega arith; visible = tt; gone = tt; event = refl }; orderly = tt }
-
 attrdef_scanned_plays_2 : IsNext show_of_anothers_table (attribute_scanned ++ entry 2 1 (Look false) ∷ []) (entry 2 1 (Scan (scans.AttrDef (oid 16384)) 0))
 attrdef_scanned_plays_2 = ((at_least_2, at_most_2), (refl, (refl, refl, refl)))
-
-attrdef_scanned_comes_2 : MayComeNext (attribute_scanned ++ entry 2 1 (Look false) ∷ []) (entry 2 1 (Scan (scans.AttrDef (oid 16384)) 0))
-attrdef_scanned_comes_2 = record { follows = record { life = omega arith; visible = tt; gone = tt; event = refl }; orderly = tt }
 
 abbrev pub constraint_scanned : List Entry
 constraint_scanned = attrdef_scanned ++ entry 2 1 (Look false) ∷ entry 2 1 (Scan (scans.Constraint (oid 16384)) 0) ∷ []
@@ -208,14 +144,8 @@ constraint_scanned = attrdef_scanned ++ entry 2 1 (Look false) ∷ entry 2 1 (Sc
 constraint_scanned_plays_1 : IsNext show_of_anothers_table attrdef_scanned (entry 2 1 (Look false))
 constraint_scanned_plays_1 = ((at_least_2, at_most_2), (refl, refl))
 
-constraint_scanned_comes_1 : MayComeNext attrdef_scanned (entry 2 1 (Look false))
-constraint_scanned_comes_1 = record { follows = record { life = omega arith; visible = tt; gone = tt; event = refl }; orderly = tt }
-
 constraint_scanned_plays_2 : IsNext show_of_anothers_table (attrdef_scanned ++ entry 2 1 (Look false) ∷ []) (entry 2 1 (Scan (scans.Constraint (oid 16384)) 0))
 constraint_scanned_plays_2 = ((at_least_2, at_most_2), (refl, (refl, refl, refl)))
-
-constraint_scanned_comes_2 : MayComeNext (attrdef_scanned ++ entry 2 1 (Look false) ∷ []) (entry 2 1 (Scan (scans.Constraint (oid 16384)) 0))
-constraint_scanned_comes_2 = record { follows = record { life = omega arith; visible = tt; gone = tt; event = refl }; orderly = tt }
 
 abbrev pub index_scanned : List Entry
 index_scanned = constraint_scanned ++ entry 2 1 (Look false) ∷ entry 2 1 (Scan (scans.Index (oid 16384)) 0) ∷ []
@@ -223,14 +153,8 @@ index_scanned = constraint_scanned ++ entry 2 1 (Look false) ∷ entry 2 1 (Scan
 index_scanned_plays_1 : IsNext show_of_anothers_table constraint_scanned (entry 2 1 (Look false))
 index_scanned_plays_1 = ((at_least_2, at_most_2), (refl, refl))
 
-index_scanned_comes_1 : MayComeNext constraint_scanned (entry 2 1 (Look false))
-index_scanned_comes_1 = record { follows = record { life = omega arith; visible = tt; gone = tt; event = refl }; orderly = tt }
-
 index_scanned_plays_2 : IsNext show_of_anothers_table (constraint_scanned ++ entry 2 1 (Look false) ∷ []) (entry 2 1 (Scan (scans.Index (oid 16384)) 0))
 index_scanned_plays_2 = ((at_least_2, at_most_2), (refl, (refl, refl, refl)))
-
-index_scanned_comes_2 : MayComeNext (constraint_scanned ++ entry 2 1 (Look false) ∷ []) (entry 2 1 (Scan (scans.Index (oid 16384)) 0))
-index_scanned_comes_2 = record { follows = record { life = omega arith; visible = tt; gone = tt; event = refl }; orderly = tt }
 
 abbrev pub trigger_scanned : List Entry
 trigger_scanned = index_scanned ++ entry 2 1 (Look false) ∷ entry 2 1 (Scan (scans.Trigger (oid 16384)) 0) ∷ []
@@ -238,14 +162,8 @@ trigger_scanned = index_scanned ++ entry 2 1 (Look false) ∷ entry 2 1 (Scan (s
 trigger_scanned_plays_1 : IsNext show_of_anothers_table index_scanned (entry 2 1 (Look false))
 trigger_scanned_plays_1 = ((at_least_2, at_most_2), (refl, refl))
 
-trigger_scanned_comes_1 : MayComeNext index_scanned (entry 2 1 (Look false))
-trigger_scanned_comes_1 = record { follows = record { life = omega arith; visible = tt; gone = tt; event = refl }; orderly = tt }
-
 trigger_scanned_plays_2 : IsNext show_of_anothers_table (index_scanned ++ entry 2 1 (Look false) ∷ []) (entry 2 1 (Scan (scans.Trigger (oid 16384)) 0))
 trigger_scanned_plays_2 = ((at_least_2, at_most_2), (refl, (refl, refl, refl)))
-
-trigger_scanned_comes_2 : MayComeNext (index_scanned ++ entry 2 1 (Look false) ∷ []) (entry 2 1 (Scan (scans.Trigger (oid 16384)) 0))
-trigger_scanned_comes_2 = record { follows = record { life = omega arith; visible = tt; gone = tt; event = refl }; orderly = tt }
 
 abbrev pub shown : List Entry
 shown = trigger_scanned ++ entry 2 1 (Release 1) ∷ []
@@ -253,23 +171,14 @@ shown = trigger_scanned ++ entry 2 1 (Release 1) ∷ []
 shown_plays : IsNext show_of_anothers_table trigger_scanned (entry 2 1 (Release 1))
 shown_plays = ((at_least_2, at_most_2), (refl, (refl, refl)))
 
-shown_comes : MayComeNext trigger_scanned (entry 2 1 (Release 1))
-shown_comes = record { follows = record { life = omega arith; visible = tt; gone = tt; event = (omega arith, refl) }; orderly = tt }
-
 abbrev pub stopped : List Entry
 stopped = shown ++ entry 2 2 Stop ∷ []
 
 stopped_plays : IsNext show_of_anothers_table shown (entry 2 2 Stop)
 stopped_plays = ((at_least_2, at_most_2), (refl, refl))
 
-stopped_comes : MayComeNext shown (entry 2 2 Stop)
-stopped_comes = record { follows = record { life = omega arith; visible = tt; gone = tt; event = refl }; orderly = tt }
-
 pub show_of_anothers_table_plays : Plays show_of_anothers_table stopped
 show_of_anothers_table_plays = (started_plays_1, (started_plays_2, (written_plays_1, (written_plays_2, (written_plays_3, (visible_plays, (published_plays_1, (published_plays_2, (released_plays, (writer_stopped_plays, (looked_plays, (fetched_plays, (name_scanned_plays, (locked_plays, (looked_after_lock_plays, (class_scanned_plays_1, (class_scanned_plays_2, (attribute_scanned_plays_1, (attribute_scanned_plays_2, (attrdef_scanned_plays_1, (attrdef_scanned_plays_2, (constraint_scanned_plays_1, (constraint_scanned_plays_2, (index_scanned_plays_1, (index_scanned_plays_2, (trigger_scanned_plays_1, (trigger_scanned_plays_2, (shown_plays, (stopped_plays, tt)))))))))))))))))))))))))))))
-
-pub show_of_anothers_table_sound : IsSound stopped
-show_of_anothers_table_sound = (started_comes_1, (started_comes_2, (written_comes_1, (written_comes_2, (written_comes_3, (visible_comes, (published_comes_1, (published_comes_2, (released_comes, (writer_stopped_comes, (looked_comes, (fetched_comes, (name_scanned_comes, (locked_comes, (looked_after_lock_comes, (class_scanned_comes_1, (class_scanned_comes_2, (attribute_scanned_comes_1, (attribute_scanned_comes_2, (attrdef_scanned_comes_1, (attrdef_scanned_comes_2, (constraint_scanned_comes_1, (constraint_scanned_comes_2, (index_scanned_comes_1, (index_scanned_comes_2, (trigger_scanned_comes_1, (trigger_scanned_comes_2, (shown_comes, (stopped_comes, tt)))))))))))))))))))))))))))))
 
 pub show_of_anothers_table_queue : FollowsQueue 4096 stopped
 show_of_anothers_table_queue = (tt, (tt, (tt, (tt, (tt, (tt, (tt, (tt, (tt, (tt, (tt, (refl, (tt, (tt, (tt, (tt, (tt, (tt, (tt, (tt, (tt, (tt, (tt, (tt, (tt, (tt, (tt, (tt, (tt, tt)))))))))))))))))))))))))))))
@@ -294,4 +203,4 @@ unfolding digits
 show_of_anothers_table_spelled = refl
 
 pub show_of_anothers_table_output : IsOutput Walk show_of_anothers_table show_of_anothers_table_text
-show_of_anothers_table_output = record { history = stopped; allowed = record { legal = sound_is_legal stopped show_of_anothers_table_sound; queue = show_of_anothers_table_queue; plays = show_of_anothers_table_plays; economical = show_of_anothers_table_economical }; interleaved = record { follows = show_of_anothers_table_follows; looks = show_of_anothers_table_looks }; complete = show_of_anothers_table_complete; text_is = sym show_of_anothers_table_spelled }
+show_of_anothers_table_output = record { history = stopped; allowed = record { legal = legal_by stopped refl; queue = show_of_anothers_table_queue; plays = show_of_anothers_table_plays; economical = show_of_anothers_table_economical }; interleaved = record { follows = show_of_anothers_table_follows; looks = show_of_anothers_table_looks }; complete = show_of_anothers_table_complete; text_is = sym show_of_anothers_table_spelled }

@@ -9,9 +9,8 @@ use Rattle.event_kinds.specs.declared.entry.Entry.{Entry}
 use Rattle.event_kinds.specs.declared.entry.Event.TheVariants.{Start, Look, Fetch, LockOk, Scan, Write, Visible, Publish, Release}
 use Rattle.event_kinds.specs.Texts.{text_of}
 use Rattle.history_model.specs.Lapped.{FollowsQueue}
-use Rattle.history_model.specs.Orderly.{IsSound}
 use Rattle.history_model.specs.Read.{ScansOnlyIfNeeded, IsEconomical}
-use Rattle.history_model.proofs.Sound.{sound_is_legal}
+use Rattle.history_model.proofs.Allows.{legal_by}
 use Rattle.cacheless.specs.Plays.{IsNext, Plays}
 use Rattle.cacheless.specs.Schedule.{FollowsSchedule, AreLooksTrue, IsComplete}
 use Rattle.cacheless.specs.Lines.{lines_of}
@@ -219,9 +218,6 @@ columns_of_a_later_table_plays = (
   ),
 )
 
-pub columns_of_a_later_table_sound : IsSound listed
-columns_of_a_later_table_sound = search arith
-
 pub columns_of_a_later_table_queue : FollowsQueue 4096 listed
 columns_of_a_later_table_queue = (tt, (tt, (tt, (tt, (tt, (tt, (tt, (tt, (tt, (tt, (tt, (tt, (tt, (tt, (tt, (tt, (tt, (refl, (tt, (tt, (tt, (tt, (tt, (tt, (tt, (tt, (tt, (tt, (tt, (tt, (refl, (tt, (tt, (tt, (tt, (tt, (tt, (refl, (tt, (tt, (tt, (tt, (tt, tt)))))))))))))))))))))))))))))))))))))))))))
 
@@ -245,7 +241,7 @@ unfolding digits
 columns_of_a_later_table_spelled = refl
 
 pub columns_of_a_later_table_output : IsOutput Walk columns_of_a_later_table columns_of_a_later_table_text
-columns_of_a_later_table_output = record { history = listed; allowed = record { legal = sound_is_legal listed columns_of_a_later_table_sound; queue = columns_of_a_later_table_queue; plays = columns_of_a_later_table_plays; economical = columns_of_a_later_table_economical }; interleaved = record { follows = columns_of_a_later_table_follows; looks = columns_of_a_later_table_looks }; complete = columns_of_a_later_table_complete; text_is = sym columns_of_a_later_table_spelled }
+columns_of_a_later_table_output = record { history = listed; allowed = record { legal = legal_by listed refl; queue = columns_of_a_later_table_queue; plays = columns_of_a_later_table_plays; economical = columns_of_a_later_table_economical }; interleaved = record { follows = columns_of_a_later_table_follows; looks = columns_of_a_later_table_looks }; complete = columns_of_a_later_table_complete; text_is = sym columns_of_a_later_table_spelled }
 
 -- after the other table's messages, the reader has looked once more than it has to
 abbrev pub name_kept : List Entry

@@ -9,9 +9,8 @@ use Rattle.event_kinds.specs.declared.entry.Entry.{Entry}
 use Rattle.event_kinds.specs.declared.entry.Event.TheVariants.{Start, Look, Fetch, LockOk, Scan, Write, Visible, Publish, Release, Stop}
 use Rattle.event_kinds.specs.Texts.{text_of}
 use Rattle.history_model.specs.Lapped.{FollowsQueue}
-use Rattle.history_model.specs.Orderly.{MayComeNext, IsSound}
 use Rattle.history_model.specs.Read.{IsEconomical}
-use Rattle.history_model.proofs.Sound.{sound_is_legal}
+use Rattle.history_model.proofs.Allows.{legal_by}
 use Rattle.cacheless.specs.Plays.{IsNext, Plays}
 use Rattle.cacheless.specs.Schedule.{FollowsSchedule, AreLooksTrue, IsComplete}
 use Rattle.cacheless.specs.Lines.{lines_of}
@@ -34,17 +33,11 @@ started = entry 1 0 Start ∷ []
 started_plays : IsNext create_then_show [] (entry 1 0 Start)
 started_plays = ((at_least_1, at_most_1), tt)
 
-started_comes : MayComeNext [] (entry 1 0 Start)
-started_comes = record { follows = record { life = refl; visible = tt; gone = tt; event = tt }; orderly = tt }
-
 abbrev pub looked : List Entry
 looked = started ++ entry 1 1 (Look false) ∷ []
 
 looked_plays : IsNext create_then_show started (entry 1 1 (Look false))
 looked_plays = ((at_least_1, at_most_1), (refl, refl))
-
-looked_comes : MayComeNext started (entry 1 1 (Look false))
-looked_comes = record { follows = record { life = omega arith; visible = tt; gone = tt; event = refl }; orderly = tt }
 
 abbrev pub written : List Entry
 written = looked ++ entry 1 1 (Write (xid 1) (new_table 16384 (codes "t") (codes "a"))) ∷ []
@@ -52,17 +45,11 @@ written = looked ++ entry 1 1 (Write (xid 1) (new_table 16384 (codes "t") (codes
 written_plays : IsNext create_then_show looked (entry 1 1 (Write (xid 1) (new_table 16384 (codes "t") (codes "a"))))
 written_plays = ((at_least_1, at_most_1), (refl, (refl, refl)))
 
-written_comes : MayComeNext looked (entry 1 1 (Write (xid 1) (new_table 16384 (codes "t") (codes "a"))))
-written_comes = record { follows = record { life = omega arith; visible = tt; gone = tt; event = record { xid_is = refl; oids = refl; keys = refl; there = refl; kinds = refl; only = refl; free = refl; guarded = refl; covered = refl } }; orderly = record { fresh = refl; keeps = refl; told = refl } }
-
 abbrev pub visible : List Entry
 visible = written ++ entry 1 1 (Visible (xid 1)) ∷ []
 
 visible_plays : IsNext create_then_show written (entry 1 1 (Visible (xid 1)))
 visible_plays = ((at_least_1, at_most_1), (refl, (refl, refl)))
-
-visible_comes : MayComeNext written (entry 1 1 (Visible (xid 1)))
-visible_comes = record { follows = record { life = omega arith; visible = tt; gone = tt; event = (refl, refl) }; orderly = tt }
 
 abbrev pub first_part_published : List Entry
 first_part_published = visible ++ entry 1 1 (Publish 3) ∷ []
@@ -70,17 +57,11 @@ first_part_published = visible ++ entry 1 1 (Publish 3) ∷ []
 first_part_published_plays : IsNext create_then_show visible (entry 1 1 (Publish 3))
 first_part_published_plays = ((at_least_1, at_most_1), (refl, (refl, refl)))
 
-first_part_published_comes : MayComeNext visible (entry 1 1 (Publish 3))
-first_part_published_comes = record { follows = record { life = omega arith; visible = tt; gone = tt; event = (refl, omega arith, refl) }; orderly = tt }
-
 abbrev pub published : List Entry
 published = first_part_published ++ entry 1 1 (Publish 1) ∷ []
 
 published_plays : IsNext create_then_show first_part_published (entry 1 1 (Publish 1))
 published_plays = ((at_least_1, at_most_1), (refl, (refl, refl)))
-
-published_comes : MayComeNext first_part_published (entry 1 1 (Publish 1))
-published_comes = record { follows = record { life = omega arith; visible = tt; gone = tt; event = (refl, omega arith, refl) }; orderly = tt }
 
 abbrev pub released : List Entry
 released = published ++ entry 1 1 (Release 1) ∷ []
@@ -88,17 +69,11 @@ released = published ++ entry 1 1 (Release 1) ∷ []
 released_plays : IsNext create_then_show published (entry 1 1 (Release 1))
 released_plays = ((at_least_1, at_most_1), (refl, (refl, refl)))
 
-released_comes : MayComeNext published (entry 1 1 (Release 1))
-released_comes = record { follows = record { life = omega arith; visible = tt; gone = tt; event = (omega arith, (refl, refl)) }; orderly = tt }
-
 abbrev pub looked_at_start : List Entry
 looked_at_start = released ++ entry 1 2 (Look true) ∷ []
 
 looked_at_start_plays : IsNext create_then_show released (entry 1 2 (Look true))
 looked_at_start_plays = ((at_least_1, at_most_1), (refl, refl))
-
-looked_at_start_comes : MayComeNext released (entry 1 2 (Look true))
-looked_at_start_comes = record { follows = record { life = omega arith; visible = tt; gone = tt; event = refl }; orderly = tt }
 
 abbrev pub fetched : List Entry
 fetched = looked_at_start ++ entry 1 2 (Fetch 4) ∷ []
@@ -106,17 +81,11 @@ fetched = looked_at_start ++ entry 1 2 (Fetch 4) ∷ []
 fetched_plays : IsNext create_then_show looked_at_start (entry 1 2 (Fetch 4))
 fetched_plays = ((at_least_1, at_most_1), (refl, tt))
 
-fetched_comes : MayComeNext looked_at_start (entry 1 2 (Fetch 4))
-fetched_comes = record { follows = record { life = omega arith; visible = tt; gone = tt; event = (refl, refl) }; orderly = tt }
-
 abbrev pub looked_before_name : List Entry
 looked_before_name = fetched ++ entry 1 2 (Look false) ∷ []
 
 looked_before_name_plays : IsNext create_then_show fetched (entry 1 2 (Look false))
 looked_before_name_plays = ((at_least_1, at_most_1), (refl, refl))
-
-looked_before_name_comes : MayComeNext fetched (entry 1 2 (Look false))
-looked_before_name_comes = record { follows = record { life = omega arith; visible = tt; gone = tt; event = refl }; orderly = tt }
 
 abbrev pub name_scanned : List Entry
 name_scanned = looked_before_name ++ entry 1 2 (Scan (scans.RelName (codes "t")) 1) ∷ []
@@ -124,17 +93,11 @@ name_scanned = looked_before_name ++ entry 1 2 (Scan (scans.RelName (codes "t"))
 name_scanned_plays : IsNext create_then_show looked_before_name (entry 1 2 (Scan (scans.RelName (codes "t")) 1))
 name_scanned_plays = ((at_least_1, at_most_1), (refl, (refl, refl, refl)))
 
-name_scanned_comes : MayComeNext looked_before_name (entry 1 2 (Scan (scans.RelName (codes "t")) 1))
-name_scanned_comes = record { follows = record { life = omega arith; visible = tt; gone = tt; event = refl }; orderly = tt }
-
 abbrev pub locked : List Entry
 locked = name_scanned ++ entry 1 2 (LockOk (oid 16384) AccessShare) ∷ []
 
 locked_plays : IsNext create_then_show name_scanned (entry 1 2 (LockOk (oid 16384) AccessShare))
 locked_plays = ((at_least_1, at_most_1), (refl, (refl, refl, (refl, refl))))
-
-locked_comes : MayComeNext name_scanned (entry 1 2 (LockOk (oid 16384) AccessShare))
-locked_comes = record { follows = record { life = omega arith; visible = tt; gone = tt; event = (refl, refl) }; orderly = omega arith }
 
 abbrev pub looked_after_lock : List Entry
 looked_after_lock = locked ++ entry 1 2 (Look false) ∷ []
@@ -142,23 +105,14 @@ looked_after_lock = locked ++ entry 1 2 (Look false) ∷ []
 looked_after_lock_plays : IsNext create_then_show locked (entry 1 2 (Look false))
 looked_after_lock_plays = ((at_least_1, at_most_1), (refl, refl))
 
-looked_after_lock_comes : MayComeNext locked (entry 1 2 (Look false))
-looked_after_lock_comes = record { follows = record { life = omega arith; visible = tt; gone = tt; event = refl }; orderly = tt }
-
 abbrev pub class_scanned : List Entry
 class_scanned = looked_after_lock ++ entry 1 2 (Look false) ∷ entry 1 2 (Scan (scans.Class (oid 16384)) 1) ∷ []
 
 class_scanned_plays_1 : IsNext create_then_show looked_after_lock (entry 1 2 (Look false))
 class_scanned_plays_1 = ((at_least_1, at_most_1), (refl, refl))
 
-class_scanned_comes_1 : MayComeNext looked_after_lock (entry 1 2 (Look false))
-class_scanned_comes_1 = record { follows = record { life = omega arith; visible = tt; gone = tt; event = refl }; orderly = tt }
-
 class_scanned_plays_2 : IsNext create_then_show (looked_after_lock ++ entry 1 2 (Look false) ∷ []) (entry 1 2 (Scan (scans.Class (oid 16384)) 1))
 class_scanned_plays_2 = ((at_least_1, at_most_1), (refl, (refl, refl, refl)))
-
-class_scanned_comes_2 : MayComeNext (looked_after_lock ++ entry 1 2 (Look false) ∷ []) (entry 1 2 (Scan (scans.Class (oid 16384)) 1))
-class_scanned_comes_2 = record { follows = record { life = omega arith; visible = tt; gone = tt; event = refl }; orderly = tt }
 
 abbrev pub attribute_scanned : List Entry
 attribute_scanned = class_scanned ++ entry 1 2 (Look false) ∷ entry 1 2 (Scan (scans.Attribute (oid 16384)) 1) ∷ []
@@ -166,14 +120,8 @@ attribute_scanned = class_scanned ++ entry 1 2 (Look false) ∷ entry 1 2 (Scan 
 attribute_scanned_plays_1 : IsNext create_then_show class_scanned (entry 1 2 (Look false))
 attribute_scanned_plays_1 = ((at_least_1, at_most_1), (refl, refl))
 
-attribute_scanned_comes_1 : MayComeNext class_scanned (entry 1 2 (Look false))
-attribute_scanned_comes_1 = record { follows = record { life = omega arith; visible = tt; gone = tt; event = refl }; orderly = tt }
-
 attribute_scanned_plays_2 : IsNext create_then_show (class_scanned ++ entry 1 2 (Look false) ∷ []) (entry 1 2 (Scan (scans.Attribute (oid 16384)) 1))
 attribute_scanned_plays_2 = ((at_least_1, at_most_1), (refl, (refl, refl, refl)))
-
-attribute_scanned_comes_2 : MayComeNext (class_scanned ++ entry 1 2 (Look false) ∷ []) (entry 1 2 (Scan (scans.Attribute (oid 16384)) 1))
-attribute_scanned_comes_2 = record { follows = record { life = omega arith; visible = tt; gone = tt; event = refl }; orderly = tt }
 
 abbrev pub attrdef_scanned : List Entry
 attrdef_scanned = attribute_scanned ++ entry 1 2 (Look false) ∷ entry 1 2 (Scan (scans.AttrDef (oid 16384)) 0) ∷ []
@@ -181,14 +129,8 @@ attrdef_scanned = attribute_scanned ++ entry 1 2 (Look false) ∷ entry 1 2 (Sca
 attrdef_scanned_plays_1 : IsNext create_then_show attribute_scanned (entry 1 2 (Look false))
 attrdef_scanned_plays_1 = ((at_least_1, at_most_1), (refl, refl))
 
-attrdef_scanned_comes_1 : MayComeNext attribute_scanned (entry 1 2 (Look false))
-attrdef_scanned_comes_1 = record { follows = record { life = omega arith; visible = tt; gone = tt; event = refl }; orderly = tt }
-
 attrdef_scanned_plays_2 : IsNext create_then_show (attribute_scanned ++ entry 1 2 (Look false) ∷ []) (entry 1 2 (Scan (scans.AttrDef (oid 16384)) 0))
 attrdef_scanned_plays_2 = ((at_least_1, at_most_1), (refl, (refl, refl, refl)))
-
-attrdef_scanned_comes_2 : MayComeNext (attribute_scanned ++ entry 1 2 (Look false) ∷ []) (entry 1 2 (Scan (scans.AttrDef (oid 16384)) 0))
-attrdef_scanned_comes_2 = record { follows = record { life = omega arith; visible = tt; gone = tt; event = refl }; orderly = tt }
 
 abbrev pub constraint_scanned : List Entry
 constraint_scanned = attrdef_scanned ++ entry 1 2 (Look false) ∷ entry 1 2 (Scan (scans.Constraint (oid 16384)) 0) ∷ []
@@ -196,14 +138,8 @@ constraint_scanned = attrdef_scanned ++ entry 1 2 (Look false) ∷ entry 1 2 (Sc
 constraint_scanned_plays_1 : IsNext create_then_show attrdef_scanned (entry 1 2 (Look false))
 constraint_scanned_plays_1 = ((at_least_1, at_most_1), (refl, refl))
 
-constraint_scanned_comes_1 : MayComeNext attrdef_scanned (entry 1 2 (Look false))
-constraint_scanned_comes_1 = record { follows = record { life = omega arith; visible = tt; gone = tt; event = refl }; orderly = tt }
-
 constraint_scanned_plays_2 : IsNext create_then_show (attrdef_scanned ++ entry 1 2 (Look false) ∷ []) (entry 1 2 (Scan (scans.Constraint (oid 16384)) 0))
 constraint_scanned_plays_2 = ((at_least_1, at_most_1), (refl, (refl, refl, refl)))
-
-constraint_scanned_comes_2 : MayComeNext (attrdef_scanned ++ entry 1 2 (Look false) ∷ []) (entry 1 2 (Scan (scans.Constraint (oid 16384)) 0))
-constraint_scanned_comes_2 = record { follows = record { life = omega arith; visible = tt; gone = tt; event = refl }; orderly = tt }
 
 abbrev pub index_scanned : List Entry
 index_scanned = constraint_scanned ++ entry 1 2 (Look false) ∷ entry 1 2 (Scan (scans.Index (oid 16384)) 0) ∷ []
@@ -211,14 +147,8 @@ index_scanned = constraint_scanned ++ entry 1 2 (Look false) ∷ entry 1 2 (Scan
 index_scanned_plays_1 : IsNext create_then_show constraint_scanned (entry 1 2 (Look false))
 index_scanned_plays_1 = ((at_least_1, at_most_1), (refl, refl))
 
-index_scanned_comes_1 : MayComeNext constraint_scanned (entry 1 2 (Look false))
-index_scanned_comes_1 = record { follows = record { life = omega arith; visible = tt; gone = tt; event = refl }; orderly = tt }
-
 index_scanned_plays_2 : IsNext create_then_show (constraint_scanned ++ entry 1 2 (Look false) ∷ []) (entry 1 2 (Scan (scans.Index (oid 16384)) 0))
 index_scanned_plays_2 = ((at_least_1, at_most_1), (refl, (refl, refl, refl)))
-
-index_scanned_comes_2 : MayComeNext (constraint_scanned ++ entry 1 2 (Look false) ∷ []) (entry 1 2 (Scan (scans.Index (oid 16384)) 0))
-index_scanned_comes_2 = record { follows = record { life = omega arith; visible = tt; gone = tt; event = refl }; orderly = tt }
 
 abbrev pub trigger_scanned : List Entry
 trigger_scanned = index_scanned ++ entry 1 2 (Look false) ∷ entry 1 2 (Scan (scans.Trigger (oid 16384)) 0) ∷ []
@@ -226,14 +156,8 @@ trigger_scanned = index_scanned ++ entry 1 2 (Look false) ∷ entry 1 2 (Scan (s
 trigger_scanned_plays_1 : IsNext create_then_show index_scanned (entry 1 2 (Look false))
 trigger_scanned_plays_1 = ((at_least_1, at_most_1), (refl, refl))
 
-trigger_scanned_comes_1 : MayComeNext index_scanned (entry 1 2 (Look false))
-trigger_scanned_comes_1 = record { follows = record { life = omega arith; visible = tt; gone = tt; event = refl }; orderly = tt }
-
 trigger_scanned_plays_2 : IsNext create_then_show (index_scanned ++ entry 1 2 (Look false) ∷ []) (entry 1 2 (Scan (scans.Trigger (oid 16384)) 0))
 trigger_scanned_plays_2 = ((at_least_1, at_most_1), (refl, (refl, refl, refl)))
-
-trigger_scanned_comes_2 : MayComeNext (index_scanned ++ entry 1 2 (Look false) ∷ []) (entry 1 2 (Scan (scans.Trigger (oid 16384)) 0))
-trigger_scanned_comes_2 = record { follows = record { life = omega arith; visible = tt; gone = tt; event = refl }; orderly = tt }
 
 abbrev pub shown : List Entry
 shown = trigger_scanned ++ entry 1 2 (Release 2) ∷ []
@@ -241,23 +165,14 @@ shown = trigger_scanned ++ entry 1 2 (Release 2) ∷ []
 shown_plays : IsNext create_then_show trigger_scanned (entry 1 2 (Release 2))
 shown_plays = ((at_least_1, at_most_1), (refl, (refl, refl)))
 
-shown_comes : MayComeNext trigger_scanned (entry 1 2 (Release 2))
-shown_comes = record { follows = record { life = omega arith; visible = tt; gone = tt; event = (omega arith, refl) }; orderly = tt }
-
 abbrev pub stopped : List Entry
 stopped = shown ++ entry 1 3 Stop ∷ []
 
 stopped_plays : IsNext create_then_show shown (entry 1 3 Stop)
 stopped_plays = ((at_least_1, at_most_1), (refl, refl))
 
-stopped_comes : MayComeNext shown (entry 1 3 Stop)
-stopped_comes = record { follows = record { life = omega arith; visible = tt; gone = tt; event = refl }; orderly = tt }
-
 pub create_then_show_plays : Plays create_then_show stopped
 create_then_show_plays = (started_plays, (looked_plays, (written_plays, (visible_plays, (first_part_published_plays, (published_plays, (released_plays, (looked_at_start_plays, (fetched_plays, (looked_before_name_plays, (name_scanned_plays, (locked_plays, (looked_after_lock_plays, (class_scanned_plays_1, (class_scanned_plays_2, (attribute_scanned_plays_1, (attribute_scanned_plays_2, (attrdef_scanned_plays_1, (attrdef_scanned_plays_2, (constraint_scanned_plays_1, (constraint_scanned_plays_2, (index_scanned_plays_1, (index_scanned_plays_2, (trigger_scanned_plays_1, (trigger_scanned_plays_2, (shown_plays, (stopped_plays, tt)))))))))))))))))))))))))))
-
-pub create_then_show_sound : IsSound stopped
-create_then_show_sound = (started_comes, (looked_comes, (written_comes, (visible_comes, (first_part_published_comes, (published_comes, (released_comes, (looked_at_start_comes, (fetched_comes, (looked_before_name_comes, (name_scanned_comes, (locked_comes, (looked_after_lock_comes, (class_scanned_comes_1, (class_scanned_comes_2, (attribute_scanned_comes_1, (attribute_scanned_comes_2, (attrdef_scanned_comes_1, (attrdef_scanned_comes_2, (constraint_scanned_comes_1, (constraint_scanned_comes_2, (index_scanned_comes_1, (index_scanned_comes_2, (trigger_scanned_comes_1, (trigger_scanned_comes_2, (shown_comes, (stopped_comes, tt)))))))))))))))))))))))))))
 
 pub create_then_show_queue : FollowsQueue 4096 stopped
 create_then_show_queue = (tt, (tt, (tt, (tt, (tt, (tt, (tt, (tt, (refl, (tt, (tt, (tt, (tt, (tt, (tt, (tt, (tt, (tt, (tt, (tt, (tt, (tt, (tt, (tt, (tt, (tt, (tt, tt)))))))))))))))))))))))))))
@@ -282,4 +197,4 @@ unfolding digits
 create_then_show_spelled = refl
 
 pub create_then_show_output : IsOutput Walk create_then_show create_then_show_text
-create_then_show_output = record { history = stopped; allowed = record { legal = sound_is_legal stopped create_then_show_sound; queue = create_then_show_queue; plays = create_then_show_plays; economical = create_then_show_economical }; interleaved = record { follows = create_then_show_follows; looks = create_then_show_looks }; complete = create_then_show_complete; text_is = sym create_then_show_spelled }
+create_then_show_output = record { history = stopped; allowed = record { legal = legal_by stopped refl; queue = create_then_show_queue; plays = create_then_show_plays; economical = create_then_show_economical }; interleaved = record { follows = create_then_show_follows; looks = create_then_show_looks }; complete = create_then_show_complete; text_is = sym create_then_show_spelled }

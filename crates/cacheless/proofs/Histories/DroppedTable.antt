@@ -10,7 +10,7 @@ use Rattle.event_kinds.specs.declared.entry.Entry.{Entry}
 use Rattle.event_kinds.specs.declared.entry.Event.TheVariants.{Look, Fetch, LockOk, Write, Visible, Publish, Release}
 use Rattle.event_kinds.specs.declared.entry.Item.{Item}
 use Rattle.event_kinds.specs.declared.entry.Item.TheVariants.{Add, Remove}
-use Rattle.history_model.specs.Orderly.{MayComeNext, IsSound}
+use Rattle.history_model.specs.Sound.{MayComeNext, IsSound}
 use Rattle.history_model.specs.Read.{is_usable}
 use Rattle.history_model.specs.Versions.{rows_of, answer_of}
 use Rattle.history_model.proofs.InOrder.{IsIn}

@@ -8,9 +8,8 @@ use Rattle.event_kinds.specs.declared.entry.Entry.{Entry}
 use Rattle.event_kinds.specs.declared.entry.Event.TheVariants.{Start, Look, Scan, Write, Release, Gone, Stop}
 use Rattle.event_kinds.specs.Texts.{text_of}
 use Rattle.history_model.specs.Lapped.{FollowsQueue}
-use Rattle.history_model.specs.Orderly.{MayComeNext, IsSound}
 use Rattle.history_model.specs.Read.{IsEconomical}
-use Rattle.history_model.proofs.Sound.{sound_is_legal}
+use Rattle.history_model.proofs.Allows.{legal_by}
 use Rattle.cacheless.specs.Plays.{IsNext, Plays}
 use Rattle.cacheless.specs.Schedule.{FollowsSchedule, AreLooksTrue, IsComplete}
 use Rattle.cacheless.specs.Lines.{lines_of}
@@ -33,14 +32,8 @@ begun = entry 1 0 Start ∷ entry 1 1 (Look false) ∷ []
 begun_plays_1 : IsNext failed_block [] (entry 1 0 Start)
 begun_plays_1 = ((at_least_1, at_most_1), tt)
 
-begun_comes_1 : MayComeNext [] (entry 1 0 Start)
-begun_comes_1 = record { follows = record { life = refl; visible = tt; gone = tt; event = tt }; orderly = tt }
-
 begun_plays_2 : IsNext failed_block (entry 1 0 Start ∷ []) (entry 1 1 (Look false))
 begun_plays_2 = ((at_least_1, at_most_1), (refl, refl))
-
-begun_comes_2 : MayComeNext (entry 1 0 Start ∷ []) (entry 1 1 (Look false))
-begun_comes_2 = record { follows = record { life = omega arith; visible = tt; gone = tt; event = refl }; orderly = tt }
 
 abbrev pub written : List Entry
 written = begun ++ entry 1 2 (Write (xid 1) (new_table 16384 (codes "t") (codes "a"))) ∷ []
@@ -48,17 +41,11 @@ written = begun ++ entry 1 2 (Write (xid 1) (new_table 16384 (codes "t") (codes 
 written_plays : IsNext failed_block begun (entry 1 2 (Write (xid 1) (new_table 16384 (codes "t") (codes "a"))))
 written_plays = ((at_least_1, at_most_1), (refl, (refl, refl)))
 
-written_comes : MayComeNext begun (entry 1 2 (Write (xid 1) (new_table 16384 (codes "t") (codes "a"))))
-written_comes = record { follows = record { life = omega arith; visible = tt; gone = tt; event = record { xid_is = refl; oids = refl; keys = refl; there = refl; kinds = refl; only = refl; free = refl; guarded = refl; covered = refl } }; orderly = record { fresh = refl; keeps = refl; told = refl } }
-
 abbrev pub looked : List Entry
 looked = written ++ entry 1 3 (Look false) ∷ []
 
 looked_plays : IsNext failed_block written (entry 1 3 (Look false))
 looked_plays = ((at_least_1, at_most_1), (refl, refl))
-
-looked_comes : MayComeNext written (entry 1 3 (Look false))
-looked_comes = record { follows = record { life = omega arith; visible = tt; gone = tt; event = refl }; orderly = tt }
 
 abbrev pub scanned : List Entry
 scanned = looked ++ entry 1 3 (Scan (scans.RelName (codes "nosuch")) 0) ∷ []
@@ -66,17 +53,11 @@ scanned = looked ++ entry 1 3 (Scan (scans.RelName (codes "nosuch")) 0) ∷ []
 scanned_plays : IsNext failed_block looked (entry 1 3 (Scan (scans.RelName (codes "nosuch")) 0))
 scanned_plays = ((at_least_1, at_most_1), (refl, (refl, refl, refl)))
 
-scanned_comes : MayComeNext looked (entry 1 3 (Scan (scans.RelName (codes "nosuch")) 0))
-scanned_comes = record { follows = record { life = omega arith; visible = tt; gone = tt; event = refl }; orderly = tt }
-
 abbrev pub accepted : List Entry
 accepted = scanned ++ entry 1 3 (Look false) ∷ []
 
 accepted_plays : IsNext failed_block scanned (entry 1 3 (Look false))
 accepted_plays = ((at_least_1, at_most_1), (refl, refl))
-
-accepted_comes : MayComeNext scanned (entry 1 3 (Look false))
-accepted_comes = record { follows = record { life = omega arith; visible = tt; gone = tt; event = refl }; orderly = tt }
 
 abbrev pub taken_back : List Entry
 taken_back = accepted ++ entry 1 3 (Gone 1) ∷ []
@@ -84,17 +65,11 @@ taken_back = accepted ++ entry 1 3 (Gone 1) ∷ []
 taken_back_plays : IsNext failed_block accepted (entry 1 3 (Gone 1))
 taken_back_plays = ((at_least_1, at_most_1), (refl, (refl, refl)))
 
-taken_back_comes : MayComeNext accepted (entry 1 3 (Gone 1))
-taken_back_comes = record { follows = record { life = omega arith; visible = tt; gone = tt; event = refl }; orderly = tt }
-
 abbrev pub released : List Entry
 released = taken_back ++ entry 1 3 (Release 1) ∷ []
 
 released_plays : IsNext failed_block taken_back (entry 1 3 (Release 1))
 released_plays = ((at_least_1, at_most_1), (refl, (refl, refl)))
-
-released_comes : MayComeNext taken_back (entry 1 3 (Release 1))
-released_comes = record { follows = record { life = omega arith; visible = tt; gone = refl; event = (omega arith, refl) }; orderly = tt }
 
 abbrev pub stopped : List Entry
 stopped = released ++ entry 1 6 Stop ∷ []
@@ -102,14 +77,8 @@ stopped = released ++ entry 1 6 Stop ∷ []
 stopped_plays : IsNext failed_block released (entry 1 6 Stop)
 stopped_plays = ((at_least_1, at_most_1), (refl, refl))
 
-stopped_comes : MayComeNext released (entry 1 6 Stop)
-stopped_comes = record { follows = record { life = omega arith; visible = tt; gone = tt; event = refl }; orderly = tt }
-
 pub failed_block_plays : Plays failed_block stopped
 failed_block_plays = (begun_plays_1, (begun_plays_2, (written_plays, (looked_plays, (scanned_plays, (accepted_plays, (taken_back_plays, (released_plays, (stopped_plays, tt)))))))))
-
-pub failed_block_sound : IsSound stopped
-failed_block_sound = (begun_comes_1, (begun_comes_2, (written_comes, (looked_comes, (scanned_comes, (accepted_comes, (taken_back_comes, (released_comes, (stopped_comes, tt)))))))))
 
 pub failed_block_queue : FollowsQueue 4096 stopped
 failed_block_queue = (tt, (tt, (tt, (tt, (tt, (tt, (tt, (tt, (tt, tt)))))))))
@@ -134,4 +103,4 @@ unfolding digits
 failed_block_spelled = refl
 
 pub failed_block_output : IsOutput Walk failed_block failed_block_text
-failed_block_output = record { history = stopped; allowed = record { legal = sound_is_legal stopped failed_block_sound; queue = failed_block_queue; plays = failed_block_plays; economical = failed_block_economical }; interleaved = record { follows = failed_block_follows; looks = failed_block_looks }; complete = failed_block_complete; text_is = sym failed_block_spelled }
+failed_block_output = record { history = stopped; allowed = record { legal = legal_by stopped refl; queue = failed_block_queue; plays = failed_block_plays; economical = failed_block_economical }; interleaved = record { follows = failed_block_follows; looks = failed_block_looks }; complete = failed_block_complete; text_is = sym failed_block_spelled }

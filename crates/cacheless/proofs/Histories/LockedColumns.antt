@@ -8,7 +8,7 @@ use Rattle.event_kinds.specs.declared.entry.Event.TheVariants.{Start, Look, Fetc
 use Rattle.history_model.specs.Prefixes.{EachFrom}
 use Rattle.history_model.specs.Versions.{answer_of}
 use Rattle.history_model.specs.Held.{held_of}
-use Rattle.history_model.specs.Orderly.{IsSound}
+use Rattle.history_model.specs.Sound.{IsSound}
 use Rattle.history_model.specs.Read.{rows_read}
 use Rattle.history_model.proofs.Locked.{changing_modes, changed_anyhow, IsIdle, IsSeenAs, stays_undisturbed, held_bars_all, held_bars_exclusive, locked_between, read_between, firm_table, firm_between}
 use Rattle.cacheless.proofs.Plans.Given.{oid, xid, entry, new_table, wide_table}

@@ -10,9 +10,8 @@ use Rattle.event_kinds.specs.declared.entry.Entry.{Entry}
 use Rattle.event_kinds.specs.declared.entry.Event.TheVariants.{Start, Look, Fetch, LockOk, Scan, Write, Visible, Publish, Release, Stop}
 use Rattle.event_kinds.specs.Texts.{text_of}
 use Rattle.history_model.specs.Lapped.{FollowsQueue}
-use Rattle.history_model.specs.Orderly.{MayComeNext, IsSound}
 use Rattle.history_model.specs.Read.{IsEconomical}
-use Rattle.history_model.proofs.Sound.{sound_is_legal}
+use Rattle.history_model.proofs.Allows.{legal_by}
 use Rattle.cacheless.specs.Plays.{IsNext, Plays}
 use Rattle.cacheless.specs.Schedule.{FollowsSchedule, AreLooksTrue, IsComplete}
 use Rattle.cacheless.specs.Lines.{lines_of}
@@ -35,14 +34,8 @@ looked = entry 1 0 Start ∷ entry 1 1 (Look false) ∷ []
 looked_plays_1 : IsNext no_field [] (entry 1 0 Start)
 looked_plays_1 = ((at_least_1, at_most_1), tt)
 
-looked_comes_1 : MayComeNext [] (entry 1 0 Start)
-looked_comes_1 = record { follows = record { life = refl; visible = tt; gone = tt; event = tt }; orderly = tt }
-
 looked_plays_2 : IsNext no_field (entry 1 0 Start ∷ []) (entry 1 1 (Look false))
 looked_plays_2 = ((at_least_1, at_most_1), (refl, refl))
-
-looked_comes_2 : MayComeNext (entry 1 0 Start ∷ []) (entry 1 1 (Look false))
-looked_comes_2 = record { follows = record { life = omega arith; visible = tt; gone = tt; event = refl }; orderly = tt }
 
 abbrev pub created : List Entry
 created = looked ++ entry 1 1 (Write (xid 1) (new_table 16384 (codes "t") (codes "a"))) ∷ entry 1 1 (Visible (xid 1)) ∷ entry 1 1 (Publish 3) ∷ entry 1 1 (Publish 1) ∷ entry 1 1 (Release 1) ∷ []
@@ -50,32 +43,17 @@ created = looked ++ entry 1 1 (Write (xid 1) (new_table 16384 (codes "t") (codes
 created_plays_1 : IsNext no_field looked (entry 1 1 (Write (xid 1) (new_table 16384 (codes "t") (codes "a"))))
 created_plays_1 = ((at_least_1, at_most_1), (refl, (refl, refl)))
 
-created_comes_1 : MayComeNext looked (entry 1 1 (Write (xid 1) (new_table 16384 (codes "t") (codes "a"))))
-created_comes_1 = record { follows = record { life = omega arith; visible = tt; gone = tt; event = record { xid_is = refl; oids = refl; keys = refl; there = refl; kinds = refl; only = refl; free = refl; guarded = refl; covered = refl } }; orderly = record { fresh = refl; keeps = refl; told = refl } }
-
 created_plays_2 : IsNext no_field (looked ++ entry 1 1 (Write (xid 1) (new_table 16384 (codes "t") (codes "a"))) ∷ []) (entry 1 1 (Visible (xid 1)))
 created_plays_2 = ((at_least_1, at_most_1), (refl, (refl, refl)))
-
-created_comes_2 : MayComeNext (looked ++ entry 1 1 (Write (xid 1) (new_table 16384 (codes "t") (codes "a"))) ∷ []) (entry 1 1 (Visible (xid 1)))
-created_comes_2 = record { follows = record { life = omega arith; visible = tt; gone = tt; event = (refl, refl) }; orderly = tt }
 
 created_plays_3 : IsNext no_field (looked ++ entry 1 1 (Write (xid 1) (new_table 16384 (codes "t") (codes "a"))) ∷ entry 1 1 (Visible (xid 1)) ∷ []) (entry 1 1 (Publish 3))
 created_plays_3 = ((at_least_1, at_most_1), (refl, (refl, refl)))
 
-created_comes_3 : MayComeNext (looked ++ entry 1 1 (Write (xid 1) (new_table 16384 (codes "t") (codes "a"))) ∷ entry 1 1 (Visible (xid 1)) ∷ []) (entry 1 1 (Publish 3))
-created_comes_3 = record { follows = record { life = omega arith; visible = tt; gone = tt; event = (refl, omega arith, refl) }; orderly = tt }
-
 created_plays_4 : IsNext no_field (looked ++ entry 1 1 (Write (xid 1) (new_table 16384 (codes "t") (codes "a"))) ∷ entry 1 1 (Visible (xid 1)) ∷ entry 1 1 (Publish 3) ∷ []) (entry 1 1 (Publish 1))
 created_plays_4 = ((at_least_1, at_most_1), (refl, (refl, refl)))
 
-created_comes_4 : MayComeNext (looked ++ entry 1 1 (Write (xid 1) (new_table 16384 (codes "t") (codes "a"))) ∷ entry 1 1 (Visible (xid 1)) ∷ entry 1 1 (Publish 3) ∷ []) (entry 1 1 (Publish 1))
-created_comes_4 = record { follows = record { life = omega arith; visible = tt; gone = tt; event = (refl, omega arith, refl) }; orderly = tt }
-
 created_plays_5 : IsNext no_field (looked ++ entry 1 1 (Write (xid 1) (new_table 16384 (codes "t") (codes "a"))) ∷ entry 1 1 (Visible (xid 1)) ∷ entry 1 1 (Publish 3) ∷ entry 1 1 (Publish 1) ∷ []) (entry 1 1 (Release 1))
 created_plays_5 = ((at_least_1, at_most_1), (refl, (refl, refl)))
-
-created_comes_5 : MayComeNext (looked ++ entry 1 1 (Write (xid 1) (new_table 16384 (codes "t") (codes "a"))) ∷ entry 1 1 (Visible (xid 1)) ∷ entry 1 1 (Publish 3) ∷ entry 1 1 (Publish 1) ∷ []) (entry 1 1 (Release 1))
-created_comes_5 = record { follows = record { life = omega arith; visible = tt; gone = tt; event = (omega arith, (refl, refl)) }; orderly = tt }
 
 abbrev pub scanned : List Entry
 scanned = created ++ entry 1 2 (Look true) ∷ entry 1 2 (Fetch 4) ∷ entry 1 2 (Look false) ∷ entry 1 2 (Scan (scans.RelName (codes "t")) 1) ∷ []
@@ -83,26 +61,14 @@ scanned = created ++ entry 1 2 (Look true) ∷ entry 1 2 (Fetch 4) ∷ entry 1 2
 scanned_plays_1 : IsNext no_field created (entry 1 2 (Look true))
 scanned_plays_1 = ((at_least_1, at_most_1), (refl, refl))
 
-scanned_comes_1 : MayComeNext created (entry 1 2 (Look true))
-scanned_comes_1 = record { follows = record { life = omega arith; visible = tt; gone = tt; event = refl }; orderly = tt }
-
 scanned_plays_2 : IsNext no_field (created ++ entry 1 2 (Look true) ∷ []) (entry 1 2 (Fetch 4))
 scanned_plays_2 = ((at_least_1, at_most_1), (refl, tt))
-
-scanned_comes_2 : MayComeNext (created ++ entry 1 2 (Look true) ∷ []) (entry 1 2 (Fetch 4))
-scanned_comes_2 = record { follows = record { life = omega arith; visible = tt; gone = tt; event = (refl, refl) }; orderly = tt }
 
 scanned_plays_3 : IsNext no_field (created ++ entry 1 2 (Look true) ∷ entry 1 2 (Fetch 4) ∷ []) (entry 1 2 (Look false))
 scanned_plays_3 = ((at_least_1, at_most_1), (refl, refl))
 
-scanned_comes_3 : MayComeNext (created ++ entry 1 2 (Look true) ∷ entry 1 2 (Fetch 4) ∷ []) (entry 1 2 (Look false))
-scanned_comes_3 = record { follows = record { life = omega arith; visible = tt; gone = tt; event = refl }; orderly = tt }
-
 scanned_plays_4 : IsNext no_field (created ++ entry 1 2 (Look true) ∷ entry 1 2 (Fetch 4) ∷ entry 1 2 (Look false) ∷ []) (entry 1 2 (Scan (scans.RelName (codes "t")) 1))
 scanned_plays_4 = ((at_least_1, at_most_1), (refl, (refl, refl, refl)))
-
-scanned_comes_4 : MayComeNext (created ++ entry 1 2 (Look true) ∷ entry 1 2 (Fetch 4) ∷ entry 1 2 (Look false) ∷ []) (entry 1 2 (Scan (scans.RelName (codes "t")) 1))
-scanned_comes_4 = record { follows = record { life = omega arith; visible = tt; gone = tt; event = refl }; orderly = tt }
 
 abbrev pub locked : List Entry
 locked = scanned ++ entry 1 2 (LockOk (oid 16384) AccessShare) ∷ entry 1 2 (Look false) ∷ []
@@ -110,14 +76,8 @@ locked = scanned ++ entry 1 2 (LockOk (oid 16384) AccessShare) ∷ entry 1 2 (Lo
 locked_plays_1 : IsNext no_field scanned (entry 1 2 (LockOk (oid 16384) AccessShare))
 locked_plays_1 = ((at_least_1, at_most_1), (refl, (refl, refl, (refl, refl))))
 
-locked_comes_1 : MayComeNext scanned (entry 1 2 (LockOk (oid 16384) AccessShare))
-locked_comes_1 = record { follows = record { life = omega arith; visible = tt; gone = tt; event = (refl, refl) }; orderly = omega arith }
-
 locked_plays_2 : IsNext no_field (scanned ++ entry 1 2 (LockOk (oid 16384) AccessShare) ∷ []) (entry 1 2 (Look false))
 locked_plays_2 = ((at_least_1, at_most_1), (refl, refl))
-
-locked_comes_2 : MayComeNext (scanned ++ entry 1 2 (LockOk (oid 16384) AccessShare) ∷ []) (entry 1 2 (Look false))
-locked_comes_2 = record { follows = record { life = omega arith; visible = tt; gone = tt; event = refl }; orderly = tt }
 
 abbrev pub field_refused : List Entry
 field_refused = locked ++ entry 1 2 (Release 2) ∷ []
@@ -125,23 +85,14 @@ field_refused = locked ++ entry 1 2 (Release 2) ∷ []
 field_refused_plays : IsNext no_field locked (entry 1 2 (Release 2))
 field_refused_plays = ((at_least_1, at_most_1), (refl, (refl, refl)))
 
-field_refused_comes : MayComeNext locked (entry 1 2 (Release 2))
-field_refused_comes = record { follows = record { life = omega arith; visible = tt; gone = tt; event = (omega arith, refl) }; orderly = tt }
-
 abbrev pub stopped : List Entry
 stopped = field_refused ++ entry 1 3 Stop ∷ []
 
 stopped_plays : IsNext no_field field_refused (entry 1 3 Stop)
 stopped_plays = ((at_least_1, at_most_1), (refl, refl))
 
-stopped_comes : MayComeNext field_refused (entry 1 3 Stop)
-stopped_comes = record { follows = record { life = omega arith; visible = tt; gone = tt; event = refl }; orderly = tt }
-
 pub no_field_plays : Plays no_field stopped
 no_field_plays = (looked_plays_1, (looked_plays_2, (created_plays_1, (created_plays_2, (created_plays_3, (created_plays_4, (created_plays_5, (scanned_plays_1, (scanned_plays_2, (scanned_plays_3, (scanned_plays_4, (locked_plays_1, (locked_plays_2, (field_refused_plays, (stopped_plays, tt)))))))))))))))
-
-pub no_field_sound : IsSound stopped
-no_field_sound = (looked_comes_1, (looked_comes_2, (created_comes_1, (created_comes_2, (created_comes_3, (created_comes_4, (created_comes_5, (scanned_comes_1, (scanned_comes_2, (scanned_comes_3, (scanned_comes_4, (locked_comes_1, (locked_comes_2, (field_refused_comes, (stopped_comes, tt)))))))))))))))
 
 pub no_field_queue : FollowsQueue 4096 stopped
 no_field_queue = (tt, (tt, (tt, (tt, (tt, (tt, (tt, (tt, (refl, (tt, (tt, (tt, (tt, (tt, (tt, tt)))))))))))))))
@@ -166,4 +117,4 @@ unfolding digits
 no_field_spelled = refl
 
 pub no_field_output : IsOutput Walk no_field no_field_text
-no_field_output = record { history = stopped; allowed = record { legal = sound_is_legal stopped no_field_sound; queue = no_field_queue; plays = no_field_plays; economical = no_field_economical }; interleaved = record { follows = no_field_follows; looks = no_field_looks }; complete = no_field_complete; text_is = sym no_field_spelled }
+no_field_output = record { history = stopped; allowed = record { legal = legal_by stopped refl; queue = no_field_queue; plays = no_field_plays; economical = no_field_economical }; interleaved = record { follows = no_field_follows; looks = no_field_looks }; complete = no_field_complete; text_is = sym no_field_spelled }

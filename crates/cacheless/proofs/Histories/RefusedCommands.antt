@@ -8,9 +8,8 @@ use Rattle.event_kinds.specs.declared.entry.Entry.{Entry}
 use Rattle.event_kinds.specs.declared.entry.Event.TheVariants.{Start, Look, Write, Visible, Publish, Release, Stop}
 use Rattle.event_kinds.specs.Texts.{text_of}
 use Rattle.history_model.specs.Lapped.{FollowsQueue}
-use Rattle.history_model.specs.Orderly.{MayComeNext, IsSound}
 use Rattle.history_model.specs.Read.{IsEconomical}
-use Rattle.history_model.proofs.Sound.{sound_is_legal}
+use Rattle.history_model.proofs.Allows.{legal_by}
 use Rattle.cacheless.specs.Plays.{IsNext, Plays}
 use Rattle.cacheless.specs.Schedule.{FollowsSchedule, AreLooksTrue, IsComplete}
 use Rattle.cacheless.specs.Lines.{lines_of}
@@ -33,14 +32,8 @@ looked = entry 1 0 Start ∷ entry 1 1 (Look false) ∷ []
 looked_plays_1 : IsNext refused_commands [] (entry 1 0 Start)
 looked_plays_1 = ((at_least_1, at_most_1), tt)
 
-looked_comes_1 : MayComeNext [] (entry 1 0 Start)
-looked_comes_1 = record { follows = record { life = refl; visible = tt; gone = tt; event = tt }; orderly = tt }
-
 looked_plays_2 : IsNext refused_commands (entry 1 0 Start ∷ []) (entry 1 1 (Look false))
 looked_plays_2 = ((at_least_1, at_most_1), (refl, refl))
-
-looked_comes_2 : MayComeNext (entry 1 0 Start ∷ []) (entry 1 1 (Look false))
-looked_comes_2 = record { follows = record { life = omega arith; visible = tt; gone = tt; event = refl }; orderly = tt }
 
 abbrev pub column_refused : List Entry
 column_refused = looked ++ entry 1 1 (Release 1) ∷ []
@@ -48,47 +41,26 @@ column_refused = looked ++ entry 1 1 (Release 1) ∷ []
 column_refused_plays : IsNext refused_commands looked (entry 1 1 (Release 1))
 column_refused_plays = ((at_least_1, at_most_1), (refl, (refl, refl)))
 
-column_refused_comes : MayComeNext looked (entry 1 1 (Release 1))
-column_refused_comes = record { follows = record { life = omega arith; visible = tt; gone = tt; event = (omega arith, refl) }; orderly = tt }
-
 abbrev pub created : List Entry
 created = column_refused ++ entry 1 2 (Look false) ∷ entry 1 2 (Write (xid 1) (new_table 16384 (codes "t") (codes "a"))) ∷ entry 1 2 (Visible (xid 1)) ∷ entry 1 2 (Publish 3) ∷ entry 1 2 (Publish 1) ∷ entry 1 2 (Release 2) ∷ []
 
 created_plays_1 : IsNext refused_commands column_refused (entry 1 2 (Look false))
 created_plays_1 = ((at_least_1, at_most_1), (refl, refl))
 
-created_comes_1 : MayComeNext column_refused (entry 1 2 (Look false))
-created_comes_1 = record { follows = record { life = omega arith; visible = tt; gone = tt; event = refl }; orderly = tt }
-
 created_plays_2 : IsNext refused_commands (column_refused ++ entry 1 2 (Look false) ∷ []) (entry 1 2 (Write (xid 1) (new_table 16384 (codes "t") (codes "a"))))
 created_plays_2 = ((at_least_1, at_most_1), (refl, (refl, refl)))
-
-created_comes_2 : MayComeNext (column_refused ++ entry 1 2 (Look false) ∷ []) (entry 1 2 (Write (xid 1) (new_table 16384 (codes "t") (codes "a"))))
-created_comes_2 = record { follows = record { life = omega arith; visible = tt; gone = tt; event = record { xid_is = refl; oids = refl; keys = refl; there = refl; kinds = refl; only = refl; free = refl; guarded = refl; covered = refl } }; orderly = record { fresh = refl; keeps = refl; told = refl } }
 
 created_plays_3 : IsNext refused_commands (column_refused ++ entry 1 2 (Look false) ∷ entry 1 2 (Write (xid 1) (new_table 16384 (codes "t") (codes "a"))) ∷ []) (entry 1 2 (Visible (xid 1)))
 created_plays_3 = ((at_least_1, at_most_1), (refl, (refl, refl)))
 
-created_comes_3 : MayComeNext (column_refused ++ entry 1 2 (Look false) ∷ entry 1 2 (Write (xid 1) (new_table 16384 (codes "t") (codes "a"))) ∷ []) (entry 1 2 (Visible (xid 1)))
-created_comes_3 = record { follows = record { life = omega arith; visible = tt; gone = tt; event = (refl, refl) }; orderly = tt }
-
 created_plays_4 : IsNext refused_commands (column_refused ++ entry 1 2 (Look false) ∷ entry 1 2 (Write (xid 1) (new_table 16384 (codes "t") (codes "a"))) ∷ entry 1 2 (Visible (xid 1)) ∷ []) (entry 1 2 (Publish 3))
 created_plays_4 = ((at_least_1, at_most_1), (refl, (refl, refl)))
-
-created_comes_4 : MayComeNext (column_refused ++ entry 1 2 (Look false) ∷ entry 1 2 (Write (xid 1) (new_table 16384 (codes "t") (codes "a"))) ∷ entry 1 2 (Visible (xid 1)) ∷ []) (entry 1 2 (Publish 3))
-created_comes_4 = record { follows = record { life = omega arith; visible = tt; gone = tt; event = (refl, omega arith, refl) }; orderly = tt }
 
 created_plays_5 : IsNext refused_commands (column_refused ++ entry 1 2 (Look false) ∷ entry 1 2 (Write (xid 1) (new_table 16384 (codes "t") (codes "a"))) ∷ entry 1 2 (Visible (xid 1)) ∷ entry 1 2 (Publish 3) ∷ []) (entry 1 2 (Publish 1))
 created_plays_5 = ((at_least_1, at_most_1), (refl, (refl, refl)))
 
-created_comes_5 : MayComeNext (column_refused ++ entry 1 2 (Look false) ∷ entry 1 2 (Write (xid 1) (new_table 16384 (codes "t") (codes "a"))) ∷ entry 1 2 (Visible (xid 1)) ∷ entry 1 2 (Publish 3) ∷ []) (entry 1 2 (Publish 1))
-created_comes_5 = record { follows = record { life = omega arith; visible = tt; gone = tt; event = (refl, omega arith, refl) }; orderly = tt }
-
 created_plays_6 : IsNext refused_commands (column_refused ++ entry 1 2 (Look false) ∷ entry 1 2 (Write (xid 1) (new_table 16384 (codes "t") (codes "a"))) ∷ entry 1 2 (Visible (xid 1)) ∷ entry 1 2 (Publish 3) ∷ entry 1 2 (Publish 1) ∷ []) (entry 1 2 (Release 2))
 created_plays_6 = ((at_least_1, at_most_1), (refl, (refl, refl)))
-
-created_comes_6 : MayComeNext (column_refused ++ entry 1 2 (Look false) ∷ entry 1 2 (Write (xid 1) (new_table 16384 (codes "t") (codes "a"))) ∷ entry 1 2 (Visible (xid 1)) ∷ entry 1 2 (Publish 3) ∷ entry 1 2 (Publish 1) ∷ []) (entry 1 2 (Release 2))
-created_comes_6 = record { follows = record { life = omega arith; visible = tt; gone = tt; event = (omega arith, (refl, refl)) }; orderly = tt }
 
 abbrev pub stopped : List Entry
 stopped = created ++ entry 1 3 Stop ∷ []
@@ -96,14 +68,8 @@ stopped = created ++ entry 1 3 Stop ∷ []
 stopped_plays : IsNext refused_commands created (entry 1 3 Stop)
 stopped_plays = ((at_least_1, at_most_1), (refl, refl))
 
-stopped_comes : MayComeNext created (entry 1 3 Stop)
-stopped_comes = record { follows = record { life = omega arith; visible = tt; gone = tt; event = refl }; orderly = tt }
-
 pub refused_commands_plays : Plays refused_commands stopped
 refused_commands_plays = (looked_plays_1, (looked_plays_2, (column_refused_plays, (created_plays_1, (created_plays_2, (created_plays_3, (created_plays_4, (created_plays_5, (created_plays_6, (stopped_plays, tt))))))))))
-
-pub refused_commands_sound : IsSound stopped
-refused_commands_sound = (looked_comes_1, (looked_comes_2, (column_refused_comes, (created_comes_1, (created_comes_2, (created_comes_3, (created_comes_4, (created_comes_5, (created_comes_6, (stopped_comes, tt))))))))))
 
 pub refused_commands_queue : FollowsQueue 4096 stopped
 refused_commands_queue = (tt, (tt, (tt, (tt, (tt, (tt, (tt, (tt, (tt, (tt, tt))))))))))
@@ -128,4 +94,4 @@ unfolding digits
 refused_commands_spelled = refl
 
 pub refused_commands_output : IsOutput Walk refused_commands refused_commands_text
-refused_commands_output = record { history = stopped; allowed = record { legal = sound_is_legal stopped refused_commands_sound; queue = refused_commands_queue; plays = refused_commands_plays; economical = refused_commands_economical }; interleaved = record { follows = refused_commands_follows; looks = refused_commands_looks }; complete = refused_commands_complete; text_is = sym refused_commands_spelled }
+refused_commands_output = record { history = stopped; allowed = record { legal = legal_by stopped refl; queue = refused_commands_queue; plays = refused_commands_plays; economical = refused_commands_economical }; interleaved = record { follows = refused_commands_follows; looks = refused_commands_looks }; complete = refused_commands_complete; text_is = sym refused_commands_spelled }

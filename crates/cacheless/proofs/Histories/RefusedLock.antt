@@ -9,9 +9,8 @@ use Rattle.event_kinds.specs.declared.entry.Entry.{Entry}
 use Rattle.event_kinds.specs.declared.entry.Event.TheVariants.{Start, Look, LockHeld, Scan, Write, Visible, Publish, Release, Stop}
 use Rattle.event_kinds.specs.Texts.{text_of}
 use Rattle.history_model.specs.Lapped.{FollowsQueue}
-use Rattle.history_model.specs.Orderly.{MayComeNext, IsSound}
 use Rattle.history_model.specs.Read.{IsEconomical}
-use Rattle.history_model.proofs.Sound.{sound_is_legal}
+use Rattle.history_model.proofs.Allows.{legal_by}
 use Rattle.cacheless.specs.Plays.{IsNext, Plays}
 use Rattle.cacheless.specs.Schedule.{FollowsSchedule, AreLooksTrue, IsComplete}
 use Rattle.cacheless.specs.Lines.{lines_of}
@@ -40,26 +39,14 @@ visible = entry 1 0 Start ∷ entry 1 1 (Look false) ∷ entry 1 1 (Write (xid 1
 visible_plays_1 : IsNext refused_lock [] (entry 1 0 Start)
 visible_plays_1 = ((at_least_1, at_most_1), tt)
 
-visible_comes_1 : MayComeNext [] (entry 1 0 Start)
-visible_comes_1 = record { follows = record { life = refl; visible = tt; gone = tt; event = tt }; orderly = tt }
-
 visible_plays_2 : IsNext refused_lock (entry 1 0 Start ∷ []) (entry 1 1 (Look false))
 visible_plays_2 = ((at_least_1, at_most_1), (refl, refl))
-
-visible_comes_2 : MayComeNext (entry 1 0 Start ∷ []) (entry 1 1 (Look false))
-visible_comes_2 = record { follows = record { life = omega arith; visible = tt; gone = tt; event = refl }; orderly = tt }
 
 visible_plays_3 : IsNext refused_lock (entry 1 0 Start ∷ entry 1 1 (Look false) ∷ []) (entry 1 1 (Write (xid 1) (new_table 16384 (codes "t") (codes "a"))))
 visible_plays_3 = ((at_least_1, at_most_1), (refl, (refl, refl)))
 
-visible_comes_3 : MayComeNext (entry 1 0 Start ∷ entry 1 1 (Look false) ∷ []) (entry 1 1 (Write (xid 1) (new_table 16384 (codes "t") (codes "a"))))
-visible_comes_3 = record { follows = record { life = omega arith; visible = tt; gone = tt; event = record { xid_is = refl; oids = refl; keys = refl; there = refl; kinds = refl; only = refl; free = refl; guarded = refl; covered = refl } }; orderly = record { fresh = refl; keeps = refl; told = refl } }
-
 visible_plays_4 : IsNext refused_lock (entry 1 0 Start ∷ entry 1 1 (Look false) ∷ entry 1 1 (Write (xid 1) (new_table 16384 (codes "t") (codes "a"))) ∷ []) (entry 1 1 (Visible (xid 1)))
 visible_plays_4 = ((at_least_1, at_most_1), (refl, (refl, refl)))
-
-visible_comes_4 : MayComeNext (entry 1 0 Start ∷ entry 1 1 (Look false) ∷ entry 1 1 (Write (xid 1) (new_table 16384 (codes "t") (codes "a"))) ∷ []) (entry 1 1 (Visible (xid 1)))
-visible_comes_4 = record { follows = record { life = omega arith; visible = tt; gone = tt; event = (refl, refl) }; orderly = tt }
 
 abbrev pub started : List Entry
 started = visible ++ entry 2 0 Start ∷ entry 2 1 (Look false) ∷ []
@@ -67,14 +54,8 @@ started = visible ++ entry 2 0 Start ∷ entry 2 1 (Look false) ∷ []
 started_plays_1 : IsNext refused_lock visible (entry 2 0 Start)
 started_plays_1 = ((at_least_2, at_most_2), tt)
 
-started_comes_1 : MayComeNext visible (entry 2 0 Start)
-started_comes_1 = record { follows = record { life = refl; visible = tt; gone = tt; event = tt }; orderly = tt }
-
 started_plays_2 : IsNext refused_lock (visible ++ entry 2 0 Start ∷ []) (entry 2 1 (Look false))
 started_plays_2 = ((at_least_2, at_most_2), (refl, refl))
-
-started_comes_2 : MayComeNext (visible ++ entry 2 0 Start ∷ []) (entry 2 1 (Look false))
-started_comes_2 = record { follows = record { life = omega arith; visible = tt; gone = tt; event = refl }; orderly = tt }
 
 abbrev pub scanned : List Entry
 scanned = started ++ entry 2 1 (Look false) ∷ entry 2 1 (Scan (scans.RelName (codes "t")) 1) ∷ []
@@ -82,14 +63,8 @@ scanned = started ++ entry 2 1 (Look false) ∷ entry 2 1 (Scan (scans.RelName (
 scanned_plays_1 : IsNext refused_lock started (entry 2 1 (Look false))
 scanned_plays_1 = ((at_least_2, at_most_2), (refl, refl))
 
-scanned_comes_1 : MayComeNext started (entry 2 1 (Look false))
-scanned_comes_1 = record { follows = record { life = omega arith; visible = tt; gone = tt; event = refl }; orderly = tt }
-
 scanned_plays_2 : IsNext refused_lock (started ++ entry 2 1 (Look false) ∷ []) (entry 2 1 (Scan (scans.RelName (codes "t")) 1))
 scanned_plays_2 = ((at_least_2, at_most_2), (refl, (refl, refl, refl)))
-
-scanned_comes_2 : MayComeNext (started ++ entry 2 1 (Look false) ∷ []) (entry 2 1 (Scan (scans.RelName (codes "t")) 1))
-scanned_comes_2 = record { follows = record { life = omega arith; visible = tt; gone = tt; event = refl }; orderly = tt }
 
 abbrev pub refused : List Entry
 refused = scanned ++ entry 2 1 (LockHeld (oid 16384) AccessShare 1 AccessExclusive) ∷ []
@@ -97,17 +72,11 @@ refused = scanned ++ entry 2 1 (LockHeld (oid 16384) AccessShare 1 AccessExclusi
 refused_plays : IsNext refused_lock scanned (entry 2 1 (LockHeld (oid 16384) AccessShare 1 AccessExclusive))
 refused_plays = ((at_least_2, at_most_2), (refl, (refl, refl, (refl, refl))))
 
-refused_comes : MayComeNext scanned (entry 2 1 (LockHeld (oid 16384) AccessShare 1 AccessExclusive))
-refused_comes = record { follows = record { life = omega arith; visible = tt; gone = tt; event = (refl, refl) }; orderly = omega arith }
-
 abbrev pub ended : List Entry
 ended = refused ++ entry 2 1 (Release 1) ∷ []
 
 ended_plays : IsNext refused_lock refused (entry 2 1 (Release 1))
 ended_plays = ((at_least_2, at_most_2), (refl, (refl, refl)))
-
-ended_comes : MayComeNext refused (entry 2 1 (Release 1))
-ended_comes = record { follows = record { life = omega arith; visible = tt; gone = tt; event = (omega arith, refl) }; orderly = tt }
 
 abbrev pub published : List Entry
 published = ended ++ entry 1 1 (Publish 3) ∷ entry 1 1 (Publish 1) ∷ []
@@ -115,14 +84,8 @@ published = ended ++ entry 1 1 (Publish 3) ∷ entry 1 1 (Publish 1) ∷ []
 published_plays_1 : IsNext refused_lock ended (entry 1 1 (Publish 3))
 published_plays_1 = ((at_least_1, at_most_1), (refl, (refl, refl)))
 
-published_comes_1 : MayComeNext ended (entry 1 1 (Publish 3))
-published_comes_1 = record { follows = record { life = omega arith; visible = tt; gone = tt; event = (refl, omega arith, refl) }; orderly = tt }
-
 published_plays_2 : IsNext refused_lock (ended ++ entry 1 1 (Publish 3) ∷ []) (entry 1 1 (Publish 1))
 published_plays_2 = ((at_least_1, at_most_1), (refl, (refl, refl)))
-
-published_comes_2 : MayComeNext (ended ++ entry 1 1 (Publish 3) ∷ []) (entry 1 1 (Publish 1))
-published_comes_2 = record { follows = record { life = omega arith; visible = tt; gone = tt; event = (refl, omega arith, refl) }; orderly = tt }
 
 abbrev pub released : List Entry
 released = published ++ entry 1 1 (Release 1) ∷ []
@@ -130,17 +93,11 @@ released = published ++ entry 1 1 (Release 1) ∷ []
 released_plays : IsNext refused_lock published (entry 1 1 (Release 1))
 released_plays = ((at_least_1, at_most_1), (refl, (refl, refl)))
 
-released_comes : MayComeNext published (entry 1 1 (Release 1))
-released_comes = record { follows = record { life = omega arith; visible = tt; gone = tt; event = (omega arith, (refl, refl)) }; orderly = tt }
-
 abbrev pub writer_stopped : List Entry
 writer_stopped = released ++ entry 1 2 Stop ∷ []
 
 writer_stopped_plays : IsNext refused_lock released (entry 1 2 Stop)
 writer_stopped_plays = ((at_least_1, at_most_1), (refl, refl))
-
-writer_stopped_comes : MayComeNext released (entry 1 2 Stop)
-writer_stopped_comes = record { follows = record { life = omega arith; visible = tt; gone = tt; event = refl }; orderly = tt }
 
 abbrev pub stopped : List Entry
 stopped = writer_stopped ++ entry 2 2 Stop ∷ []
@@ -148,14 +105,8 @@ stopped = writer_stopped ++ entry 2 2 Stop ∷ []
 stopped_plays : IsNext refused_lock writer_stopped (entry 2 2 Stop)
 stopped_plays = ((at_least_2, at_most_2), (refl, refl))
 
-stopped_comes : MayComeNext writer_stopped (entry 2 2 Stop)
-stopped_comes = record { follows = record { life = omega arith; visible = tt; gone = tt; event = refl }; orderly = tt }
-
 pub refused_lock_plays : Plays refused_lock stopped
 refused_lock_plays = (visible_plays_1, (visible_plays_2, (visible_plays_3, (visible_plays_4, (started_plays_1, (started_plays_2, (scanned_plays_1, (scanned_plays_2, (refused_plays, (ended_plays, (published_plays_1, (published_plays_2, (released_plays, (writer_stopped_plays, (stopped_plays, tt)))))))))))))))
-
-pub refused_lock_sound : IsSound stopped
-refused_lock_sound = (visible_comes_1, (visible_comes_2, (visible_comes_3, (visible_comes_4, (started_comes_1, (started_comes_2, (scanned_comes_1, (scanned_comes_2, (refused_comes, (ended_comes, (published_comes_1, (published_comes_2, (released_comes, (writer_stopped_comes, (stopped_comes, tt)))))))))))))))
 
 pub refused_lock_queue : FollowsQueue 4096 stopped
 refused_lock_queue = (tt, (tt, (tt, (tt, (tt, (tt, (tt, (tt, (tt, (tt, (tt, (tt, (tt, (tt, (tt, tt)))))))))))))))
@@ -180,4 +131,4 @@ unfolding digits
 refused_lock_spelled = refl
 
 pub refused_lock_output : IsOutput Walk refused_lock refused_lock_text
-refused_lock_output = record { history = stopped; allowed = record { legal = sound_is_legal stopped refused_lock_sound; queue = refused_lock_queue; plays = refused_lock_plays; economical = refused_lock_economical }; interleaved = record { follows = refused_lock_follows; looks = refused_lock_looks }; complete = refused_lock_complete; text_is = sym refused_lock_spelled }
+refused_lock_output = record { history = stopped; allowed = record { legal = legal_by stopped refl; queue = refused_lock_queue; plays = refused_lock_plays; economical = refused_lock_economical }; interleaved = record { follows = refused_lock_follows; looks = refused_lock_looks }; complete = refused_lock_complete; text_is = sym refused_lock_spelled }

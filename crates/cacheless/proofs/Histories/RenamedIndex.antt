@@ -9,7 +9,7 @@ use Rattle.event_kinds.specs.declared.entry.Entry.{Entry}
 use Rattle.event_kinds.specs.declared.entry.Event.TheVariants.{Start, Look, Fetch, LockOk, Scan, Write, Visible, Publish, Release}
 use Rattle.event_kinds.specs.declared.entry.Item.TheVariants.{Add, Put, Force}
 use Rattle.history_model.specs.Versions.{answer_of}
-use Rattle.history_model.specs.Orderly.{IsSound}
+use Rattle.history_model.specs.Sound.{IsSound}
 use Rattle.history_model.specs.Read.{rows_read, is_usable}
 use Rattle.history_model.proofs.Locked.{IsFirm}
 use Rattle.cacheless.proofs.Plans.Given.{oid, xid, entry, new_table}

@@ -8,9 +8,8 @@ use Rattle.event_kinds.specs.declared.entry.Entry.{Entry}
 use Rattle.event_kinds.specs.declared.entry.Event.TheVariants.{Start, Look, Scan, Write, Release, Gone, Stop}
 use Rattle.event_kinds.specs.Texts.{text_of}
 use Rattle.history_model.specs.Lapped.{FollowsQueue}
-use Rattle.history_model.specs.Orderly.{IsSound}
 use Rattle.history_model.specs.Read.{IsEconomical}
-use Rattle.history_model.proofs.Sound.{sound_is_legal}
+use Rattle.history_model.proofs.Allows.{legal_by}
 use Rattle.cacheless.specs.Plays.{IsNext, Plays}
 use Rattle.cacheless.specs.Schedule.{FollowsSchedule, AreLooksTrue, IsComplete}
 use Rattle.cacheless.specs.Lines.{lines_of}
@@ -70,9 +69,6 @@ ended = gone_whole ++ entry 1 10 (Release 1) ∷ entry 1 13 Stop ∷ []
 pub saved_block_plays : Plays saved_block ended
 saved_block_plays = (((at_least_1, at_most_1), tt), (((at_least_1, at_most_1), (refl, refl)), (((at_least_1, at_most_1), (refl, (refl, refl))), (((at_least_1, at_most_1), (refl, (refl, refl))), (((at_least_1, at_most_1), (refl, refl)), (((at_least_1, at_most_1), (refl, (refl, refl, refl))), (((at_least_1, at_most_1), (refl, refl)), (((at_least_1, at_most_1), (refl, (refl, refl))), (((at_least_1, at_most_1), (refl, (refl, refl))), (((at_least_1, at_most_1), (refl, (refl, refl))), (((at_least_1, at_most_1), (refl, (refl, refl))), (((at_least_1, at_most_1), (refl, (refl, refl))), (((at_least_1, at_most_1), (refl, (refl, refl))), (((at_least_1, at_most_1), (refl, refl)), tt))))))))))))))
 
-pub saved_block_sound : IsSound ended
-saved_block_sound = (record { follows = record { life = refl; visible = tt; gone = tt; event = tt }; orderly = tt }, (record { follows = record { life = omega arith; visible = tt; gone = tt; event = refl }; orderly = tt }, (record { follows = record { life = omega arith; visible = tt; gone = tt; event = record { xid_is = refl; oids = refl; keys = refl; there = refl; kinds = refl; only = refl; free = refl; guarded = refl; covered = refl } }; orderly = record { fresh = refl; keeps = refl; told = refl } }, (record { follows = record { life = omega arith; visible = tt; gone = tt; event = record { xid_is = refl; oids = refl; keys = refl; there = refl; kinds = refl; only = refl; free = refl; guarded = refl; covered = refl } }; orderly = record { fresh = refl; keeps = refl; told = refl } }, (record { follows = record { life = omega arith; visible = tt; gone = tt; event = refl }; orderly = tt }, (record { follows = record { life = omega arith; visible = tt; gone = tt; event = refl }; orderly = tt }, (record { follows = record { life = omega arith; visible = tt; gone = tt; event = refl }; orderly = tt }, (record { follows = record { life = omega arith; visible = tt; gone = tt; event = refl }; orderly = tt }, (record { follows = record { life = omega arith; visible = tt; gone = refl; event = (omega arith, refl) }; orderly = tt }, (record { follows = record { life = omega arith; visible = tt; gone = tt; event = (omega arith, refl) }; orderly = tt }, (record { follows = record { life = omega arith; visible = tt; gone = tt; event = record { xid_is = refl; oids = refl; keys = refl; there = refl; kinds = refl; only = refl; free = refl; guarded = refl; covered = refl } }; orderly = record { fresh = refl; keeps = refl; told = refl } }, (record { follows = record { life = omega arith; visible = tt; gone = tt; event = refl }; orderly = tt }, (record { follows = record { life = omega arith; visible = tt; gone = refl; event = (omega arith, refl) }; orderly = tt }, (record { follows = record { life = omega arith; visible = tt; gone = tt; event = refl }; orderly = tt }, tt))))))))))))))
-
 pub saved_block_queue : FollowsQueue 4096 ended
 saved_block_queue = (tt, (tt, (tt, (tt, (tt, (tt, (tt, (tt, (tt, (tt, (tt, (tt, (tt, (tt, tt))))))))))))))
 
@@ -96,7 +92,7 @@ unfolding digits
 saved_block_spelled = refl
 
 pub saved_block_output : IsOutput Walk saved_block saved_block_text
-saved_block_output = record { history = ended; allowed = record { legal = sound_is_legal ended saved_block_sound; queue = saved_block_queue; plays = saved_block_plays; economical = saved_block_economical }; interleaved = record { follows = saved_block_follows; looks = saved_block_looks }; complete = saved_block_complete; text_is = sym saved_block_spelled }
+saved_block_output = record { history = ended; allowed = record { legal = legal_by ended refl; queue = saved_block_queue; plays = saved_block_plays; economical = saved_block_economical }; interleaved = record { follows = saved_block_follows; looks = saved_block_looks }; complete = saved_block_complete; text_is = sym saved_block_spelled }
 
 -- an error after a savepoint doesn't take back what was written before it
 pub whole_gone_in_level : IsNext saved_block failed (entry 1 5 (Gone 1)) → ⊥

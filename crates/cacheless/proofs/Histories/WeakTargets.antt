@@ -11,7 +11,7 @@ use Rattle.event_kinds.specs.declared.entry.Event.TheVariants.{Start, Look, Lock
 use Rattle.event_kinds.specs.declared.entry.Item.{Item}
 use Rattle.event_kinds.specs.declared.entry.Item.TheVariants.{Put}
 use Rattle.history_model.specs.Versions.{fresh_text}
-use Rattle.history_model.specs.Orderly.{MayComeNext, IsSound}
+use Rattle.history_model.specs.Sound.{MayComeNext, IsSound}
 use Rattle.history_model.proofs.WeakChanges.{weak_visible}
 use Rattle.cacheless.proofs.Plans.Given.{oid, xid, entry, wide_table}
 

@@ -16,7 +16,8 @@ use Rattle.event_kinds.specs.declared.entry.Item.{Item}
 use Rattle.event_kinds.specs.declared.entry.Item.TheVariants.{Add, Put, Remove, Force}
 use Rattle.history_model.specs.Types.{Oid}
 use Rattle.history_model.specs.Covered.{covers_changes}
-use Rattle.history_model.specs.Orderly.{covers_told, IsSound}
+use Rattle.history_model.specs.Orderly.{covers_told}
+use Rattle.history_model.specs.Sound.{IsSound}
 use Rattle.history_model.specs.Writes.{is_guarded}
 use Rattle.cacheless.proofs.Plans.Given.{oid, xid, entry, new_table}
 

@@ -13,7 +13,7 @@ use Rattle.event_kinds.specs.declared.entry.Entry.{Entry}
 use Rattle.event_kinds.specs.declared.entry.Item.{Item}
 use Rattle.event_kinds.specs.declared.entry.Item.TheVariants.{Add, Put, Remove, Force}
 use Rattle.history_model.specs.Transactions.{Committed, InProgress, Aborted, status_of}
-use Rattle.history_model.specs.Legal.{MayFollow}
+use Rattle.history_model.specs.MayFollow.{MayFollow}
 use Rattle.history_model.specs.Read.{ScansOnlyIfNeeded}
 use Rattle.history_model.specs.Orderly.{IsOrderly}
 use Rattle.cacheless.proofs.Plans.Given.{oid, xid, entry, new_class, new_column, new_table, wide_table}

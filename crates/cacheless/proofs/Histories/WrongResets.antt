@@ -7,7 +7,7 @@ use Rattle.base_types.specs.declared.field.Field.TheVariants as fields
 use Rattle.event_kinds.specs.declared.entry.Event.TheVariants.{Start, Look, Fetch, FetchReset, LockOk, Scan, Write, Visible, Publish, Release}
 use Rattle.event_kinds.specs.declared.entry.Entry.{Entry}
 use Rattle.history_model.specs.Lapped.{is_lapped, FetchesFrom}
-use Rattle.history_model.specs.Legal.{MayFollow}
+use Rattle.history_model.specs.MayFollow.{MayFollow}
 use Rattle.history_model.specs.Read.{ScansOnlyIfNeeded}
 use Rattle.cacheless.specs.Plays.{IsNext}
 use Rattle.cacheless.specs.Protected.{is_protected}

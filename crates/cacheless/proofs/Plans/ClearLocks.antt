@@ -14,7 +14,7 @@ use Rattle.lock_modes.specs.Own.{is_own, has_lock, cleared, clear_modes}
 use Rattle.ddl_effect.specs.Plans.{Plan}
 use Rattle.history_model.specs.Covered.{counted_for}
 use Rattle.history_model.specs.Held.{held_of}
-use Rattle.history_model.specs.Orderly.{MayComeNext, IsSound}
+use Rattle.history_model.specs.Sound.{MayComeNext, IsSound}
 use Rattle.history_model.specs.Prefixes.{EachEntry}
 use Rattle.history_model.specs.Read.{place_read, rows_read, is_usable}
 use Rattle.history_model.specs.Versions.{answer_of}

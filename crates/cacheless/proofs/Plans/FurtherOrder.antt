@@ -20,7 +20,7 @@ use Rattle.ddl_effect.specs.Commands.{is_trigger, if_trigger, if_no_trigger, tri
 use Rattle.ddl_effect.specs.declared.foreign_key.ForeignKey.{ForeignKey}
 use Rattle.ddl_effect.specs.Opens.{has_open}
 use Rattle.history_model.specs.Covered.{counted_for}
-use Rattle.history_model.specs.Writes.{relations_of}
+use Rattle.history_model.specs.Changing.{relations_of}
 use Rattle.history_model.proofs.Every.{every-weaker, every-append, SomeOf, some-left, some-right}
 use Rattle.cacheless.specs.Types.{Oid, Mode, AccessExclusive, Kind, Row, Purpose, OpenRelation, Draft}
 use Rattle.cacheless.specs.OpenedReads.{is_of_opened}

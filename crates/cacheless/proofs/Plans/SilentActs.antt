@@ -9,7 +9,7 @@ use Rattle.ddl_effect.specs.Plans.{Act, Lookup, Open, Search, Read, Lock, Write,
 use Rattle.ddl_effect.specs.Commands.{plan_of}
 use Rattle.history_model.specs.Read.{rows_read, is_usable}
 use Rattle.history_model.specs.Versions.{answer_of}
-use Rattle.history_model.specs.Writes.{is_empty}
+use Rattle.history_model.specs.Changing.{is_empty}
 use Rattle.history_model.proofs.Every.{every-append}
 use Rattle.cacheless.specs.Types.{Mode, Row, Purpose, Scenario, Command, CommandError, OwnLock, Entry}
 use Rattle.cacheless.specs.ActsDone.{LockOn, locks_by, named_by, IsDrawn, IsHeldOn, after_given, made_in, made_first, opening_by, IsFirstStill}

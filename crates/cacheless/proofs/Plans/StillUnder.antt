@@ -10,7 +10,7 @@ use Rattle.lock_modes.specs.Grants.{is_lock, holds}
 use Rattle.ddl_effect.specs.Plans.{Plan, Done, Fails, Absent, Do, Lookup, Open, Search, Read, Lock, Write}
 use Rattle.history_model.specs.Covered.{counted_for}
 use Rattle.history_model.specs.Held.{held_of}
-use Rattle.history_model.specs.Orderly.{MayComeNext, IsSound}
+use Rattle.history_model.specs.Sound.{MayComeNext, IsSound}
 use Rattle.history_model.specs.Prefixes.{EachEntry}
 use Rattle.history_model.specs.Versions.{answer_of}
 use Rattle.history_model.proofs.Answers.{other_answers}

@@ -12,7 +12,7 @@ use Rattle.ddl_effect.specs.declared.told.Told.TheVariants as tells
 use Rattle.ddl_effect.specs.Plans.{Act, Plan, Done, Fails, Absent, Do, Lookup, Open, Search, Read, Lock, Write}
 use Rattle.ddl_effect.specs.Commands.{found}
 use Rattle.history_model.specs.Covered.{counted_for}
-use Rattle.history_model.specs.Writes.{relations_of}
+use Rattle.history_model.specs.Changing.{relations_of}
 use Rattle.history_model.proofs.ColumnsKept.{IsOfColumns}
 use Rattle.history_model.proofs.Every.{SomeOf}
 use Rattle.history_model.proofs.FixedRows.{fixed}

@@ -25,11 +25,12 @@ use Rattle.inval_messages.specs.Changes.{rel_for}
 use Rattle.lock_modes.specs.Grants.{holds}
 use Rattle.history_model.specs.Drawn.{next_oid}
 use Rattle.history_model.specs.Held.{held_of}
-use Rattle.history_model.specs.Orderly.{IsSound}
+use Rattle.history_model.specs.Sound.{IsSound}
 use Rattle.history_model.specs.Prefixes.{EachEntry}
 use Rattle.history_model.specs.Sent.{cats_by, rels_by, messages_written}
 use Rattle.history_model.specs.Versions.{old_row}
-use Rattle.history_model.specs.Writes.{has_row, modes_enough}
+use Rattle.history_model.specs.Writes.{has_row}
+use Rattle.history_model.specs.Changing.{modes_enough}
 use Rattle.history_model.proofs.Every.{every-weaker}
 use Rattle.history_model.proofs.GivenRows.{given_seen}
 use Rattle.history_model.proofs.Locked.{changing_modes, held_bars_all, seen_alone}

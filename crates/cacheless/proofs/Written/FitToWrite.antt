@@ -24,10 +24,12 @@ use Rattle.lock_modes.specs.Grants.{holds}
 use Rattle.history_model.specs.Covered.{scans_of, is_covered, same_row}
 use Rattle.history_model.specs.Drawn.{drawn_by, made_by, next_oid}
 use Rattle.history_model.specs.Held.{held_of}
-use Rattle.history_model.specs.Orderly.{main_rel, has_key, is_fresh, is_apart, keeps_relation, scans_told, IsOrderlyWrite, IsSound}
+use Rattle.history_model.specs.Orderly.{main_rel, has_key, is_fresh, is_apart, keeps_relation, scans_told, IsOrderlyWrite}
+use Rattle.history_model.specs.Sound.{IsSound}
 use Rattle.history_model.specs.Sent.{cats_by, rels_by, messages_written}
 use Rattle.history_model.specs.Versions.{ended_key, rows_of, old_row}
-use Rattle.history_model.specs.Writes.{changed_key, has_row, relations_of, relations_changed, validates, is_validation, rows_named, update_where, weaker_mode, enough_with, modes_enough, is_guarded, same_kind, keeps_kind}
+use Rattle.history_model.specs.Changing.{changed_key, relations_of, relations_changed, validates, is_validation, rows_named, update_where, weaker_mode, enough_with, modes_enough, same_kind}
+use Rattle.history_model.specs.Writes.{has_row, is_guarded, keeps_kind}
 use Rattle.history_model.proofs.Covering.{flat_all, fewer_told, same_itself}
 use Rattle.history_model.proofs.Every.{every-weaker}
 use Rattle.history_model.proofs.InOrder.{IsIn}

@@ -29,7 +29,7 @@ use Rattle.ddl_effect.specs.Indexes.{numbered_too, numbering, is_index_width, cr
 use Rattle.ddl_effect.specs.Tables.{is_of_other, referred_by, referred, index_of, dropped_table, dropping_table, drop_triggers, drop_defaults, drop_indexes, drop_constraints, drop_table}
 use Rattle.ddl_effect.specs.Drawing.{drawn_oid}
 use Rattle.history_model.specs.Drawn.{next_oid}
-use Rattle.history_model.specs.Orderly.{IsSound}
+use Rattle.history_model.specs.Sound.{IsSound}
 use Rattle.history_model.specs.Versions.{rows_of}
 use Rattle.history_model.proofs.Asking.{oid_eq}
 use Rattle.history_model.proofs.DrawnKeys.{IsDrawn, seen_drawn}

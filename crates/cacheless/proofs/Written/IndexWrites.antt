@@ -20,10 +20,10 @@ use Rattle.lock_modes.specs.Grants.{holds}
 use Rattle.history_model.specs.Covered.{scans_of, is_covered}
 use Rattle.history_model.specs.Drawn.{next_oid}
 use Rattle.history_model.specs.Held.{held_of}
-use Rattle.history_model.specs.Orderly.{IsSound}
+use Rattle.history_model.specs.Sound.{IsSound}
 use Rattle.history_model.specs.Sent.{messages_written}
 use Rattle.history_model.specs.Versions.{rows_of, row_with}
-use Rattle.history_model.specs.Writes.{enough_with}
+use Rattle.history_model.specs.Changing.{enough_with}
 use Rattle.history_model.proofs.DrawnKeys.{new_key}
 use Rattle.history_model.proofs.Every.{every-weaker}
 use Rattle.history_model.proofs.InOrder.{IsIn}

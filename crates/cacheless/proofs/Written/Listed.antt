@@ -5,10 +5,10 @@ use Rattle.std.proofs.Math.Bool.{or-true}
 use Rattle.std.proofs.lemmas.Bool.{eq-eqb, eqb-true, eqb-false}
 use Rattle.inval_messages.specs.Lists.{Written}
 use Rattle.event_kinds.specs.declared.entry.Event.TheVariants as events
-use Rattle.history_model.specs.Orderly.{MayComeNext, IsSound}
+use Rattle.history_model.specs.Sound.{MayComeNext, IsSound}
 use Rattle.history_model.specs.Sent.{ends_transaction, lists_by, lists_of, written_by}
 use Rattle.history_model.specs.Transactions.{running_transaction_of}
-use Rattle.history_model.specs.Writes.{has_written, is_write}
+use Rattle.history_model.specs.Transactions.{has_written, is_write}
 use Rattle.history_model.proofs.Every.{every-append, every-both, every-filter, every-weaker}
 use Rattle.history_model.proofs.Prefixes.{each-keeps}
 use Rattle.history_model.proofs.Reading.{has_written-more, lists_of-own, lists_of-other}

@@ -19,7 +19,8 @@ use Rattle.base_types.proofs.DroppedNumbers.{shown_digits, shown}
 use Rattle.base_types.proofs.Names.{name_parts}
 use Rattle.ddl_effect.specs.Tables.{first_twice}
 use Rattle.ddl_effect.specs.Columns.{as_dropped}
-use Rattle.history_model.specs.Orderly.{main_rel, IsSound}
+use Rattle.history_model.specs.Orderly.{main_rel}
+use Rattle.history_model.specs.Sound.{IsSound}
 use Rattle.history_model.specs.Prefixes.{EachEntry}
 use Rattle.history_model.specs.Versions.{versions_of, sees, added_row, rows_of, answer_of}
 use Rattle.history_model.proofs.Every.{every-weaker, every, every-map, every-filter, SomeOf}

@@ -18,10 +18,11 @@ use Rattle.lock_modes.specs.Grants.{holds}
 use Rattle.history_model.specs.Covered.{scans_of, is_covered}
 use Rattle.history_model.specs.Drawn.{drawn_by, made_by, next_oid}
 use Rattle.history_model.specs.Held.{held_of}
-use Rattle.history_model.specs.Orderly.{has_key, is_apart, IsSound}
+use Rattle.history_model.specs.Orderly.{has_key, is_apart}
+use Rattle.history_model.specs.Sound.{IsSound}
 use Rattle.history_model.specs.Sent.{messages_written}
 use Rattle.history_model.specs.Versions.{versions_of, sees, rows_of}
-use Rattle.history_model.specs.Writes.{relations_of, modes_enough}
+use Rattle.history_model.specs.Changing.{relations_of, modes_enough}
 use Rattle.history_model.proofs.Asking.{oid_eq}
 use Rattle.history_model.proofs.DistinctKeys.{distinct_both}
 use Rattle.history_model.proofs.DrawnKeys.{key_oid, new_key}

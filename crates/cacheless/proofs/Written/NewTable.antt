@@ -32,10 +32,12 @@ use Rattle.history_model.specs.Covered.{scans_of, is_covered}
 use Rattle.history_model.specs.Drawn.{drawn_by, made_by, next_oid}
 use Rattle.history_model.specs.Names.{new_names}
 use Rattle.history_model.proofs.Covering.{covers_named, named_told}
-use Rattle.history_model.specs.Orderly.{main_rel, IsSound, is_fresh, keeps_relation}
+use Rattle.history_model.specs.Orderly.{main_rel, is_fresh, keeps_relation}
+use Rattle.history_model.specs.Sound.{IsSound}
 use Rattle.history_model.specs.Sent.{cats_by, rels_by, messages_written}
 use Rattle.history_model.specs.Versions.{versions_of, added_row, ended_key, old_row}
-use Rattle.history_model.specs.Writes.{changed_key, has_row, is_guarded, keeps_kind, rows_named}
+use Rattle.history_model.specs.Changing.{changed_key, rows_named}
+use Rattle.history_model.specs.Writes.{has_row, is_guarded, keeps_kind}
 use Rattle.history_model.specs.Held.{held_of}
 use Rattle.history_model.proofs.DrawnRows.{rows_drawn}
 use Rattle.cacheless.specs.Facts.{Facts}

@@ -14,10 +14,11 @@ use Rattle.inval_messages.specs.declared.message.Message.{Message}
 use Rattle.lock_modes.specs.Grants.{holds}
 use Rattle.history_model.specs.Covered.{is_covered}
 use Rattle.history_model.specs.Held.{held_of}
-use Rattle.history_model.specs.Orderly.{scans_told, IsSound}
+use Rattle.history_model.specs.Orderly.{scans_told}
+use Rattle.history_model.specs.Sound.{IsSound}
 use Rattle.history_model.specs.Sent.{messages_written}
 use Rattle.history_model.specs.Versions.{rows_of}
-use Rattle.history_model.specs.Writes.{relations_changed, validates}
+use Rattle.history_model.specs.Changing.{relations_changed, validates}
 use Rattle.history_model.proofs.Covering.{same_itself}
 use Rattle.history_model.proofs.DistinctKeys.{distinct_both}
 use Rattle.history_model.proofs.Every.{every-weaker, every-map}

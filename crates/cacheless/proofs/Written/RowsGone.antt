@@ -10,7 +10,7 @@ use Rattle.lock_modes.specs.Grants.{holds}
 use Rattle.ddl_effect.specs.Constraints.{is_own_named}
 use Rattle.ddl_effect.specs.Tables.{is_of_other, referred_by}
 use Rattle.history_model.specs.Held.{held_of}
-use Rattle.history_model.specs.Orderly.{IsSound}
+use Rattle.history_model.specs.Sound.{IsSound}
 use Rattle.history_model.specs.Sent.{messages_written}
 use Rattle.history_model.proofs.Every.{every-weaker, every-both}
 use Rattle.history_model.proofs.InOrder.{IsIn, every_self}

@@ -8,7 +8,7 @@ use Rattle.base_types.specs.Scans.{same_oid, selects}
 use Rattle.base_types.specs.declared.col_type.ColType.{ColType}
 use Rattle.base_types.specs.declared.row.Row.TheVariants as rows
 use Rattle.base_types.specs.declared.scan.Purpose.TheVariants as scans
-use Rattle.history_model.specs.Orderly.{IsSound}
+use Rattle.history_model.specs.Sound.{IsSound}
 use Rattle.history_model.specs.Versions.{versions_of, sees, ends, ended_key, rows_of, answer_of, old_row}
 use Rattle.history_model.proofs.Asking.{oid_eq}
 use Rattle.history_model.proofs.Every.{every-weaker, from_some}

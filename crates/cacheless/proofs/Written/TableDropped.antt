@@ -22,7 +22,7 @@ use Rattle.inval_messages.specs.Changes.{cats_of}
 use Rattle.lock_modes.specs.Grants.{holds}
 use Rattle.ddl_effect.specs.Tables.{is_of_other, referred_by, with_relation, referred, index_of, dropped_index, oid_before, put_by_oid, by_oid, dropped_table}
 use Rattle.history_model.specs.Held.{held_of}
-use Rattle.history_model.specs.Orderly.{IsSound}
+use Rattle.history_model.specs.Sound.{IsSound}
 use Rattle.history_model.specs.Sent.{messages_written}
 use Rattle.history_model.specs.Versions.{rows_of, row_with, answer_of}
 use Rattle.history_model.proofs.Asking.{oid_eq}

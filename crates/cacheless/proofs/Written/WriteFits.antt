@@ -24,7 +24,7 @@ use Rattle.ddl_effect.specs.Tables.{first_twice, if_no_column, new_table, drop_t
 use Rattle.ddl_effect.specs.Reads.{told_fields, showing, showing_field, keeping, peeking, closing, locking, telling_columns, listing_columns, telling_column, finding_column, regclass_of}
 use Rattle.ddl_effect.specs.Commands.{plan_of}
 use Rattle.history_model.specs.Drawn.{next_oid}
-use Rattle.history_model.specs.Orderly.{IsSound}
+use Rattle.history_model.specs.Sound.{IsSound}
 use Rattle.history_model.specs.Prefixes.{EachEntry}
 use Rattle.history_model.specs.Versions.{answer_of}
 use Rattle.cacheless.specs.ActsDone.{reached, made_in, opening_by, locks_by, IsHeldOn, WayHolds}

@@ -6,9 +6,11 @@ use Rattle.event_kinds.specs.declared.entry.Event.TheVariants as events
 use Rattle.ddl_effect.specs.Plans.{Lookup, Open, Search, Read, Lock, Write, Plan, Done, Fails, Absent, Do}
 use Rattle.ddl_effect.specs.Commands.{commands_of}
 use Rattle.history_model.specs.Drawn.{next_oid}
-use Rattle.history_model.specs.Legal.{MayFollow, IsLegal}
-use Rattle.history_model.specs.Orderly.{IsSound}
+use Rattle.history_model.specs.MayFollow.{MayFollow}
+use Rattle.history_model.specs.Legal.{IsLegal}
+use Rattle.history_model.specs.Sound.{IsSound}
 use Rattle.history_model.specs.Prefixes.{EachEntry}
+use Rattle.history_model.proofs.Allows.{legal_follows}
 use Rattle.history_model.proofs.Prefixes.{EachEntry-more, EachFrom-both, each-keeps}
 use Rattle.cacheless.specs.Types.{Item, Scenario, Command, Entry, Event}
 use Rattle.cacheless.specs.Facts.{facts_of}
@@ -68,7 +70,7 @@ next_some scenario history e played courses next = by_session (session_of scenar
 pub played_changes : (scenario : Scenario) (history : List Entry) → AreSpelled scenario → IsLegal history → Plays scenario history → EachEntry (λ before e. HasChange e.event) history
 played_changes scenario history spelled legal plays = (each-keeps (λ before e. MayFollow before e × IsNext scenario before e) (λ h. (IsPlayed scenario h × AllOnCourse scenario h) × EachEntry (λ before e. HasChange e.event) h) (played_start scenario spelled, tt)
     (λ before e k may. (played_more scenario before e k.0.0 k.0.1 may.0 may.1, EachEntry-more (λ prefix x. HasChange x.event) before e k.1 (next_some scenario before e k.0.0 k.0.1 may.1))) history
-    (EachFrom-both MayFollow (IsNext scenario) [] history legal plays)).1
+    (EachFrom-both MayFollow (IsNext scenario) [] history (legal_follows history legal) plays)).1
 
 -- and so of an allowed one
 pub allowed_changes : (scenario : Scenario) (history : List Entry) → AreSpelled scenario → IsAllowed scenario history → EachEntry (λ before e. HasChange e.event) history

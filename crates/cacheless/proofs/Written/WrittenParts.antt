@@ -22,10 +22,10 @@ use Rattle.history_model.specs.Covered.{scans_of, is_covered}
 use Rattle.history_model.specs.Drawn.{drawn_by, made_by, next_oid}
 use Rattle.history_model.specs.Held.{held_of}
 use Rattle.history_model.specs.Names.{new_name}
-use Rattle.history_model.specs.Orderly.{IsSound}
+use Rattle.history_model.specs.Sound.{IsSound}
 use Rattle.history_model.specs.Sent.{cats_by, rels_by, messages_written}
 use Rattle.history_model.specs.Versions.{added_row, rows_of, old_row}
-use Rattle.history_model.specs.Writes.{changed_key, relations_of}
+use Rattle.history_model.specs.Changing.{changed_key, relations_of}
 use Rattle.history_model.proofs.Every.{every, every-weaker, every-append, every-map, any-right, some-left, some-right, some-map, some-weaker}
 use Rattle.history_model.proofs.InOrder.{IsIn, of_in}
 use Rattle.cacheless.specs.Types.{Oid, AccessExclusive, Row, Purpose, Entry, Item, Opening}

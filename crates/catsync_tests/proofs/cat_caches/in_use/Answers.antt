@@ -17,10 +17,10 @@ left_of old new key hash r there same is lets = lets.gone r (inl (key, there, is
 
 pub row-requires-2 : goal.row-requires-2
 row-requires-2 c =
-    subst (λ o. IsSome (option_and_then (λ e. row_in e.value) o)) (sym (left_of c.put_row.new.self c.invalidate.new.self c.new-key.result c.key_hash.result c.in-Ok.r (ap (option_and_then under) c.in-Ok.ensures.entry.at)
-    (c.key_hash.ensures ∙ ap (λ id. key_hash id c.new-key.result) (sym (c.in-Ok.ensures.entry.id ∙ c.new-cache.ensures.id))) (c.invalidate.ensures.entries c.new-key.result) c.invalidate.ensures.shown ∙ ap (option_and_then marked) c.in-Ok.ensures.shown.at)) refl
+    subst (λ o. IsSome (option_and_then (λ e. row_in e.value) o)) (sym (left_of c.put_row.new.self c.invalidate.new.self c.new-key.result c.key_hash.result c.in-Ok-put_row.r (ap (option_and_then under) c.in-Ok-put_row.ensures.entry.at)
+    (c.key_hash.ensures ∙ ap (λ id. key_hash id c.new-key.result) (sym (c.in-Ok-put_row.ensures.entry.id ∙ c.in-Ok.ensures.id))) (c.invalidate.ensures.entries c.new-key.result) c.invalidate.ensures.shown ∙ ap (option_and_then marked) c.in-Ok-put_row.ensures.shown.at)) refl
 
 pub release-requires : goal.release-requires
 release-requires c =
-    subst (λ o. IsSomeAnd o (λ e. 0 < e.pins)) (sym (left_of c.put_row.new.self c.invalidate.new.self c.new-key.result c.key_hash.result c.in-Ok.r (ap (option_and_then under) c.in-Ok.ensures.entry.at)
-    (c.key_hash.ensures ∙ ap (λ id. key_hash id c.new-key.result) (sym (c.in-Ok.ensures.entry.id ∙ c.new-cache.ensures.id))) (c.invalidate.ensures.entries c.new-key.result) c.invalidate.ensures.shown ∙ ap (option_and_then marked) c.in-Ok.ensures.shown.at)) (omega arith)
+    subst (λ o. IsSomeAnd o (λ e. 0 < e.pins)) (sym (left_of c.put_row.new.self c.invalidate.new.self c.new-key.result c.key_hash.result c.in-Ok-put_row.r (ap (option_and_then under) c.in-Ok-put_row.ensures.entry.at)
+    (c.key_hash.ensures ∙ ap (λ id. key_hash id c.new-key.result) (sym (c.in-Ok-put_row.ensures.entry.id ∙ c.in-Ok.ensures.id))) (c.invalidate.ensures.entries c.new-key.result) c.invalidate.ensures.shown ∙ ap (option_and_then marked) c.in-Ok-put_row.ensures.shown.at)) (omega arith)

@@ -1,6 +1,7 @@
 use Rattle.std.proofs.Common.{◌≡◌, ◌∙◌, sym, subst, take, false, true, arith}
 use Rattle.base_types.specs.Scenario.{IsBackend}
-use Rattle.history_model.specs.Legal.{MayFollow}
+use Rattle.history_model.specs.MayFollow.{MayFollow}
+use Rattle.history_model.proofs.Allows.{legal_follows}
 use Rattle.history_model.proofs.ListSteps.{prefix_more}
 use Rattle.cacheless.specs.Schedule.{AreLooksTrue, LooksTruly}
 use Rattle.check_tool.specs.Turning.{TellPlaces}
@@ -32,7 +33,7 @@ loop-at-preserved c =
     record {
       looks = each_next (λ before x. LooksTruly before x.backend x.event) c.args.entries.now c.loop-at.at e _ c.loop-at-test.true c.index-entries-at.is c.loop-at.invariant.looks ((c.looks_truly.ensures seen c.loop-at.invariant.tell).0 c.if-not-looks_truly.false);
       tell = subst (λ history. TellPlaces history c.enter.new.self.published c.enter.new.self.places.items) (sym (prefix_more c.args.entries.now c.loop-at.at e _ c.loop-at-test.true c.index-entries-at.is))
-          (c.in_ok-enter.ensures.tell seen c.loop-at.invariant.tell (each_at MayFollow c.args.entries.now c.loop-at.at e _ c.loop-at-test.true c.index-entries-at.is c.requires.legal));
+          (c.in_ok-enter.ensures.tell seen c.loop-at.invariant.tell (each_at MayFollow c.args.entries.now c.loop-at.at e _ c.loop-at-test.true c.index-entries-at.is (legal_follows c.args.entries.now c.requires.legal)));
       count = c.in_ok-enter.ensures.count ∙ c.loop-at.invariant.count;
     }
 

@@ -1,5 +1,5 @@
 use Rattle.std.proofs.Common.{take}
-use Rattle.history_ledger.specs.Reads.{Reads}
+use Rattle.history_ledger.specs.Held.{Reads}
 use Rattle.fault_hints.proofs.holding.held.Given as goal
 
 abbrev pub invariant-loop-e : goal.invariant-loop-e

@@ -1,6 +1,6 @@
 use Rattle.std.proofs.Common.{not, sym, subst}
 use Rattle.base_types.specs.Scans.{goes_before, IsInOrder}
-use Rattle.history_ledger.specs.Writing.{ends_row}
+use Rattle.history_ledger.specs.Words.{ends_row}
 use Rattle.history_ledger.proofs.ScanChanges.{in_order_filtered}
 use Rattle.history_ledger.proofs.covering.change_row.Goals as goal
 

@@ -1,7 +1,7 @@
 use Rattle.std.proofs.Common.{◌∙◌, fold, sym, subst, arith}
 use Rattle.base_types.specs.Scans.{goes_before, IsInOrder}
 use Rattle.history_model.proofs.ListSteps.{all_done}
-use Rattle.history_ledger.specs.Writing.{given_after}
+use Rattle.history_ledger.specs.Words.{given_after}
 use Rattle.history_ledger.proofs.ScanChanges.{in_order_after, given_next}
 use Rattle.history_ledger.proofs.covering.change_rows.Goals as goal
 

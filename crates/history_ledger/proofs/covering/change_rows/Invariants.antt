@@ -1,6 +1,6 @@
 use Rattle.std.proofs.Common.{◌≡◌, fold, take}
 use Rattle.base_types.specs.Scans.{goes_before, IsInOrder}
-use Rattle.history_ledger.specs.Writing.{given_after}
+use Rattle.history_ledger.specs.Words.{given_after}
 use Rattle.history_ledger.proofs.covering.change_rows.Given as goal
 
 abbrev pub invariant-loop-item : goal.invariant-loop-item

@@ -1,7 +1,7 @@
 use Rattle.std.proofs.Common.{◌∙◌, arith, []}
 use Rattle.std.specs.List.{flat_map}
 use Rattle.history_model.proofs.ListSteps.{flat_map_next, all_done}
-use Rattle.history_ledger.specs.Enters.{messages_at}
+use Rattle.history_ledger.specs.Words.{messages_at}
 use Rattle.history_ledger.proofs.entering.announced.Goals as goal
 
 pub loop-item-preserved : goal.loop-item-preserved

@@ -1,6 +1,6 @@
 use Rattle.std.proofs.Common.{◌≡◌, take}
 use Rattle.std.specs.List.{flat_map}
-use Rattle.history_ledger.specs.Enters.{messages_at}
+use Rattle.history_ledger.specs.Words.{messages_at}
 use Rattle.history_ledger.proofs.entering.announced.Given as goal
 
 abbrev pub invariant-loop-item : goal.invariant-loop-item

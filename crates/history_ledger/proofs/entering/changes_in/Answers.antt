@@ -2,7 +2,7 @@ use Rattle.std.proofs.Common.{◌∙◌, ◌++◌, ap, sym, append-nil, arith, [
 use Rattle.std.specs.List.{flat_map}
 use Rattle.std.specs.Option.{option_to_list}
 use Rattle.history_model.proofs.ListSteps.{flat_map_next, all_done}
-use Rattle.history_ledger.specs.Enters.{change_in}
+use Rattle.history_ledger.specs.Words.{change_in}
 use Rattle.history_ledger.proofs.entering.changes_in.Goals.{in-Some+in_ok-push, in_default}
 use Rattle.history_ledger.proofs.entering.changes_in.Goals as goal
 

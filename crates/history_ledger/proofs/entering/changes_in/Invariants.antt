@@ -1,5 +1,5 @@
 use Rattle.std.proofs.Common.{◌≡◌, take}
-use Rattle.history_ledger.specs.Enters.{changes_in}
+use Rattle.history_ledger.specs.Words.{changes_in}
 use Rattle.history_ledger.proofs.entering.changes_in.Given as goal
 
 abbrev pub invariant-loop-item : goal.invariant-loop-item

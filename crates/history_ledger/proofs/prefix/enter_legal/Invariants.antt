@@ -1,5 +1,5 @@
 use Rattle.std.proofs.Common.{take}
-use Rattle.history_ledger.specs.Reads.{Reads}
+use Rattle.history_ledger.specs.Held.{Reads}
 use Rattle.history_ledger.proofs.MayFollow.{IsQueued}
 use Rattle.history_ledger.proofs.prefix.enter_legal.Given as goal
 

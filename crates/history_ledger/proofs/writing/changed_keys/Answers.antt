@@ -1,7 +1,7 @@
 use Rattle.std.proofs.Common.{◌∙◌, ◌++◌, ap, sym, append-nil, arith, []}
 use Rattle.std.specs.List.{flat_map}
 use Rattle.std.specs.Option.{option_to_list}
-use Rattle.history_model.specs.Writes.{changed_key}
+use Rattle.history_model.specs.Changing.{changed_key}
 use Rattle.history_model.proofs.ListSteps.{flat_map_next, all_done}
 use Rattle.history_ledger.proofs.writing.changed_keys.Goals.{in-Some+in_ok-push, in_default}
 use Rattle.history_ledger.proofs.writing.changed_keys.Goals as goal

@@ -1,6 +1,6 @@
 use Rattle.std.proofs.Common.{◌≡◌, take}
 use Rattle.std.specs.List.{flat_map}
-use Rattle.history_model.specs.Writes.{changed_key}
+use Rattle.history_model.specs.Changing.{changed_key}
 use Rattle.history_ledger.proofs.writing.changed_keys.Given as goal
 
 abbrev pub invariant-loop-item : goal.invariant-loop-item

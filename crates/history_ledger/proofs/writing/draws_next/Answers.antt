@@ -2,7 +2,7 @@ use Rattle.std.proofs.Common.{◌∙◌, ap, sym, arith}
 use Rattle.std.specs.List.{flat_map}
 use Rattle.std.proofs.lemmas.List.{drop_all}
 use Rattle.history_model.specs.Drawn.{drawn_by}
-use Rattle.history_ledger.specs.Writing.{are_from}
+use Rattle.history_model.specs.Changing.{are_from}
 use Rattle.history_ledger.proofs.writing.draws_next.Goals as goal
 
 pub returns : goal.returns

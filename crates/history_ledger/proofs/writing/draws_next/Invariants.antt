@@ -1,7 +1,7 @@
 use Rattle.std.proofs.Common.{◌≡◌, ◌≤◌, ◌+◌, drop}
 use Rattle.std.specs.List.{flat_map}
 use Rattle.history_model.specs.Drawn.{drawn_by}
-use Rattle.history_ledger.specs.Writing.{are_from}
+use Rattle.history_model.specs.Changing.{are_from}
 use Rattle.history_ledger.proofs.writing.draws_next.Given as goal
 
 abbrev pub invariant-loop-item : goal.invariant-loop-item

@@ -1,15 +1,46 @@
-use Rattle.std.proofs.Common.{◌∙◌, refl, sym, ap}
+use Rattle.std.proofs.Common.{◌∙◌, Ok, refl, sym, ap, subst}
+use Rattle.base_types.specs.declared.memory.NoMemory.{NoMemory}
 use Rattle.event_kinds.specs.declared.entry.Event.TheVariants as events
-use Rattle.cacheless.specs.May.{may_play_now}
-use Rattle.history_lines.proofs.TakenEvents.{scan_is_next, takes_alone, takes_reading, takes_scan}
+use Rattle.history_lines.specs.Takes.{MayTake, MayWrite}
+use Rattle.history_lines.proofs.Allowing.{few, room, lock_new, release_out, suits_alone, write_may}
+use Rattle.history_lines.proofs.TakenEvents.{released_takes, takes_alone, takes_reading, takes_scan}
 use Rattle.history_lines.proofs.TakenWrites.{written_as}
 use Rattle.history_lines.proofs.taking.enter.Goals as goal
 
-pub scan-requires-clause-next : goal.scan-requires-clause-next
-scan-requires-clause-next c = scan_is_next c.args.ledger.now.next_oid c.args.progress.now c.in-Scan.purpose c.in-Scan.rows (ap (may_play_now c.args.ledger.now.next_oid c.args.progress.now) (sym c.in-Scan.is) ∙ c.requires)
+pub fetch-requires : goal.fetch-requires
+fetch-requires c = subst (MayTake c.args.ledger.now c.args.progress.now) c.in-Fetch.is c.requires.comes
+
+pub scan-requires : goal.scan-requires
+scan-requires c = (c.in-Scan.rows, subst (MayTake c.args.ledger.now c.args.progress.now) c.in-Scan.is c.requires.comes)
+
+pub lock-requires : goal.lock-requires
+lock-requires c = record {
+  few = few _ _ _ c.requires.comes;
+  room = room _ _ _ c.requires.comes;
+  new = lock_new c.args.ledger.now c.args.progress.now c.in-LockOk.rel c.in-LockOk.mode (subst (MayTake c.args.ledger.now c.args.progress.now) c.in-LockOk.is c.requires.comes);
+}
+
+pub write-requires : goal.write-requires
+write-requires c = record {
+  few = few _ _ _ c.requires.comes;
+  may = subst (MayWrite c.args.progress.now) (sym c.as_slice.ensures) (write_may c.args.ledger.now c.args.progress.now c.in-Write.xid c.in-Write.items (subst (MayTake c.args.ledger.now c.args.progress.now) c.in-Write.is c.requires.comes));
+}
+
+pub enter_release-requires : goal.enter_release-requires
+enter_release-requires c = record {
+  few = few _ _ _ c.requires.comes;
+  out = release_out c.args.ledger.now c.args.progress.now c.in-Release.from (subst (MayTake c.args.ledger.now c.args.progress.now) c.in-Release.is c.requires.comes);
+}
+
+pub enter_alone-requires : goal.enter_alone-requires
+enter_alone-requires c = record {
+  few = few _ _ _ c.requires.comes;
+  room = room _ _ _ c.requires.comes;
+  suits = suits_alone c.args.ledger.now c.args.progress.now c.args.event.now c.requires.comes c.requires.inside c.in_default.not-Fetch c.in_default.not-Scan c.in_default.not-LockOk c.in_default.not-Write c.in_default.not-Release;
+}
 
 pub returns-in-Fetch-clause-takes : goal.returns-in-Fetch-clause-takes
-returns-in-Fetch-clause-takes c = takes_reading c.fetch.result c.args.ledger.now c.args.at c.args.progress.now c.fetch.new.progress c.args.event.now (events.Fetch c.in-Fetch.count) c.in-Fetch.is c.fetch.ensures.takes
+returns-in-Fetch-clause-takes c = takes_reading {E = NoMemory} (Ok tt) c.args.ledger.now c.args.at c.args.progress.now c.fetch.new.progress c.args.event.now (events.Fetch c.in-Fetch.count) c.in-Fetch.is c.fetch.ensures.takes
 
 pub returns-in-Scan-clause-takes : goal.returns-in-Scan-clause-takes
 returns-in-Scan-clause-takes c = takes_scan c.scan.result c.args.ledger.now c.args.at c.args.progress.now c.scan.new.progress c.args.event.now c.in-Scan.purpose c.in-Scan.rows c.in-Scan.is c.scan.ensures.takes
@@ -17,38 +48,11 @@ returns-in-Scan-clause-takes c = takes_scan c.scan.result c.args.ledger.now c.ar
 pub returns-in-LockOk-clause-takes : goal.returns-in-LockOk-clause-takes
 returns-in-LockOk-clause-takes c = takes_alone c.lock.result c.args.ledger.now c.args.at c.args.progress.now c.lock.new.progress c.args.event.now (events.LockOk c.in-LockOk.rel c.in-LockOk.mode) c.in-LockOk.is c.lock.ensures.takes
 
-pub returns-in-Unlock-clause-takes : goal.returns-in-Unlock-clause-takes
-returns-in-Unlock-clause-takes c = takes_alone c.unlock.result c.args.ledger.now c.args.at c.args.progress.now c.unlock.new.progress c.args.event.now (events.Unlock c.in-Unlock.rel c.in-Unlock.mode) c.in-Unlock.is c.unlock.ensures.takes
-
 pub returns-in-Write-clause-takes : goal.returns-in-Write-clause-takes
 returns-in-Write-clause-takes c = takes_reading c.write.result c.args.ledger.now c.args.at c.args.progress.now c.write.new.progress c.args.event.now (events.Write c.in-Write.xid c.in-Write.items) c.in-Write.is (written_as c.write.result c.args.ledger.now c.args.progress.now c.write.new.progress c.in-Write.xid c.as_slice.result.now c.in-Write.items c.as_slice.ensures c.write.ensures.takes)
 
-pub returns-in-Publish-clause-takes : goal.returns-in-Publish-clause-takes
-returns-in-Publish-clause-takes c = takes_alone c.publish.result c.args.ledger.now c.args.at c.args.progress.now c.publish.new.progress c.args.event.now (events.Publish c.in-Publish.count) c.in-Publish.is c.publish.ensures.takes
-
 pub returns-in-Release-clause-takes : goal.returns-in-Release-clause-takes
-returns-in-Release-clause-takes c = takes_alone c.release.result c.args.ledger.now c.args.at c.args.progress.now c.release.new.progress c.args.event.now (events.Release c.in-Release.from) c.in-Release.is c.release.ensures.takes
+returns-in-Release-clause-takes c = released_takes c.enter_release.result c.args.ledger.now c.args.at c.args.progress.now c.enter_release.new.self c.args.event.now c.in-Release.from c.in-Release.is c.enter_release.ensures.holds c.enter_release.ensures.kept c.enter_release.ensures.answer
 
 pub returns-in_default-clause-takes : goal.returns-in_default-clause-takes
-returns-in_default-clause-takes c = takes_alone c.enter_alone.result c.args.ledger.now c.args.at c.args.progress.now c.enter_alone.new.progress c.args.event.now c.args.event.now refl c.enter_alone.ensures.takes
-
-pub fetch-requires-clause-few : goal.fetch-requires-clause-few
-fetch-requires-clause-few c = c.is_countable.ensures.few c.if-not-is_countable.false
-
-pub scan-requires-clause-few : goal.scan-requires-clause-few
-scan-requires-clause-few c = c.is_countable.ensures.few c.if-not-is_countable.false
-
-pub lock-requires-clause-few : goal.lock-requires-clause-few
-lock-requires-clause-few c = c.is_countable.ensures.few c.if-not-is_countable.false
-
-pub unlock-requires : goal.unlock-requires
-unlock-requires c = record { few = c.is_countable.ensures.few c.if-not-is_countable.false }
-
-pub write-requires : goal.write-requires
-write-requires c = record { few = c.is_countable.ensures.few c.if-not-is_countable.false }
-
-pub publish-requires : goal.publish-requires
-publish-requires c = record { few = c.is_countable.ensures.few c.if-not-is_countable.false }
-
-pub release-requires : goal.release-requires
-release-requires c = record { few = c.is_countable.ensures.few c.if-not-is_countable.false }
+returns-in_default-clause-takes c = takes_alone {E = NoMemory} (Ok tt) c.args.ledger.now c.args.at c.args.progress.now c.enter_alone.new.progress c.args.event.now c.args.event.now refl c.enter_alone.ensures.takes

@@ -1,5 +1,7 @@
 use Rattle.event_kinds.specs.declared.entry.Event.TheVariants as events
-use Rattle.history_lines.proofs.TakenEvents.{event_takes}
+use Rattle.std.proofs.Common.{◌∙◌, ap, subst, sym}
+use Rattle.history_lines.specs.Takes.{SuitsAlone}
+use Rattle.history_lines.proofs.TakenEvents.{event_takes, taken_as}
 use Rattle.history_lines.proofs.taking.enter_alone.Goals as goal
 
 pub returns-in-Look-clause-takes : goal.returns-in-Look-clause-takes
@@ -22,3 +24,12 @@ returns-in-Visible-clause-takes c = event_takes c.args.progress.now c.enter_visi
 
 pub returns-in-Gone-clause-takes : goal.returns-in-Gone-clause-takes
 returns-in-Gone-clause-takes c = event_takes c.args.progress.now c.enter_gone.new.self c.args.event.now (events.Gone c.in-Gone.from) c.in-Gone.is c.enter_gone.ensures.holds (λ seen. c.enter_gone.ensures.kept) c.enter_gone.ensures.answer
+
+pub returns-in-Unlock-clause-takes : goal.returns-in-Unlock-clause-takes
+returns-in-Unlock-clause-takes c = event_takes c.args.progress.now c.enter_unlock.new.self c.args.event.now (events.Unlock c.in-Unlock.rel c.in-Unlock.mode) c.in-Unlock.is c.enter_unlock.ensures.holds (λ seen. c.enter_unlock.ensures.kept) c.enter_unlock.ensures.answer
+
+pub enter_unlock-requires-clause-held : goal.enter_unlock-requires-clause-held
+enter_unlock-requires-clause-held c = subst (SuitsAlone c.args.progress.now) c.in-Unlock.is c.requires.suits
+
+pub returns-in-Publish-clause-takes : goal.returns-in-Publish-clause-takes
+returns-in-Publish-clause-takes c = taken_as c.args.progress.now c.publish.new.progress c.args.event.now _ (c.in-Publish.is ∙ ap events.Publish (subst (SuitsAlone c.args.progress.now) c.in-Publish.is c.requires.suits)) c.publish.ensures.takes

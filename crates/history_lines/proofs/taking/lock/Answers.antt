@@ -1,5 +1,6 @@
-use Rattle.std.proofs.Common.{◌∙◌, ap}
+use Rattle.std.proofs.Common.{◌≡◌, ◌∙◌, false, ap, subst, sym}
 use Rattle.event_kinds.specs.declared.entry.Event.TheVariants as events
+use Rattle.lock_modes.specs.Own.{has_lock}
 use Rattle.history_lines.proofs.TakenEvents.{reserved_few, reserved_takes}
 use Rattle.history_lines.specs.Types.{Progress}
 use Rattle.history_lines.proofs.taking.lock.Goals as goal
@@ -16,3 +17,6 @@ enter_lock-requires-clause-few c = reserved_few c.args.progress.now c.reserve_lo
 
 pub enter_lock-requires-clause-place : goal.enter_lock-requires-clause-place
 enter_lock-requires-clause-place c = c.in_ok-reserve_lock.ensures.ok
+
+pub enter_lock-requires-clause-new : goal.enter_lock-requires-clause-new
+enter_lock-requires-clause-new c = ap (λ l. has_lock l c.args.rel c.args.mode) c.reserve_lock.ensures.same.locks_are ∙ c.requires.new

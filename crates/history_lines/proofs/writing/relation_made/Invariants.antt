@@ -1,10 +1,7 @@
-use Rattle.std.proofs.Common.{◌≡◌, ℕ, take}
+use Rattle.std.proofs.Common.{◌≡◌, ℕ, [], take}
 use Rattle.std.specs.List.{flat_map}
 use Rattle.cacheless.specs.Locks.{locked_by}
-use Rattle.cacheless.specs.State.{locks_made}
 use Rattle.history_lines.proofs.writing.relation_made.Given as goal
 
 abbrev pub invariant-loop-item : goal.invariant-loop-item
-invariant-loop-item l = record {
-  locks : (command : ℕ) → flat_map (locked_by command) (take l.item-index l.items) ≡ locks_made command l.made;
-}
+invariant-loop-item l = (command : ℕ) → flat_map (locked_by command) (take l.item-index l.items) ≡ []

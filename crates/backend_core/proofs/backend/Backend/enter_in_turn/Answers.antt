@@ -18,7 +18,7 @@ pub returns-in-Unstarted-clause-noted : goal.returns-in-Unstarted-clause-noted
 returns-in-Unstarted-clause-noted g c = joined_notes _ _ _ _ c.args.self.now c.join.new.self c.requires.stands c.in-Unstarted.is c.join.ensures.noted
 
 pub returns-in-Alive-clause-noted : goal.returns-in-Alive-clause-noted
-returns-in-Alive-clause-noted g c = entered_notes _ _ c.args.self.now _ _ c.in-Alive.is c.enter_next.ensures.noted
+returns-in-Alive-clause-noted g c = entered_notes _ _ _ c.args.self.now _ _ c.in-Alive.is c.enter_next.ensures.noted
 
 pub returns-in-Unstarted-clause-starts : goal.returns-in-Unstarted-clause-starts
 returns-in-Unstarted-clause-starts g c = λ first. c.join.ensures.command

@@ -36,8 +36,8 @@ returns-in-Err-Conflict-clause-enters g c = refused_enters _ _ _ (reserved_await
     (held_appends _ _ _ _ _ _ _ _ _ _ _ _ _ c.in-Err-Conflict.field-0-is c.in-Err-Conflict.holder-is c.in-Err-Conflict.held-is c.in-Err-Conflict.ensures.locks)
 
 pub returns-in-Ok-clause-noted : goal.returns-in-Ok-clause-noted
-returns-in-Ok-clause-noted g c = granted_noted _ _ _ _ c.args.self.now _ _ c.reserve_lock.ensures.same (c.enter_lock.ensures.holds _ _ (reserved_awaits _ _ c.args.self.now _ c.reserve_lock.ensures.same c.requires.ready.waits).rests).moves.finished _ _ c.in-Ok.ensures.locks
+returns-in-Ok-clause-noted g c = granted_noted _ _ _ _ _ c.args.self.now _ _ c.reserve_lock.ensures.same (reserved_awaits _ _ c.args.self.now _ c.reserve_lock.ensures.same c.requires.ready.waits).rests _ _ (c.enter_lock.ensures.holds _ _ _) c.in-Ok.ensures.locks
 
 pub returns-in-Err-Conflict-clause-noted : goal.returns-in-Err-Conflict-clause-noted
-returns-in-Err-Conflict-clause-noted g c = held_noted _ _ _ _ c.args.self.now _ _ c.reserve_lock.ensures.same (c.enter_refused.ensures.holds _ _ (reserved_awaits _ _ c.args.self.now _ c.reserve_lock.ensures.same c.requires.ready.waits).rests).moves.finished _ _ _ _
+returns-in-Err-Conflict-clause-noted g c = held_noted _ _ _ _ _ c.args.self.now _ _ c.reserve_lock.ensures.same (reserved_awaits _ _ c.args.self.now _ c.reserve_lock.ensures.same c.requires.ready.waits).rests _ _ _ _ (c.enter_refused.ensures.holds _ _ _)
     (held_appends _ _ _ _ _ _ _ _ _ _ _ _ _ c.in-Err-Conflict.field-0-is c.in-Err-Conflict.holder-is c.in-Err-Conflict.held-is c.in-Err-Conflict.ensures.locks)

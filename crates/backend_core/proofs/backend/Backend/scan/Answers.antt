@@ -1,4 +1,4 @@
-use Rattle.std.proofs.Common.{◌&&◌, arith}
+use Rattle.std.proofs.Common.{◌&&◌, arith, refl}
 use Rattle.backend_core.proofs.Fitting.Entered.{has_room, is_few}
 use Rattle.backend_core.proofs.Entries.Inside.{made_refused, left_so}
 use Rattle.backend_core.proofs.Entries.Scanning.{scan_request, scan_one, scan_makes, scan_enters, scan_frames}
@@ -28,8 +28,8 @@ returns-clause-enters g c = left_so (Enters _ _ _ _ _ c.args.self.now) _ _ _ c.n
     (c.in_ok-enter_scan.ensures.holds _ _ _ c.requires.ready.waits.rests c.in_ok-scanned.ensures.scans.rows) c.in_ok-scanned.ensures.scans.rows c.in_ok-scanned.ensures.scans.at c.in_ok-enter_scan.ensures.kept c.in_ok-enter_scan.ensures.answer c.in_ok-scanned.ensures.scans.appends)
 
 pub returns-clause-noted : goal.returns-clause-noted
-returns-clause-noted g c = left_so (IsNoted _ _ c.args.self.now (nexts.Scan c.args.scan.now c.args.rebuilds)) _ _ _ c.note_scan.ensures
-    (noted_with _ _ _ _ _ c.args.self.now _ _ _ _ (c.in_ok-enter_scan.ensures.holds _ _ _ c.requires.ready.waits.rests c.in_ok-scanned.ensures.scans.rows) c.in_ok-scanned.ensures.scans.appends
+returns-clause-noted g c = left_so (IsNoted _ _ _ c.args.self.now (nexts.Scan c.args.scan.now c.args.rebuilds)) _ _ _ c.note_scan.ensures
+    (noted_with _ _ _ _ _ c.args.self.now _ _ _ _ (c.in_ok-enter_scan.ensures.holds _ _ _ c.requires.ready.waits.rests c.in_ok-scanned.ensures.scans.rows) c.in_ok-scanned.ensures.scans.appends refl
     (λ i. record { looked = c.args.self.now.looked && c.args.rebuilds; frames = scan_frames _ _ c.args.self.now c.requires.ready.waits c.requires.ready.course c.args.scan.now c.args.rebuilds c.requires.next.0 c.requires.next.1 0 _ _ _ (c.in_ok-enter_scan.ensures.holds _ _ 0 c.requires.ready.waits.rests c.in_ok-scanned.ensures.scans.rows) c.in_ok-enter_scan.ensures.kept i; told = c.args.self.now.told }))
 
 pub returns-clause-refused : goal.returns-clause-refused

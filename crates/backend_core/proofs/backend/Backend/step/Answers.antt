@@ -9,11 +9,11 @@ returns-clause-steps g c = settled_steps _ _ _ _ _ _ _ _ _ (plays_on_course _ _ 
     (remains _ _ _ _ _ _ _ c.in_ok-enter_in_turn.ensures.makes (sym c.is_stopped.ensures ∙ c.if-is_stopped.false)) c.settle.ensures
 
 pub returns-clause-noted : goal.returns-clause-noted
-returns-clause-noted g c = then_so c.settle.result (λ settles. notes_on _ _ c.args.self.now _ _ c.in_ok-enter_in_turn.ensures.noted
+returns-clause-noted g c = then_so c.settle.result (λ settles. notes_on _ _ _ c.args.self.now _ _ c.in_ok-enter_in_turn.ensures.noted
     (settles _ _ (remains _ _ _ _ _ _ _ c.in_ok-enter_in_turn.ensures.makes (sym c.is_stopped.ensures ∙ c.if-is_stopped.false)).agrees).noted) c.settle.ensures
 
 pub returns-then-is_stopped-clause-noted : goal.returns-then-is_stopped-clause-noted
-returns-then-is_stopped-clause-noted g c = notes_left _ _ c.args.self.now _ c.in_ok-enter_in_turn.ensures.noted
+returns-then-is_stopped-clause-noted g c = notes_left _ _ _ c.args.self.now _ c.in_ok-enter_in_turn.ensures.noted
 
 pub returns-then-is_stopped-clause-steps : goal.returns-then-is_stopped-clause-steps
 returns-then-is_stopped-clause-steps g c = leaves _ _ _ _ _ c.args.self.now _ c.in_ok-enter_in_turn.ensures.makes (sym c.is_stopped.ensures ∙ c.if-is_stopped.true)

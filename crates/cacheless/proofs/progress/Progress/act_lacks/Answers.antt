@@ -1,7 +1,7 @@
 use Rattle.std.proofs.Common.{◌≡◌, ◌∙◌, not, List, ap, sym, rules}
 use Rattle.base_types.specs.Scans.{build_scans}
 use Rattle.ddl_effect.specs.Stages.{plan_at}
-use Rattle.history_model.specs.Writes.{is_empty}
+use Rattle.history_model.specs.Changing.{is_empty}
 use Rattle.cacheless.specs.Types.{Purpose}
 use Rattle.cacheless.specs.State.{kept_at, missing}
 use Rattle.cacheless.proofs.WantedPlans.{scans_of_want, scans_wanted, no_scans, one_missing}

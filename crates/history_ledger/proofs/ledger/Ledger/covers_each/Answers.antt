@@ -1,7 +1,7 @@
 use Rattle.std.proofs.Common.{◌∙◌, ap, sym, arith}
 use Rattle.std.specs.List.{list_all}
 use Rattle.std.proofs.lemmas.List.{drop_all}
-use Rattle.history_ledger.specs.Writing.{covers_item}
+use Rattle.history_ledger.specs.Words.{covers_item}
 use Rattle.history_ledger.proofs.ledger.Ledger.covers_each.Goals as goal
 
 pub returns : goal.returns

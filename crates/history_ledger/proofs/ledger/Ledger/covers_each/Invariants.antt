@@ -1,6 +1,6 @@
 use Rattle.std.proofs.Common.{◌≡◌, drop}
 use Rattle.std.specs.List.{list_all}
-use Rattle.history_ledger.specs.Writing.{covers_item}
+use Rattle.history_ledger.specs.Words.{covers_item}
 use Rattle.history_ledger.proofs.ledger.Ledger.covers_each.Given as goal
 
 abbrev pub invariant-loop-item : goal.invariant-loop-item

@@ -3,7 +3,7 @@ use Rattle.std.specs.List.{list_all}
 use Rattle.catalog_rows.specs.Store.{rows_with_key}
 use Rattle.history_model.proofs.ListSteps.{all_next, all_end}
 use Rattle.history_ledger.specs.Types.{Row}
-use Rattle.history_ledger.specs.Writing.{covers_row}
+use Rattle.history_ledger.specs.Words.{covers_row}
 use Rattle.history_ledger.proofs.ledger.Ledger.covers_ended.Goals as goal
 
 pub returns-in_default : goal.returns-in_default

@@ -1,7 +1,7 @@
 use Rattle.std.proofs.Common.{◌≡◌, drop}
 use Rattle.std.specs.List.{list_all}
 use Rattle.catalog_rows.specs.Store.{rows_with_key}
-use Rattle.history_ledger.specs.Writing.{covers_row}
+use Rattle.history_ledger.specs.Words.{covers_row}
 use Rattle.history_ledger.proofs.ledger.Ledger.covers_ended.Given as goal
 
 abbrev pub invariant-loop-index : goal.invariant-loop-index

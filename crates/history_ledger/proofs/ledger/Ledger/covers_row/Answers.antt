@@ -1,7 +1,7 @@
 use Rattle.std.proofs.Common.{◌∙◌, ◌++◌, sym, ap}
 use Rattle.history_model.specs.Covered.{scans_of}
 use Rattle.history_model.proofs.ListSteps.{all_at}
-use Rattle.history_ledger.specs.Writing.{covers_scan}
+use Rattle.history_ledger.specs.Words.{covers_scan}
 use Rattle.history_ledger.proofs.ledger.Ledger.covers_row.Goals as goal
 
 pub loop-scan-preserved : goal.loop-scan-preserved

@@ -1,7 +1,7 @@
 use Rattle.std.proofs.Common.{◌≡◌, drop}
 use Rattle.std.specs.List.{list_all}
 use Rattle.history_model.specs.Covered.{scans_of}
-use Rattle.history_ledger.specs.Writing.{covers_scan}
+use Rattle.history_ledger.specs.Words.{covers_scan}
 use Rattle.history_ledger.proofs.ledger.Ledger.covers_row.Given as goal
 
 abbrev pub invariant-loop-scan : goal.invariant-loop-scan

@@ -2,9 +2,9 @@ use Rattle.std.proofs.Common.{◌≡◌, drop}
 use Rattle.std.specs.List.{flat_map, list_all}
 use Rattle.history_model.specs.Drawn.{made_by}
 use Rattle.history_ledger.specs.Types.{Item}
-use Rattle.history_ledger.specs.Follows.{reader_at}
-use Rattle.history_ledger.specs.Standing.{standing_of, xid_in}
-use Rattle.history_ledger.specs.Writing.{may_change, old_at}
+use Rattle.history_ledger.specs.Held.{reader_at}
+use Rattle.history_ledger.specs.Held.{standing_of, xid_in}
+use Rattle.history_ledger.specs.Words.{may_change, old_at}
 use Rattle.history_ledger.proofs.ledger.Ledger.may_change_all.Given as goal
 
 abbrev pub invariant-loop-item : goal.invariant-loop-item

@@ -1,7 +1,7 @@
 use Rattle.std.proofs.Common.{◌∙◌, ap}
 use Rattle.std.specs.List.{flat_map}
-use Rattle.history_ledger.specs.Enters.{messages_at}
-use Rattle.history_ledger.specs.Follows.{reader_at}
+use Rattle.history_ledger.specs.Words.{messages_at}
+use Rattle.history_ledger.specs.Held.{reader_at}
 use Rattle.history_ledger.proofs.Readers.{if_ok_same, written_same}
 use Rattle.history_ledger.proofs.ledger.Ledger.messages_written.Goals as goal
 

@@ -1,6 +1,6 @@
 use Rattle.std.proofs.Common.{◌∙◌, ap}
 use Rattle.catalog_rows.specs.Store.{rows_of_scan}
-use Rattle.history_ledger.specs.Follows.{reader_at}
+use Rattle.history_ledger.specs.Held.{reader_at}
 use Rattle.history_ledger.proofs.Readers.{if_ok_same, scan_same}
 use Rattle.history_ledger.proofs.ledger.Ledger.scan.Goals as goal
 

@@ -1,6 +1,10 @@
-use Rattle.std.proofs.Common.{refl}
+use Rattle.std.proofs.Common.{◌≤◌, refl, sym, subst, length}
+use Rattle.history_lines.proofs.Allowing.{few_commands}
 use Rattle.history_lines.proofs.Taken.{gone_on}
 use Rattle.history_lines.proofs.session.Session.go_on.Goals as goal
+
+pub settle-requires : goal.settle-requires
+settle-requires c = record { few = subst (λ l. length l ≤ 20000) (sym c.in_ok-enter.ensures.same) (few_commands _ _ _ c.requires.comes) }
 
 pub returns : goal.returns
 returns c = gone_on c.settle.result c.args.ledger.now c.args.at c.args.event.now c.args.self.now (record c.args.self.now { progress = c.enter.new.progress }) c.settle.new.self c.requires.going refl refl c.requires.inside c.in_ok-enter.ensures.takes c.settle.ensures.goes_on c.settle.ensures.started

@@ -19,7 +19,7 @@ unfolding held_of
 invariant_of-self g c =
     let cache = c.args.self.now in
     let s = stands_at cache.descriptors cache.index c.args.rel.0 c.in-Some.place.now cache.indexed (sym c.in-Some.ensures.value) in
-    let l = opening cache.descriptors c.pin.new.self cache.index cache.index c.args.rel.0 c.in-Some.place.now.at cache.indexed cache.placed s c.pin.ensures refl in
+    let l = opening cache.descriptors c.pin.new.self cache.index cache.index c.args.rel.0 c.in-Some.place.now.at cache.indexed cache.placed s c.pin.ensures.entry refl in
     record { indexed = l.indexed; placed = l.placed }
 
 pub returns-then-valid-clause-result : goal.returns-then-valid-clause-result
@@ -35,7 +35,7 @@ unfolding held_of
 returns-then-valid-clause-held g c =
     let cache = c.args.self.now in
     let s = stands_at cache.descriptors cache.index c.args.rel.0 c.in-Some.place.now cache.indexed (sym c.in-Some.ensures.value) in
-    changes cache _ c.args.rel _ (opening cache.descriptors c.pin.new.self cache.index cache.index c.args.rel.0 c.in-Some.place.now.at cache.indexed cache.placed s c.pin.ensures refl)
+    changes cache _ c.args.rel _ (opening cache.descriptors c.pin.new.self cache.index cache.index c.args.rel.0 c.in-Some.place.now.at cache.indexed cache.placed s c.pin.ensures.entry refl)
 
 pub returns-else-valid-clause-result : goal.returns-else-valid-clause-result
 unfolding held_of
@@ -50,4 +50,4 @@ unfolding held_of
 returns-else-valid-clause-held g c =
     let cache = c.args.self.now in
     let s = stands_at cache.descriptors cache.index c.args.rel.0 c.in-Some.place.now cache.indexed (sym c.in-Some.ensures.value) in
-    changes cache _ c.args.rel _ (opening cache.descriptors c.pin.new.self cache.index cache.index c.args.rel.0 c.in-Some.place.now.at cache.indexed cache.placed s c.pin.ensures refl)
+    changes cache _ c.args.rel _ (opening cache.descriptors c.pin.new.self cache.index cache.index c.args.rel.0 c.in-Some.place.now.at cache.indexed cache.placed s c.pin.ensures.entry refl)

@@ -2,7 +2,7 @@ use Rattle.std.proofs.Common.{◌∙◌, refl, ap}
 use Rattle.event_kinds.specs.declared.entry.Event.TheVariants.{Gone}
 use Rattle.seg_calls.specs.Calls.{entry_of}
 use Rattle.shared_seg.specs.Transactions.{xid_at}
-use Rattle.shared_seg.specs.Undone.{undone}
+use Rattle.history_ledger.specs.Words.{undone}
 use Rattle.shared_seg.specs.Kept.{Kept}
 use Rattle.shared_seg.proofs.Entered.{call_inside, within, placed_appends, placed_keeps, called_within}
 use Rattle.shared_seg.proofs.Rows.{gone_steps}
@@ -14,7 +14,7 @@ invariant_of-self c = record {
   folds =
       let call = call_inside _ _ (entry_of c.args.b c.args.c (Gone c.args.from)) c.self.view_is c.requires.call in
       placed_keeps _ _ _ _ (entry_of c.args.b c.args.c (Gone c.args.from)) _ _ _ _ _ _ _ _ _ _ c.self.view_is c.self.invariant.folds c.requires.call tt c.append.ensures.entries c.append.ensures.promised
-      (gone_steps _ c.args.b c.args.c c.args.from _ _ _ _ _ _ _ (c.self.invariant.folds.own c.args.b) (c.undo_from.ensures ∙ ap (λ own. undone own c.args.from c.self.inside.store) (c.own_xid-own.ensures ∙ ap (λ ts. xid_at ts c.args.b) c.deref.ensures.value)) (within c.self.inside.script.scenario c.args.b _ call.backend c.self.invariant.folds.slots) c.begin.ensures);
+      (gone_steps _ c.args.b c.args.c c.args.from _ _ _ _ _ _ _ (c.self.invariant.folds.own c.args.b) (c.undo_from.ensures ∙ ap (λ own. undone own c.args.from c.self.inside.store) (c.own_xid-own.ensures ∙ ap (λ ts. xid_at ts c.args.b) c.deref.ensures.value)) (within c.self.inside.script.scenario c.args.b _ call.backend c.self.invariant.folds.slots) c.enter_running.ensures);
   queued = placed_still _ _ _ (entry_of c.args.b c.args.c (Gone c.args.from)) _ c.self.view_is c.self.invariant.queued c.requires.call refl c.append.ensures.entries;
 }
 
@@ -24,5 +24,5 @@ returns-clause-appends c = placed_appends _ _ _ _ (entry_of c.args.b c.args.c (G
 pub returns-clause-script : goal.returns-clause-script
 returns-clause-script c = ap (λ (k : Kept). k.script) c.self.view_is
 
-pub begin-requires : goal.begin-requires
-begin-requires c = called_within _ _ _ _ c.self.view_is c.requires.call (c.self.inside.transactions.ok.0 ∙ c.self.invariant.folds.slots)
+pub enter_running-requires-clause-within : goal.enter_running-requires-clause-within
+enter_running-requires-clause-within c = called_within _ _ _ _ c.self.view_is c.requires.call (c.self.inside.transactions.ok.0 ∙ c.self.invariant.folds.slots)

@@ -14,7 +14,7 @@ invariant_of-self-in-Ok-New c = record {
       let grants = granted _ _ _ _ c.in-Ok-New.field-0-is c.in-Ok-New.ensures.answers in
       asked_quiet _ _ _ _ c.args.b c.args.c (LockOk c.args.rel c.args.mode) _ _ _ _ _ _ _ c.self.view_is c.self.invariant.folds c.requires.call refl
       (allows_lock c.self.inside.places.entries _ _ c.args.b c.args.c c.args.rel c.args.mode c.self.invariant.folds.locks_are grants) (drawn_inside _ _ c.args.rel c.self.view_is c.requires.drawn)
-      (pushed _ _ _ _ c.push.ensures.entries c.make_room.ensures.same.entries) (c.push.ensures.promised ∙ c.make_room.ensures.same.promised) refl refl refl (λ x. refl) (λ x. refl) grants.more c.begin.ensures;
+      (pushed _ _ _ _ c.push.ensures.entries c.make_room.ensures.same.entries) (c.push.ensures.promised ∙ c.make_room.ensures.same.promised) refl refl refl (λ x. refl) (λ x. refl) grants.more c.enter_running.ensures;
   queued = asked_still _ _ _ c.args.b c.args.c (LockOk c.args.rel c.args.mode) _ c.self.view_is c.self.invariant.queued c.requires.call refl (allows_lock c.self.inside.places.entries _ _ c.args.b c.args.c c.args.rel c.args.mode c.self.invariant.folds.locks_are (granted _ _ _ _ c.in-Ok-New.field-0-is c.in-Ok-New.ensures.answers)) refl (pushed _ _ _ _ c.push.ensures.entries c.make_room.ensures.same.entries);
 }
 
@@ -24,7 +24,7 @@ invariant_of-self-in-Err-Conflict c = record {
       let refusal = refused _ _ _ _ c.in-Err-Conflict.holder c.in-Err-Conflict.held c.in-Err-Conflict.field-0-is c.in-Err-Conflict.ensures.answers in
       asked_quiet _ _ _ _ c.args.b c.args.c (LockHeld c.args.rel c.args.mode c.in-Err-Conflict.holder c.in-Err-Conflict.held) _ _ _ _ _ _ _ c.self.view_is c.self.invariant.folds c.requires.call refl
       (allows_refusal c.self.inside.places.entries _ _ c.args.b c.args.c c.args.rel c.args.mode c.in-Err-Conflict.holder c.in-Err-Conflict.held c.self.invariant.folds.locks_are refusal) (drawn_inside _ _ c.args.rel c.self.view_is c.requires.drawn)
-      (pushed _ _ _ _ c.push-in-Err-Conflict.ensures.entries c.make_room.ensures.same.entries) (c.push-in-Err-Conflict.ensures.promised ∙ c.make_room.ensures.same.promised) refl refl refl (λ x. refl) (λ x. refl) refusal.same c.begin-in-Err-Conflict.ensures;
+      (pushed _ _ _ _ c.push-in-Err-Conflict.ensures.entries c.make_room.ensures.same.entries) (c.push-in-Err-Conflict.ensures.promised ∙ c.make_room.ensures.same.promised) refl refl refl (λ x. refl) (λ x. refl) refusal.same c.enter_running-in-Err-Conflict.ensures;
   queued = asked_still _ _ _ c.args.b c.args.c (LockHeld c.args.rel c.args.mode c.in-Err-Conflict.holder c.in-Err-Conflict.held) _ c.self.view_is c.self.invariant.queued c.requires.call refl (allows_refusal c.self.inside.places.entries _ _ c.args.b c.args.c c.args.rel c.args.mode c.in-Err-Conflict.holder c.in-Err-Conflict.held c.self.invariant.folds.locks_are (refused _ _ _ _ c.in-Err-Conflict.holder c.in-Err-Conflict.held c.in-Err-Conflict.field-0-is c.in-Err-Conflict.ensures.answers)) refl (pushed _ _ _ _ c.push-in-Err-Conflict.ensures.entries c.make_room.ensures.same.entries);
 }
 
@@ -48,11 +48,11 @@ returns-in-Ok-New-clause-locks c =
     (allows_lock c.self.inside.places.entries _ _ c.args.b c.args.c c.args.rel c.args.mode c.self.invariant.folds.locks_are grants) (drawn_inside _ _ c.args.rel c.self.view_is c.requires.drawn)
     (pushed _ _ _ _ c.push.ensures.entries c.make_room.ensures.same.entries) (c.push.ensures.promised ∙ c.make_room.ensures.same.promised)
 
-pub begin-requires-in-Err-Conflict : goal.begin-requires-in-Err-Conflict
-begin-requires-in-Err-Conflict c = asked_within _ _ c.args.b c.args.c _ c.self.view_is c.requires.call (c.self.inside.transactions.ok.0 ∙ c.self.invariant.folds.slots)
+pub enter_running-requires-in-Err-Conflict-clause-within : goal.enter_running-requires-in-Err-Conflict-clause-within
+enter_running-requires-in-Err-Conflict-clause-within c = asked_within _ _ c.args.b c.args.c _ c.self.view_is c.requires.call (c.self.inside.transactions.ok.0 ∙ c.self.invariant.folds.slots)
 
-pub begin-requires : goal.begin-requires
-begin-requires c = asked_within _ _ c.args.b c.args.c _ c.self.view_is c.requires.call (c.self.inside.transactions.ok.0 ∙ c.self.invariant.folds.slots)
+pub enter_running-requires-clause-within : goal.enter_running-requires-clause-within
+enter_running-requires-clause-within c = asked_within _ _ c.args.b c.args.c _ c.self.view_is c.requires.call (c.self.inside.transactions.ok.0 ∙ c.self.invariant.folds.slots)
 
 pub returns-in-Ok-New-clause-script : goal.returns-in-Ok-New-clause-script
 returns-in-Ok-New-clause-script c = ap (λ (k : Kept). k.script) c.self.view_is

@@ -9,7 +9,7 @@ use Rattle.shared_seg.proofs.shared.SharedSeg.looked.Goals as goal
 pub invariant_of-self : goal.invariant_of-self
 invariant_of-self c = record {
   folds =
-      quiet_keeps _ _ _ _ c.args.b c.args.c (Look c.args.yes) _ _ _ _ _ _ _ c.self.view_is c.self.invariant.folds c.requires.call tt c.append.ensures.entries c.append.ensures.promised refl refl refl (λ x. refl) (λ x. refl) refl c.begin.ensures;
+      quiet_keeps _ _ _ _ c.args.b c.args.c (Look c.args.yes) _ _ _ _ _ _ _ c.self.view_is c.self.invariant.folds c.requires.call tt c.append.ensures.entries c.append.ensures.promised refl refl refl (λ x. refl) (λ x. refl) refl c.enter_running.ensures;
   queued = placed_still _ _ _ (entry_of c.args.b c.args.c (Look c.args.yes)) _ c.self.view_is c.self.invariant.queued c.requires.call refl c.append.ensures.entries;
 }
 
@@ -19,5 +19,5 @@ returns-clause-appends c = placed_appends _ _ _ _ (entry_of c.args.b c.args.c (L
 pub returns-clause-script : goal.returns-clause-script
 returns-clause-script c = ap (λ (k : Kept). k.script) c.self.view_is
 
-pub begin-requires : goal.begin-requires
-begin-requires c = called_within _ _ _ _ c.self.view_is c.requires.call (c.self.inside.transactions.ok.0 ∙ c.self.invariant.folds.slots)
+pub enter_running-requires-clause-within : goal.enter_running-requires-clause-within
+enter_running-requires-clause-within c = called_within _ _ _ _ c.self.view_is c.requires.call (c.self.inside.transactions.ok.0 ∙ c.self.invariant.folds.slots)

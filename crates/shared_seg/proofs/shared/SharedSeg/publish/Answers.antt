@@ -11,15 +11,15 @@ use Rattle.shared_seg.proofs.shared.SharedSeg.publish.Goals as goal
 pub insert-cleaned-requires : goal.insert-cleaned-requires
 insert-cleaned-requires c = few_published _ _ c.args.b c.args.c _ c.self.view_is c.requires.call
 
-pub add_published-requires-clause-fits : goal.add_published-requires-clause-fits
-add_published-requires-clause-fits c = published_fits _ _ c.args.b c.args.c _ _ _ _ _ _ c.self.view_is c.self.invariant.folds c.requires.call
+pub enter_running-requires-clause-counted : goal.enter_running-requires-clause-counted
+enter_running-requires-clause-counted c = published_fits _ _ c.args.b c.args.c _ _ _ _ _ _ c.self.view_is c.self.invariant.folds c.requires.call
 
 pub invariant_of-self : goal.invariant_of-self
 invariant_of-self c =
     let call = call_inside _ _ (entry_of c.args.b c.args.c (Publish (length c.args.messages.now))) c.self.view_is c.requires.call in
     let next = subst (λ (x : Kept). ArePublishedNext x.history c.args.b c.args.messages.now) (sym c.self.view_is) c.requires.next in
     record {
-      folds = quiet_keeps _ _ _ _ c.args.b c.args.c (Publish (length c.args.messages.now)) _ _ _ _ _ _ _ c.self.view_is c.self.invariant.folds c.requires.call tt c.append.ensures.entries c.append.ensures.promised refl refl refl (λ x. refl) (λ x. refl) refl c.add_published.ensures;
+      folds = quiet_keeps _ _ _ _ c.args.b c.args.c (Publish (length c.args.messages.now)) _ _ _ _ _ _ _ c.self.view_is c.self.invariant.folds c.requires.call tt c.append.ensures.entries c.append.ensures.promised refl refl refl (λ x. refl) (λ x. refl) refl c.enter_running.ensures;
       queued = subst (λ h. KeepsQueue c.self.inside.script.scenario h c.insert-cleaned.new.self) (sym c.append.ensures.entries) (publish_queued c.self.inside.script.scenario _ c.args.b c.args.c c.args.messages.now _ _ c.self.invariant.queued call.follows next c.insert-cleaned.ensures.queue c.insert-cleaned.ensures.lapped);
     }
 
@@ -32,5 +32,5 @@ returns-clause-cleaned c = cleaned_is _ _ _ (length c.args.messages.now) _ c.sel
 pub returns-clause-script : goal.returns-clause-script
 returns-clause-script c = ap (λ (k : Kept). k.script) c.self.view_is
 
-pub add_published-requires-clause-within : goal.add_published-requires-clause-within
-add_published-requires-clause-within c = called_within _ _ _ _ c.self.view_is c.requires.call (c.self.inside.transactions.ok.0 ∙ c.self.invariant.folds.slots)
+pub enter_running-requires-clause-within : goal.enter_running-requires-clause-within
+enter_running-requires-clause-within c = called_within _ _ _ _ c.self.view_is c.requires.call (c.self.inside.transactions.ok.0 ∙ c.self.invariant.folds.slots)

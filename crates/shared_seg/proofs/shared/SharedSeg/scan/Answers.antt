@@ -18,7 +18,7 @@ invariant_of-self-2 c =
     let counted = converted _ _ _ _ _ _ c.try_from.ensures c.in_ok-count.ensures.variant c.in_ok-count.ensures.cases ∙ c.len.ensures ∙ c.in_ok-rows.rows.ok.0 in
     let answer = scan_is_answer _ _ _ _ _ _ _ _ c.args.b c.args.c c.args.purpose.now c.self.invariant.folds (request_inside _ _ c.args.b c.args.c c.self.view_is c.requires.call) in
     record {
-      folds = asked_quiet _ _ _ _ c.args.b c.args.c (Scan c.args.purpose.now c.in_ok-count.count) _ _ _ _ _ _ _ c.self.view_is c.self.invariant.folds c.requires.call refl (counted ∙ ap length (given ∙ answer)) tt c.in_ok-add.ensures.ok c.add.ensures.promised refl refl refl (λ x. refl) (λ x. refl) refl c.begin.ensures;
+      folds = asked_quiet _ _ _ _ c.args.b c.args.c (Scan c.args.purpose.now c.in_ok-count.count) _ _ _ _ _ _ _ c.self.view_is c.self.invariant.folds c.requires.call refl (counted ∙ ap length (given ∙ answer)) tt c.in_ok-add.ensures.ok c.add.ensures.promised refl refl refl (λ x. refl) (λ x. refl) refl c.enter_running.ensures;
       queued = asked_still _ _ _ c.args.b c.args.c (Scan c.args.purpose.now c.in_ok-count.count) _ c.self.view_is c.self.invariant.queued c.requires.call refl (counted ∙ ap length (given ∙ answer)) refl c.in_ok-add.ensures.ok;
     }
 
@@ -32,8 +32,8 @@ returns-clause-scans c =
 pub invariant_of-self : goal.invariant_of-self
 invariant_of-self c = keeps_same _ _ _ _ _ _ _ _ _ _ _ _ _ c.in_err-add.ensures.err (ap length c.add.ensures.promised) refl refl c.self.invariant
 
-pub begin-requires : goal.begin-requires
-begin-requires c = asked_within _ _ c.args.b c.args.c _ c.self.view_is c.requires.call (c.self.inside.transactions.ok.0 ∙ c.self.invariant.folds.slots)
+pub enter_running-requires-clause-within : goal.enter_running-requires-clause-within
+enter_running-requires-clause-within c = asked_within _ _ c.args.b c.args.c _ c.self.view_is c.requires.call (c.self.inside.transactions.ok.0 ∙ c.self.invariant.folds.slots)
 
 pub returns-clause-script : goal.returns-clause-script
 returns-clause-script c = ap (λ (k : Kept). k.script) c.self.view_is

@@ -15,7 +15,7 @@ start-requires-clause-inactive c = start_needs _ _ c.args.b _ c.self.view_is c.s
 pub invariant_of-self : goal.invariant_of-self
 invariant_of-self c = record {
   folds =
-      quiet_keeps _ _ _ _ c.args.b 0 Start _ _ _ _ _ _ _ c.self.view_is c.self.invariant.folds c.requires.call tt c.append.ensures.entries c.append.ensures.promised refl refl refl (λ x. refl) (λ x. refl) refl c.clear.ensures;
+      quiet_keeps _ _ _ _ c.args.b 0 Start _ _ _ _ _ _ _ c.self.view_is c.self.invariant.folds c.requires.call tt c.append.ensures.entries c.append.ensures.promised refl refl refl (λ x. refl) (λ x. refl) refl c.enter_running.ensures;
   queued = let call = call_inside _ _ (entry_of c.args.b 0 Start) c.self.view_is c.requires.call in
       placed_queued c.self.inside.script.scenario _ _ (entry_of c.args.b 0 Start) _ _ c.append.ensures.entries c.start.ensures (start_queued c.self.inside.script.scenario _ c.args.b _ (within c.self.inside.script.scenario c.args.b _ call.backend c.self.invariant.queued.slots) c.self.invariant.queued);
 }
@@ -26,5 +26,5 @@ returns-clause-appends c = placed_appends _ _ _ _ (entry_of c.args.b 0 Start) re
 pub returns-clause-script : goal.returns-clause-script
 returns-clause-script c = ap (λ (k : Kept). k.script) c.self.view_is
 
-pub clear-requires : goal.clear-requires
-clear-requires c = called_within _ _ _ _ c.self.view_is c.requires.call (c.self.inside.transactions.ok.0 ∙ c.self.invariant.folds.slots)
+pub enter_running-requires-clause-within : goal.enter_running-requires-clause-within
+enter_running-requires-clause-within c = called_within _ _ _ _ c.self.view_is c.requires.call (c.self.inside.transactions.ok.0 ∙ c.self.invariant.folds.slots)

@@ -12,7 +12,7 @@ invariant_of-self c = record {
   folds =
       let call = call_inside _ _ (entry_of c.args.b c.args.c (Visible c.args.xid)) c.self.view_is c.requires.call in
       placed_keeps _ _ _ _ (entry_of c.args.b c.args.c (Visible c.args.xid)) _ _ _ _ _ _ _ _ _ _ c.self.view_is c.self.invariant.folds c.requires.call tt c.append.ensures.entries c.append.ensures.promised
-      (visible_steps _ c.args.b c.args.c c.args.xid _ _ _ _ _ _ _ c.commit.ensures (c.self.invariant.folds.places c.args.b c.args.xid.0 call.follows.event.0) (within c.self.inside.script.scenario c.args.b _ call.backend c.self.invariant.folds.slots) c.make_visible.ensures);
+      (visible_steps _ c.args.b c.args.c c.args.xid _ _ _ _ _ _ _ c.commit.ensures (c.self.invariant.folds.places c.args.b c.args.xid.0 call.follows.event.0) (within c.self.inside.script.scenario c.args.b _ call.backend c.self.invariant.folds.slots) c.enter_running.ensures);
   queued = placed_still _ _ _ (entry_of c.args.b c.args.c (Visible c.args.xid)) _ c.self.view_is c.self.invariant.queued c.requires.call refl c.append.ensures.entries;
 }
 
@@ -22,5 +22,5 @@ returns-clause-appends c = placed_appends _ _ _ _ (entry_of c.args.b c.args.c (V
 pub returns-clause-script : goal.returns-clause-script
 returns-clause-script c = ap (λ (k : Kept). k.script) c.self.view_is
 
-pub make_visible-requires : goal.make_visible-requires
-make_visible-requires c = called_within _ _ _ _ c.self.view_is c.requires.call (c.self.inside.transactions.ok.0 ∙ c.self.invariant.folds.slots)
+pub enter_running-requires-clause-within : goal.enter_running-requires-clause-within
+enter_running-requires-clause-within c = called_within _ _ _ _ c.self.view_is c.requires.call (c.self.inside.transactions.ok.0 ∙ c.self.invariant.folds.slots)

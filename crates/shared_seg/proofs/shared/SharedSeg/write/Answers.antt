@@ -1,14 +1,14 @@
-use Rattle.std.proofs.Common.{◌∙◌, ◌++◌, ◌∷◌, [], length, sum, refl, ap, subst, arith}
+use Rattle.std.proofs.Common.{◌∙◌, ◌++◌, ◌∷◌, [], length, sum, slice_set, refl, sym, ap, subst, arith}
 use Rattle.std.specs.List.{flat_map}
 use Rattle.row_visibility.specs.declared.version.Reader.{Reader}
-use Rattle.shared_seg.specs.Announced.{messages_at}
 use Rattle.shared_seg.specs.IsDrawn.{IsDrawn}
 use Rattle.shared_seg.specs.Naming.{NamesFree}
-use Rattle.shared_seg.specs.Transactions.{own_reader}
+use Rattle.history_ledger.specs.Words.{IsCounted, messages_at}
+use Rattle.shared_seg.specs.Transactions.{own_reader, transaction_at, transaction_by}
 use Rattle.shared_seg.specs.Kept.{Kept}
 use Rattle.shared_seg.proofs.Asked.{request_inside, asked_within, small_number}
 use Rattle.shared_seg.proofs.Queue.{clash_still}
-use Rattle.shared_seg.proofs.Writing.{may_enter, write_allowed, write_granted, write_entered, write_announced, write_keeps, taken_of, taken_allowed, taken_is_new, clash_keeps, clash_writes_at, makes_write}
+use Rattle.shared_seg.proofs.Writing.{may_enter, write_allowed, write_granted, write_entered, write_announced, write_keeps, taken_of, taken_allowed, taken_is_new, clash_counted, clash_keeps, clash_writes_at, makes_write}
 use Rattle.shared_seg.proofs.Unchanged.{keeps_same, unchanged}
 use Rattle.shared_seg.proofs.shared.SharedSeg.write.Goals as goal
 
@@ -22,7 +22,8 @@ invariant_of-self-in-Some c =
     let allowed = taken_allowed _ _ _ _ _ _ _ _ c.args.b c.args.c c.self.invariant.folds c.in-Ok.drawn.changes.items c.in-Some.taken taken in
     let entered = c.in-Ok-add.ensures.ok ∙ ap (λ e. c.self.inside.places.entries ++ e ∷ []) c.clash_entry.ensures in
     record {
-      folds = clash_keeps _ _ _ _ c.args.b c.args.c c.in-Some.taken.name c.in-Some.taken.clash _ _ _ _ _ _ c.self.view_is c.self.invariant.folds c.requires.call allowed entered c.add.ensures.promised c.begin.ensures;
+      folds = clash_keeps _ _ _ _ c.args.b c.args.c c.in-Some.taken.name c.in-Some.taken.clash _ _ _ _ _ _ c.self.view_is c.self.invariant.folds c.requires.call allowed entered c.add.ensures.promised
+          (c.enter_running.ensures ∙ ap (λ event. slice_set c.self.inside.transactions.items c.args.b (transaction_by c.args.c event (transaction_at c.self.inside.transactions.items c.args.b))) c.clash_event.ensures);
       queued = clash_still _ _ _ c.args.b c.args.c c.in-Some.taken.name c.in-Some.taken.clash _ c.self.view_is c.self.invariant.queued c.requires.call allowed entered;
     }
 
@@ -47,7 +48,7 @@ pub invariant_of-self-2 : goal.invariant_of-self-2
 invariant_of-self-2 c =
     let reader = c.reader_in-reader.ensures ∙ ap (λ ts. own_reader ts c.args.b c.args.c) c.deref.ensures.value in
     let enter = may_enter _ _ c.args.b c.args.c c.self.inside.store _ _ _ c.args.draft.now c.in-Ok.drawn _ c.self.view_is c.requires.call c.requires.write reader c.in-Ok.ensures (subst (NamesFree c.self.inside.store c.reader_in-reader.result) c.deref-2.ensures.value c.in_default-first_taken.ensures) in
-    write_keeps _ _ _ _ c.args.b c.args.c c.args.draft.now c.in-Ok.drawn _ _ _ _ _ _ _ _ _ _ c.self.view_is c.self.invariant c.requires.call enter c.in-Ok-enter_write.ensures.entries c.enter_write.ensures.promised c.in-Ok-enter_write.ensures.rows c.in-Ok-enter_write.ensures.held c.begin_writing.ensures c.max-self-inside.ensures
+    write_keeps _ _ _ _ c.args.b c.args.c c.args.draft.now c.in-Ok.drawn _ _ _ _ _ _ _ _ _ _ c.self.view_is c.self.invariant c.requires.call enter c.in-Ok-enter_write.ensures.entries c.enter_write.ensures.promised c.in-Ok-enter_write.ensures.rows c.in-Ok-enter_write.ensures.held c.enter_running-2.ensures c.max-self-inside.ensures
 
 pub returns-clause-writes : goal.returns-clause-writes
 returns-clause-writes c =
@@ -68,11 +69,14 @@ invariant_of-self-in_default-enter_write c = keeps_same _ _ _ _ _ _ _ _ _ _ _ _ 
 pub invariant_of-self : goal.invariant_of-self
 invariant_of-self c = keeps_same _ _ _ _ _ _ _ _ _ _ _ _ _ c.in_default-add.ensures.err (ap length c.add.ensures.promised) refl refl c.self.invariant
 
-pub begin_writing-requires : goal.begin_writing-requires
-begin_writing-requires c = asked_within _ _ c.args.b c.args.c _ c.self.view_is c.requires.call (c.self.inside.transactions.ok.0 ∙ c.self.invariant.folds.slots)
+pub enter_running-requires-2-clause-within : goal.enter_running-requires-2-clause-within
+enter_running-requires-2-clause-within c = asked_within _ _ c.args.b c.args.c _ c.self.view_is c.requires.call (c.self.inside.transactions.ok.0 ∙ c.self.invariant.folds.slots)
 
-pub begin-requires : goal.begin-requires
-begin-requires c = asked_within _ _ c.args.b c.args.c _ c.self.view_is c.requires.call (c.self.inside.transactions.ok.0 ∙ c.self.invariant.folds.slots)
+pub enter_running-requires-clause-within : goal.enter_running-requires-clause-within
+enter_running-requires-clause-within c = asked_within _ _ c.args.b c.args.c _ c.self.view_is c.requires.call (c.self.inside.transactions.ok.0 ∙ c.self.invariant.folds.slots)
+
+pub enter_running-requires-clause-counted : goal.enter_running-requires-clause-counted
+enter_running-requires-clause-counted c = subst (λ event. IsCounted event (transaction_at c.self.inside.transactions.items c.args.b)) (sym c.clash_event.ensures) (clash_counted c.in-Some.taken.name c.in-Some.taken.clash _)
 
 pub returns-in_default-enter_write-clause-writes : goal.returns-in_default-enter_write-clause-writes
 returns-in_default-enter_write-clause-writes c = unchanged _ _ _ _ c.self.view_is c.in_default-enter_write.ensures.same_entries c.enter_write.ensures.promised

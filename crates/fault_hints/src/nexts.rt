@@ -1,0 +1,117 @@
+use crate::coming::{Coming, entry_line, scan_coming};
+use crate::differing::push_line;
+use crate::watched::Watched;
+use base_types::{LineBuffer, NoMemory};
+use event_kinds::{Entry, Event, Item, changes_in, push_item};
+use std::alloc::Global;
+use std::fmt::Write;
+
+// Says what comes after so many entries in the place of one that may not: of a write for another one, where they differ. Where a
+// walk makes another entry before, it is that one.
+pub(crate) fn push_next(
+    alloc: Global,
+    text: &mut String,
+    coming: &Coming,
+    before: usize,
+    e: Option<&Entry>,
+    read: Option<Watched>,
+) -> Result<(), NoMemory> {
+    let Some(next) = coming.entries.first() else {
+        return Ok(());
+    };
+    let after = coming.after(before);
+    if after.is_empty() {
+        write!(text, "; a walk makes entry {} otherwise: ", coming.number)?;
+        return push_line(text, &entry_line(alloc, next)?);
+    }
+    if let Some(e) = e {
+        if is_write(next) && is_write(e) {
+            return push_difference(text, e, next);
+        }
+    }
+    text.push_str("; next comes ")?;
+    push_line(text, &entry_line(alloc, next)?)?;
+    push_scan(alloc, text, after, read)
+}
+
+// The scan that comes after a look, and since when it is due.
+fn push_scan(
+    alloc: Global,
+    text: &mut String,
+    coming: &[Entry],
+    read: Option<Watched>,
+) -> Result<(), NoMemory> {
+    let (Some(scan), Some(read)) = (scan_coming(coming), read) else {
+        return Ok(());
+    };
+    if read.stale == 0 {
+        return Ok(());
+    }
+    if !matches!(coming.first(), Some(first) if matches!(first.event, Event::Scan { .. })) {
+        text.push_str(", and then ")?;
+        push_line(text, &entry_line(alloc, scan)?)?;
+    }
+    write!(
+        text,
+        ", since what entry {} read is stale by entry {}",
+        read.read, read.stale
+    )?;
+    Ok(())
+}
+
+fn is_write(e: &Entry) -> bool {
+    matches!(e.event, Event::Write { .. })
+}
+
+// In what a write differs from the one that comes: its number, or its first other change.
+fn push_difference(text: &mut String, e: &Entry, next: &Entry) -> Result<(), NoMemory> {
+    if let (Event::Write { xid, .. }, Event::Write { xid: own, .. }) = (&next.event, &e.event) {
+        if xid.0 != own.0 {
+            write!(text, "; the transaction's number is {}", xid.0)?;
+            return Ok(());
+        }
+    }
+    push_change(text, changes_in(&e.event), changes_in(&next.event))
+}
+
+// The first change that is another than it should be.
+fn push_change(text: &mut String, found: &[Item], expected: &[Item]) -> Result<(), NoMemory> {
+    let mut number = 1usize;
+    for item in expected {
+        let here = found.get(number.saturating_sub(1));
+        if !is_item(item, here) {
+            write!(text, "; change {number} should be ")?;
+            push_item_text(text, item)?;
+            if let Some(other) = here {
+                text.push_str(" and is ")?;
+                push_item_text(text, other)?;
+            }
+            return Ok(());
+        }
+        number = number.saturating_add(1);
+    }
+    write!(text, "; change {number} is too many")?;
+    Ok(())
+}
+
+fn is_item(item: &Item, other: Option<&Item>) -> bool {
+    match other {
+        Some(other) => {
+            let mut a = LineBuffer::new();
+            push_item(&mut a, item);
+            let mut b = LineBuffer::new();
+            push_item(&mut b, other);
+            a.as_bytes() == b.as_bytes()
+        }
+        None => false,
+    }
+}
+
+fn push_item_text(text: &mut String, item: &Item) -> Result<(), NoMemory> {
+    let mut line = LineBuffer::new();
+    push_item(&mut line, item);
+    for byte in line.as_bytes() {
+        text.push(char::from(*byte))?;
+    }
+    Ok(())
+}

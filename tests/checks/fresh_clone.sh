@@ -1,0 +1,6 @@
+says="a fresh clone"
+needs="git"
+
+check() {
+    fresh_clone
+}

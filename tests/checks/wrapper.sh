@@ -1,0 +1,41 @@
+says="what ./catsync answers by itself in a fresh clone"
+needs="git sha256sum"
+
+# What ./catsync answers by itself, in a fresh clone, where no executable is proved; and that it hands on what the program does that
+# it has built without proof.
+check() {
+    stands_for_rt && "$program" make 1 >"$temp/made_1" && fresh_clone && cd "$temp/clone" && rm -rf crates/catsync/out || return 1
+    local usage
+    usage=$(usage_said)
+    local script=examples/two_backends.script
+    program=./catsync
+    ./catsync --help | grep -q '^Usage: catsync walk < SCRIPT > OUTPUT$' &&
+        ./catsync --help | grep -q '^       catsync run < SCRIPT > OUTPUT$' &&
+        ./catsync --help | grep -q '^       catsync check walk < SCRIPT_AND_OUTPUT$' &&
+        ./catsync --help | grep -q '^       catsync check run < SCRIPT_AND_OUTPUT$' &&
+        ./catsync --help | grep -q '^       catsync make N > SCRIPT$' &&
+        ./catsync --version | grep -q '^catsync .* runs the program built without proof, .*; the first run builds it$' &&
+        ends 1 "$usage" <"$script" &&
+        ends 1 "$usage" check make <"$script" &&
+        ends 1 "$usage" walk walk walk <"$script" &&
+        ends 1 "$usage" "check walk" <"$script" &&
+        ends 1 "$usage" make <"$script" &&
+        ends 1 "$usage" make 1001 <"$script" &&
+        ends 1 "$usage"$'\n'"catsync: walk reads its script from standard input: ./catsync walk < a\\ b" walk "a b" &&
+        PATH=$temp/bin:$PATH ./catsync make 1 2>/dev/null | cmp - "$temp/made_1" &&
+        ./catsync --version | grep -q '^catsync .* runs the program built without proof, .*: crates/catsync/out/unproved-[0-9a-f]*$' &&
+        ends 2 "$running"$'\n'"$(cat examples/bad_line.error)" walk <examples/bad_line.script &&
+        ends 4 "$running"$'\n'"catsync: reading failed" walk </ &&
+        ends 4 "$running"$'\n'"catsync: reading failed" walk <&- &&
+        to=/dev/full ends 5 "$running"$'\n'"catsync: writing failed" walk <"$script" &&
+        is_checked "$script" examples/two_backends.output && is_run "$script"
+}
+
+# As in tests/lib.sh, of ./catsync, which says what it runs.
+accepts() {
+    ends 0 "$running" check "$1" < <(cat "$2" "$3") && grep -qx "checked $(grep -c '^h ' "$3") entries" "$temp/output"
+}
+
+is_run() {
+    ends 0 "$running" run <"$1" && mv "$temp/output" "$temp/ran" && accepts run "$1" "$temp/ran"
+}

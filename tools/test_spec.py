@@ -1,0 +1,279 @@
+#!/usr/bin/env python3
+"""Tests of tools/spec: python3 tools/test_spec.py
+
+Where isolationtester is installed (Debian's postgresql-NN, below lib/pgxs) the specs of examples/specs are run by it too;
+testing.py says which program is run.
+"""
+import glob
+import os
+import re
+import subprocess
+import tempfile
+import unittest
+
+from testing import HAS_PROGRAM, NO_PROGRAM, PROGRAM, TOP, call, content_of
+
+from catsync_tools.faults import Fault
+from catsync_tools.isolation import Blocker, all_permutations, read_spec
+from catsync_tools.postgres import Server, folder_of_programs
+from catsync_tools.statements import Rows, Sayer, statements_in
+from catsync_tools.wording import message_of, warning_of
+
+SPECS = sorted(glob.glob(os.path.join(TOP, "examples", "specs", "*.spec")))
+TESTERS = sorted(glob.glob("/usr/lib/postgresql/*/lib/pgxs/src/test/isolation/isolationtester"))
+TWO = ("session s1 step a { BEGIN; } step b { COMMIT; }\n"
+       "session \"s \"\"2\" setup { SELECT 1; } step \"c d\" {\n\tSELECT 1;\n } teardown { SELECT 2; }\n")
+
+
+def said(sql, *before):
+    """The statements of SQL, after the SQL of a set-up."""
+    sayer = Sayer()
+    for each in before:
+        sayer.note(each)
+        sayer.step(each)
+    return sayer.step(sql)
+
+
+def reported(data):
+    """A report without what it says of itself."""
+    return b"".join(line + b"\n" for line in data.split(b"\n")[:-1] if not line.startswith(b"# "))
+
+
+class Format(unittest.TestCase):
+    """isolationtester's files."""
+
+    def test_parts(self):
+        """A file's parts, with comments, names in quotes, and SQL as it is printed."""
+        spec = read_spec("# a comment\nsetup { CREATE TABLE t (a int); }\nsetup { SELECT 1; }\nteardown {}\n" + TWO
+                         + "permutation a \"c d\"(*) b(\"c d\", a notices 2) # another\npermutation b")
+        self.assertEqual((spec.setup, spec.teardown), (["CREATE TABLE t (a int);", "SELECT 1;"], [""]))
+        self.assertEqual([session.name for session in spec.sessions], ["s1", 's "2'])
+        self.assertEqual(spec.steps["c d"].sql, "\n\tSELECT 1;\n")
+        self.assertEqual((spec.sessions[1].setup, spec.sessions[1].teardown), (["SELECT 1;"], ["SELECT 2;"]))
+        self.assertEqual([(placed.step.name, placed.blockers) for placed in spec.permutations[0]], [
+            ("a", ()), ("c d", (Blocker("*"),)), ("b", (Blocker("c d"), Blocker("a", 2)))])
+
+    def test_all_permutations(self):
+        """Where none is listed all are meant that keep each session's order, in isolationtester's order."""
+        names = [" ".join(placed.step.name for placed in each) for each in all_permutations(read_spec(TWO))]
+        self.assertEqual(names, ["a b c d", "a c d b", "c d a b"])
+
+    def test_faults(self):
+        """What goes wrong is named with its line."""
+        for text, expected in (
+                ("setup { x }", "line 1: a session is due here, and the file ends"),
+                ("session s\nsession t", "line 2: a step of session 's' is due here, not 'session'"),
+                ("session s step a {", "line 1: a '{' without its '}'"),
+                ("session s\nstep a {}\nstep a {}", "line 3: the step 'a' is there twice"),
+                (TWO + "permutation a x", "line 5: there is no step 'x'"),
+                (TWO + "permutation a(b)", "line 5: the step 'b', which 'a' waits for, isn't in its permutation"),
+                (TWO + "step x {}", "line 5: a session or a permutation is due here, not 'step'"),
+                (TWO + "permutation a;", "line 5: no part of a spec begins with ';'"),
+                ('session "s\nstep', 'line 1: a name in quotes that doesn\'t end in its line')):
+            with self.subTest(text):
+                with self.assertRaises(Fault) as raised:
+                    read_spec(text)
+                self.assertEqual(str(raised.exception), expected)
+
+
+class Statements(unittest.TestCase):
+    """SQL as commands."""
+
+    def test_tokens(self):
+        """Comments, quotes, capitals and the schema."""
+        self.assertEqual(statements_in('SELECT a -- no\nFROM public."t" /* no\n */; BEGIN ;; INSERT INTO "T" VALUES (\';\', $$;$$)'), [
+            ["select", "a", "from", "t"], ["begin"], ["insert", "into", '"T"', "values", "(", "';'", ",", "$$;$$", ")"]])
+
+    def test_commands(self):
+        """What says a statement."""
+        made = "CREATE TABLE t (a int PRIMARY KEY, b text); CREATE TABLE u (c int)"
+        for sql, commands in (
+                ("BEGIN ISOLATION LEVEL REPEATABLE READ", ["begin"]), ("START TRANSACTION", ["begin"]), ("END", ["commit"]),
+                ("ABORT WORK", ["rollback"]), ("SAVEPOINT s", ["savepoint s"]), ("RELEASE s", ["release s"]),
+                ("ROLLBACK TO SAVEPOINT s", ["rollback to s"]), ("ROLLBACK TO s", ["rollback to s"]),
+                ("SELECT * FROM t", ["show t"]), ("SELECT 1 FROM ONLY t AS x, u WHERE 1 IN (SELECT a FROM t)", ["show t", "show u"]),
+                ("SELECT a FROM t JOIN u ON a = c", ["show t", "show u"]), ("SELECT count(*) FROM generate_series(1, 2)", []),
+                ("SELECT * FROM nowhere", ["show nowhere"]), ("WITH w AS (SELECT 1) SELECT * FROM w, pg_class", []),
+                ("SELECT extract(epoch FROM b) FROM t WHERE a IS DISTINCT FROM b", ["show t"]),
+                ("SELECT * FROM t FOR NO KEY UPDATE", ["lock table t in row share mode"]), ("TABLE t", ["show t"]),
+                ("INSERT INTO t (a) SELECT c FROM u", ["lock table t in row exclusive mode", "show u"]),
+                ("UPDATE ONLY t SET a = 1", ["lock table t in row exclusive mode"]),
+                ("DELETE FROM t USING u", ["lock table t in row exclusive mode", "show u"]),
+                ("LOCK t", ["lock table t in access exclusive mode"]),
+                ("LOCK TABLE ONLY t, u IN SHARE MODE NOWAIT", ["lock table t in share mode", "lock table u in share mode"]),
+                ("TRUNCATE t, u CASCADE", ["lock table t in access exclusive mode", "lock table u in access exclusive mode"]),
+                ("VACUUM t", ["lock table t in share update exclusive mode"]), ("VACUUM FULL t", ["lock table t in access exclusive mode"]),
+                ("VACUUM (FULL, ANALYZE) t", ["lock table t in access exclusive mode"]), ("CLUSTER t USING i", ["lock table t in access exclusive mode"]),
+                ("ANALYZE t", ["lock table t in share update exclusive mode"]), ("REINDEX TABLE t", ["lock table t in share mode"]),
+                ("DECLARE c CURSOR FOR SELECT * FROM t", ["open t"]), ("SET enable_seqscan = off", []),
+                ("CREATE TABLE v (a varchar(3) NOT NULL, b bigint DEFAULT 7 UNIQUE, c int REFERENCES t, CHECK (c > 0))", [
+                    "create table v (a text, b int8, c int4)", "alter table v alter column b set default 7",
+                    "create index v_b_key on v (b)", "alter table v add constraint v_c_fkey foreign key (c) references t (a)",
+                    "alter table v add constraint v_check check (c>0)"]),
+                ("CREATE UNIQUE INDEX ON t USING btree (a DESC, b) WHERE a > 0", ["create index t_a_b_idx on t (a, b)"]),
+                ("CREATE TRIGGER g BEFORE INSERT ON t FOR EACH ROW EXECUTE FUNCTION f()", ["create trigger g on t"]),
+                ("ALTER TABLE t ADD c int", ["alter table t add column c int4"]), ("ALTER TABLE t DROP b CASCADE", ["alter table t drop column b"]),
+                ("ALTER TABLE t ALTER b SET STATISTICS -1", ["alter table t alter column b set statistics -1"]),
+                ("ALTER TABLE t SET (fillfactor=70)", ["alter table t set (fillfactor = 70)"]),
+                ("ALTER TABLE t ALTER a TYPE bigint", ["lock table t in access exclusive mode"]),
+                ("ALTER TABLE t ADD c int, DROP b", ["lock table t in access exclusive mode", "alter table t add column c int4",
+                                                     "alter table t drop column b"]),
+                ("ALTER TABLE t DROP CONSTRAINT t_pkey", ["drop index t_pkey"]), ("ALTER TABLE t RENAME TO v", ["alter table t rename to v"]),
+                ("DROP TABLE t, u", ["drop table t", "drop table u"]), ("DROP TABLE IF EXISTS t", ["drop table t"]),
+                ("DROP TABLE IF EXISTS v", []), ("ALTER INDEX t_pkey RENAME TO i", ["alter index t_pkey rename to i"])):
+            with self.subTest(sql):
+                found = said(sql, made)[-1]
+                self.assertEqual((list(found.commands), found.reason), (commands, None))
+
+    def test_results(self):
+        """Which results can be said, of a table without rows."""
+        for sql, rows in (("SELECT * FROM t", Rows("t", ("*",))), ("SELECT b, a FROM t WHERE a = 1", Rows("t", ("b", "a"))),
+                          ("SELECT count(*) FROM t", Rows("t", ("count(*)",))), ("SELECT a + 1 FROM t", None),
+                          ("SELECT a FROM t GROUP BY a", None), ("SELECT 1", None)):
+            with self.subTest(sql):
+                found = said(sql, "CREATE TABLE t (a int, b int)")[-1]
+                self.assertEqual((found.rows, found.shows), (rows, True))
+        self.assertEqual(said("SET deadlock_timeout = '10ms'")[-1].timeout, 0.01)
+
+    def test_reasons(self):
+        """What can't be said has a reason."""
+        made = "CREATE TABLE t (a int); CREATE VIEW v AS SELECT 1; CREATE FUNCTION f() RETURNS int AS 'select 1'"
+        for sql, reason in (
+                ("CREATE INDEX CONCURRENTLY i ON t (a)", "a concurrent build"), ("SELECT pg_advisory_lock(1)", "an advisory lock"),
+                ("PREPARE TRANSACTION 'x'", "a prepared transaction"), ("EXECUTE p", "a prepared statement"), ("SELECT * FROM v", "a view"),
+                ("SELECT f()", "a function"), ("SET lock_timeout = 5", "a time-out"), ("CREATE TEMP TABLE x (a int)", "a temporary table"),
+                ("CREATE TABLE x (a int) PARTITION BY LIST (a)", "a partition"), ("CREATE TABLE x AS SELECT 1", "a table that is made of a query"),
+                ("CREATE INDEX ON t (lower(a))", "an index of an expression")):
+            with self.subTest(sql):
+                self.assertEqual(said(sql, made)[-1].reason, reason + " isn't modelled here")
+        self.assertEqual(said("INSERT INTO nowhere VALUES (1)")[-1].reason, "no table 'nowhere' is made here")
+
+    def test_messages(self):
+        """The server's words for errors and warnings."""
+        for answer, command, message in (
+                ("error 42P01 relation t does not exist", "show t", 'relation "t" does not exist'),
+                ("error 42P01 relation t does not exist", "drop table t", 'table "t" does not exist'),
+                ("error 42703 column b does not exist", "alter table t drop column b", 'column "b" of relation "t" does not exist'),
+                ("error 55P03 relation 16384 is locked by backend 1 in ax", "lock table t in share mode", 'could not obtain lock on relation "t"'),
+                ("error 55P03 name v is in use by transaction 2", "create table v ()", 'relation "v" already exists'),
+                ("error 25P02 the transaction block has failed", "show t",
+                 "current transaction is aborted, commands ignored until end of transaction block")):
+            with self.subTest(answer):
+                self.assertEqual(message_of(answer, command, False, False), message)
+        self.assertEqual(message_of("error 42P07 relation v already exists", "create table v ()", True, False),
+                         'duplicate key value violates unique constraint "pg_type_typname_nsp_index"')
+        self.assertEqual(message_of("error 55P03 x", "show t", False, True), "deadlock detected")
+        self.assertEqual([warning_of(*each) for each in (("begin", True), ("begin", False), ("commit", False))],
+                         ["there is already a transaction in progress", None, "there is no transaction in progress"])
+
+
+@unittest.skipUnless(HAS_PROGRAM, NO_PROGRAM)
+class Reports(unittest.TestCase):
+    """Reports, and what lies between permutations."""
+
+    def run_spec(self, text, *words, expected=None):
+        """What is printed for a spec, and the exit status."""
+        with tempfile.TemporaryDirectory() as folder:
+            paths = [os.path.join(folder, name) for name in ("x.spec", "x.out")]
+            for path, content in zip(paths, (text, expected)):
+                if content is not None:
+                    with open(path, "w", encoding="ascii") as file:
+                        file.write(content)
+            status, shown, told = call("spec", "--program", PROGRAM, *words, *paths[:1 + (expected is not None)])
+        self.assertEqual(told, "")
+        return status, shown.decode()
+
+    def test_examples(self):
+        """The report is isolationtester's own, byte for byte, but for what it says of itself at its end."""
+        self.assertEqual(len(SPECS), 5)
+        for path in SPECS:
+            with self.subTest(path):
+                status, shown, told = call("spec", "--program", PROGRAM, path)
+                self.assertEqual((status, told), (0, ""))
+                self.assertEqual(reported(shown), content_of(path[:-5] + ".out"))
+
+    def test_expected(self):
+        """Beside an expected report what differs is told, and what isn't compared."""
+        text = ("setup { CREATE TABLE t (a int4); }\nsession s1 setup { BEGIN; } step s1a { ALTER TABLE t ADD b int4; } step s1c { COMMIT; }\n"
+                "session s2 step s2r { SELECT a FROM t; } step s2x { SELECT pg_advisory_lock(1); } step s2s { SELECT a + 1 FROM t; }\n"
+                "permutation s1a s2r s1c s2x s2s\npermutation s1a s1c s2r\n")
+        first = ("step s1a: ALTER TABLE t ADD b int4;\nstep s2r: SELECT a FROM t; <waiting ...>\nstep s1c: COMMIT;\n"
+                 "step s2r: <... completed>\na\n-\n(0 rows)\n\nstep s2x: SELECT pg_advisory_lock(1);\npg_advisory_lock\n----\n    \n(1 row)\n\n"
+                 "step s2s: SELECT a + 1 FROM t;\n?column?\n--------\n(0 rows)\n\n")
+        second = "step s1a: ALTER TABLE t ADD b int4;\nstep s1c: COMMIT;\nstep s2r: SELECT a FROM t;\na\n-\n(0 rows)\n\n"
+        expected = ("Parsed test spec with 2 sessions\n\nstarting permutation: s1a s2r s1c s2x s2s\n" + first +
+                    "\nstarting permutation: s1a s1c s2r\n" + second)
+        notes = ("# left out: step s2x: select pg_advisory_lock ( 1 ): an advisory lock isn't modelled here\n"
+                 "# not compared: results of s2s\n")
+        self.assertEqual(self.run_spec(text, expected=expected), (0, "2 permutations: 2 as expected\n" + notes))
+        status, shown = self.run_spec(text, expected=expected.replace("<waiting ...>", "", 1).replace("step s1c", "NOTICE\nstep s1c", 1))
+        self.assertEqual(status, 1)
+        self.assertTrue(shown.startswith("2 permutations: 1 as expected, 1 differs\n\nstarting permutation: s1a s2r s1c s2x s2s\n"), shown)
+        self.assertIn("\n+ step s2r: SELECT a FROM t; <waiting ...>\n", shown)
+        status, shown = self.run_spec(text, expected=expected[:expected.rindex("\nstarting")])
+        self.assertEqual(status, 1)
+        self.assertIn("2 permutations: 1 as expected, 1 differs, of 1 expected\n", shown)
+
+    def test_waits(self):
+        """Conditions of steps, warnings, a step that can't be begun, and errors inside steps of several statements."""
+        text = ("setup { CREATE TABLE t (a int4); }\nsession s1 step s1b { BEGIN; BEGIN; } step s1x { LOCK t; ALTER TABLE t DROP z; COMMIT; }\n"
+                "step s1c { COMMIT; } session s2 step s2r { SELECT a FROM t; } step s2n { SELECT a FROM t; }\n")
+        self.assertEqual(self.run_spec(text + "permutation s2r(*) s1b s1x s1c s2n\n"), (0, (
+            "Parsed test spec with 2 sessions\n\nstarting permutation: s2r s1b s1x s1c s2n\n"
+            "step s2r: SELECT a FROM t; <waiting ...>\ns1: WARNING:  there is already a transaction in progress\nstep s1b: BEGIN; BEGIN;\n"
+            "step s2r: <... completed>\na\n-\n(0 rows)\n\nstep s1x: LOCK t; ALTER TABLE t DROP z; COMMIT;\n"
+            'ERROR:  column "z" of relation "t" does not exist\nstep s1c: COMMIT;\n'
+            "step s2n: SELECT a FROM t;\na\n-\n(0 rows)\n\n")))
+        blocked = text.replace("ALTER TABLE t DROP z; COMMIT;", "") + "permutation s1b s1x s2r s2n s1c\n"
+        status, shown = self.run_spec(blocked)
+        self.assertEqual((status, shown.split("\n")[-2]), (1, "# it ends here: step s2r waits for ever"))
+
+    def test_inside(self):
+        """Half of a commit is between the permutations, and no wait is told for an order of the steps."""
+        path = os.path.join(TOP, "examples", "specs", "settings_of_one_commit.spec")
+        status, shown, told = call("spec", "--program", PROGRAM, "--explore", path)
+        self.assertEqual((status, told), (0, ""))
+        text = shown.decode()
+        self.assertRegex(text, r"^all [0-9]+ orders of the steps inside s1both \| s2r: 3 sets of answers with no lock refused, 1 that no "
+                               "permutation of whole statements has\n")
+        self.assertEqual(re.findall(r"s2r: .*statistics (\S+)[^;]*; fillfactor (\S+)", text), [("1:7", "-")])
+        script, rest = text[text.index("backends"):].split("\nend\n")
+        steps = re.search("steps .*", rest).group()
+        status, again, told = call("schedule", "--program", PROGRAM, given=(script + "\n" + steps + "\nend\n").encode())
+        self.assertEqual((status, told), (0, ""))
+        done = subprocess.run([PROGRAM, "walk"], input=again, stdout=subprocess.PIPE, check=True)
+        self.assertIn(b" statistics 1:7 as of ", done.stdout)
+        text = ("setup { CREATE TABLE t (a int4); }\nsession s1 step s1a { ALTER TABLE t DROP a; }\nsession s2 step s2r { SELECT * FROM t; }\n")
+        status, shown = self.run_spec(text, "--explore")
+        self.assertEqual(status, 0)
+        self.assertRegex(shown, r"2 sets of answers with no lock refused, none that no permutation of whole statements has\n")
+
+    def test_faults(self):
+        """A fault is one line on standard error."""
+        for words, expected in (([SPECS[0], "--most", "3"], "spec: --most is for --explore; spec --help says more\n"),
+                                (["/no/such"], "spec: /no/such: reading failed: No such file or directory\n"),
+                                ([SPECS[0], SPECS[0], "--explore"], "spec: --explore doesn't go with OUT; spec --help says more\n"),
+                                ([__file__], "spec: %s: line 1: a session is due here, not 'Tests'\n" % __file__)):
+            with self.subTest(words):
+                status, shown, told = call("spec", "--program", PROGRAM, *words)
+                self.assertEqual((status, shown), (2, b""))
+                self.assertTrue(told == expected or words == [__file__] and told.count("\n") == 1, told)
+
+
+@unittest.skipUnless(TESTERS and folder_of_programs(), "no isolationtester with its server")
+class Beside(unittest.TestCase):
+    """The specs by isolationtester itself."""
+
+    def test_examples(self):
+        """What is expected of them is what it prints."""
+        with Server() as server:
+            for path in SPECS:
+                with self.subTest(path), open(path, "rb") as file:
+                    database = server.new_database()
+                    done = subprocess.run([TESTERS[-1], "host=%s user=postgres dbname=%s" % (server.folder, database)], stdin=file,
+                                          stdout=subprocess.PIPE, env=dict(os.environ, PGOPTIONS="-c lock_timeout=0"), timeout=300)
+                    self.assertEqual((done.returncode, done.stdout), (0, content_of(path[:-5] + ".out")))
+
+
+if __name__ == "__main__":
+    unittest.main()
