@@ -105,8 +105,8 @@ fn what_was_read_is_found_until_a_message_takes_it_out(rt: HostRuntime) {
     assert!(rt; in_use(rt.alloc(), name(b"an")) == (true, 4));
 }
 
-// How many buckets a cache has in which so many oids have no row, and in how many of them so many hashes stand together.
-fn buckets(alloc: Global, oids: u32) -> Result<(u32, usize), NoMemory> {
+// A cache in which so many oids have no row.
+fn absent_oids(alloc: Global, oids: u32) -> Result<CatCache, NoMemory> {
     let mut cache = CatCache::new(alloc, CacheId::RelOid)?;
     for i in 0..oids {
         let key = Key::new(&[KeyPart::Oid(Oid(16384u32.wrapping_add(i)))]);
@@ -114,11 +114,52 @@ fn buckets(alloc: Global, oids: u32) -> Result<(u32, usize), NoMemory> {
             cache.put_absent(&key, 1)?;
         }
     }
-    let mut hashes = 0usize;
-    for bucket in 0..cache.buckets() {
-        hashes = hashes.saturating_add(cache.chain(bucket).len());
+    Ok(cache)
+}
+
+// A cache in which so many names have no row: `t00000`, `t00001` and so on.
+fn absent_names(alloc: Global, names: u32) -> Result<CatCache, NoMemory> {
+    let mut cache = CatCache::new(alloc, CacheId::RelName)?;
+    for i in 0..names {
+        let key = Key::new(&[KeyPart::Name(numbered(i))]);
+        if let Found::Unknown = cache.peek(key.as_slice()) {
+            cache.put_absent(&key, 1)?;
+        }
     }
-    Ok((cache.buckets(), hashes))
+    Ok(cache)
+}
+
+fn numbered(i: u32) -> Name {
+    name(&[
+        b't',
+        digit(i / 10000),
+        digit(i / 1000),
+        digit(i / 100),
+        digit(i / 10),
+        digit(i),
+    ])
+}
+
+fn digit(n: u32) -> u8 {
+    b'0' + (n % 10) as u8
+}
+
+// How many hashes stand in a cache's chains together, and in the longest.
+fn chained(cache: &CatCache) -> (usize, usize) {
+    let mut hashes = 0usize;
+    let mut longest = 0usize;
+    for bucket in 0..cache.buckets() {
+        let chain = cache.chain(bucket).len();
+        hashes = hashes.saturating_add(chain);
+        longest = longest.max(chain);
+    }
+    (hashes, longest)
+}
+
+// How many buckets a cache has in which so many oids have no row, and in how many of them so many hashes stand together.
+fn buckets(alloc: Global, oids: u32) -> Result<(u32, usize), NoMemory> {
+    let cache = absent_oids(alloc, oids)?;
+    Ok((cache.buckets(), chained(&cache).0))
 }
 
 #[test]
@@ -149,4 +190,22 @@ fn chains_after(alloc: Global, hash: u32) -> Result<(usize, usize), NoMemory> {
 #[test]
 fn two_names_of_one_hash_stand_in_one_chain_and_go_together(rt: HostRuntime) {
     assert!(rt; matches!(chains_after(rt.alloc(), 4078), Ok((2, 0))));
+}
+
+// A number of entries, and how many hashes a lookup passes over at most, among oids and among names: worked out apart from the
+// program, by the hash alone.
+const LONGEST: &[(u32, usize, usize)] = &[(10, 2, 2), (1000, 4, 5), (20000, 9, 7)];
+
+// The longest chain, of so many oids and of so many names.
+fn longest(alloc: Global, entries: u32) -> Result<(usize, usize), NoMemory> {
+    let oids = chained(&absent_oids(alloc, entries)?);
+    let names = chained(&absent_names(alloc, entries)?);
+    Ok((oids.1, names.1))
+}
+
+#[test]
+fn a_lookup_passes_over_few_hashes_however_many_entries_there_are(rt: HostRuntime) {
+    for (entries, oids, names) in LONGEST {
+        assert!(rt; matches!(longest(rt.alloc(), *entries), Ok(found) if found == (*oids, *names)));
+    }
 }

@@ -10,7 +10,7 @@
 //! nothing, or the rows that the scan gave and the entry of the history at which it was made (`Kept` in
 //! `specs/Kept.antt`). Messages take out exactly the scans that they cover, a reset all. The texts of a
 //! relation's fields are worked out where a scan of its descriptor is put, so `value` only shows them. Only
-//! `put` and `pin` take memory.
+//! `new`, `put` and `pin` take memory.
 //!
 //! ```text
 //! if caches.at(&scan).is_none() {
@@ -22,7 +22,9 @@
 //! ```
 //!
 //! A lookup goes by the hash of its key or by its relation, and a message to what it takes out: neither
-//! passes over anything else, but for the lists of columns, all of which a message for a column takes out.
+//! passes over anything else, but for the lists of columns, all of which a message for a column takes out. For
+//! these it passes over their buckets, of which there stay as many as the most lists at one time had asked for,
+//! and over none where no list is there.
 //!
 //! Different from the server: a descriptor is kept scan by scan as it is built, and serves as soon as the
 //! scan is there that is asked for; one that is pinned and to be built anew keeps its place, and its rows,
