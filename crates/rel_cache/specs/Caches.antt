@@ -3,7 +3,7 @@ use Rattle.std.specs.Prelude.{◌≡◌, ◌≢◌, ◌&&◌, ℕ, ◌<◌, ◌�
 use Rattle.std.specs.Option.{option_map, option_and_then, option_map_or}
 use Rattle.indexmap.specs.IndexMap.{get, keys, index_map_len}
 use Rattle.base_types.specs.declared.ids.Oid.{Oid}
-use Rattle.pin_pool.specs.Pools.{entry_of, HasGone}
+use Rattle.pin_pool.specs.Pools.{entry_of, HasGone, KeepsGone}
 use Rattle.pin_pool.specs.declared.pool.Pool.{Pool}
 use Rattle.pin_pool.specs.declared.reference.Ref.{Ref}
 use Rattle.rel_cache.specs.Descriptors.{Held, told}
@@ -27,6 +27,10 @@ module _ {D : Type 0} where
   -- the reference was given by the cache, and its descriptor has gone
   abbrev pub HasGoneFrom : RelCache D → Ref → Type 0
   HasGoneFrom cache r = HasGone cache.descriptors r
+
+  -- what has gone stays gone, and so does what isn't held any more: its reference is never given again
+  abbrev pub StaysGone : RelCache D → RelCache D → Type 0
+  StaysGone old new = KeepsGone old.descriptors new.descriptors
 
   -- this is held of the relation now, and of every other what was
   pub record ChangesHeld (old new : RelCache D) (rel : Oid) (held : Option (Held D)) : Type 0 where

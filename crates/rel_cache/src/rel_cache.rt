@@ -34,11 +34,12 @@ impl<D: Drop> Drop for RelCache<D> {
 #[tactic(auto, unfolding(crate::specs::Caches::held_of))]
 impl<D: Drop> RelCache<D> {
     ghost use Rattle.rel_cache.specs.Descriptors.{Held, valid_value, opened, need, new_held, opened_once, closed_once, renewed, told};
-    ghost use Rattle.rel_cache.specs.Caches.{held_of, HeldUnder, HasGoneFrom, ChangesHeld, awaits, AreTold, relation_at};
+    ghost use Rattle.rel_cache.specs.Caches.{held_of, HeldUnder, HasGoneFrom, StaysGone, ChangesHeld, awaits, AreTold, relation_at};
 
     /// No descriptors, which takes no memory.
     pub fn new(alloc: Global) -> RelCache<D>
-        ensures { (rel : _) → held_of result rel ≡ None }
+        ensures none { (rel : _) → held_of result rel ≡ None }
+        ensures gone { (r : _) → HasGoneFrom result r → ⊥ }
     {
         RelCache {
             descriptors: Pool::new(alloc),
@@ -54,6 +55,7 @@ impl<D: Drop> RelCache<D> {
         requires { ForSome (held_of self.old rel) (λ h. h.pins < 4294967295) }
         ensures result { result ≡ opened (held_of self.old rel) }
         ensures held { ChangesHeld self.old self.new rel (option_map opened_once (held_of self.old rel)) }
+        ensures gone { StaysGone self.old self.new }
     {
         let Some(place) = self.index.get(&rel.0) else {
             return Opened::Unknown;
@@ -92,7 +94,8 @@ impl<D: Drop> RelCache<D> {
     /// held under the reference, and has a pin.
     pub fn close(&mut self, r: Ref)
         requires { (rel : _) × HeldUnder self.old rel r × IsSomeAnd (held_of self.old rel) (λ h. 0 < h.pins) }
-        ensures { (rel : _) → HeldUnder self.old rel r → ChangesHeld self.old self.new rel (option_map closed_once (held_of self.old rel)) }
+        ensures held { (rel : _) → HeldUnder self.old rel r → ChangesHeld self.old self.new rel (option_map closed_once (held_of self.old rel)) }
+        ensures gone { StaysGone self.old self.new }
     {
         let _ = self.descriptors.unpin(&r);
     }
@@ -125,6 +128,7 @@ impl<D: Drop> RelCache<D> {
     pub fn note_message(&mut self, rel: Oid) -> Need
         ensures result { result ≡ need (held_of self.old rel) }
         ensures held { ChangesHeld self.old self.new rel (option_and_then told (held_of self.old rel)) }
+        ensures gone { StaysGone self.old self.new }
     {
         let Some(place) = self.index.get_index_of(&rel.0) else {
             return Need::Nothing;
@@ -135,7 +139,8 @@ impl<D: Drop> RelCache<D> {
     /// A reset, after which nobody knows what has changed (`RelationCacheInvalidate` in
     /// `src/backend/utils/cache/relcache.c`): every descriptor without pins goes, and every other is marked.
     pub fn note_reset(&mut self)
-        ensures { (rel : _) → held_of self.new rel ≡ option_and_then told (held_of self.old rel) }
+        ensures held { (rel : _) → held_of self.new rel ≡ option_and_then told (held_of self.old rel) }
+        ensures gone { StaysGone self.old self.new }
     {
         let mut place = self.index.len();
         while place > 0 {
@@ -152,6 +157,7 @@ impl<D: Drop> RelCache<D> {
         ensures held { ChangesHeld self.old self.new (relation_at self.old place) (option_and_then told (held_of self.old (relation_at self.old place))) }
         ensures told { AreTold self.old (place + 1) → AreTold self.new place }
         ensures within { place ≤ index_map_len self.new.index }
+        ensures gone { StaysGone self.old self.new }
     {
         let Some((rel, kept)) = self.index.get_index(place) else {
             unreachable!()
@@ -214,6 +220,7 @@ impl<D: Drop> RelCache<D> {
         requires { (rel : _) × HeldUnder self.old rel r.now }
         ensures value { (rel : _) → HeldUnder self.old rel r.now → option_map (λ h. h.value) (held_of self.old rel) ≡ Some result }
         ensures held { (rel : _) → HeldUnder self.old rel r.now → ChangesHeld self.old self.new rel (option_map (renewed value) (held_of self.old rel)) }
+        ensures gone { StaysGone self.old self.new }
     {
         let rel = self.descriptors.get(r).rel;
         set_valid(&mut self.index, rel.0, true);
@@ -231,6 +238,7 @@ impl<D: Drop> RelCache<D> {
         ensures held { IfOk result (λ r. ChangesHeld self.old self.new rel (Some (new_held r value))) }
         ensures back { IfErr result (λ back. back.value ≡ value) }
         ensures same { OnErr result ((other : _) → held_of self.new other ≡ held_of self.old other) }
+        ensures gone { StaysGone self.old self.new }
     {
         let Ok(()) = self.index.reserve(1) else {
             return Err(Back { value });

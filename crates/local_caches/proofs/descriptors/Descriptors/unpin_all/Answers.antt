@@ -13,7 +13,7 @@ invariant_of-self c =
     let old = c.loop-rel.self in
     record {
       pins = closed_pins old.relations c.close.new.self c.in-Some.rel old.pinned.items c.pop.new.self.items old.pins (c.pop.ensures.items ∙ ap (λ o. c.pop.new.self.items ++ option_to_list o) c.in-Some.is)
-          (c.close.ensures c.in-Some.rel (sym c.reference.ensures ∙ c.in-Some-reference.is));
+          (c.close.ensures.held c.in-Some.rel (sym c.reference.ensures ∙ c.in-Some-reference.is));
     }
 
 pub invariant_of-self-in_default-reference : goal.invariant_of-self-in_default-reference

@@ -13,9 +13,9 @@ invariant_of-self g c =
     let l = closing cache.descriptors c.unpin.new.self cache.index cache.index c.requires.0.0 c.args.r cache.indexed cache.placed s c.unpin.ensures.entry refl in
     record { indexed = l.indexed; placed = l.placed }
 
-pub returns : goal.returns
+pub returns-clause-held : goal.returns-clause-held
 unfolding held_of
-returns g c = λ rel under.
+returns-clause-held g c = λ rel under.
     let cache = c.args.self.now in
     let s = stands cache.descriptors cache.index rel.0 c.args.r cache.indexed under in
     changes cache _ rel _ (closing cache.descriptors c.unpin.new.self cache.index cache.index rel.0 c.args.r cache.indexed cache.placed s c.unpin.ensures.entry refl)

@@ -3,7 +3,7 @@ use Rattle.std.specs.Option.{option_and_then}
 use Rattle.indexmap.specs.IndexMap.{index_map_len}
 use Rattle.base_types.specs.declared.ids.Oid.{Oid}
 use Rattle.rel_cache.specs.Descriptors.{told}
-use Rattle.rel_cache.specs.Caches.{held_of, AreTold}
+use Rattle.rel_cache.specs.Caches.{held_of, StaysGone, AreTold}
 use Rattle.rel_cache.proofs.rel_cache.RelCache.note_reset.Given as goal
 
 -- from the place on all are told, and those before it are as they were
@@ -12,6 +12,7 @@ invariant-loop-place g l = record {
   within : l.place ≤ index_map_len l.self.index;
   settled : AreTold l.self l.place;
   alike : (r : Oid) → option_and_then told (held_of l.self r) ≡ option_and_then told (held_of l.fn.self r);
+  gone : StaysGone l.fn.self l.self;
 }
 
 abbrev pub decreases-loop-place : goal.decreases-loop-place
