@@ -1,9 +1,10 @@
 #!/usr/bin/env bash
 # Measures a backend's caches with 10, 1,000 and 20,000 names: a lookup of one that is absent, a lookup of one that has a row, a
 # message that takes one out with the put that brings it back, and a message that takes out nothing. The time that the names take to
-# be put there first is taken away. It decides nothing.
+# be put there first is taken away. Processor time, least of three. It decides nothing.
 # usage: bench/caches.sh [COUNT [PROGRAM]]; 20000000 if left out. PROGRAM is a layer_runs of the same words over other crates,
-# which is measured beside
+# which is measured beside in the same run. For the caches that kept an index of lists, as at 123e999d, it is made in a clone of that
+# commit that has this crates/layer_runs/src, where caches.rt calls LocalCaches::new without `.ok()?`
 set -u
 
 cd "$(dirname "${BASH_SOURCE[0]}")/.." || exit 1
@@ -12,13 +13,11 @@ need_program layer_runs
 count=${1:-20000000}
 beside=${2-}
 
-# The seconds that a program takes for so many of a word, with so many names.
+# The processor seconds that a program takes for so many of a word, with so many names.
 seconds() {
-    local begun ended
-    begun=$(now)
-    "$1" caches "$2" "$3" "$4" || exit 1
-    ended=$(now)
-    awk -v begun="$begun" -v ended="$ended" 'BEGIN { printf "%.6f", ended - begun }'
+    local times TIMEFORMAT='%U %S'
+    times=$({ time "$1" caches "$2" "$3" "$4" >/dev/null 2>&1; } 2>&1) || exit 1
+    awk '{ printf "%.6f", $1 + $2 }' <<<"$times"
 }
 
 # Nanoseconds for one of a word, least of three.
