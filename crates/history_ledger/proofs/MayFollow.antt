@@ -5,18 +5,18 @@ use Rattle.std.specs.List.{flat_map, filter_map, list_any, list_all}
 use Rattle.std.specs.Option.{option_map_or}
 use Rattle.std.proofs.lemmas.Bool.{and_parts, and_from, eqb-true}
 use Rattle.std.proofs.lemmas.List.{take_all}
-use Rattle.base_types.specs.RowKeys.{key_of, are_distinct_keys}
+use Rattle.base_types.specs.RowKeys.{are_distinct_keys}
 use Rattle.base_types.specs.Scans.{same_oid}
 use Rattle.base_types.specs.declared.memory.NoMemory.{NoMemory}
-use Rattle.catalog_rows.specs.Store.{Store, row_of_key, rows_of_scan, clash_of}
+use Rattle.catalog_rows.specs.Store.{clash_of}
 use Rattle.lock_modes.specs.Grants.{holds}
 use Rattle.history_model.specs.Segment.{Standing, Segment, xid_at}
-use Rattle.history_model.specs.Rows.{added_row, row_at, old_at as seg_old, answer_at}
+use Rattle.history_model.specs.Rows.{added_row, old_at as seg_old}
 use Rattle.history_model.specs.Oids.{drawn_by, made_by}
 use Rattle.history_model.specs.InUse.{new_name, is_row_of, users_at}
 use Rattle.history_model.specs.Coverage.{covers_at}
 use Rattle.history_model.specs.Changing.{is_empty, changed_key, free_at, guarded_at, is_there, leaves_kind, relations_changed, is_validation, modes_enough, may_change as may_change_in, are_from, is_last_write, may_write}
-use Rattle.history_model.specs.Allows.{follows_own, fetches_from, allows_event, allows}
+use Rattle.history_model.specs.Allows.{follows_own, fetches_from, allows_event}
 use Rattle.history_model.specs.After.{segment_of}
 use Rattle.history_model.specs.Lapped.{FetchesFrom, FollowsQueue}
 use Rattle.history_model.specs.MayFollow.{MayFollow}
@@ -25,15 +25,17 @@ use Rattle.history_model.proofs.Allows.{by_same, all_same, all_flat, allows_deci
 use Rattle.history_model.proofs.Decided.{both_decide, decided_by}
 use Rattle.history_model.proofs.ListSteps.{prefix_more}
 use Rattle.history_model.proofs.Prefixes.{EachEntry-more, EachEntry-rest}
-use Rattle.history_ledger.specs.Types.{Oid, Xid, Row, RowKey, Entry, Event, Item, Add, Put, Remove, Force, Scan, Write, ClashRow, ClashRunning, RelName}
-use Rattle.history_ledger.specs.Held.{standing_at, xid_in, reader_at, AreDrawn, Keeps, Reads}
-use Rattle.history_ledger.specs.Words.{messages_at, is_unused, is_next_xid, old_at, frees_names, guards_row, guards_rows, may_change, covers_item, may_write_at, may_do_at, may_follow_at, may_come, MayEnter}
+use Rattle.history_ledger.specs.Types.{Oid, Xid, Row, Entry, Event, Item, Scan, Write, ClashRow, ClashRunning, RelName}
+use Rattle.segment_rows.specs.Kept.{xid_in, reader_at}
+use Rattle.history_ledger.specs.Held.{Keeps, Reads}
+use Rattle.segment_rows.specs.Words.{messages_at, is_unused, old_at, covers_item}
+use Rattle.history_ledger.specs.Words.{is_next_xid, guards_row, guards_rows, may_change, may_write_at, may_do_at, may_follow_at, may_come, MayEnter}
 use Rattle.history_ledger.specs.Longest.{IsLongest}
 use Rattle.history_ledger.specs.declared.ledger.Ledger.{Ledger}
-use Rattle.history_ledger.proofs.CoverTests.{covers_is}
-use Rattle.history_ledger.proofs.Entered.{mirrors, rows_same}
-use Rattle.history_ledger.proofs.FreeNames.{free_is}
-use Rattle.history_ledger.proofs.Mirrors.{scan_is_answer, user_is, unused_is, is_not_used}
+use Rattle.segment_rows.proofs.CoverTests.{covers_is}
+use Rattle.segment_rows.proofs.Kept.{mirrors, old_same}
+use Rattle.segment_rows.proofs.FreeNames.{free_is}
+use Rattle.segment_rows.proofs.Mirrors.{scan_is_answer, user_is, unused_is, is_not_used}
 
 -- what is asked after a test that said yes
 and_when : (t a b : Bool) → (t ≡ true → a ≡ b) → (t && a) ≡ (t && b)
@@ -69,12 +71,6 @@ module _ (seg : Segment) (ledger : Ledger) (b : ℕ) (k : Keeps seg ledger) wher
       by None = refl
       by (Some t) = of t.xid
 
-  old_same : (item : Item) → old_at ledger.store (reader_at own) item ≡ seg_old seg b item
-  old_same (Add row) = refl
-  old_same (Put row) = rows_same seg ledger b k (key_of row)
-  old_same (Remove key) = rows_same seg ledger b k key
-  old_same (Force rel) = refl
-
   guard_is : (made : List Oid) (item : Item) (old : Option Row) → guards_rows seg.held b made item old ≡ guarded_at seg b made item old
   guard_is made item old = by old (added_row item)
     where
@@ -90,36 +86,36 @@ module _ (seg : Segment) (ledger : Ledger) (b : ℕ) (k : Keeps seg ledger) wher
       by (Some had) None = and_right (list_all guards (relations had)) ∙ sym (all_flat guards relations (had ∷ []) ∙ and_right (list_all guards (relations had)))
       by (Some had) (Some row) = sym (all_flat guards relations (had ∷ row ∷ []) ∙ ap (λ t. list_all guards (relations had) && t) (and_right (list_all guards (relations row))))
 
-  change_is : (made : List Oid) (item : Item) → may_change ledger.store seg.held (xid_in own.running) b made item (old_at ledger.store (reader_at own) item) ≡ may_change_in seg b made item (seg_old seg b item)
-  change_is made item = ap (may_change ledger.store seg.held (xid_in own.running) b made item) (old_same item)
+  change_is : (made : List Oid) (item : Item) → may_change ledger.rows.store seg.held (xid_in own.running) b made item (old_at ledger.rows.store (reader_at own) item) ≡ may_change_in seg b made item (seg_old seg b item)
+  change_is made item = ap (may_change ledger.rows.store seg.held (xid_in own.running) b made item) (old_same seg ledger.rows b k.rows item)
       ∙ (λ i. is_there item (seg_old seg b item) && leaves_kind item (seg_old seg b item)
-      && all_same (λ name. is_none (clash_of ledger.store (xid_in own.running) name)) (free_at seg b) (free_is seg b ledger.store (xid_in own.running) (mirrors seg ledger b k)) (new_name (seg_old seg b item) (added_row item)) i
+      && all_same (λ name. is_none (clash_of ledger.rows.store (xid_in own.running) name)) (free_at seg b) (free_is seg b ledger.rows.store (xid_in own.running) (mirrors seg ledger.rows b k.rows)) (new_name (seg_old seg b item) (added_row item)) i
       && guard_is made item (seg_old seg b item) i)
 
-  write_is : (c : ℕ) (xid : Xid) (list : List Item) → may_write_at ledger.store seg.held seg.next_oid seg.last_xid b c own xid list ≡ may_write seg b c xid list
+  write_is : (c : ℕ) (xid : Xid) (list : List Item) → may_write_at ledger.rows.store seg.held seg.next_oid seg.last_xid b c own xid list ≡ may_write seg b c xid list
   write_is c xid list =
       (λ i. next_is xid i && are_from seg.next_oid (flat_map drawn_by list) && not (is_last_write own.wrote c) && are_distinct_keys (flat_map changed_key list)
-      && all_same (λ item. may_change ledger.store seg.held (xid_in own.running) b (flat_map made_by list) item (old_at ledger.store (reader_at own) item)) (λ item. may_change_in seg b (flat_map made_by list) item (seg_old seg b item)) (change_is (flat_map made_by list)) list i
-      && list_all (covers_item ledger.store (reader_at own) (flat_map (messages_at ledger.store (reader_at own)) list) list) list)
+      && all_same (λ item. may_change ledger.rows.store seg.held (xid_in own.running) b (flat_map made_by list) item (old_at ledger.rows.store (reader_at own) item)) (λ item. may_change_in seg b (flat_map made_by list) item (seg_old seg b item)) (change_is (flat_map made_by list)) list i
+      && list_all (covers_item ledger.rows.store (reader_at own) (flat_map (messages_at ledger.rows.store (reader_at own)) list) list) list)
       ∙ and_when _ _ (covers_at seg b c xid list) (λ is.
       let keys = and_parts _ _ (and_parts _ _ is).0 in
-      covers_is seg b ledger.store own (mirrors seg ledger b k) k.drawn c xid list (eqb-true xid.0 (xid_at seg b) (and_parts _ _ (and_parts _ _ keys.0).0).0) keys.1)
+      covers_is seg b ledger.rows.store own (mirrors seg ledger.rows b k.rows) k.rows.drawn c xid list (eqb-true xid.0 (xid_at seg b) (and_parts _ _ (and_parts _ _ keys.0).0).0) keys.1)
 
-  do_is : (c : ℕ) (event : Event) → may_do_at ledger.store seg.held (length seg.log) seg.next_oid seg.last_xid b c own event ≡ allows_event seg b c event
-  do_is c (Scan purpose rows) = ap (λ given. rows == length given) (scan_is_answer seg b seg.last_xid ledger.store own purpose (mirrors seg ledger b k) k.drawn)
+  do_is : (c : ℕ) (event : Event) → may_do_at ledger.rows.store seg.held (length seg.log) seg.next_oid seg.last_xid b c own event ≡ allows_event seg b c event
+  do_is c (Scan purpose rows) = ap (λ given. rows == length given) (scan_is_answer seg b seg.last_xid ledger.rows.store own purpose (mirrors seg ledger.rows b k.rows) k.rows.drawn)
   do_is c (Write xid items) = write_is c xid items
-  do_is c (ClashRunning name xid) = user_is seg b ledger.store (xid_in own.running) (mirrors seg ledger b k) name xid
+  do_is c (ClashRunning name xid) = user_is seg b ledger.rows.store (xid_in own.running) (mirrors seg ledger.rows b k.rows) name xid
   do_is c (ClashRow name rel) = λ i.
-      same_by (is_unused (clash_of ledger.store (xid_in own.running) name)) (is_empty (users_at seg b name))
-      (unused_is seg b ledger.store (xid_in own.running) (mirrors seg ledger b k) name, is_not_used seg b ledger.store (xid_in own.running) (mirrors seg ledger b k) name) (empty_is (users_at seg b name)) i
-      && list_any (is_row_of rel) (scan_is_answer seg b seg.last_xid ledger.store own (RelName name) (mirrors seg ledger b k) k.drawn i)
+      same_by (is_unused (clash_of ledger.rows.store (xid_in own.running) name)) (is_empty (users_at seg b name))
+      (unused_is seg b ledger.rows.store (xid_in own.running) (mirrors seg ledger.rows b k.rows) name, is_not_used seg b ledger.rows.store (xid_in own.running) (mirrors seg ledger.rows b k.rows) name) (empty_is (users_at seg b name)) i
+      && list_any (is_row_of rel) (scan_is_answer seg b seg.last_xid ledger.rows.store own (RelName name) (mirrors seg ledger.rows b k.rows) k.rows.drawn i)
   do_is c event = refl
 
 -- what is asked of an entry is what the segment asks
 pub follow_is : (seg : Segment) (ledger : Ledger) (size : ℕ) (e : Entry) → Keeps seg ledger → may_follow_at ledger size e ≡ may_come size seg e
 follow_is seg ledger size e k =
     (λ i. follows_own e.command (k.stands e.backend i) e.event && fetches_from size (length (k.log i)) (k.stands e.backend i) e.event
-    && may_do_at ledger.store (k.locks i) (length (k.log i)) (k.next_oid_is i) (k.last_xid_is i) e.backend e.command (k.stands e.backend i) e.event)
+    && may_do_at ledger.rows.store (k.locks i) (length (k.log i)) (k.rows.next_oid_is i) (k.rows.last_xid_is i) e.backend e.command (k.stands e.backend i) e.event)
     ∙ ap (λ t. follows_own e.command (seg.standing e.backend) e.event && fetches_from size (length seg.log) (seg.standing e.backend) e.event && t) (do_is seg ledger e.backend k e.command e.event)
 
 -- which decides what a history asks

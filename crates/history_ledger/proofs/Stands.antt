@@ -1,36 +1,24 @@
 -- What is held of a backend after its own event.
-use Rattle.std.proofs.Common.{◌≡◌, ◌≢◌, ◌≤◌, ◌<◌, ◌∙◌, ◌==◌, ℕ, Bool, true, false, not, Option, Some, None, List, [], ◌∷◌, ◌++◌, refl, sym, ap, subst, arith}
-use Rattle.std.specs.Prelude.{nat_le, nat_lt, IfSome, MatchOption}
-use Rattle.std.specs.List.{AllByRecursion, flat_map, list_all}
-use Rattle.std.proofs.lemmas.Bool.{and_parts, both_ways, eqb-true, eqb-false, leb-true, not-true, eq-eqb}
-use Rattle.base_types.specs.RowKeys.{key_of}
-use Rattle.inval_messages.specs.Changes.{messages_of}
-use Rattle.inval_messages.specs.Lists.{Written, lists_before}
+use Rattle.std.proofs.Common.{◌≡◌, ◌≢◌, ◌≤◌, ◌<◌, ◌∙◌, ℕ, Bool, true, false, Option, Some, None, List, [], ◌∷◌, ◌++◌, refl, sym, ap, subst, arith}
+use Rattle.std.specs.Prelude.{nat_lt, IfSome, MatchOption}
+use Rattle.std.specs.List.{AllByRecursion}
+use Rattle.std.proofs.lemmas.Bool.{and_parts, eqb-false, leb-true, not-true}
+use Rattle.inval_messages.specs.Lists.{Written}
 use Rattle.command_lists.specs.Lists.{new_list, with_messages}
 use Rattle.command_lists.proofs.Writes.{with-changes}
 use Rattle.inval_messages.proofs.Parts.{ForCaches, ForDescriptors, cats_of-caches, rels_of-descriptors}
 use Rattle.catalog_rows.specs.Store.{Store, row_of_key}
-use Rattle.history_model.specs.Segment.{Standing, Segment, no_standing, no_entries}
+use Rattle.history_model.specs.Segment.{Standing, Segment, no_standing}
 use Rattle.history_model.specs.Rows.{added_row, row_at, old_at as seg_old}
 use Rattle.history_model.specs.Messages.{cats_at, rels_at, written_at, items_in, lists_after}
 use Rattle.history_model.specs.After.{standing_by, standing_after}
 use Rattle.history_model.specs.Changing.{is_last_write}
-use Rattle.history_model.specs.Allows.{follows_own, follows_life, allows_event}
+use Rattle.history_model.specs.Allows.{follows_life, allows_event}
 use Rattle.history_model.proofs.Every.{every-weaker, every-filter, every-append}
-use Rattle.history_ledger.specs.Types.{RowKey, Message, Item, Add, Put, Remove, Force, Entry, Event, Start, Write, Gone, Release, Stop, Reader, Row, Life, Unstarted, Alive, Stopped}
+use Rattle.segment_rows.proofs.Messages.{messages_same}
+use Rattle.history_ledger.specs.Types.{RowKey, Item, Add, Put, Remove, Force, Event, Start, Write, Gone, Release, Stop, Reader, Life, Unstarted, Alive, Stopped}
 use Rattle.history_ledger.specs.Held.{IsTimely}
-use Rattle.history_ledger.specs.Words.{messages_at, messages_from, IsInOrder}
-
--- the messages of a write
-item_same : (seg : Segment) (b : ℕ) (store : Store) (reader : Reader) → ((key : RowKey) → row_of_key store key reader ≡ row_at seg b key) → (item : Item) → messages_at store reader item ≡ cats_at seg b item ++ rels_at seg b item
-item_same seg b store reader same (Add row) = refl
-item_same seg b store reader same (Put row) = ap (λ old. messages_of old (Some row)) (same (key_of row))
-item_same seg b store reader same (Remove key) = ap (λ old. messages_of old None) (same key)
-item_same seg b store reader same (Force rel) = refl
-
-pub messages_same : (seg : Segment) (b : ℕ) (store : Store) (reader : Reader) → ((key : RowKey) → row_of_key store key reader ≡ row_at seg b key) → (list : List Item) → flat_map (messages_at store reader) list ≡ flat_map (λ item. cats_at seg b item ++ rels_at seg b item) list
-messages_same seg b store reader same [] = refl
-messages_same seg b store reader same (item ∷ list) = λ i. item_same seg b store reader same item i ++ messages_same seg b store reader same list i
+use Rattle.history_ledger.specs.Words.{messages_from, IsInOrder}
 
 for_caches : (seg : Segment) (b : ℕ) (item : Item) → ForCaches (cats_at seg b item)
 for_caches seg b item = cats_of-caches (seg_old seg b item) (added_row item)

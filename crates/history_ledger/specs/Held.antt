@@ -1,14 +1,13 @@
 -- What the code holds of a segment.
-use Rattle.std.specs.Prelude.{◌≡◌, ◌≤◌, ◌<◌, ◌^◌, ◌-◌, ℕ, true, Option, Some, None, List, IfSome, MatchOption, length, nat_eq}
+use Rattle.std.specs.Prelude.{◌≡◌, ◌≤◌, ℕ, Option, None, List, IfSome, MatchOption, nat_eq}
 use Rattle.std.specs.Option.{option_map_or}
 use Rattle.std.specs.List.{AllByRecursion}
 use Rattle.indexmap.specs.IndexMap.{get}
-use Rattle.catalog_rows.specs.Store.{has_committed}
 use Rattle.command_lists.specs.Lists.{all_lists}
-use Rattle.history_model.specs.Segment.{Standing, Segment, no_standing, runs_at}
+use Rattle.history_model.specs.Segment.{Standing, Segment, no_standing}
 use Rattle.history_model.specs.After.{segment_of}
-use Rattle.history_model.proofs.Touched.{OfStamps}
-use Rattle.history_ledger.specs.Types.{Xid, Entry, Reader, Stamp, Version, RunningTransaction, Unstarted, Alive}
+use Rattle.segment_rows.specs.Kept.{KeepsRows}
+use Rattle.history_ledger.specs.Types.{Entry, RunningTransaction, Unstarted, Alive}
 use Rattle.history_ledger.specs.declared.own.Own.{Own}
 use Rattle.history_ledger.specs.declared.backends.Backends.{Backends}
 use Rattle.history_ledger.specs.declared.ledger.Ledger.{Ledger}
@@ -21,27 +20,9 @@ standing_of own = record { life = own.life; asked = own.asked; running = own.run
 abbrev pub standing_at : Backends → ℕ → Standing
 standing_at backends b = option_map_or standing_of (get nat_eq backends.map b) no_standing
 
--- the Xid of a transaction, if it has one
-abbrev pub xid_in : Option RunningTransaction → Option Xid
-xid_in None = None
-xid_in (Some t) = t.xid
-
 -- how many messages a transaction has published
 abbrev pub published_in : Option RunningTransaction → ℕ
 published_in running = option_map_or (λ t. t.published) running 0
-
--- a backend as a reader of rows: it sees all that its transaction wrote
-abbrev pub reader_at : Standing → Reader
-reader_at own = record { xid = xid_in own.running; command = 4294967295 }
-
--- a stamp has a drawn Xid, and a command that has a successor
-pub record IsDrawn (last : ℕ) (stamp : Stamp) : Type 0 where
-  pub xid : stamp.xid.0 ≤ last
-  pub command : stamp.command < 2 ^ 32 - 1
-
--- so have both stamps of a version
-abbrev pub AreDrawn : ℕ → Version → Type 0
-AreDrawn last v = OfStamps (λ stamp row. IsDrawn last stamp) v
 
 -- a backend's lists are of commands up to that of its last write, which isn't after that of its last entry
 pub record IsTimely (own : Standing) : Type 0 where
@@ -51,14 +32,9 @@ pub record IsTimely (own : Standing) : Type 0 where
 
 -- the code holds a segment
 pub record Keeps (s : Segment) (ledger : Ledger) : Type 0 where
-  pub versions : ledger.store.versions ≡ s.versions
-  pub committed : (x : ℕ) → has_committed ledger.store.committed x ≡ s.committed x
-  pub places : (b x : ℕ) → runs_at s b x ≡ true → x < length ledger.store.committed
-  pub drawn : AllByRecursion (AreDrawn s.last_xid) s.versions
+  pub rows : KeepsRows s ledger.rows
   pub locks : ledger.locks ≡ s.held
   pub log : ledger.log.items ≡ s.log
-  pub next_oid_is : ledger.next_oid ≡ s.next_oid
-  pub last_xid_is : ledger.last_xid ≡ s.last_xid
   pub stands : (b : ℕ) → standing_at ledger.backends b ≡ s.standing b
   pub timely : (b : ℕ) → IsTimely (s.standing b)
 

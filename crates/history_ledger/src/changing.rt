@@ -1,39 +1,34 @@
 ghost use Rattle.std.specs.Prelude.{◌≡◌, ◌||◌, Some, IfOk};
 ghost use Rattle.std.specs.List.{flat_map, list_any, list_all};
-ghost use Rattle.std.specs.Option.{option_to_list};
 ghost use Rattle.event_kinds.specs.declared.entry.Item.TheVariants as items;
 ghost use Rattle.base_types.specs.Scans.{same_oid};
 ghost use Rattle.lock_modes.specs.Grants.{holds as do_hold};
 ghost use Rattle.history_model.specs.Drawn.{made_by};
-ghost use Rattle.history_model.specs.Names.{new_name as names_changed};
-ghost use Rattle.history_model.specs.Versions.{added_row as row_added};
 ghost use Rattle.history_model.specs.Changing.{modes_enough, enough_with, update_where as update_if, weaker_mode as mode_weaker, mode_to_add as mode_for_added, mode_to_replace as mode_for_replaced, mode_to_remove as mode_for_removed, refills as does_refill, name_allowed as allowed_name, retargets as does_retarget, validates as does_validate, is_validation as is_validated, same_kind as kinds_match};
-ghost use Rattle.history_ledger.specs.Words.{frees_names as does_free_names, guards_row as does_guard_row, guards_rows as does_guard_rows, may_change as may_be_changed, old_at};
+ghost use Rattle.segment_rows.specs.Words.{old_at};
+ghost use Rattle.history_ledger.specs.Words.{guards_row as does_guard_row, guards_rows as does_guard_rows, may_change as may_be_changed};
 ghost use Rattle.history_model.specs.Changing.{is_there as finds_old, leaves_kind as does_leave_kind};
-ghost use Rattle.history_ledger.specs.Held.{standing_of, xid_in, reader_at};
+ghost use Rattle.segment_rows.specs.Kept.{xid_in, reader_at};
+ghost use Rattle.history_ledger.specs.Held.{standing_of};
 
-use crate::following::reader;
 use crate::ledger::Ledger;
 use crate::own::Own;
-use crate::same::same_row;
 use base_types::{ConKind, Kind, Mode, Name, NoMemory, Oid, Row, Xid};
-use catalog_rows::RowStore;
 use event_kinds::Item;
 use lock_modes::GrantTable;
-use row_visibility::Reader;
+use segment_rows::{SegmentRows, same_row};
 use std::alloc::Global;
 
 impl Ledger {
     // Whether each change of a write is allowed by itself.
     pub(crate) fn may_change_all(&self, own: &Own, b: u32, items: &[Item]) -> Result<bool, NoMemory>
-        ensures { IfOk result (λ yes. yes ≡ list_all (λ item. may_be_changed self.now.store self.now.locks (xid_in (standing_of own.now).running) b (flat_map made_by items.now) item (old_at self.now.store (reader_at (standing_of own.now)) item)) items.now) }
+        ensures { IfOk result (λ yes. yes ≡ list_all (λ item. may_be_changed self.now.rows.store self.now.locks (xid_in (standing_of own.now).running) b (flat_map made_by items.now) item (old_at self.now.rows.store (reader_at (standing_of own.now)) item)) items.now) }
     {
         let made = relations_made(self.alloc, items)?;
-        let reader = reader(own);
         let own = own.xid();
         for item in items {
-            let old = old_row(&self.store, reader, item);
-            if !may_change(&self.store, &self.locks, own, b, &made, item, &old) {
+            let old = self.rows.old_row(own, item);
+            if !may_change(&self.rows, &self.locks, own, b, &made, item, &old) {
                 return Ok(false);
             }
         }
@@ -54,20 +49,9 @@ fn relations_made(alloc: Global, items: &[Item]) -> Result<Vec<Oid>, NoMemory>
     Ok(made)
 }
 
-// The row that a change replaces or takes away.
-pub(crate) fn old_row(store: &RowStore, reader: Reader, item: &Item) -> Option<Row>
-    ensures { result ≡ old_at store.now reader item.now }
-{
-    match item {
-        Item::Put(row) => store.row(&row.key(), reader),
-        Item::Remove(key) => store.row(key, reader),
-        Item::Add(_) | Item::Force(_) => None,
-    }
-}
-
 // Whether a change is allowed by itself, where this is the row that it replaces or takes away.
 fn may_change(
-    store: &RowStore,
+    rows: &SegmentRows,
     locks: &GrantTable,
     own: Option<Xid>,
     b: u32,
@@ -75,11 +59,11 @@ fn may_change(
     item: &Item,
     old: &Option<Row>,
 ) -> bool
-    ensures { result ≡ may_be_changed store.now locks.now own b made.now item.now old.now }
+    ensures { result ≡ may_be_changed rows.now.store locks.now own b made.now item.now old.now }
 {
     is_there(item, old)
         && leaves_kind(item, old)
-        && frees_names(store, own, item, old)
+        && rows.frees_names(own, item, old)
         && guards_rows(locks, b, made, item, old)
 }
 
@@ -129,43 +113,6 @@ fn same_kind(a: &Row, b: &Row) -> bool
             },
         ) => false,
         _ => true,
-    }
-}
-
-// Whether no new name of a change is in use.
-fn frees_names(store: &RowStore, own: Option<Xid>, item: &Item, old: &Option<Row>) -> bool
-    ensures { result ≡ does_free_names store.now own item.now old.now }
-{
-    match new_name(item, old) {
-        Some(name) => store.name_clash(&name, own).is_none(),
-        None => true,
-    }
-}
-
-// The name that a change gives a relation, unless the relation has it already.
-fn new_name(item: &Item, old: &Option<Row>) -> Option<Name>
-    ensures { option_to_list result ≡ names_changed old.now (row_added item.now) }
-{
-    match item {
-        Item::Add(row) | Item::Put(row) => changed_name(old, row),
-        Item::Remove(_) | Item::Force(_) => None,
-    }
-}
-
-// The name of a relation's new row, unless the old row has it.
-fn changed_name(old: &Option<Row>, row: &Row) -> Option<Name>
-    ensures { option_to_list result ≡ names_changed old.now (Some row.now) }
-{
-    match (old, row) {
-        (Some(Row::Class { name: had, .. }), Row::Class { name, .. }) => {
-            if had.as_bytes() == name.as_bytes() {
-                None
-            } else {
-                Some(*name)
-            }
-        }
-        (_, Row::Class { name, .. }) => Some(*name),
-        _ => None,
     }
 }
 

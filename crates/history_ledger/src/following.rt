@@ -1,16 +1,13 @@
 ghost use Rattle.std.specs.Prelude.{◌≡◌, ◌==◌, IfOk, length};
-ghost use Rattle.std.specs.List.{list_any};
-ghost use Rattle.history_model.specs.Names.{is_row_of as is_of_relation};
 ghost use Rattle.history_model.specs.Allows.{is_holder as does_hold};
-ghost use Rattle.history_ledger.specs.Words.{is_unused as is_not_used};
-ghost use Rattle.history_ledger.specs.Held.{standing_of, reader_at};
+ghost use Rattle.segment_rows.specs.Kept.{xid_in, reader_at};
+ghost use Rattle.history_ledger.specs.Held.{standing_of};
 
 use crate::ledger::Ledger;
 use crate::own::Own;
-use base_types::{Mode, Name, NoMemory, Oid, Purpose, Row};
+use base_types::{Mode, Name, NoMemory, Oid, Purpose};
 use event_kinds::{Entry, Event};
 use lock_modes::Grant;
-use row_visibility::{Clash, Reader};
 
 impl Ledger {
     ghost use Rattle.std.specs.Prelude.{List};
@@ -23,7 +20,7 @@ impl Ledger {
     ghost use Rattle.catalog_rows.specs.Store.{rows_of_scan};
     ghost use Rattle.history_model.specs.Segment.{Segment};
     ghost use Rattle.history_model.specs.Allows.{may_lock as does_allow_lock, may_refuse as does_refuse, may_unlock as does_allow_unlock};
-    ghost use Rattle.history_ledger.specs.Words.{may_clash as does_allow_clash};
+    ghost use Rattle.segment_rows.specs.Words.{may_clash as does_allow_clash};
 
     /// Whether the entry may follow, and a fetch be of a queue of this size: exactly what the
     /// definitions say of each history that is read here.
@@ -50,7 +47,7 @@ impl Ledger {
 
     // Whether the backend of this standing may do this next.
     fn may_do(&self, own: &Own, b: u32, command: u32, event: &Event) -> Result<bool, NoMemory>
-        ensures { IfOk result (λ yes. yes ≡ may_do_at self.now.store self.now.locks (length self.now.log.items) self.now.next_oid self.now.last_xid b command (standing_of own.now) event.now) }
+        ensures { IfOk result (λ yes. yes ≡ may_do_at self.now.rows.store self.now.locks (length self.now.log.items) self.now.rows.next_oid self.now.rows.last_xid b command (standing_of own.now) event.now) }
     {
         let end = self.log.len();
         match event {
@@ -70,7 +67,7 @@ impl Ledger {
             Event::Write { xid, items } => {
                 self.may_write(own, b, command, *xid, items.as_slice())
             }
-            Event::ClashRunning { name, xid } => Ok(self.store.is_used(name, own.xid(), *xid)),
+            Event::ClashRunning { name, xid } => Ok(self.rows.is_used(own.xid(), name, *xid)),
             Event::ClashRow { name, rel } => self.may_clash(own, name, *rel),
             _ => Ok(own.may_end(command, event)),
         }
@@ -78,9 +75,9 @@ impl Ledger {
 
     // Whether a scan gives so many rows.
     fn gives(&self, own: &Own, purpose: &Purpose, rows: u32) -> Result<bool, NoMemory>
-        ensures { IfOk result (λ yes. yes ≡ (rows == length (rows_of_scan self.now.store purpose.now (reader_at (standing_of own.now))))) }
+        ensures { IfOk result (λ yes. yes ≡ (rows == length (rows_of_scan self.now.rows.store purpose.now (reader_at (standing_of own.now))))) }
     {
-        let given = self.store.scan(purpose, reader(own))?;
+        let given = self.rows.scan(own.xid(), purpose)?;
         Ok(given.len() == rows as usize)
     }
 
@@ -109,20 +106,9 @@ impl Ledger {
 
     // Whether a write may be refused since this relation has the name.
     fn may_clash(&self, own: &Own, name: &Name, rel: Oid) -> Result<bool, NoMemory>
-        ensures { IfOk result (λ yes. yes ≡ does_allow_clash self.now.store (standing_of own.now) name.now rel) }
+        ensures { IfOk result (λ yes. yes ≡ does_allow_clash self.now.rows.store (xid_in (standing_of own.now).running) name.now rel) }
     {
-        let given = self.store.scan(&Purpose::RelName(*name), reader(own))?;
-        Ok(is_unused(self.store.name_clash(name, own.xid())) && has_row_of(&given, rel))
-    }
-}
-
-// A backend as a reader of rows: it sees all that its transaction wrote.
-pub(crate) fn reader(own: &Own) -> Reader
-    ensures { result ≡ reader_at (standing_of own.now) }
-{
-    Reader {
-        xid: own.xid(),
-        command: u32::MAX,
+        self.rows.may_clash(own.xid(), name, rel)
     }
 }
 
@@ -133,29 +119,5 @@ fn is_holder(first: Option<Grant>, holder: u32, mode: Mode) -> bool
     match first {
         Some(grant) => grant.backend == holder && grant.mode.number() == mode.number(),
         None => false,
-    }
-}
-
-// Whether no running transaction of another has the name in use.
-fn is_unused(clash: Option<Clash>) -> bool
-    ensures { result ≡ is_not_used clash }
-{
-    !matches!(clash, Some(Clash::Running(_)))
-}
-
-// Whether one of the rows is of this relation.
-fn has_row_of(rows: &[Row], rel: Oid) -> bool
-    ensures { result ≡ list_any (is_of_relation rel) rows.now }
-{
-    rows.iter().any(|row| is_row_of(row, rel))
-}
-
-// Whether the row is of this relation.
-fn is_row_of(row: &Row, rel: Oid) -> bool
-    ensures { result ≡ is_of_relation rel row.now }
-{
-    match row {
-        Row::Class { oid, .. } => oid.0 == rel.0,
-        _ => false,
     }
 }

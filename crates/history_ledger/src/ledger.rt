@@ -1,26 +1,21 @@
 ghost use Rattle.std.specs.Prelude.{[], OnOk};
 
 use crate::backends::Backends;
-use crate::entering::{
-    enter_locks, enter_log, enter_rows, last_xid_after, messages_sent, next_oid_after,
-};
-use crate::following::reader;
-use base_types::{FIRST_OID, NoMemory};
-use catalog_rows::RowStore;
+use crate::entering::{enter_locks, enter_log, messages_sent};
+use base_types::NoMemory;
 use event_kinds::Entry;
 use inval_messages::Message;
 use lock_modes::GrantTable;
+use segment_rows::SegmentRows;
 use std::alloc::Global;
 
 /// What the entries of a history leave, exactly.
 #[derive(Drop)]
 pub struct Ledger {
     pub(crate) alloc: Global,
-    pub(crate) store: RowStore,
+    pub(crate) rows: SegmentRows,
     pub(crate) locks: GrantTable,
     pub(crate) log: Vec<Message>,
-    pub(crate) next_oid: u64,
-    pub(crate) last_xid: u32,
     pub(crate) backends: Backends,
 }
 
@@ -40,11 +35,9 @@ impl Ledger {
     {
         Ledger {
             alloc,
-            store: RowStore::new(alloc),
+            rows: SegmentRows::new(alloc),
             locks: GrantTable::new(alloc),
             log: Vec::new(alloc),
-            next_oid: FIRST_OID as u64,
-            last_xid: 0,
             backends: Backends::new(alloc),
         }
     }
@@ -68,12 +61,10 @@ impl Ledger {
             return Err(NoMemory);
         }
         let mut own = self.backends.take(e.backend);
-        let messages = messages_sent(self.alloc, &self.store, reader(&own), &e.event)?;
-        enter_rows(self.alloc, &mut self.store, own.xid(), e.command, &e.event)?;
+        let messages = messages_sent(self.alloc, &self.rows, own.xid(), &e.event)?;
+        self.rows.enter(own.xid(), e.command, &e.event)?;
         enter_locks(&mut self.locks, e.backend, e.command, &e.event)?;
         enter_log(&mut self.log, &own, &e.event)?;
-        self.next_oid = next_oid_after(self.next_oid, &e.event);
-        self.last_xid = last_xid_after(self.last_xid, &e.event);
         own.enter(e.command, &e.event, &messages, self.log.len())?;
         self.backends.put(e.backend, own)
     }

@@ -25,10 +25,10 @@
 //! }
 //! ```
 //!
+//! The rows and the two numbers are kept by the crate below, a [`SegmentRows`](segment_rows::SegmentRows).
+//!
 //! How it is proved: what the code answers is a word over what it holds (`specs/Words.antt`), and these
-//! words decide the definitions (`proofs/MayFollow.antt`). A scan that a
-//! write changes is first looked for among those that its messages cover; only where none does are the
-//! answers before and after it compared.
+//! words decide the definitions (`proofs/MayFollow.antt`).
 //!
 //! Besides want of memory one thing alone is answered as out of memory: an entry whose command has no successor
 //! in 32 bits.
@@ -36,7 +36,6 @@
 
 mod backends;
 mod changing;
-mod covering;
 mod entering;
 mod following;
 mod ledger;
@@ -44,10 +43,8 @@ mod own;
 mod own_entering;
 mod prefix;
 mod reading;
-mod same;
 mod writing;
 
-pub use entering::{announced, undo_from};
 pub use ledger::Ledger;
 pub use own_entering::running_after;
 pub use prefix::legal_prefix;

@@ -35,7 +35,8 @@ impl Own {
     ghost use Rattle.history_model.specs.Segment.{no_standing, is_visible as runs_visible};
     ghost use Rattle.history_model.specs.Messages.{unsent_at};
     ghost use Rattle.history_model.specs.Allows.{follows_own, fetches_from as may_fetch_from, may_end as does_allow_end, may_release as does_allow_release, is_all_sent as has_sent_all, may_publish as does_allow_publish, may_look as does_allow_look, may_fetch as does_allow_fetch};
-    ghost use Rattle.history_ledger.specs.Held.{standing_of, xid_in, published_in};
+    ghost use Rattle.segment_rows.specs.Kept.{xid_in};
+    ghost use Rattle.history_ledger.specs.Held.{standing_of, published_in};
 
     // A backend without entries.
     pub(crate) fn new(alloc: Global) -> Own

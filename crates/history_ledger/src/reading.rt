@@ -1,8 +1,7 @@
 ghost use Rattle.std.specs.Prelude.{◌≡◌, ◌++◌, IfOk, take, drop};
 ghost use Rattle.std.specs.List.{flat_map};
 
-use crate::entering::{announced, first_of};
-use crate::following::reader;
+use crate::entering::first_of;
 use crate::ledger::Ledger;
 use crate::own::{Own, rest_of};
 use base_types::{NoMemory, Purpose, Row};
@@ -18,24 +17,24 @@ impl Ledger {
     ghost use Rattle.history_model.specs.Sent.{cats_by, rels_by};
     ghost use Rattle.history_model.specs.Versions.{answer_of};
     ghost use Rattle.history_ledger.specs.Held.{standing_at};
-    ghost use Rattle.history_ledger.specs.Words.{messages_at};
-    ghost use Rattle.history_ledger.specs.Held.{reader_at, Reads};
+    ghost use Rattle.segment_rows.specs.Words.{messages_at};
+    ghost use Rattle.segment_rows.specs.Kept.{reader_at};
+    ghost use Rattle.history_ledger.specs.Held.{Reads};
 
     /// The oid that is drawn next.
     pub fn next_oid(&self) -> u64
         ensures { (seen : List Entry) → Reads seen self.now → result ≡ oid_drawn_next seen }
     {
-        self.next_oid
+        self.rows.next_oid()
     }
 
     /// The rows that a scan by the backend gives.
     pub fn scan(&self, b: u32, purpose: &Purpose) -> Result<Vec<Row>, NoMemory>
-        ensures now { IfOk result (λ rows. rows.items ≡ rows_of_scan self.now.store purpose.now (reader_at (standing_at self.now.backends b))) }
+        ensures now { IfOk result (λ rows. rows.items ≡ rows_of_scan self.now.rows.store purpose.now (reader_at (standing_at self.now.backends b))) }
         ensures answer { (seen : List Entry) → Reads seen self.now → IfOk result (λ rows. rows.items ≡ answer_of seen b purpose.now) }
     {
         let none = Own::new(self.alloc);
-        self.store
-            .scan(purpose, reader(self.backends.get(b, &none)))
+        self.rows.scan(self.backends.get(b, &none).xid(), purpose)
     }
 
     /// The messages that a fetch of so many by the backend gives.
@@ -50,15 +49,11 @@ impl Ledger {
 
     /// The messages of a write's items, those of each item for the catalog caches first.
     pub fn messages_written(&self, b: u32, items: &[Item]) -> Result<Vec<Message>, NoMemory>
-        ensures now { IfOk result (λ messages. messages.items ≡ flat_map (messages_at self.now.store (reader_at (standing_at self.now.backends b))) items.now) }
+        ensures now { IfOk result (λ messages. messages.items ≡ flat_map (messages_at self.now.rows.store (reader_at (standing_at self.now.backends b))) items.now) }
         ensures written { (seen : List Entry) → Reads seen self.now → IfOk result (λ messages. messages.items ≡ flat_map (λ item. cats_by seen b item ++ rels_by seen b item) items.now) }
     {
         let none = Own::new(self.alloc);
-        announced(
-            self.alloc,
-            &self.store,
-            reader(self.backends.get(b, &none)),
-            items,
-        )
+        self.rows
+            .announced(self.backends.get(b, &none).xid(), items)
     }
 }

@@ -8,14 +8,17 @@ ghost use Rattle.history_model.specs.Changing.{are_from};
 ghost use Rattle.history_ledger.specs.Words.{is_next_xid as has_next_xid};
 ghost use Rattle.history_ledger.specs.Held.{standing_of};
 
-use crate::following::reader;
 use crate::ledger::Ledger;
 use crate::own::Own;
-use base_types::{NoMemory, Row, RowKey, Xid};
+use base_types::{NoMemory, RowKey, Xid};
 use event_kinds::Item;
+use segment_rows::drawn_oid;
 use std::alloc::Global;
 
 impl Ledger {
+    ghost use Rattle.std.specs.List.{list_all};
+    ghost use Rattle.segment_rows.specs.Kept.{reader_at};
+    ghost use Rattle.segment_rows.specs.Words.{covers_item, messages_at};
     ghost use Rattle.history_ledger.specs.Words.{may_write_at};
 
     // Whether a write may follow.
@@ -27,11 +30,11 @@ impl Ledger {
         xid: Xid,
         items: &[Item],
     ) -> Result<bool, NoMemory>
-        ensures { IfOk result (λ yes. yes ≡ may_write_at self.now.store self.now.locks self.now.next_oid self.now.last_xid b command (standing_of own.now) xid items.now) }
+        ensures { IfOk result (λ yes. yes ≡ may_write_at self.now.rows.store self.now.locks self.now.rows.next_oid self.now.rows.last_xid b command (standing_of own.now) xid items.now) }
     {
         let keys = changed_keys(self.alloc, items)?;
-        if is_next_xid(own.xid(), self.last_xid, xid)
-            && draws_next(self.next_oid, items)
+        if is_next_xid(own.xid(), self.rows.last_xid(), xid)
+            && draws_next(self.rows.next_oid(), items)
             && !own.is_last_write(command)
             && are_distinct(&keys)
             && self.may_change_all(own, b, items)?
@@ -40,6 +43,13 @@ impl Ledger {
         } else {
             Ok(false)
         }
+    }
+
+    // Whether each scan whose answer a write changes is covered by one of its messages.
+    fn covers_all(&self, own: &Own, items: &[Item]) -> Result<bool, NoMemory>
+        ensures { IfOk result (λ yes. yes ≡ list_all (covers_item self.now.rows.store (reader_at (standing_of own.now)) (flat_map (messages_at self.now.rows.store (reader_at (standing_of own.now))) items.now) items.now) items.now) }
+    {
+        self.rows.covers_all(own.xid(), items)
     }
 }
 
@@ -67,21 +77,6 @@ fn draws_next(next: u64, items: &[Item]) -> bool
         }
     }
     true
-}
-
-// The oid that a change draws.
-pub(crate) fn drawn_oid(item: &Item) -> Option<u32>
-    ensures { option_to_list result ≡ drawn_by item.now }
-{
-    match item {
-        Item::Add(
-            Row::Class { oid, .. }
-            | Row::Def { oid, .. }
-            | Row::Con { oid, .. }
-            | Row::Trg { oid, .. },
-        ) => Some(oid.0),
-        _ => None,
-    }
 }
 
 // The keys of the rows that are changed.

@@ -24,8 +24,8 @@ use Rattle.history_model.specs.Versions.{versions_of, sees, row_with, old_row, a
 use Rattle.history_model.specs.Writes.{is_free}
 use Rattle.history_model.proofs.Every.{every-append}
 use Rattle.history_model.specs.MayFollow.{AllowsEvent}
-use Rattle.history_ledger.proofs.FreeNames.{free_name, named_some}
-use Rattle.history_ledger.proofs.Mirrors.{Mirrors, row_same, user_some, users_none}
+use Rattle.segment_rows.proofs.FreeNames.{free_name, named_some}
+use Rattle.segment_rows.proofs.Mirrors.{Mirrors, row_same, user_some, users_none}
 use Rattle.shared_seg.specs.Naming.{new_name_of, clash_event_of, NamesFree}
 
 -- a clash is an entry that the history allows

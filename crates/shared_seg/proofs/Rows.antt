@@ -15,9 +15,9 @@ use Rattle.history_model.specs.Transactions.{has_xid, runs_as, running_transacti
 use Rattle.txn_blocks.specs.declared.transaction.RunningTransaction.{RunningTransaction as Running}
 use Rattle.seg_calls.specs.Calls.{entry_of}
 use Rattle.txn_blocks.specs.declared.transaction.RunningTransaction.{RunningTransaction}
-use Rattle.history_ledger.proofs.Rows.{marked, undone_committed, undone_versions}
+use Rattle.segment_rows.proofs.RowsAfter.{marked, undone_committed, undone_versions}
 use Rattle.shared_seg.specs.Transactions.{transaction_at, transaction_of, transaction_by, own_xid_in, xid_at}
-use Rattle.history_ledger.specs.Words.{undone}
+use Rattle.segment_rows.specs.Words.{undone}
 use Rattle.shared_seg.proofs.Own.{kept_set}
 use Rattle.shared_seg.proofs.Keeps.{Steps}
 

@@ -25,7 +25,7 @@ use Rattle.history_model.proofs.Lives.{command_of}
 use Rattle.history_model.proofs.Ordered.{Ordered, sound_ordered}
 use Rattle.history_model.proofs.Touched.{OfStamps, Touch, HasWrite, stamps-weaker}
 use Rattle.seg_calls.specs.Calls.{entry_of, MayRequest, GivesRows}
-use Rattle.history_ledger.proofs.Mirrors.{filter_each, version_same}
+use Rattle.segment_rows.proofs.Mirrors.{filter_each, version_same}
 use Rattle.shared_seg.specs.Kept.{Kept, places_in}
 use Rattle.shared_seg.specs.Places.{promised_in}
 use Rattle.shared_seg.proofs.Asked.{request_inside, asked_appends}

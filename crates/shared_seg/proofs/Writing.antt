@@ -51,12 +51,13 @@ use Rattle.shared_seg.specs.KeepsFolds.{KeepsFolds}
 use Rattle.shared_seg.specs.KeepsQueue.{KeepsShared}
 use Rattle.shared_seg.specs.Naming.{NamesFree, IsTaken, clash_with, clash_event_of, refuses}
 use Rattle.shared_seg.specs.Places.{promised_in}
-use Rattle.history_ledger.specs.Words.{IsCounted, messages_at}
+use Rattle.segment_rows.specs.Words.{messages_at}
+use Rattle.history_ledger.specs.Words.{IsCounted}
 use Rattle.shared_seg.specs.Transactions.{transaction_at, transaction_by, own_xid_in, xid_at, own_reader}
 use Rattle.inval_messages.specs.declared.message.Message.{Message}
-use Rattle.history_ledger.proofs.Stands.{messages_same}
+use Rattle.segment_rows.proofs.Messages.{messages_same}
 use Rattle.shared_seg.proofs.Asked.{request_inside, asked_appends, asked_keeps, asked_quiet}
-use Rattle.history_ledger.proofs.Mirrors.{row_same, Mirrors}
+use Rattle.segment_rows.proofs.Mirrors.{row_same, Mirrors}
 use Rattle.shared_seg.proofs.Clashes.{all_free, names_same, clash_allowed}
 use Rattle.shared_seg.proofs.Entered.{within}
 use Rattle.shared_seg.proofs.Keeps.{Steps}
@@ -66,7 +67,7 @@ use Rattle.shared_seg.proofs.Own.{kept_set}
 use Rattle.shared_seg.proofs.Queue.{asked_still}
 use Rattle.shared_seg.proofs.Rows.{runs_own}
 use Rattle.shared_seg.proofs.Scanned.{reads_same}
-use Rattle.history_ledger.proofs.Rows.{committed_written, place_written}
+use Rattle.segment_rows.proofs.RowsAfter.{committed_written, place_written}
 use Rattle.shared_seg.proofs.Written.{xid_drawn_is, versions_written}
 
 -- what a write needs, of the parts

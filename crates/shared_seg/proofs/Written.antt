@@ -25,10 +25,10 @@ use Rattle.history_model.specs.Versions.{versions_of, counts, change_by}
 use Rattle.history_model.specs.Changing.{changed_key}
 use Rattle.history_model.proofs.Every.{every-weaker}
 use Rattle.history_model.proofs.Touched.{OfStamps, Touch, Touched, stamps-weaker}
-use Rattle.history_ledger.proofs.Rows.{AllAlike, alike_drawn, change_key, same_changes}
+use Rattle.segment_rows.proofs.RowsAfter.{AllAlike, alike_drawn, change_key, same_changes}
 use Rattle.shared_seg.specs.Transactions.{transaction_of, own_xid_in}
 use Rattle.shared_seg.specs.Drawn.{xid_drawn}
-use Rattle.history_ledger.proofs.Rows.{map-same}
+use Rattle.segment_rows.proofs.RowsAfter.{map-same}
 use Rattle.shared_seg.proofs.Rows.{runs_kept}
 use Rattle.shared_seg.proofs.Start.{all_same}
 

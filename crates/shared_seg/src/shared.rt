@@ -14,11 +14,11 @@ use base_types::{FIRST_OID, Fetched, Listed, Mode, NoMemory, Oid, Purpose, Scann
 use catalog_rows::RowStore;
 use ddl_effect::Draft;
 use event_kinds::{Entry, Event};
-use history_ledger::{announced, undo_from};
 use inval_messages::Message;
 use lock_modes::{Granted, LockTable};
 use script_text::Script;
 use seg_calls::{LockRefusal, Seg, WriteRefusal, Written};
+use segment_rows::{announced, undo_from};
 use sinval_ring::{Cleaned, Ring};
 use std::alloc::Global;
 use std::marker::Model;

@@ -2,7 +2,7 @@ use Rattle.std.proofs.Common.{◌∙◌, refl, ap}
 use Rattle.event_kinds.specs.declared.entry.Event.TheVariants.{Gone}
 use Rattle.seg_calls.specs.Calls.{entry_of}
 use Rattle.shared_seg.specs.Transactions.{xid_at}
-use Rattle.history_ledger.specs.Words.{undone}
+use Rattle.segment_rows.specs.Words.{undone}
 use Rattle.shared_seg.specs.Kept.{Kept}
 use Rattle.shared_seg.proofs.Entered.{call_inside, within, placed_appends, placed_keeps, called_within}
 use Rattle.shared_seg.proofs.Rows.{gone_steps}

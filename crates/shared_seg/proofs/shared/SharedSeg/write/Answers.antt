@@ -3,7 +3,8 @@ use Rattle.std.specs.List.{flat_map}
 use Rattle.row_visibility.specs.declared.version.Reader.{Reader}
 use Rattle.shared_seg.specs.IsDrawn.{IsDrawn}
 use Rattle.shared_seg.specs.Naming.{NamesFree}
-use Rattle.history_ledger.specs.Words.{IsCounted, messages_at}
+use Rattle.segment_rows.specs.Words.{messages_at}
+use Rattle.history_ledger.specs.Words.{IsCounted}
 use Rattle.shared_seg.specs.Transactions.{own_reader, transaction_at, transaction_by}
 use Rattle.shared_seg.specs.Kept.{Kept}
 use Rattle.shared_seg.proofs.Asked.{request_inside, asked_within, small_number}

@@ -1,6 +1,0 @@
-use Rattle.std.proofs.Common.{◌≡◌, take}
-use Rattle.history_ledger.specs.Words.{changes_in}
-use Rattle.history_ledger.proofs.entering.changes_in.Given as goal
-
-abbrev pub invariant-loop-item : goal.invariant-loop-item
-invariant-loop-item l = l.changes.items ≡ changes_in (take l.item-index l.items)
