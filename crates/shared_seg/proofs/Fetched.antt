@@ -1,5 +1,5 @@
 -- A fetch of the queue gives what is due: a reset where the backend is lapped, and else its next messages.
-use Rattle.std.proofs.Common.{◌≡◌, ◌≤◌, ◌<◌, ◌+◌, ◌-◌, ◌∙◌, ℕ, Bool, true, false, Option, Some, List, [], ◌∷◌, ◌++◌, nat_lt, length, min, slice_set, take, drop, refl, sym, ap, subst, arith}
+use Rattle.std.proofs.Common.{◌≡◌, ◌≤◌, ◌<◌, ◌+◌, ◌-◌, ◌∙◌, ℕ, Bool, true, false, Option, List, [], ◌∷◌, ◌++◌, nat_lt, length, min, slice_set, take, drop, refl, sym, ap, subst, arith}
 use Rattle.std.proofs.lemmas.Bool.{eq-eqb, ltb-false}
 use Rattle.base_types.specs.Scenario.{Scenario}
 use Rattle.base_types.specs.declared.fetched.Fetched.{Fetched}
@@ -12,7 +12,7 @@ use Rattle.sinval_ring.specs.declared.reader.Reader.{Reader}
 use Rattle.sinval_ring.specs.declared.reader.Reader.TheVariants.{Inactive, At, Reset}
 use Rattle.sinval_ring.specs.Readers.{unmarked, fetched, given_to, after_fetch}
 use Rattle.sinval_ring.specs.Queues.{Queue, reader_of, with_reader}
-use Rattle.catalog_rows.specs.Store.{Store}
+use Rattle.segment_rows.specs.Kept.{RowsHeld}
 use Rattle.history_model.specs.Lapped.{is_lapped}
 use Rattle.history_model.specs.Lives.{is_alive, life_by, life_of}
 use Rattle.history_model.specs.Log.{log_by, log_of, position_by, position_of}
@@ -29,7 +29,7 @@ use Rattle.shared_seg.specs.KeepsQueue.{reader_at, KeepsQueue, event_of_fetch}
 use Rattle.shared_seg.specs.Places.{promised_in}
 use Rattle.history_ledger.specs.Words.{IsCounted}
 use Rattle.shared_seg.specs.Transactions.{transaction_at, transaction_by}
-use Rattle.shared_seg.proofs.Entered.{call_inside, placed_appends, quiet_keeps}
+use Rattle.shared_seg.proofs.Entered.{call_inside, placed_appends, called_keeps}
 use Rattle.shared_seg.proofs.Queue.{lives-before, queue_set}
 
 -- what a fetch answers of a reader that is lapped or not
@@ -179,11 +179,11 @@ fetch_counted (fetches.Messages count) running = tt
 fetch_counted fetches.Reset running = tt
 
 -- what is kept beside the queue
-pub fetch_folds : (k now : Kept) (after : List Entry) (has : List ℕ) (b c : ℕ) (answer : Fetched) (store : Store) (locks : List Grant) (transactions own : List (Option RunningTransaction)) (next last : ℕ)
-    → k ≡ now → KeepsFolds k.script k.history k.promised store locks transactions next last → MayCall now.script now.history (entry_of b c (event_of_fetch answer))
+pub fetch_folds : (k now : Kept) (after : List Entry) (has : List ℕ) (b c : ℕ) (answer : Fetched) (rows : RowsHeld) (locks : List Grant) (transactions own : List (Option RunningTransaction))
+    → k ≡ now → KeepsFolds k.script k.history k.promised rows locks transactions → MayCall now.script now.history (entry_of b c (event_of_fetch answer))
     → after ≡ k.history ++ entry_of b c (event_of_fetch answer) ∷ [] → has ≡ slice_set k.promised b (promised_in k.promised b - 1) → own ≡ slice_set transactions b (transaction_by c (event_of_fetch answer) (transaction_at transactions b))
-    → KeepsFolds k.script after has store locks own next last
-fetch_folds k now after has b c (fetches.Messages count) store locks transactions own next last is keeps call entries taken begun =
-    quiet_keeps k now after has b c (events.Fetch count) store locks locks transactions own next last is keeps call tt entries taken refl refl refl (λ x. refl) (λ x. refl) refl begun
-fetch_folds k now after has b c fetches.Reset store locks transactions own next last is keeps call entries taken begun =
-    quiet_keeps k now after has b c events.FetchReset store locks locks transactions own next last is keeps call tt entries taken refl refl refl (λ x. refl) (λ x. refl) refl begun
+    → KeepsFolds k.script after has rows locks own
+fetch_folds k now after has b c (fetches.Messages count) rows locks transactions own is keeps call entries taken begun =
+    called_keeps k now after has b c (events.Fetch count) rows rows locks locks transactions own is keeps call tt entries taken refl refl begun
+fetch_folds k now after has b c fetches.Reset rows locks transactions own is keeps call entries taken begun =
+    called_keeps k now after has b c events.FetchReset rows rows locks locks transactions own is keeps call tt entries taken refl refl begun

@@ -1,75 +1,54 @@
 -- What is kept beside the history stays what the definitions read off it, over one more entry.
-use Rattle.std.proofs.Common.{◌≡◌, ◌≤◌, ◌<◌, ◌∙◌, ◌||◌, ◌==◌, ◌⊎◌, inl, inr, ℕ, Bool, true, false, Option, List, [], ◌∷◌, ◌++◌, length, refl, sym, ap, arith}
-use Rattle.std.proofs.Math.Bool.{or-false}
+use Rattle.std.proofs.Common.{◌≡◌, ◌<◌, ◌∙◌, ℕ, true, Option, List, [], ◌∷◌, ◌++◌, length, slice_set, sym, ap, subst}
+use Rattle.std.proofs.lemmas.Bool.{and_parts}
+use Rattle.std.proofs.lemmas.List.{length-set}
 use Rattle.base_types.specs.Scenario.{Scenario}
 use Rattle.event_kinds.specs.declared.entry.Entry.{Entry}
-use Rattle.event_kinds.specs.declared.entry.Event.{Event}
 use Rattle.lock_modes.specs.declared.grant.Grant.{Grant}
-use Rattle.catalog_rows.specs.Store.{Store, has_committed}
-use Rattle.history_model.specs.Drawn.{next_oid_by}
+use Rattle.history_model.specs.After.{segment_of}
+use Rattle.history_model.specs.Allows.{allows_event}
 use Rattle.history_model.specs.Held.{held_by}
+use Rattle.history_model.specs.MayFollow.{MayFollow}
 use Rattle.history_model.specs.Sound.{MayComeNext}
-use Rattle.history_model.specs.Transactions.{makes_visible, last_xid_by, runs_as, has_xid, running_transaction_of}
-use Rattle.history_model.specs.Versions.{versions_by}
+use Rattle.history_model.proofs.Allows.{allows_decides}
 use Rattle.history_model.proofs.Prefixes.{EachEntry-more}
-use Rattle.history_model.proofs.Reading.{versions_of-more, held_of-more, next_oid-more, last_xid-more, is_committed-more, running_transaction_of-own, running_transaction_of-other}
-use Rattle.history_model.proofs.Runs.{writes_as, xid-from}
-use Rattle.seg_calls.specs.Calls.{entry_of}
+use Rattle.history_model.proofs.Reading.{segment_of-more, held_of-more}
 use Rattle.txn_blocks.specs.declared.transaction.RunningTransaction.{RunningTransaction}
+use Rattle.segment_rows.specs.Kept.{RowsHeld, KeepsRows, xid_in}
+use Rattle.segment_rows.specs.Words.{rows_after}
+use Rattle.segment_rows.proofs.Kept.{placed, rows_more}
 use Rattle.shared_seg.specs.KeepsFolds.{KeepsFolds}
-use Rattle.shared_seg.proofs.Own.{KeptBy, own-more}
+use Rattle.shared_seg.specs.Transactions.{transaction_at, transaction_by, xid_at}
+use Rattle.shared_seg.proofs.Own.{KeptBy, own-more, kept_set}
 
 -- each thing that is kept makes the step that the entry makes it make
-pub record Steps (history : List Entry) (e : Entry) (store after : Store) (locks locked : List Grant) (transactions own : List (Option RunningTransaction)) (next oid last xid : ℕ) : Type 0 where
-  pub versions : after.versions ≡ versions_by history e.backend e.command e.event store.versions
-  pub committed : (x : ℕ) → has_committed after.committed x ≡ (has_committed store.committed x || makes_visible x e.event)
-  pub grows : length store.committed ≤ length after.committed
-  pub drawn : (x : ℕ) → writes_as x e.event ≡ true → x < length after.committed
+pub record Steps (e : Entry) (rows after : RowsHeld) (locks locked : List Grant) (transactions own : List (Option RunningTransaction)) : Type 0 where
+  pub rows_are : after ≡ rows_after (xid_at transactions e.backend) e.command e.event rows
   pub held_is : locked ≡ held_by e.backend e.command e.event locks
-  pub oid_is : oid ≡ next_oid_by e.event next
-  pub xid_is : xid ≡ last_xid_by e.event last
   pub slots : length own ≡ length transactions
   pub own_is : KeptBy e transactions own
 
+-- an entry that may follow is of an event that the segment allows
+pub event_allowed : (history : List Entry) (e : Entry) → MayFollow history e → allows_event (segment_of history) e.backend e.command e.event ≡ true
+event_allowed history e follows = (and_parts _ _ ((allows_decides history e).1 follows)).1
+
 -- what is kept after one more entry that may come
-pub keeps_more : (script : Scenario) (history : List Entry) (e : Entry) (promised places : List ℕ) (store after : Store) (locks locked : List Grant) (transactions own : List (Option RunningTransaction)) (next oid last xid : ℕ)
-    → KeepsFolds script history promised store locks transactions next last → MayComeNext history e → length places ≡ length promised → Steps history e store after locks locked transactions own next oid last xid
-    → KeepsFolds script (history ++ e ∷ []) places after locked own oid xid
-keeps_more script history e promised places store after locks locked transactions own next oid last xid k comes same_places s = record {
+pub keeps_more : (script : Scenario) (history : List Entry) (e : Entry) (promised places : List ℕ) (rows after : RowsHeld) (locks locked : List Grant) (transactions own : List (Option RunningTransaction))
+    → KeepsFolds script history promised rows locks transactions → MayComeNext history e → e.command < 4294967295 → length places ≡ length promised → Steps e rows after locks locked transactions own
+    → KeepsFolds script (history ++ e ∷ []) places after locked own
+keeps_more script history e promised places rows after locks locked transactions own k comes low same_places s = let allowed = event_allowed history e comes.follows in record {
   script_is = k.script_is;
   backends = same_places ∙ k.backends;
   slots = s.slots ∙ k.slots;
-  versions = s.versions ∙ ap (versions_by history e.backend e.command e.event) k.versions ∙ sym (versions_of-more history e);
-  committed = λ x. s.committed x ∙ ap (λ t. t || makes_visible x e.event) (k.committed x) ∙ sym (is_committed-more history e x);
-  places = λ b x is. by_owner b x (e.backend == b) refl is;
+  rows_are = subst (λ seg. KeepsRows seg after) (sym (segment_of-more history e))
+      (rows_more (segment_of history) e.backend e.command e.event rows after low (placed (segment_of history) rows e.backend e.command e.event k.rows_are allowed)
+      (s.rows_are ∙ ap (λ t. rows_after (xid_in t) e.command e.event rows) (k.own e.backend)) k.rows_are allowed);
   locks_are = s.held_is ∙ ap (held_by e.backend e.command e.event) k.locks_are ∙ sym (held_of-more history e);
-  next_is = s.oid_is ∙ ap (next_oid_by e.event) k.next_is ∙ sym (next_oid-more history e);
-  last_is = s.xid_is ∙ ap (last_xid_by e.event) k.last_is ∙ sym (last_xid-more history e);
   own = own-more history e transactions own k.own s.own_is;
   sound = EachEntry-more MayComeNext history e k.sound comes;
 }
-  where
-    from : (b x : ℕ) → (runs_as history b x ≡ true) ⊎ (writes_as x e.event ≡ true) → x < length after.committed
-    from b x (inl had) = omega (arith, k.places b x had, s.grows)
-    from b x (inr writes) = s.drawn x writes
 
-    by_owner : (b x : ℕ) (t : Bool) → (e.backend == b) ≡ t → runs_as (history ++ e ∷ []) b x ≡ true → x < length after.committed
-    by_owner b x true own' is = from b x (xid-from x e.command e.event (running_transaction_of history b) (sym (ap (has_xid x) (running_transaction_of-own history e b own')) ∙ is))
-    by_owner b x false other is = from b x (inl (sym (ap (has_xid x) (running_transaction_of-other history e b other)) ∙ is))
-
--- an entry that changes no row, draws no oid and no Xid, and makes nothing visible
-pub quiet_steps : (history : List Entry) (b c : ℕ) (event : Event) (store : Store) (locks locked : List Grant) (transactions own : List (Option RunningTransaction)) (next last : ℕ)
-    → versions_by history b c event store.versions ≡ store.versions → next_oid_by event next ≡ next → last_xid_by event last ≡ last
-    → ((x : ℕ) → makes_visible x event ≡ false) → ((x : ℕ) → writes_as x event ≡ false) → locked ≡ held_by b c event locks → length own ≡ length transactions → KeptBy (entry_of b c event) transactions own
-    → Steps history (entry_of b c event) store store locks locked transactions own next next last last
-quiet_steps history b c event store locks locked transactions own next last no_version no_oid no_xid no_commit no_write held_is slots own_is = record {
-  versions = sym no_version;
-  committed = λ x. sym (or-false (has_committed store.committed x)) ∙ ap (λ t. has_committed store.committed x || t) (sym (no_commit x));
-  grows = omega arith;
-  drawn = λ x writes. let never : true ≡ false = sym writes ∙ no_write x in absurd (cc);
-  held_is = held_is;
-  oid_is = sym no_oid;
-  xid_is = sym no_xid;
-  slots = slots;
-  own_is = own_is;
-}
+-- the steps of an entry of a backend that has a slot
+pub steps_set : (e : Entry) (rows after : RowsHeld) (locks locked : List Grant) (transactions own : List (Option RunningTransaction)) → after ≡ rows_after (xid_at transactions e.backend) e.command e.event rows → locked ≡ held_by e.backend e.command e.event locks
+    → e.backend < length transactions → own ≡ slice_set transactions e.backend (transaction_by e.command e.event (transaction_at transactions e.backend)) → Steps e rows after locks locked transactions own
+steps_set e rows after locks locked transactions own rows_are held_is within own_is = record { rows_are = rows_are; held_is = held_is; slots = ap length own_is ∙ length-set transactions e.backend _; own_is = kept_set e transactions own within own_is }

@@ -10,11 +10,9 @@ mod Own
 mod PromiseSums
 mod PlacesPromised
 mod Published
-mod Rows
 mod Scanned
 mod Start
 mod Unchanged
 mod Writing
-mod Written
 pub mod Queue
 mod Fetched

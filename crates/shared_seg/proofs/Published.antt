@@ -1,12 +1,12 @@
 -- How many messages a transaction has published: few enough to be counted.
 use Rattle.std.proofs.Common.{◌≡◌, ◌≤◌, ◌<◌, ◌+◌, ◌*◌, ◌^◌, ℕ, Bool, true, false, Option, Some, None, List, [], ◌∷◌, ◌++◌, ◌==◌, if◌then◌else◌, length, refl, ap, arith}
-use Rattle.std.specs.Option.{option_map, option_map_or}
+use Rattle.std.specs.Option.{option_map_or}
 use Rattle.std.proofs.lemmas.List.{length-append}
 use Rattle.event_kinds.specs.declared.entry.Entry.{Entry}
 use Rattle.event_kinds.specs.declared.entry.Event.{Event}
 use Rattle.event_kinds.specs.declared.entry.Event.TheVariants as events
 use Rattle.lock_modes.specs.declared.grant.Grant.{Grant}
-use Rattle.catalog_rows.specs.Store.{Store}
+use Rattle.segment_rows.specs.Kept.{RowsHeld}
 use Rattle.history_model.specs.MayFollow.{AllowsEvent}
 use Rattle.history_model.specs.Sound.{MayComeNext, IsSound}
 use Rattle.history_model.specs.Transactions.{begun, running_by, running_transaction_of}
@@ -62,8 +62,8 @@ kept-published : (r : Option Running) (own : Option RunningTransaction) → own 
 kept-published r own is = ap published_of is
 
 -- so what is published with a call can be counted
-pub published_fits : (k now : Kept) (b c count : ℕ) (store : Store) (locks : List Grant) (transactions : List (Option RunningTransaction)) (next last : ℕ) → k ≡ now → KeepsFolds k.script k.history k.promised store locks transactions next last
+pub published_fits : (k now : Kept) (b c count : ℕ) (rows : RowsHeld) (locks : List Grant) (transactions : List (Option RunningTransaction)) → k ≡ now → KeepsFolds k.script k.history k.promised rows locks transactions
     → MayCall now.script now.history (entry_of b c (events.Publish count)) → published_at transactions b + count < 2 ^ 64
-published_fits k now b c count store locks transactions next last is keeps call =
+published_fits k now b c count rows locks transactions is keeps call =
     let inside : MayCall k.script k.history (entry_of b c (events.Publish count)) = call_inside k now (entry_of b c (events.Publish count)) is call in
     omega (arith, kept-published (running_transaction_of k.history b) _ (keeps.own b), few_published_in k.history keeps.sound b, k.short, inside.follows.event.2)

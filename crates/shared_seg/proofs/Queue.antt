@@ -4,7 +4,6 @@ use Rattle.std.proofs.lemmas.Bool.{eqb-true, eqb-false, eq-eqb, ltb-true, lt-ltb
 use Rattle.std.proofs.lemmas.List.{get_or-set_other, length-set, length-map, length-replicate, length-append}
 use Rattle.std.proofs.lemmas.Grind.{get_or-set_at}
 use Rattle.base_types.specs.Scenario.{Scenario, IsScript}
-use Rattle.base_types.specs.declared.ids.TheConstants.{FIRST_OID}
 use Rattle.event_kinds.specs.declared.entry.Entry.{Entry}
 use Rattle.event_kinds.specs.declared.entry.Event.{Event}
 use Rattle.event_kinds.specs.declared.entry.Event.TheVariants as events
@@ -19,7 +18,8 @@ use Rattle.sinval_ring.specs.Cleanups.{swept, marked}
 use Rattle.sinval_ring.specs.declared.cleaned.Cleaned.{Cleaned}
 use Rattle.sinval_ring.specs.Cleaning.{must_clean, signal_of, swept_of, low_of, cleaned, made_room, room_answer, inserted}
 use Rattle.sinval_ring.specs.Queues.{Queue, empty_queue, reader_of, with_reader}
-use Rattle.catalog_rows.specs.Store.{Store, no_rows}
+use Rattle.history_model.specs.Segment.{no_entries}
+use Rattle.segment_rows.specs.Kept.{RowsHeld, KeepsRows}
 use Rattle.history_model.specs.Lapped.{is_lapped}
 use Rattle.history_model.specs.MayFollow.{AllowsEvent, MayFollow}
 use Rattle.history_model.specs.MayFollow.{FollowsLife}
@@ -336,10 +336,10 @@ queue_start script = record {
 }
 
 -- all that is kept beside an empty history
-pub shared_start_at : (script given : Scenario) (n : ℕ) (entries : List Entry) (promised : List ℕ) (store : Store) (locks : List Grant) (transactions : List (Option RunningTransaction)) (queue : Queue) → IsScript given → n ≡ given.backends
-    → script ≡ given → entries ≡ [] → promised ≡ replicate (n + 1) 0 → store ≡ no_rows → locks ≡ [] → transactions ≡ replicate (n + 1) None → queue ≡ empty_queue given.size given.backends given.from
-    → KeepsShared script entries promised store locks transactions FIRST_OID 0 queue
-shared_start_at script given n entries promised store locks transactions queue is size script_is entries_are promised_are store_is locks_are transactions_are queue_is = record {
-  folds = keeps_start_at script given n entries promised store locks transactions is size script_is entries_are promised_are store_is locks_are transactions_are;
+pub shared_start_at : (script given : Scenario) (n : ℕ) (entries : List Entry) (promised : List ℕ) (rows : RowsHeld) (locks : List Grant) (transactions : List (Option RunningTransaction)) (queue : Queue) → IsScript given → n ≡ given.backends
+    → script ≡ given → entries ≡ [] → promised ≡ replicate (n + 1) 0 → KeepsRows no_entries rows → locks ≡ [] → transactions ≡ replicate (n + 1) None → queue ≡ empty_queue given.size given.backends given.from
+    → KeepsShared script entries promised rows locks transactions queue
+shared_start_at script given n entries promised rows locks transactions queue is size script_is entries_are promised_are rows_are locks_are transactions_are queue_is = record {
+  folds = keeps_start_at script given n entries promised rows locks transactions is size script_is entries_are promised_are rows_are locks_are transactions_are;
   queued = rw (script_is, entries_are, queue_is) (queue_start given);
 }

@@ -15,7 +15,7 @@ use Rattle.sinval_ring.specs.declared.reader.Reader.{Reader}
 use Rattle.sinval_ring.specs.declared.reader.Reader.TheVariants.{Inactive, At, Reset}
 use Rattle.sinval_ring.specs.Readers.{unmarked}
 use Rattle.seg_calls.specs.Queue.{queue_of}
-use Rattle.catalog_rows.specs.Store.{Store}
+use Rattle.segment_rows.specs.Kept.{RowsHeld}
 use Rattle.txn_blocks.specs.declared.transaction.RunningTransaction.{RunningTransaction}
 use Rattle.shared_seg.specs.KeepsFolds.{KeepsFolds}
 
@@ -44,6 +44,6 @@ event_of_fetch (fetches.Messages count) = events.Fetch count
 event_of_fetch fetches.Reset = events.FetchReset
 
 -- all that is kept beside the history
-pub record KeepsShared (script : Scenario) (history : List Entry) (promised : List ℕ) (store : Store) (locks : List Grant) (transactions : List (Option RunningTransaction)) (next last : ℕ) (queue : Queue) : Type 0 where
-  pub folds : KeepsFolds script history promised store locks transactions next last
+pub record KeepsShared (script : Scenario) (history : List Entry) (promised : List ℕ) (rows : RowsHeld) (locks : List Grant) (transactions : List (Option RunningTransaction)) (queue : Queue) : Type 0 where
+  pub folds : KeepsFolds script history promised rows locks transactions
   pub queued : KeepsQueue script history queue

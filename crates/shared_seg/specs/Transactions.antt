@@ -1,11 +1,11 @@
 -- What is kept of the running transactions.
-use Rattle.std.specs.Prelude.{ℕ, Option, Some, None, List, ◌+◌, slice_index_or}
-use Rattle.std.specs.Option.{option_map, option_map_or}
+use Rattle.std.specs.Prelude.{ℕ, Option, None, List, slice_index_or}
+use Rattle.std.specs.Option.{option_map_or}
 use Rattle.base_types.specs.declared.ids.Xid.{Xid}
 use Rattle.event_kinds.specs.declared.entry.Entry.{Entry}
 use Rattle.event_kinds.specs.declared.entry.Event.{Event}
-use Rattle.row_visibility.specs.declared.version.Reader.{Reader}
 use Rattle.history_model.specs.Transactions.{running_transaction_of, running_by}
+use Rattle.segment_rows.specs.Kept.{xid_in}
 use Rattle.txn_blocks.specs.declared.transaction.RunningTransaction.{RunningTransaction}
 
 -- what is kept of a backend's running transaction
@@ -16,18 +16,9 @@ transaction_of history b = running_transaction_of history b
 abbrev pub transaction_at : List (Option RunningTransaction) → ℕ → Option RunningTransaction
 transaction_at transactions b = slice_index_or transactions b None
 
--- the Xid that is kept of a transaction
-abbrev pub own_xid_in : Option RunningTransaction → Option Xid
-own_xid_in None = None
-own_xid_in (Some t) = t.xid
-
 -- the Xid that is kept for a backend
 abbrev pub xid_at : List (Option RunningTransaction) → ℕ → Option Xid
-xid_at transactions b = own_xid_in (transaction_at transactions b)
-
--- a backend as a reader of rows in a command: it sees what it wrote in the commands up to this one
-abbrev pub own_reader : List (Option RunningTransaction) → ℕ → ℕ → Reader
-own_reader transactions b command = record { xid = xid_at transactions b; command = command + 1 }
+xid_at transactions b = xid_in (transaction_at transactions b)
 
 -- how many messages the transaction has published that is kept for a backend
 abbrev pub published_at : List (Option RunningTransaction) → ℕ → ℕ

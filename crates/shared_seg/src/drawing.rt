@@ -9,12 +9,11 @@ use ddl_effect::Draft;
 use event_kinds::Item;
 use std::alloc::{AllocError, Global};
 
-// What a write draws: its Xid, the next oid after it, its changes and its items.
+// What a write draws: its Xid, its first new oid and its items.
 #[derive(Drop)]
 pub(crate) struct Drawn {
     pub xid: Xid,
-    pub next_oid: u32,
-    pub changes: Vec<Change>,
+    pub first_oid: Oid,
     pub items: Vec<Item>,
 }
 
@@ -23,21 +22,23 @@ pub(crate) fn draw(
     alloc: Global,
     own: Option<Xid>,
     draft: &Draft,
-    next_oid: u32,
+    next_oid: u64,
     last_xid: u32,
 ) -> Result<Drawn, NoMemory>
     ensures { IfOk result (IsDrawn own draft.now next_oid last_xid) }
 {
-    let Some(after) = next_oid.checked_add(draft.new_oids) else {
+    let Ok(first) = u32::try_from(next_oid) else {
+        return Err(NoMemory);
+    };
+    let Some(_) = first.checked_add(draft.new_oids) else {
         return Err(NoMemory);
     };
     let xid = next_xid(own, last_xid)?;
-    let changes = drawn_changes(alloc, next_oid, draft.new_oids, draft.changes.as_slice())?;
+    let changes = drawn_changes(alloc, first, draft.new_oids, draft.changes.as_slice())?;
     let items = items_of(alloc, &changes, draft.forced.as_slice())?;
     Ok(Drawn {
         xid,
-        next_oid: after,
-        changes,
+        first_oid: Oid(first),
         items,
     })
 }

@@ -3,12 +3,12 @@
 //! It keeps the history, the versions of all rows, the locks that are held, the running transaction of
 //! each backend, and the next numbers to be drawn. The history alone says what all of these are: each is
 //! what the definitions read off it, so that is the invariant, with one law of one more entry for each
-//! (`specs/KeepsFolds.antt`, `proofs/Keeps.antt`). Rows, locks and messages are kept by the crates below,
-//! a [`RowStore`](catalog_rows::RowStore) and a [`LockTable`](lock_modes::LockTable), each of which is
-//! one list to the contracts, and a [`Ring`](sinval_ring::Ring), which is all messages that were ever
-//! sent and a reader for each backend (`specs/KeepsQueue.antt`): a reader is in reset state exactly
-//! where its backend is lapped. And the history is sound: each of its entries may follow those before
-//! it.
+//! (`specs/KeepsFolds.antt`, `proofs/Keeps.antt`). Rows with the numbers to be drawn, locks and messages
+//! are kept by the crates below, a [`SegmentRows`](segment_rows::SegmentRows), a
+//! [`LockTable`](lock_modes::LockTable), which is one list to the contracts, and a
+//! [`Ring`](sinval_ring::Ring), which is all messages that were ever sent and a reader for each backend
+//! (`specs/KeepsQueue.antt`): a reader is in reset state exactly where its backend is lapped. And the
+//! history is sound: each of its entries may follow those before it.
 //!
 //! The promise to the layers above is the contract of `Seg`: a call appends its one entry, which the
 //! history allows, or it is out of memory and has changed nothing. A call that must not fail takes a

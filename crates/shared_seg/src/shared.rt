@@ -1,4 +1,4 @@
-ghost use Rattle.std.specs.Prelude.{◌≡◌, ◌≤◌, ◌<◌, ◌+◌, ◌++◌, ◌^◌, ℕ, [], false, None, length, sum, replicate, vec_len, vec_capacity, IfOk};
+ghost use Rattle.std.specs.Prelude.{◌≡◌, ◌≤◌, ◌<◌, ◌+◌, ◌++◌, ◌^◌, ℕ, [], None, length, sum, replicate, vec_len, vec_capacity, IfOk};
 ghost use Rattle.shared_seg.specs.Places.{promised_in};
 ghost use Rattle.shared_seg.specs.KeepsQueue.{event_of_fetch};
 
@@ -7,18 +7,17 @@ use crate::naming::first_taken;
 use crate::places::Places;
 use crate::played_script::PlayedScript;
 use crate::retold::Retold;
-use crate::transaction::{enter_running, own_xid, reader_in};
+use crate::transaction::{enter_running, own_xid};
 use crate::write::{clash_entry, clash_event, enter_write, refusal_of};
 use arrayvec::ArrayVec;
-use base_types::{FIRST_OID, Fetched, Listed, Mode, NoMemory, Oid, Purpose, Scanned, Xid};
-use catalog_rows::RowStore;
+use base_types::{Fetched, Listed, Mode, NoMemory, Oid, Purpose, Scanned, Xid};
 use ddl_effect::Draft;
 use event_kinds::{Entry, Event};
 use inval_messages::Message;
 use lock_modes::{Granted, LockTable};
 use script_text::Script;
 use seg_calls::{LockRefusal, Seg, WriteRefusal, Written};
-use segment_rows::{announced, undo_from};
+use segment_rows::SegmentRows;
 use sinval_ring::{Cleaned, Ring};
 use std::alloc::Global;
 use std::marker::Model;
@@ -29,13 +28,11 @@ pub struct Shared {
     alloc: Global,
     script: PlayedScript,
     places: Places,
-    store: RowStore,
+    rows: SegmentRows,
     locks: LockTable,
     queue: Ring,
     // by backend
     transactions: Vec<Option<RunningTransaction>>,
-    next_oid: u32,
-    last_xid: u32,
     ghost short: { length places.entries + sum places.promised ≤ 2 ^ 56 },
 }
 
@@ -46,12 +43,10 @@ impl Drop for Shared {
             alloc: _,
             script: _,
             places: _,
-            store: _,
+            rows: _,
             locks: _,
             queue: _,
             transactions: _,
-            next_oid: _,
-            last_xid: _,
         } = self;
     }
 }
@@ -65,7 +60,7 @@ impl Model for Shared {
 
     ghost view = { λ s. record { history = s.places.entries; script = s.script.scenario; promised = s.places.promised; short = s.short } };
 
-    ghost invariant = { λ s. KeepsShared s.script.scenario s.places.entries s.places.promised s.store s.locks.held s.transactions.items s.next_oid s.last_xid s.queue };
+    ghost invariant = { λ s. KeepsShared s.script.scenario s.places.entries s.places.promised s.rows s.locks.held s.transactions.items s.queue };
 }
 
 impl Shared {
@@ -85,12 +80,10 @@ impl Shared {
             alloc,
             script: PlayedScript::of(script),
             places,
-            store: RowStore::new(alloc),
+            rows: SegmentRows::new(alloc),
             locks: LockTable::new(alloc),
             queue,
             transactions,
-            next_oid: FIRST_OID,
-            last_xid: 0,
         })
     }
 
@@ -120,12 +113,10 @@ impl Shared {
             alloc: _,
             script: _,
             places,
-            store: _,
+            rows: _,
             locks: _,
             queue: _,
             transactions: _,
-            next_oid: _,
-            last_xid: _,
         } = self;
         places.into_entries()
     }
@@ -184,8 +175,8 @@ impl Seg for Shared {
     }
 
     fn scan(&mut self, b: u32, c: u32, purpose: &Purpose) -> Result<Scanned, NoMemory> {
-        let reader = reader_in(&self.transactions, b, c);
-        let rows = self.store.scan(purpose, reader)?;
+        let own = own_xid(&self.transactions, b);
+        let rows = self.rows.scan(own, purpose)?;
         let count = u32::try_from(rows.len()).map_err(|_| NoMemory)?;
         self.places.add(Entry {
             backend: b,
@@ -251,25 +242,26 @@ impl Seg for Shared {
     }
 
     fn write(&mut self, b: u32, c: u32, draft: &Draft) -> Result<Written, WriteRefusal> {
-        let reader = reader_in(&self.transactions, b, c);
-        let Ok(drawn) = draw(self.alloc, reader.xid, draft, self.next_oid, self.last_xid) else {
+        let own = own_xid(&self.transactions, b);
+        let next = self.rows.next_oid();
+        let Ok(drawn) = draw(self.alloc, own, draft, next, self.rows.last_xid()) else {
             return Err(WriteRefusal::NoMemory);
         };
-        if let Some(taken) = first_taken(&self.store, reader, &drawn.changes) {
+        if let Some(taken) = first_taken(&self.rows, own, &drawn.items) {
             let Ok(()) = self.places.add(clash_entry(b, c, &taken)) else {
                 return Err(WriteRefusal::NoMemory);
             };
             enter_running(&mut self.transactions, b, c, &clash_event(&taken));
             return Err(refusal_of(&taken));
         }
-        let Ok(messages) = announced(self.alloc, &self.store, reader, &drawn.items) else {
+        let Ok(messages) = self.rows.announced(own, &drawn.items) else {
             return Err(WriteRefusal::NoMemory);
         };
         let xid = drawn.xid;
-        let next_oid = drawn.next_oid;
+        let first_oid = drawn.first_oid;
         let Ok(()) = enter_write(
             self.alloc,
-            &mut self.store,
+            &mut self.rows,
             &mut self.locks,
             &mut self.places,
             b,
@@ -283,9 +275,6 @@ impl Seg for Shared {
             items: Listed::new(self.alloc),
         };
         enter_running(&mut self.transactions, b, c, &event);
-        let first_oid = Oid(self.next_oid);
-        self.next_oid = next_oid;
-        self.last_xid = self.last_xid.max(xid.0);
         Ok(Written {
             xid,
             first_oid,
@@ -299,7 +288,7 @@ impl Seg for Shared {
             command: c,
             event: Event::Visible { xid },
         });
-        self.store.commit(xid);
+        self.rows.commit(xid);
         enter_running(&mut self.transactions, b, c, &Event::Visible { xid });
     }
 
@@ -332,7 +321,7 @@ impl Seg for Shared {
             event: Event::Gone { from },
         });
         let own = own_xid(&self.transactions, b);
-        undo_from(&mut self.store, own, from);
+        self.rows.undo(own, from);
         enter_running(&mut self.transactions, b, c, &Event::Gone { from });
     }
 

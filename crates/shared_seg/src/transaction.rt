@@ -1,11 +1,10 @@
-ghost use Rattle.std.specs.Prelude.{◌≡◌, ◌<◌, ◌+◌, ◌^◌, length, slice_set, vec_len};
+ghost use Rattle.std.specs.Prelude.{◌≡◌, ◌<◌, length, slice_set, vec_len};
 ghost use Rattle.history_ledger.specs.Words.{IsCounted};
-ghost use Rattle.shared_seg.specs.Transactions.{own_reader, transaction_at, transaction_by, xid_at};
+ghost use Rattle.shared_seg.specs.Transactions.{transaction_at, transaction_by, xid_at};
 
 use base_types::Xid;
 use event_kinds::Event;
 use history_ledger::running_after;
-use row_visibility::Reader;
 use txn_blocks::RunningTransaction;
 
 // What the backend runs after an event in its command of this number. Condition: what it has published after a
@@ -32,17 +31,5 @@ pub(crate) fn own_xid(transactions: &[Option<RunningTransaction>], b: u32) -> Op
     match transactions[b as usize] {
         Some(transaction) => transaction.xid,
         None => None,
-    }
-}
-
-// The backend as a reader of rows in this command: it sees what it wrote in the commands up to this one.
-pub(crate) fn reader_in(transactions: &[Option<RunningTransaction>], b: u32, command: u32) -> Reader
-    requires within { b < length transactions.now }
-    requires number { command + 1 < 2 ^ 32 }
-    ensures { result ≡ own_reader transactions.now b command }
-{
-    Reader {
-        xid: own_xid(transactions, b),
-        command: command + 1,
     }
 }

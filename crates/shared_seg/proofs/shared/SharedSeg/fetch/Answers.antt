@@ -22,7 +22,7 @@ invariant_of-self c =
     let entries : c.append.new.self.entries ≡ c.self.inside.places.entries ++ entry_of c.args.b c.args.c (event_of_fetch c.fetch-fetched.result) ∷ [] =
     c.append.ensures.entries ∙ ap (λ event. c.self.inside.places.entries ++ entry_of c.args.b c.args.c event ∷ []) c.fetch_event-event.ensures in
     record {
-      folds = fetch_folds _ _ _ _ c.args.b c.args.c c.fetch-fetched.result _ _ _ _ _ _ c.self.view_is c.self.invariant.folds call entries c.append.ensures.promised
+      folds = fetch_folds _ _ _ _ c.args.b c.args.c c.fetch-fetched.result _ _ _ _ c.self.view_is c.self.invariant.folds call entries c.append.ensures.promised
           (c.enter_running.ensures ∙ ap (λ event. slice_set c.self.inside.transactions.items c.args.b (transaction_by c.args.c event (transaction_at c.self.inside.transactions.items c.args.b))) c.fetch_event-event.ensures);
       queued = placed_queued c.self.inside.script.scenario _ _ (entry_of c.args.b c.args.c (event_of_fetch c.fetch-fetched.result)) _ _ entries c.fetch-fetched.ensures.queue
           (fetch_queued c.self.inside.script.scenario _ c.args.b c.args.c c.fetch-fetched.result _ (within c.self.inside.script.scenario c.args.b _ inside.backend c.self.invariant.queued.slots) c.self.invariant.queued alive due);

@@ -2,19 +2,17 @@ use Rattle.std.proofs.Common.{◌∙◌, refl, ap}
 use Rattle.event_kinds.specs.declared.entry.Event.TheVariants.{Gone}
 use Rattle.seg_calls.specs.Calls.{entry_of}
 use Rattle.shared_seg.specs.Transactions.{xid_at}
-use Rattle.segment_rows.specs.Words.{undone}
+use Rattle.segment_rows.specs.Words.{rows_after}
 use Rattle.shared_seg.specs.Kept.{Kept}
-use Rattle.shared_seg.proofs.Entered.{call_inside, within, placed_appends, placed_keeps, called_within}
-use Rattle.shared_seg.proofs.Rows.{gone_steps}
+use Rattle.shared_seg.proofs.Entered.{placed_appends, called_keeps, called_within}
 use Rattle.shared_seg.proofs.Queue.{placed_still}
 use Rattle.shared_seg.proofs.shared.SharedSeg.gone.Goals as goal
 
 pub invariant_of-self : goal.invariant_of-self
 invariant_of-self c = record {
   folds =
-      let call = call_inside _ _ (entry_of c.args.b c.args.c (Gone c.args.from)) c.self.view_is c.requires.call in
-      placed_keeps _ _ _ _ (entry_of c.args.b c.args.c (Gone c.args.from)) _ _ _ _ _ _ _ _ _ _ c.self.view_is c.self.invariant.folds c.requires.call tt c.append.ensures.entries c.append.ensures.promised
-      (gone_steps _ c.args.b c.args.c c.args.from _ _ _ _ _ _ _ (c.self.invariant.folds.own c.args.b) (c.undo_from.ensures ∙ ap (λ own. undone own c.args.from c.self.inside.store) (c.own_xid-own.ensures ∙ ap (λ ts. xid_at ts c.args.b) c.deref.ensures.value)) (within c.self.inside.script.scenario c.args.b _ call.backend c.self.invariant.folds.slots) c.enter_running.ensures);
+      called_keeps _ _ _ _ c.args.b c.args.c (Gone c.args.from) _ _ _ _ _ _ c.self.view_is c.self.invariant.folds c.requires.call tt c.append.ensures.entries c.append.ensures.promised
+      (c.undo.ensures ∙ ap (λ own. rows_after own c.args.c (Gone c.args.from) c.self.inside.rows) (c.own_xid-own.ensures ∙ ap (λ ts. xid_at ts c.args.b) c.deref.ensures.value)) refl c.enter_running.ensures;
   queued = placed_still _ _ _ (entry_of c.args.b c.args.c (Gone c.args.from)) _ c.self.view_is c.self.invariant.queued c.requires.call refl c.append.ensures.entries;
 }
 

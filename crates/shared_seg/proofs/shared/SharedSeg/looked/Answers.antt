@@ -2,14 +2,14 @@ use Rattle.std.proofs.Common.{◌∙◌, refl, ap}
 use Rattle.event_kinds.specs.declared.entry.Event.TheVariants.{Look}
 use Rattle.seg_calls.specs.Calls.{entry_of}
 use Rattle.shared_seg.specs.Kept.{Kept}
-use Rattle.shared_seg.proofs.Entered.{placed_appends, quiet_keeps, called_within}
+use Rattle.shared_seg.proofs.Entered.{placed_appends, called_keeps, called_within}
 use Rattle.shared_seg.proofs.Queue.{placed_still}
 use Rattle.shared_seg.proofs.shared.SharedSeg.looked.Goals as goal
 
 pub invariant_of-self : goal.invariant_of-self
 invariant_of-self c = record {
   folds =
-      quiet_keeps _ _ _ _ c.args.b c.args.c (Look c.args.yes) _ _ _ _ _ _ _ c.self.view_is c.self.invariant.folds c.requires.call tt c.append.ensures.entries c.append.ensures.promised refl refl refl (λ x. refl) (λ x. refl) refl c.enter_running.ensures;
+      called_keeps _ _ _ _ c.args.b c.args.c (Look c.args.yes) _ _ _ _ _ _ c.self.view_is c.self.invariant.folds c.requires.call tt c.append.ensures.entries c.append.ensures.promised refl refl c.enter_running.ensures;
   queued = placed_still _ _ _ (entry_of c.args.b c.args.c (Look c.args.yes)) _ c.self.view_is c.self.invariant.queued c.requires.call refl c.append.ensures.entries;
 }
 

@@ -2,7 +2,7 @@ use Rattle.std.proofs.Common.{◌∙◌, refl, ap}
 use Rattle.event_kinds.specs.declared.entry.Event.TheVariants.{Start}
 use Rattle.seg_calls.specs.Calls.{entry_of}
 use Rattle.shared_seg.specs.Kept.{Kept}
-use Rattle.shared_seg.proofs.Entered.{call_inside, within, placed_appends, quiet_keeps, called_within}
+use Rattle.shared_seg.proofs.Entered.{call_inside, within, placed_appends, called_keeps, called_within}
 use Rattle.shared_seg.proofs.Queue.{placed_queued, start_needs, start_queued}
 use Rattle.shared_seg.proofs.shared.SharedSeg.start.Goals as goal
 
@@ -15,7 +15,7 @@ start-requires-clause-inactive c = start_needs _ _ c.args.b _ c.self.view_is c.s
 pub invariant_of-self : goal.invariant_of-self
 invariant_of-self c = record {
   folds =
-      quiet_keeps _ _ _ _ c.args.b 0 Start _ _ _ _ _ _ _ c.self.view_is c.self.invariant.folds c.requires.call tt c.append.ensures.entries c.append.ensures.promised refl refl refl (λ x. refl) (λ x. refl) refl c.enter_running.ensures;
+      called_keeps _ _ _ _ c.args.b 0 Start _ _ _ _ _ _ c.self.view_is c.self.invariant.folds c.requires.call tt c.append.ensures.entries c.append.ensures.promised refl refl c.enter_running.ensures;
   queued = let call = call_inside _ _ (entry_of c.args.b 0 Start) c.self.view_is c.requires.call in
       placed_queued c.self.inside.script.scenario _ _ (entry_of c.args.b 0 Start) _ _ c.append.ensures.entries c.start.ensures (start_queued c.self.inside.script.scenario _ c.args.b _ (within c.self.inside.script.scenario c.args.b _ call.backend c.self.invariant.queued.slots) c.self.invariant.queued);
 }

@@ -3,7 +3,6 @@ use Rattle.event_kinds.specs.declared.entry.Event.TheVariants.{Stop}
 use Rattle.seg_calls.specs.Calls.{entry_of}
 use Rattle.shared_seg.specs.Kept.{Kept}
 use Rattle.shared_seg.proofs.Own.{kept_same}
-use Rattle.shared_seg.proofs.Keeps.{quiet_steps}
 use Rattle.shared_seg.proofs.Entered.{call_inside, within, placed_appends, placed_keeps}
 use Rattle.shared_seg.proofs.Queue.{placed_queued, active_needs, stop_queued}
 use Rattle.shared_seg.proofs.shared.SharedSeg.stop.Goals as goal
@@ -14,8 +13,8 @@ stop-requires c = record { active = active_needs _ _ c.args.b c.args.c Stop _ c.
 pub invariant_of-self : goal.invariant_of-self
 invariant_of-self c = record {
   folds =
-      placed_keeps _ _ _ _ (entry_of c.args.b c.args.c Stop) _ _ _ _ _ _ _ _ _ _ c.self.view_is c.self.invariant.folds c.requires.call tt c.append.ensures.entries c.append.ensures.promised
-      (quiet_steps _ c.args.b c.args.c Stop _ _ _ _ _ _ _ refl refl refl (λ x. refl) (λ x. refl) refl refl (kept_same c.args.b c.args.c _));
+      placed_keeps _ _ _ _ (entry_of c.args.b c.args.c Stop) _ _ _ _ _ _ c.self.view_is c.self.invariant.folds c.requires.call tt c.append.ensures.entries c.append.ensures.promised
+      (record { rows_are = refl; held_is = refl; slots = refl; own_is = kept_same c.args.b c.args.c _ });
   queued = let call = call_inside _ _ (entry_of c.args.b c.args.c Stop) c.self.view_is c.requires.call in
       placed_queued c.self.inside.script.scenario _ _ (entry_of c.args.b c.args.c Stop) _ _ c.append.ensures.entries c.stop.ensures (stop_queued c.self.inside.script.scenario _ c.args.b c.args.c _ (within c.self.inside.script.scenario c.args.b _ call.backend c.self.invariant.queued.slots) c.self.invariant.queued);
 }

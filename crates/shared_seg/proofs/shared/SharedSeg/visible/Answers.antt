@@ -2,19 +2,19 @@ use Rattle.std.proofs.Common.{◌∙◌, refl, ap}
 use Rattle.event_kinds.specs.declared.entry.Event.TheVariants.{Visible}
 use Rattle.seg_calls.specs.Calls.{entry_of}
 use Rattle.shared_seg.specs.Kept.{Kept}
-use Rattle.shared_seg.proofs.Entered.{call_inside, within, placed_appends, placed_keeps, called_within}
-use Rattle.shared_seg.proofs.Rows.{visible_steps}
+use Rattle.shared_seg.proofs.Entered.{call_inside, placed_appends, called_keeps, called_within}
 use Rattle.shared_seg.proofs.Queue.{placed_still}
 use Rattle.shared_seg.proofs.shared.SharedSeg.visible.Goals as goal
 
 pub invariant_of-self : goal.invariant_of-self
 invariant_of-self c = record {
   folds =
-      let call = call_inside _ _ (entry_of c.args.b c.args.c (Visible c.args.xid)) c.self.view_is c.requires.call in
-      placed_keeps _ _ _ _ (entry_of c.args.b c.args.c (Visible c.args.xid)) _ _ _ _ _ _ _ _ _ _ c.self.view_is c.self.invariant.folds c.requires.call tt c.append.ensures.entries c.append.ensures.promised
-      (visible_steps _ c.args.b c.args.c c.args.xid _ _ _ _ _ _ _ c.commit.ensures (c.self.invariant.folds.places c.args.b c.args.xid.0 call.follows.event.0) (within c.self.inside.script.scenario c.args.b _ call.backend c.self.invariant.folds.slots) c.enter_running.ensures);
+      called_keeps _ _ _ _ c.args.b c.args.c (Visible c.args.xid) _ _ _ _ _ _ c.self.view_is c.self.invariant.folds c.requires.call tt c.append.ensures.entries c.append.ensures.promised c.commit.ensures refl c.enter_running.ensures;
   queued = placed_still _ _ _ (entry_of c.args.b c.args.c (Visible c.args.xid)) _ c.self.view_is c.self.invariant.queued c.requires.call refl c.append.ensures.entries;
 }
+
+pub commit-requires : goal.commit-requires
+commit-requires c = c.self.invariant.folds.rows_are.places c.args.b c.args.xid.0 (call_inside _ _ (entry_of c.args.b c.args.c (Visible c.args.xid)) c.self.view_is c.requires.call).follows.event.0
 
 pub returns-clause-appends : goal.returns-clause-appends
 returns-clause-appends c = placed_appends _ _ _ _ (entry_of c.args.b c.args.c (Visible c.args.xid)) refl c.self.view_is c.requires.call tt c.self.invariant.folds.backends c.append.ensures.entries c.append.ensures.promised
