@@ -20,8 +20,8 @@ pub(crate) fn old_row(store: &RowStore, reader: Reader, item: &Item) -> Option<R
     }
 }
 
-/// The messages of a write's items, in their order, by the rows that the reader sees.
-pub fn announced(
+// The messages of a write's items, in their order, by the rows that the reader sees.
+pub(crate) fn announced(
     alloc: Global,
     store: &RowStore,
     reader: Reader,

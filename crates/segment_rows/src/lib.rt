@@ -30,7 +30,6 @@ mod rows;
 mod same;
 mod writing;
 
-pub use announcing::announced;
 pub use rows::SegmentRows;
 pub use same::same_row;
-pub use writing::{drawn_oid, undo_from};
+pub use writing::drawn_oid;

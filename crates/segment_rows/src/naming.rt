@@ -1,30 +1,13 @@
-ghost use Rattle.std.specs.Prelude.{◌≡◌, Some, IfOk};
+ghost use Rattle.std.specs.Prelude.{◌≡◌, Some};
 ghost use Rattle.std.specs.List.{list_any};
 ghost use Rattle.std.specs.Option.{option_to_list};
 ghost use Rattle.history_model.specs.Names.{is_row_of as is_of_relation, new_name as names_changed};
 ghost use Rattle.history_model.specs.Versions.{added_row as row_added};
-ghost use Rattle.segment_rows.specs.Words.{frees_names as does_free_names, is_unused as is_not_used, may_clash as does_allow_clash};
+ghost use Rattle.segment_rows.specs.Words.{is_unused as is_not_used};
 
-use crate::rows::reader;
-use base_types::{Name, NoMemory, Oid, Purpose, Row, Xid};
-use catalog_rows::RowStore;
+use base_types::{Name, Oid, Row};
 use event_kinds::Item;
 use row_visibility::Clash;
-
-// Whether no new name of a change is in use.
-pub(crate) fn frees_names(
-    store: &RowStore,
-    own: Option<Xid>,
-    item: &Item,
-    old: &Option<Row>,
-) -> bool
-    ensures { result ≡ does_free_names store.now own item.now old.now }
-{
-    match new_name(item, old) {
-        Some(name) => store.name_clash(&name, own).is_none(),
-        None => true,
-    }
-}
 
 // The name that a change gives a relation, unless the relation has it already.
 pub(crate) fn new_name(item: &Item, old: &Option<Row>) -> Option<Name>
@@ -53,28 +36,15 @@ fn changed_name(old: &Option<Row>, row: &Row) -> Option<Name>
     }
 }
 
-// Whether a write may be refused since this relation has the name.
-pub(crate) fn may_clash(
-    store: &RowStore,
-    own: Option<Xid>,
-    name: &Name,
-    rel: Oid,
-) -> Result<bool, NoMemory>
-    ensures { IfOk result (λ yes. yes ≡ does_allow_clash store.now own name.now rel) }
-{
-    let given = store.scan(&Purpose::RelName(*name), reader(own))?;
-    Ok(is_unused(store.name_clash(name, own)) && has_row_of(&given, rel))
-}
-
 // Whether no running transaction of another has the name in use.
-fn is_unused(clash: Option<Clash>) -> bool
+pub(crate) fn is_unused(clash: Option<Clash>) -> bool
     ensures { result ≡ is_not_used clash }
 {
     !matches!(clash, Some(Clash::Running(_)))
 }
 
 // Whether one of the rows is of this relation.
-fn has_row_of(rows: &[Row], rel: Oid) -> bool
+pub(crate) fn has_row_of(rows: &[Row], rel: Oid) -> bool
     ensures { result ≡ list_any (is_of_relation rel) rows.now }
 {
     rows.iter().any(|row| is_row_of(row, rel))

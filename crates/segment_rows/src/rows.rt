@@ -5,8 +5,8 @@ ghost use Rattle.segment_rows.specs.Kept.{reader_of};
 
 use crate::announcing::{announced, old_row};
 use crate::covering::covers_all;
-use crate::naming::{frees_names, may_clash, new_name};
-use crate::writing::{after_drawn, changes_in, undo_from};
+use crate::naming::{has_row_of, is_unused, new_name};
+use crate::writing::{after_drawn, changes_in};
 use base_types::{FIRST_OID, Name, NoMemory, Oid, Purpose, Row, Xid};
 use catalog_rows::RowStore;
 use event_kinds::{Event, Item};
@@ -130,14 +130,18 @@ impl SegmentRows {
     pub fn may_clash(&self, own: Option<Xid>, name: &Name, rel: Oid) -> Result<bool, NoMemory>
         ensures { IfOk result (λ yes. yes ≡ does_allow_clash self.now.store own name.now rel) }
     {
-        may_clash(&self.store, own, name, rel)
+        let given = self.store.scan(&Purpose::RelName(*name), reader(own))?;
+        Ok(is_unused(self.store.name_clash(name, own)) && has_row_of(&given, rel))
     }
 
     /// Whether no new name of a change by the backend is in use, where this is the row that it replaces.
     pub fn frees_names(&self, own: Option<Xid>, item: &Item, old: &Option<Row>) -> bool
         ensures { result ≡ does_free_names self.now.store own item.now old.now }
     {
-        frees_names(&self.store, own, item, old)
+        match new_name(item, old) {
+            Some(name) => self.store.name_clash(&name, own).is_none(),
+            None => true,
+        }
     }
 
     /// Whether each scan whose answer a write by the backend changes is covered by one of its messages.
@@ -193,11 +197,13 @@ impl SegmentRows {
         self.store.commit(xid);
     }
 
-    /// Takes back what the backend wrote in commands of this number and above.
+    /// Takes back what the backend wrote in commands of this number and above, if it has written.
     pub fn undo(&mut self, own: Option<Xid>, from: u32)
         ensures { self.new ≡ rows_after own 0 (events.Gone from) self.old }
     {
-        undo_from(&mut self.store, own, from);
+        if let Some(xid) = own {
+            self.store.undo(xid, from);
+        }
     }
 }
 

@@ -3,21 +3,11 @@ ghost use Rattle.std.specs.List.{flat_map};
 ghost use Rattle.std.specs.Option.{option_to_list};
 ghost use Rattle.history_model.specs.Changing.{are_from};
 ghost use Rattle.history_model.specs.Drawn.{drawn_by};
-ghost use Rattle.segment_rows.specs.Words.{change_in, changes_in as changes_among, undone};
+ghost use Rattle.segment_rows.specs.Words.{change_in, changes_in as changes_among};
 
-use base_types::{Change, NoMemory, Row, Xid};
-use catalog_rows::RowStore;
+use base_types::{Change, NoMemory, Row};
 use event_kinds::Item;
 use std::alloc::Global;
-
-/// Takes back what the transaction of this Xid wrote in commands of this number and above, if it has one.
-pub fn undo_from(store: &mut RowStore, own: Option<Xid>, from: u32)
-    ensures { store.new ≡ undone own from store.old }
-{
-    if let Some(xid) = own {
-        store.undo(xid, from);
-    }
-}
 
 // The changes of a write's items.
 pub(crate) fn changes_in(alloc: Global, items: &[Item]) -> Result<Vec<Change>, NoMemory>

@@ -1,5 +1,5 @@
 -- What is shared after an entry that takes no promised place.
-use Rattle.std.proofs.Common.{◌≡◌, ◌<◌, ◌+◌, ℕ, false, Option, List, slice_set, [], ◌∷◌, ◌++◌, length, arith, sym, ap, subst}
+use Rattle.std.proofs.Common.{◌≡◌, ◌<◌, ◌+◌, ℕ, false, Option, List, slice_set, [], ◌∷◌, ◌++◌, length, sym, ap, subst}
 use Rattle.base_types.specs.Scenario.{Scenario}
 use Rattle.event_kinds.specs.declared.entry.Entry.{Entry}
 use Rattle.event_kinds.specs.declared.entry.Event.{Event}

@@ -1,17 +1,12 @@
 -- What is kept of the running transactions, after one more entry.
-use Rattle.std.proofs.Common.{◌≡◌, ◌<◌, ◌∙◌, ℕ, Bool, true, false, Option, Some, None, List, [], ◌∷◌, ◌++◌, ◌==◌, if◌then◌else◌, length, slice_set, refl, sym, ap}
-use Rattle.std.specs.Option.{option_map}
+use Rattle.std.proofs.Common.{◌≡◌, ◌<◌, ◌∙◌, ℕ, Bool, true, false, Option, None, List, [], ◌∷◌, ◌++◌, ◌==◌, if◌then◌else◌, length, slice_set, refl, sym, ap}
 use Rattle.std.proofs.lemmas.Bool.{eqb-true, eqb-false}
 use Rattle.std.proofs.lemmas.List.{get_or-set_other}
 use Rattle.std.proofs.lemmas.Grind.{get_or-set_at}
 use Rattle.event_kinds.specs.declared.entry.Entry.{Entry}
-use Rattle.event_kinds.specs.declared.entry.Event.{Event}
 use Rattle.event_kinds.specs.declared.entry.Event.TheVariants as events
-use Rattle.history_model.specs.Transactions.{running_by, after_release, begun}
-use Rattle.txn_blocks.specs.declared.transaction.RunningTransaction.{RunningTransaction as Running}
 use Rattle.history_model.proofs.Reading.{running_transaction_of-own, running_transaction_of-other}
 use Rattle.txn_blocks.specs.declared.transaction.RunningTransaction.{RunningTransaction}
-use Rattle.txn_blocks.specs.Transactions.{released_own}
 use Rattle.shared_seg.specs.Transactions.{transaction_of, transaction_at, transaction_by}
 
 -- what is kept for each backend is what it was, or for the entry's own what the event makes of it

@@ -1,4 +1,4 @@
-use Rattle.std.proofs.Common.{◌∙◌, map, ap, sym}
+use Rattle.std.proofs.Common.{◌∙◌, map, ap}
 use Rattle.ddl_effect.specs.Drawing.{changes_of, drawn_change}
 use Rattle.history_model.specs.Changes.{items_of}
 use Rattle.shared_seg.proofs.drawing.draw.Goals as goal
