@@ -14,9 +14,9 @@ use Rattle.cacheless.specs.declared.progress.Due.TheVariants as dues
 use Rattle.cacheless.specs.declared.progress.Progress.{Progress}
 use Rattle.cacheless.specs.declared.suspects.Suspects.{Suspects}
 use Rattle.cacheless.specs.Facts.{facts_of}
-use Rattle.cacheless.specs.Holds.{AreRight, HasNotStarted}
+use Rattle.cacheless.specs.Holds.{HasNotStarted}
 use Rattle.cacheless.specs.Session.{none_open, plan_first, is_blocked}
-use Rattle.cacheless.specs.State.{is_kept, nothing_kept, no_counts, owed_at, is_quiet, running_of, IsNew}
+use Rattle.cacheless.specs.State.{is_kept, nothing_kept, no_counts, owed_after, is_quiet, IsNew}
 use Rattle.cacheless.specs.Suspects.{AreKnown}
 
 -- a Progress with these fields is new
@@ -50,12 +50,5 @@ new_waits scenario s new number commands few = record {
   commands = commands;
   few = few;
   new = new;
-  facts = record {
-    running = ap running_of (sym new.running);
-    lists = ap all_lists (sym new.lists);
-    owed = ap owed_at (sym new.due);
-    quiet = ap is_quiet (sym new.due);
-    usable = λ scan. ap (λ k. is_kept k scan) (sym new.kept);
-    kept = subst (AreRight (facts_of [] s.id).rows) (sym new.kept) (λ scan. tt);
-  };
+  facts = λ i. record { due = sym new.due i; running = sym new.running i; lists = all_lists (sym new.lists i); kept = sym new.kept i };
 }

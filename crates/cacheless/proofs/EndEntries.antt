@@ -18,7 +18,6 @@ use Rattle.history_model.specs.Changing.{is_empty}
 use Rattle.cacheless.specs.Ends.{End, Ends, Commits, TakesBack, end_of_all, end_of_block, end_well, end_badly, end_of, end_left, next_sent, next_of_end, xid_of}
 use Rattle.cacheless.specs.Facts.{Facts}
 use Rattle.cacheless.specs.Holds.{FactsFit}
-use Rattle.cacheless.specs.May.{owes_nothing}
 use Rattle.cacheless.specs.OnCourse.{DoesNoAct}
 use Rattle.cacheless.specs.Owed.{Owes, OwesLook, begins, owed_at_start, owed_after, owed_of}
 use Rattle.cacheless.specs.Plays.{owed_at_end, IsEnd, MayPlay}
@@ -26,7 +25,7 @@ use Rattle.cacheless.specs.Session.{Session, Outcome, Unsettled, Well, Badly, nu
 use Rattle.cacheless.specs.Sessions.{noted, ends_command, entered}
 use Rattle.cacheless.specs.Settled.{is_finished}
 use Rattle.cacheless.specs.Silently.{is_to_answer}
-use Rattle.cacheless.specs.State.{Rest, session_at}
+use Rattle.cacheless.specs.State.{Rest, session_at, owes_nothing}
 use Rattle.cacheless.specs.Telling.{IsOnItsEnd}
 use Rattle.cacheless.specs.Told.{tells_of_scans}
 use Rattle.cacheless.proofs.Allowed.OwnEntries.{ends_out}
@@ -69,7 +68,7 @@ ends_or_owes_none facts command s well none = by_end (end_well facts command s) 
     end_if o = elim o as (λ x. End) [ Well ↦ end_well facts command s | Badly ↦ end_badly s | Unsettled ↦ Ends ]
 
     owed_if : End → List Owes
-    owed_if end = elim end as (λ x. List Owes) [ TakesBack from ↦ owed_after facts.last | other ↦ owed_of facts command s ]
+    owed_if end = elim end as (λ x. List Owes) [ TakesBack from ↦ owed_after facts.due | other ↦ owed_of facts command s ]
 
     by_end : (end : End) → end_well facts command s ≡ end → owed_if end ≡ [] → (ends_failure command ≡ true) ⊎ (owed_of facts command s ≡ [])
     by_end Ends is nothing = inr nothing

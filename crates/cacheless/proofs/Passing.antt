@@ -1,5 +1,5 @@
 -- What a backend does without an entry.
-use Rattle.std.proofs.Common.{◌≡◌, ◌≤◌, ◌<◌, ◌+◌, ◌∙◌, ◌&&◌, ◌||◌, ◌==◌, ℕ, Bool, true, false, Option, None, Some, List, [], ◌∷◌, ◌++◌, refl, sym, ap, subst, drop, is_some, unwrap_or, slice_get, arith, if◌then◌else◌}
+use Rattle.std.proofs.Common.{◌≡◌, ◌≤◌, ◌<◌, ◌+◌, ◌∙◌, ◌&&◌, ◌||◌, ◌==◌, ℕ, Bool, true, false, Option, None, Some, List, [], ◌∷◌, ◌++◌, refl, sym, ap, subst, drop, is_some, unwrap_or, slice_get, arith, if◌then◌else◌, is_none}
 use Rattle.std.proofs.lemmas.List.{length_push, append-nil}
 use Rattle.std.proofs.lemmas.Option.{slice_get_within}
 use Rattle.std.specs.List.{cons_option}
@@ -11,6 +11,7 @@ use Rattle.local_caches.specs.declared.local_caches.LocalCaches.{LocalCaches}
 use Rattle.lock_modes.specs.Own.{has_lock}
 use Rattle.inval_messages.specs.Lists.{Written}
 use Rattle.txn_blocks.specs.Blocks.{Blocks}
+use Rattle.base_types.specs.declared.scan.Purpose.TheVariants as scans
 use Rattle.ddl_effect.specs.Plans.{Plan, Act, Done, Fails, Absent, Do, Lookup, Open, Search, Read, Lock, Write, after_act}
 use Rattle.ddl_effect.specs.Stages.{plan_at, plan_again, acts_left, want_of, want_of_act}
 use Rattle.ddl_effect.specs.declared.want.Want.{Want}
@@ -28,18 +29,20 @@ use Rattle.cacheless.specs.declared.suspects.Suspects.{Suspects}
 use Rattle.cacheless.specs.declared.progress.Progress.{Progress}
 use Rattle.cacheless.specs.Facts.{Facts, facts_of}
 use Rattle.cacheless.specs.Session.{Session, held_in, first_of, plan_first, is_blocked}
-use Rattle.cacheless.specs.Settled.{next_session, blocks_after, opens_passed, opens_after, finished_as, if_locked, has_taken_no_other, opened_by, sought_by, act_done, settled}
+use Rattle.cacheless.specs.Settled.{next_session, blocks_after, opens_passed, opens_after, finished_as, if_locked, has_taken_no_other, opened_by, sought_by, act_done, settled, has_accepted_in, looked_up_in, gives_in, gives_left}
 use Rattle.cacheless.specs.Puts.{AreGivenBy, PutsOpened}
-use Rattle.cacheless.specs.State.{blocks_passed, lists_at, no_counts, kept_at, is_kept, rows_kept, builds_missing, act_missing, row_sought, row_next, is_absent, is_out, end_at, rest_of, session_at}
-use Rattle.cacheless.specs.May.{owes_nothing}
-use Rattle.cacheless.specs.Silently.{has_accepted_at, looks_up_at, gives_at, gives_next, is_ends, is_finished_at, rows_for, rows_given, opened_for, Acts, Finishes}
-use Rattle.cacheless.specs.Holds.{AreRight, FactsFit, Holds, HasActed, HasPassed}
+use Rattle.cacheless.specs.State.{blocks_passed, lists_at, no_counts, kept_at, is_kept, rows_kept, builds_missing, act_missing, row_sought, row_next, is_absent, is_out, end_at, rest_of, session_at, facts_at, work_at, owes_nothing}
+use Rattle.cacheless.specs.Silently.{is_ends, is_finished_at, rows_for, rows_given, opened_for, Acts, Finishes}
+use Rattle.cacheless.specs.Holds.{FactsFit, Holds, HasActed, HasPassed}
 use Rattle.cacheless.proofs.Settling.{settled-act, settled-finish, acted-out}
 use Rattle.cacheless.proofs.Plans.SilentActs.{some_is}
 use Rattle.cacheless.proofs.Tests.{and_true, right_none, not_both}
-use Rattle.cacheless.proofs.Resting.{first_left, left_command, kept_rows, cond_none, Free, free_now, lacks_none, here, finished_same}
+use Rattle.cacheless.proofs.Resting.{first_left, left_command, cond_none, Free, free_now, lacks_none, here, finished_same}
 use Rattle.cacheless.proofs.Written.Putting.{puts_first}
 use Rattle.cacheless.proofs.Entries.EnteredLooks.{not_absent}
+use Rattle.cacheless.proofs.Reading.{kept_read}
+use Rattle.cacheless.specs.Work.{Work}
+use Rattle.cacheless.specs.Ends.{end_left_in}
 
 -- the rows that a scan gave are such as it asks for
 rows_asked : (history : List Entry) (b : ℕ) (scan : Purpose) → AreGivenBy scan (rows_read history b scan)
@@ -57,14 +60,14 @@ rows_asked history b scan = along-keeps (λ before given. AreGivenBy scan given)
     stays before given e asked = by_backend before e (e.backend == b) given asked
 
 -- what an act gave that needs no entry: the rows of a scan are such as it asks for
-gave_asked : (seen : List Entry) (b : ℕ) (s : Progress) (act : Act) (plan : List Row → Plan) (gave : List Row) → FactsFit (facts_of seen b) s → plan_at s.opens s.exec ≡ Do act plan → act_missing s (Do act plan) ≡ [] → gives_at s act ≡ Some gave
+gave_asked : (seen : List Entry) (b : ℕ) (s : Progress) (act : Act) (plan : List Row → Plan) (gave : List Row) → FactsFit (facts_of seen b) s → plan_at s.opens s.exec ≡ Do act plan → act_missing s (Do act plan) ≡ [] → gives_in (facts_at s) (work_at s) act ≡ Some gave
     → PutsOpened s.opened (Do act plan) → PutsOpened (s.opened ++ opened_by act) (plan gave)
 gave_asked seen b s (Lookup name mode) plan gave fits at none gives puts = subst (λ l. PutsOpened l (plan gave)) (sym (append-nil s.opened)) (puts gave)
 gave_asked seen b s (Open rel kind) plan gave fits at none gives puts = puts gave
 gave_asked seen b s (Search scan) plan gave fits at none gives puts = subst (λ l. PutsOpened l (plan gave)) (sym (append-nil s.opened))
-    (puts gave (subst (AreGivenBy scan) (kept_rows (facts_of seen b).rows (kept_at s) scan fits.kept (cond_none (is_kept (kept_at s) scan) scan none) ∙ some_is (rows_kept (kept_at s) scan) gave gives) (rows_asked seen b scan)))
+    (puts gave (subst (AreGivenBy scan) (kept_read seen b (kept_at s) scan (ap (λ f. f.kept) fits) (cond_none (is_kept (kept_at s) scan) scan none) ∙ some_is (rows_kept (kept_at s) scan) gave gives) (rows_asked seen b scan)))
 gave_asked seen b s (Read scan) plan gave fits at none gives puts = subst (λ l. PutsOpened l (plan gave)) (sym (append-nil s.opened))
-    (puts gave (subst (AreGivenBy scan) (kept_rows (facts_of seen b).rows (kept_at s) scan fits.kept (cond_none (is_kept (kept_at s) scan) scan none) ∙ some_is (rows_kept (kept_at s) scan) gave gives) (rows_asked seen b scan)))
+    (puts gave (subst (AreGivenBy scan) (kept_read seen b (kept_at s) scan (ap (λ f. f.kept) fits) (cond_none (is_kept (kept_at s) scan) scan none) ∙ some_is (rows_kept (kept_at s) scan) gave gives) (rows_asked seen b scan)))
 gave_asked seen b s (Lock rel mode) plan gave fits at none gives puts = subst (λ l. PutsOpened l (plan gave)) (sym (append-nil s.opened)) (puts gave)
 gave_asked seen b s (Write draft) plan gave fits at none gives puts = absurd (cc)
 
@@ -89,11 +92,11 @@ none_answered o none = ap (λ (p : Option (List ℕ)). option_map_or {U = ℕ} (
 
 -- a finished command has come out
 pub out_of : (command : Command) (s : Progress) → is_finished_at command s ≡ true → is_out s ≡ true
-out_of command s is = (and_true (is_out s) (s.ended || is_ends (end_at s command)) (and_true (is_out s && (s.ended || is_ends (end_at s command))) (owes_nothing command s) is).0).0
+out_of command s is = (and_true (is_out s) (is_none (end_left_in (facts_at s) command (work_at s))) (and_true (is_out s && (is_none (end_left_in (facts_at s) command (work_at s)))) (owes_nothing command s) is).0).0
 
 -- an act that needs no entry, whichever it is
 pub act_keeps : (scenario : Scenario) (seen : List Entry) (was : Progress) (exec : Exec) (opened : List Opening) (caches : LocalCaches) (suspects : Suspects) (known : AreKnown (is_kept (kept_of caches)) opened suspects) (command : Command) (act : Act) (plan : List Row → Plan) (gave : List Row) → Holds scenario seen was → slice_get was.commands was.finished ≡ Some command
-    → owes_nothing command was ≡ true → plan_at was.opens was.exec ≡ Do act plan → gives_at was act ≡ Some gave → plan_at was.opens exec ≡ plan gave → ((name : List ℕ) → plan_at was.opens exec ≡ Absent name → plan_again was.opens exec ≡ plan_at was.opens was.exec) → opened ≡ was.opened ++ opened_by act → kept_of caches ≡ kept_at was
+    → owes_nothing command was ≡ true → plan_at was.opens was.exec ≡ Do act plan → gives_in (facts_at was) (work_at was) act ≡ Some gave → plan_at was.opens exec ≡ plan gave → ((name : List ℕ) → plan_at was.opens exec ≡ Absent name → plan_again was.opens exec ≡ plan_at was.opens was.exec) → opened ≡ was.opened ++ opened_by act → kept_of caches ≡ kept_at was
     → Holds scenario seen (record was { exec = exec; opened = opened; caches = caches; suspects = suspects; known = known; taken = None })
 act_keeps scenario seen was exec opened caches suspects known command act plan gave holds has owes at gives_it on again opens keeps = record {
   number = holds.number;
@@ -108,14 +111,7 @@ act_keeps scenario seen was exec opened caches suspects known command act plan g
       ∙ ap (λ l. settled facts l (act_done act gave (plan gave) (session_at was holds.rest))) (sym left)
       ∙ ap (settled facts (drop was.finished was.commands)) (λ i. record (act_done act gave (plan gave) (session_at was holds.rest)) { left = sym on i; opened = sym opens i })
       );
-  facts = let f = holds.facts in record {
-    running = f.running;
-    lists = f.lists;
-    owed = f.owed;
-    quiet = f.quiet;
-    usable = λ scan. f.usable scan ∙ ap (λ k. is_kept k scan) (sym keeps);
-    kept = subst (AreRight facts.rows) (sym keeps) f.kept;
-  };
+  facts = let f = holds.facts in λ i. record { due = (f i).due; running = (f i).running; lists = (f i).lists; kept = (ap (λ g. g.kept) f ∙ sym keeps) i };
   counts = holds.counts;
   order = holds.order;
   sought = λ is. absent_or (plan_at was.opens exec) is (λ name missed. sought_is act plan name (session_at was holds.rest) (seeks name missed) ∙ sym (again name missed));
@@ -139,7 +135,7 @@ act_keeps scenario seen was exec opened caches suspects known command act plan g
 
 -- and its session is that after the act
 pub act_acts : (scenario : Scenario) (seen : List Entry) (was : Progress) (exec : Exec) (opened : List Opening) (caches : LocalCaches) (suspects : Suspects) (known : AreKnown (is_kept (kept_of caches)) opened suspects) (command : Command) (act : Act) (plan : List Row → Plan) (gave : List Row) (held : Holds scenario seen was) → slice_get was.commands was.finished ≡ Some command
-    → owes_nothing command was ≡ true → plan_at was.opens was.exec ≡ Do act plan → gives_at was act ≡ Some gave → plan_at was.opens exec ≡ plan gave → ((name : List ℕ) → plan_at was.opens exec ≡ Absent name → plan_again was.opens exec ≡ plan_at was.opens was.exec) → opened ≡ was.opened ++ opened_by act → kept_of caches ≡ kept_at was
+    → owes_nothing command was ≡ true → plan_at was.opens was.exec ≡ Do act plan → gives_in (facts_at was) (work_at was) act ≡ Some gave → plan_at was.opens exec ≡ plan gave → ((name : List ℕ) → plan_at was.opens exec ≡ Absent name → plan_again was.opens exec ≡ plan_at was.opens was.exec) → opened ≡ was.opened ++ opened_by act → kept_of caches ≡ kept_at was
     → HasActed scenario seen was held (record was { exec = exec; opened = opened; caches = caches; suspects = suspects; known = known; taken = None })
 unfolding act_keeps
 act_acts scenario seen was exec opened caches suspects known command act plan gave held has owes at gives_it on again opens keeps = record {
@@ -180,14 +176,7 @@ finish_keeps scenario seen was exec blocked blocks opens opened caches suspects 
       ∙ settled-finish facts command (drop (was.finished + 1) was.commands) (session_at was holds.rest) (acted-out facts command (session_at was holds.rest) (out_of command was finished)) (finished_same facts command was holds.rest holds.facts holds.count ∙ finished)
       ∙ ap (settled facts (drop (was.finished + 1) was.commands)) same
       );
-  facts = let f = holds.facts in record {
-    running = f.running;
-    lists = f.lists;
-    owed = f.owed;
-    quiet = f.quiet;
-    usable = λ scan. f.usable scan ∙ ap (λ k. is_kept k scan) (sym keeps);
-    kept = subst (AreRight facts.rows) (sym keeps) f.kept;
-  };
+  facts = let f = holds.facts in λ i. record { due = (f i).due; running = (f i).running; lists = (f i).lists; kept = (ap (λ g. g.kept) f ∙ sym keeps) i };
   counts = record { looks = omega arith; scans = omega arith; grants = omega arith; unlocks = omega arith; fetches = omega arith; full = omega arith };
   order = every-weaker (λ (list : Written). list.command ≤ was.finished + 1) (λ (list : Written). list.command ≤ was.finished + 1 + 1) (λ list low. omega (arith, low)) (lists_at was) holds.order;
   sought = λ is. absurd (not_both (is_absent (plan_at opens exec)) is found);
@@ -256,13 +245,13 @@ lock_rows : (t : Bool) (given : List Row) → is_some (if_locked t given) ≡ tr
 lock_rows true given some = refl
 lock_rows false given some = absurd (cc)
 
-given_rows : (s : Progress) (mode : Mode) (o : Option Row) → is_some (looks_up_at s mode o) ≡ true → looks_up_at s mode o ≡ Some (cons_option o [])
-given_rows s mode None is = lock_rows (has_accepted_at s) [] is
-given_rows s mode (Some (rows.Class oid own kind fill)) is = lock_rows (has_lock s.locks.items oid mode && has_taken_no_other s.taken oid) (rows.Class oid own kind fill ∷ []) is
-given_rows s mode (Some row) is = lock_rows (has_accepted_at s) (row ∷ []) is
+given_rows : (facts : Facts) (w : Work) (mode : Mode) (given : List Row) → is_some (looked_up_in facts w mode given) ≡ true → looked_up_in facts w mode given ≡ Some (cons_option (slice_get given 0) [])
+given_rows facts w mode [] is = lock_rows (has_accepted_in facts w) [] is
+given_rows facts w mode (rows.Class oid own kind fill ∷ more) is = lock_rows (has_lock w.locks oid mode && has_taken_no_other w.taken oid) (rows.Class oid own kind fill ∷ []) is
+given_rows facts w mode (row ∷ more) is = lock_rows (has_accepted_in facts w) (row ∷ []) is
 
-gave_is : (s : Progress) (act : Act) (rest : List Row → Plan) → is_some (gives_at s act) ≡ true → gives_at s act ≡ Some (rows_given s (want_of (Do act rest)))
-gave_is s (Lookup name mode) rest is = given_rows s mode (row_sought s name) is
+gave_is : (s : Progress) (act : Act) (rest : List Row → Plan) → is_some (gives_in (facts_at s) (work_at s) act) ≡ true → gives_in (facts_at s) (work_at s) act ≡ Some (rows_given s (want_of (Do act rest)))
+gave_is s (Lookup name mode) rest is = given_rows (facts_at s) (work_at s) mode (rows_kept (kept_at s) (scans.RelName name)) is
 gave_is s (Open rel kind) rest is = refl
 gave_is s (Search scan) rest is = refl
 gave_is s (Read scan) rest is = refl
@@ -304,9 +293,9 @@ given_is s p = refl
 
 -- an act is left
 pub act_is_left : (s : Progress) → Acts s → 0 < acts_left s.exec
-act_is_left s acts = by_plan (plan_at s.opens s.exec) refl (and_true (owes_nothing acts.command s) (gives_next s (plan_at s.opens s.exec)) acts.acts).1
+act_is_left s acts = by_plan (plan_at s.opens s.exec) refl (and_true (owes_nothing acts.command s) (gives_left (facts_at s) (work_at s) (plan_at s.opens s.exec)) acts.acts).1
   where
-    by_plan : (p : Plan) → plan_at s.opens s.exec ≡ p → gives_next s p ≡ true → 0 < acts_left s.exec
+    by_plan : (p : Plan) → plan_at s.opens s.exec ≡ p → gives_left (facts_at s) (work_at s) p ≡ true → 0 < acts_left s.exec
     by_plan (Do act plan) at is = act_left s.opens s.exec act plan at
     by_plan (Done told) at is = absurd (cc)
     by_plan (Fails error) at is = absurd (cc)
@@ -316,20 +305,20 @@ act_is_left s acts = by_plan (plan_at s.opens s.exec) refl (and_true (owes_nothi
 pub acted_keeps : (was : Progress) (exec : Exec) (opened : List Opening) (caches : LocalCaches) (suspects : Suspects) (known : AreKnown (is_kept (kept_of caches)) opened suspects) (want : Want) (acts : Acts was) → want ≡ want_of (plan_at was.opens was.exec)
     → plan_at was.opens exec ≡ after_act (rows_given was want) (plan_at was.opens was.exec) → ((name : List ℕ) → 0 < acts_left was.exec → plan_at was.opens exec ≡ Absent name → plan_again was.opens exec ≡ plan_at was.opens was.exec) → opened ≡ was.opened ++ opened_for want → kept_of caches ≡ kept_at was
     → (scenario : Scenario) (seen : List Entry) (held : Holds scenario seen was) → HasActed scenario seen was held (record was { exec = exec; opened = opened; caches = caches; suspects = suspects; known = known; taken = None })
-acted_keeps was exec opened caches suspects known want acts wants on again opens keeps scenario seen held = by_plan (plan_at was.opens was.exec) refl (and_true (owes_nothing acts.command was) (gives_next was (plan_at was.opens was.exec)) acts.acts)
+acted_keeps was exec opened caches suspects known want acts wants on again opens keeps scenario seen held = by_plan (plan_at was.opens was.exec) refl (and_true (owes_nothing acts.command was) (gives_left (facts_at was) (work_at was) (plan_at was.opens was.exec)) acts.acts)
   where
-    by_plan : (p : Plan) → plan_at was.opens was.exec ≡ p → (owes_nothing acts.command was ≡ true) × (gives_next was (plan_at was.opens was.exec) ≡ true) → HasActed scenario seen was held (record was { exec = exec; opened = opened; caches = caches; suspects = suspects; known = known; taken = None })
+    by_plan : (p : Plan) → plan_at was.opens was.exec ≡ p → (owes_nothing acts.command was ≡ true) × (gives_left (facts_at was) (work_at was) (plan_at was.opens was.exec) ≡ true) → HasActed scenario seen was held (record was { exec = exec; opened = opened; caches = caches; suspects = suspects; known = known; taken = None })
     by_plan (Do act plan) at parts =
         let want_is : want ≡ want_of (Do act plan) = wants ∙ ap want_of at in
         act_acts scenario seen was exec opened caches suspects known acts.command act plan (rows_given was (want_of (Do act plan))) held acts.at parts.0 at
-        (gave_is was act plan (sym (ap (gives_next was) at) ∙ parts.1))
+        (gave_is was act plan (sym (ap (gives_left (facts_at was) (work_at was)) at) ∙ parts.1))
         (on ∙ ap (after_act (rows_given was want)) at ∙ ap (λ w. plan (rows_given was w)) want_is)
         (λ name. again name (act_is_left was acts))
         (opens ∙ ap (λ w. was.opened ++ opened_for w) want_is ∙ ap (λ l. was.opened ++ l) (opened_is act plan))
         keeps
-    by_plan (Done told) at parts = absurd (let both : false ≡ true = sym (ap (gives_next was) at) ∙ parts.1 in cc)
-    by_plan (Fails error) at parts = absurd (let both : false ≡ true = sym (ap (gives_next was) at) ∙ parts.1 in cc)
-    by_plan (Absent name) at parts = absurd (let both : false ≡ true = sym (ap (gives_next was) at) ∙ parts.1 in cc)
+    by_plan (Done told) at parts = absurd (let both : false ≡ true = sym (ap (gives_left (facts_at was) (work_at was)) at) ∙ parts.1 in cc)
+    by_plan (Fails error) at parts = absurd (let both : false ≡ true = sym (ap (gives_left (facts_at was) (work_at was)) at) ∙ parts.1 in cc)
+    by_plan (Absent name) at parts = absurd (let both : false ≡ true = sym (ap (gives_left (facts_at was) (work_at was)) at) ∙ parts.1 in cc)
 
 -- the same by the rows that the code gives, and by the relations that it goes by
 pub acted_code : (was : Progress) (exec : Exec) (opened : List Opening) (caches : LocalCaches) (suspects : Suspects) (known : AreKnown (is_kept (kept_of caches)) opened suspects) (want : Want) (opens : List OpenRelation) (given : List Row) (acts : Acts was) → want ≡ want_of (plan_at was.opens was.exec) → given ≡ rows_given was want → opens ≡ was.opens

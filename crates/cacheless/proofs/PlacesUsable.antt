@@ -50,7 +50,7 @@ use Rattle.cacheless.proofs.Entries.EnteredLooks.{not_absent}
 use Rattle.cacheless.proofs.HeldLocks.{settled-locks}
 use Rattle.cacheless.proofs.OwnAnswers.{inside_stands, entered_last}
 use Rattle.cacheless.proofs.OwnPlaces.{write_there}
-use Rattle.cacheless.proofs.Plans.SilentActs.{IsDoneHere, is_done_here, FailsToFind, there_or_fails, on_its_way, kept_already, empty_list}
+use Rattle.cacheless.proofs.Plans.SilentActs.{IsDoneHere, is_done_here, FailsToFind, there_or_fails, on_its_way, usable_already, empty_list}
 use Rattle.cacheless.proofs.Reading.{facts_of-own, facts_of-other, session_of-other}
 use Rattle.cacheless.proofs.Settling.{acted-out}
 
@@ -131,7 +131,7 @@ absent_usable : (seen : List Entry) (b : ℕ) (s : Session) (command : Command) 
     → (name : List ℕ) → rest given ≡ Absent name → is_usable seen b (scans.RelName name) ≡ true
 absent_usable seen b s command act rest given follows at done name absent =
     let same : fails.name ≡ name = (let both : Absent fails.name ≡ Absent name = sym fails.is ∙ absent in cc both) in
-    subst (λ n. is_usable seen b (scans.RelName n) ≡ true) same (kept_already (is_usable seen b (scans.RelName fails.name)) (scans.RelName fails.name) (subst (λ a. act_owed (facts_of seen b) (Do a rest) ≡ []) fails.lookup done.owed))
+    subst (λ n. is_usable seen b (scans.RelName n) ≡ true) same (usable_already seen b (scans.RelName fails.name) (subst (λ a. act_owed (facts_of seen b) (Do a rest) ≡ []) fails.lookup done.owed))
   where
     fails : FailsToFind seen b act rest given
     fails = there_or_fails seen b s command act rest given (on_its_way seen b s command act rest follows at) at done (ap is_absent absent)
@@ -147,7 +147,7 @@ record Acted (scenario : Scenario) (seen : List Entry) (b : ℕ) (s now : Sessio
   absent : AbsentServes seen b now
 
 acts_serve : (scenario : Scenario) (seen : List Entry) (b : ℕ) (command : Command) (plan : Plan) (s : Session) → HasSession scenario seen b s.locks → slice_get (commands_of scenario b) (length s.finished) ≡ Some command → s.left ≡ plan
-    → is_empty (owed_at_start (facts_of seen b) command s ++ owed_after (facts_of seen b).last) ≡ true → EntersCourse scenario seen b s → AbsentServes seen b s → Acted scenario seen b s (acted_on (facts_of seen b) plan s)
+    → is_empty (owed_at_start (facts_of seen b) command s ++ owed_after (facts_of seen b).due) ≡ true → EntersCourse scenario seen b s → AbsentServes seen b s → Acted scenario seen b s (acted_on (facts_of seen b) plan s)
 acts_serve scenario seen b command (Do act rest) s has at left free course absent = by_done (done_here (facts_of seen b) s act (Do act rest)) refl
     (λ given done. acts_serve scenario seen b command (rest given) (act_done act given (rest given) s) (record { played = has.played; session = has.session; is = has.is; holds = has.holds }) at refl free
     (act_enters scenario seen b s command act rest given has at free left done course)
@@ -162,9 +162,9 @@ acts_serve scenario seen b command plan s has at left free course absent = recor
 
 acted_serves : (scenario : Scenario) (seen : List Entry) (b : ℕ) (command : Command) (s : Session) → HasSession scenario seen b s.locks → slice_get (commands_of scenario b) (length s.finished) ≡ Some command → EntersCourse scenario seen b s → AbsentServes seen b s
     → Acted scenario seen b s (acted (facts_of seen b) command s)
-acted_serves scenario seen b command s has at course absent = by_test (is_empty (owed_at_start (facts_of seen b) command s ++ owed_after (facts_of seen b).last)) refl
+acted_serves scenario seen b command s has at course absent = by_test (is_empty (owed_at_start (facts_of seen b) command s ++ owed_after (facts_of seen b).due)) refl
   where
-    by_test : (t : Bool) → is_empty (owed_at_start (facts_of seen b) command s ++ owed_after (facts_of seen b).last) ≡ t → Acted scenario seen b s (elim t as (λ x. Session) [ true ↦ acted_on (facts_of seen b) s.left s | false ↦ s ])
+    by_test : (t : Bool) → is_empty (owed_at_start (facts_of seen b) command s ++ owed_after (facts_of seen b).due) ≡ t → Acted scenario seen b s (elim t as (λ x. Session) [ true ↦ acted_on (facts_of seen b) s.left s | false ↦ s ])
     by_test true free = acts_serve scenario seen b command s.left s has at refl free course absent
     by_test false owed = record { course = course; finished = refl; locks = refl; judged = refl; last = refl; ended = refl; absent = absent }
 

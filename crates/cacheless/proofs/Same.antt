@@ -12,78 +12,62 @@ use Rattle.ddl_effect.specs.declared.told.Told.TheVariants as tells
 use Rattle.ddl_effect.specs.Plans.{Plan, Done, Do, Lookup, Open, Search, Read, Lock, Write, left_rests_on}
 use Rattle.ddl_effect.specs.Stages.{plan_at}
 use Rattle.history_model.specs.Changing.{is_empty}
+use Rattle.cacheless.specs.declared.progress.Due.{Due}
+use Rattle.cacheless.specs.declared.progress.Due.TheVariants as dues
 use Rattle.cacheless.specs.Facts.{Facts}
 use Rattle.cacheless.specs.Session.{Outcome, Unsettled, Well, Badly, outcome_of}
-use Rattle.cacheless.specs.Owed.{OwesLook, OwesFetch, OwesScan, owed_at_start, owed_after, unusable, builds_owed, act_owed, scans_owed, owed_of, act_next, has_looked, is_next_scan, owes_build, owes_build_scan, owes_accept}
+use Rattle.cacheless.specs.Owed.{OwesLook, OwesScan, owed_at_start, owed_after, builds_owed, act_owed, scans_owed, owed_of, act_next, is_next_in, is_next_scan, counts_full, owes_accept}
+use Rattle.cacheless.specs.Work.{work_of}
+use Rattle.cacheless.specs.Rule.{may_look_in}
 use Rattle.cacheless.specs.Plays.{may_look}
 use Rattle.cacheless.specs.Types.{Kind, Oid, Command, Purpose, Opening}
 use Rattle.txn_blocks.specs.declared.transaction.RunningTransaction.{RunningTransaction}
 use Rattle.cacheless.specs.declared.progress.Progress.{Progress}
-use Rattle.cacheless.specs.State.{owed_at, one_if, running_of, Kept, kept_at, is_kept, missing, builds_missing, act_missing, scans_missing, lacks_builds, is_full, is_in_accept, begins_in, owed_first, Rest, session_at}
-use Rattle.cacheless.specs.May.{may_look_at, has_looked_at, is_first_missing, is_missing, is_next_of_act, is_next_at, has_failed, lacks_opened, lacks_to_build, lacks_any, owes_nothing}
+use Rattle.cacheless.specs.State.{facts_at, work_at, Kept, kept_at, is_kept, missing, builds_missing, act_missing, scans_missing, lacks_builds, is_full, is_in_accept, owed_first, owes_nothing, Rest, session_at}
+use Rattle.cacheless.specs.May.{is_first_missing, is_missing, is_next_of_act, has_failed, lacks_opened, lacks_to_build, lacks_any}
 use Rattle.cacheless.specs.Holds.{FactsFit}
 use Rattle.cacheless.proofs.ReadsBuilds.{ReadsBuilds, stage_reads}
 
-none_running : (own : Option RunningTransaction) → is_none (running_of own) ≡ is_none own
-none_running None = refl
-none_running (Some t) = refl
+-- a look may come where no fetch is due and the bound is kept, as the code tests it
+pub look_is : (s : Progress) → (s.due ≡ dues.Fetch → ⊥) → nat_le (s.tally.looks + 1) (s.tally.scans + s.tally.grants + s.tally.unlocks + 2 * s.tally.fetches + 3) ≡ may_look_in (facts_at s) (work_at s)
+look_is s other = by_due s.due other
+  where
+    by_due : (due : Due) → (due ≡ dues.Fetch → ⊥) → nat_le (s.tally.looks + 1) (s.tally.scans + s.tally.grants + s.tally.unlocks + 2 * s.tally.fetches + 3) ≡ may_look_in (record (facts_at s) { due = due }) (work_at s)
+    by_due dues.Nothing never = refl
+    by_due dues.Quiet never = refl
+    by_due (dues.Gone from) never = refl
+    by_due dues.Look never = refl
+    by_due dues.Fetch never = absurd (never refl)
 
--- what a command owes at its start
+-- what of its session decides is what the code holds, but for the number of its command
+pub work_same : (s : Progress) (rest : Rest) → length rest.finished ≡ s.finished → work_of (session_at s rest) ≡ work_at s
+work_same s rest count = ap (λ n. record (work_at s) { number = n + 1 }) count
+
+-- what the definitions work out of the facts and the session is what they work out of that
 pub start_owed : (facts : Facts) (command : Command) (s : Progress) (rest : Rest) → FactsFit facts s → owed_at_start facts command (session_at s rest) ≡ owed_first s command
-start_owed facts command s rest fits = ap (λ t. elim (begins_in s.blocks s.ended command && t) [ true ↦ OwesLook ∷ [] | false ↦ [] ]) (ap is_none fits.running ∙ none_running s.running)
+start_owed facts command s rest fits = ap (λ f. owed_at_start f command (session_at s rest)) fits
 
--- the scans that are owed are those that it misses
-pub unusable-missing : (facts : Facts) (kept : Kept) → ((scan : Purpose) → facts.usable scan ≡ is_kept kept scan) → (wanted : List Purpose) → unusable facts wanted ≡ missing kept wanted
-unusable-missing facts kept usable [] = refl
-unusable-missing facts kept usable (scan ∷ wanted) =
-    ap (λ t. cond (not t) (scan ∷ unusable facts wanted) (unusable facts wanted)) (usable scan)
-    ∙ ap (λ l. cond (not (is_kept kept scan)) (scan ∷ l) l) (unusable-missing facts kept usable wanted)
-
-builds-missing : (facts : Facts) (kept : Kept) → ((scan : Purpose) → facts.usable scan ≡ is_kept kept scan) → (opened : List Opening) → builds_owed facts opened ≡ builds_missing kept opened
-builds-missing facts kept usable [] = refl
-builds-missing facts kept usable (o ∷ opened) = ap (λ l. l ++ builds_owed facts opened) (unusable-missing facts kept usable (build_scans o.kind o.rel)) ∙ ap (λ l. missing kept (build_scans o.kind o.rel) ++ l) (builds-missing facts kept usable opened)
+pub look_same : (facts : Facts) (s : Progress) (rest : Rest) → FactsFit facts s → may_look facts (session_at s rest) ≡ may_look_in (facts_at s) (work_at s)
+look_same facts s rest fits = ap (λ f. may_look f (session_at s rest)) fits
 
 pub builds_same : (facts : Facts) (s : Progress) → FactsFit facts s → builds_owed facts s.opened ≡ builds_missing (kept_at s) s.opened
-builds_same facts s fits = builds-missing facts (kept_at s) fits.usable s.opened
-
--- the scans that the next act or the answer lacks
-act-missing : (facts : Facts) (s : Progress) (p : Plan) → FactsFit facts s → act_owed facts p ≡ act_missing s p
-act-missing facts s (Do (Lookup name mode) rest) fits = unusable-missing facts (kept_at s) fits.usable (scans.RelName name ∷ [])
-act-missing facts s (Do (Open rel kind) rest) fits = unusable-missing facts (kept_at s) fits.usable (build_scans kind rel)
-act-missing facts s (Do (Search scan) rest) fits = unusable-missing facts (kept_at s) fits.usable (scan ∷ [])
-act-missing facts s (Do (Read scan) rest) fits = unusable-missing facts (kept_at s) fits.usable (scan ∷ [])
-act-missing facts s (Do (Lock rel mode) rest) fits = refl
-act-missing facts s (Do (Write draft) rest) fits = refl
-act-missing facts s p fits = unusable-missing facts (kept_at s) fits.usable (left_rests_on p)
-
-pub act_same : (facts : Facts) (s : Progress) → FactsFit facts s → act_owed facts (plan_at s.opens s.exec) ≡ act_missing s (plan_at s.opens s.exec)
-act_same facts s fits = act-missing facts s (plan_at s.opens s.exec) fits
+builds_same facts s fits = ap (λ f. builds_owed f s.opened) fits
 
 pub scans_same : (facts : Facts) (s : Progress) (rest : Rest) → FactsFit facts s → scans_owed facts (session_at s rest) ≡ scans_missing s
-scans_same facts s rest fits = ap (λ l. elim (outcome_of (plan_at s.opens s.exec)) as (λ x. List Purpose) [ Badly ↦ [] | other ↦ l ])
-    (ap (λ l. l ++ act_owed facts (plan_at s.opens s.exec)) (builds_same facts s fits) ∙ ap (λ l. builds_missing (kept_at s) s.opened ++ l) (act_same facts s fits))
+scans_same facts s rest fits = ap (λ f. scans_owed f (session_at s rest)) fits
 
--- its opened descriptors lack scans
-pub lacks_same : (facts : Facts) (s : Progress) (rest : Rest) → FactsFit facts s → owes_build facts (session_at s rest) ≡ lacks_builds s
-lacks_same facts s rest fits = ap (λ l. elim (outcome_of (plan_at s.opens s.exec)) as (λ x. Bool) [ Badly ↦ false | other ↦ not (is_empty l) ]) (builds_same facts s fits)
+pub next_same : (facts : Facts) (s : Progress) (rest : Rest) (scan : Purpose) → FactsFit facts s → is_next_scan scan facts (session_at s rest) ≡ is_next_in scan (facts_at s) (work_at s)
+next_same facts s rest scan fits = ap (λ f. is_next_scan scan f (session_at s rest)) fits
 
--- a look may come
-pub look_same : (facts : Facts) (s : Progress) (rest : Rest) → FactsFit facts s → may_look facts (session_at s rest) ≡ may_look_at s
-look_same facts s rest fits = ap (λ l. elim l [ OwesFetch ∷ owed ↦ false | owed ↦ nat_le (s.tally.looks + 1) (s.tally.scans + s.tally.grants + s.tally.unlocks + 2 * s.tally.fetches + 3) ]) fits.owed
+pub owes_nothing_is : (facts : Facts) (command : Command) (s : Progress) (rest : Rest) → FactsFit facts s → is_empty (owed_of facts command (session_at s rest)) ≡ owes_nothing command s
+owes_nothing_is facts command s rest fits = ap (λ f. is_empty (owed_of f command (session_at s rest))) fits
 
--- there was a look for one more scan
-pub looked_same : (facts : Facts) (s : Progress) (rest : Rest) → FactsFit facts s → length rest.finished ≡ s.finished → has_looked facts (session_at s rest) ≡ has_looked_at s
-looked_same facts s rest fits count =
-    ap (λ n. nat_lt (s.tally.scans + s.tally.grants + n + s.tally.full) s.tally.looks)
-    (ap (λ o. option_map_or (λ t. elim (t.first == length rest.finished + 1) as (λ x. ℕ) [ true ↦ 1 | false ↦ 0 ]) o 0) fits.running ∙ same s.running)
-  where
-    one : (t : Bool) → elim t as (λ x. ℕ) [ true ↦ 1 | false ↦ 0 ] ≡ one_if t
-    one true = refl
-    one false = refl
+pub accept_same : (facts : Facts) (o : Option Command) (s : Progress) (rest : Rest) → FactsFit facts s → owes_accept facts o (session_at s rest) ≡ is_in_accept s o
+accept_same facts None s rest fits = ap (λ f. owes_accept f None (session_at s rest)) fits
+accept_same facts (Some command) s rest fits = ap (λ f. owes_accept f (Some command) (session_at s rest)) fits
 
-    same : (own : Option RunningTransaction) → option_map_or (λ t. elim (t.first == length rest.finished + 1) as (λ x. ℕ) [ true ↦ 1 | false ↦ 0 ]) (running_of own) 0 ≡ option_map_or (λ t. one_if (t.first == s.finished + 1)) own 0
-    same None = refl
-    same (Some t) = one (t.first == length rest.finished + 1) ∙ ap (λ n. one_if (t.first == n + 1)) count
+pub full_same : (facts : Facts) (count : ℕ) (s : Progress) (rest : Rest) → FactsFit facts s → counts_full count facts (work_of (session_at s rest)) ≡ is_full count s
+full_same facts count s rest fits = ap (λ f. counts_full count f (work_of (session_at s rest))) fits
 
 -- the first of the scans that pass
 any_first : (scan : Purpose) (p : Purpose → Bool) (l : List Purpose) → list_any (same_scan scan) (take 1 (filter p l)) ≡ option_map_or (same_scan scan) (find p l) false
@@ -94,52 +78,48 @@ any_first scan p (x ∷ l) = by_test (any_first scan p l) (p x)
     by_test more true = or-false (same_scan scan x)
     by_test more false = more
 
-first_same : (facts : Facts) (kept : Kept) (scan : Purpose) → ((d : Purpose) → facts.usable d ≡ is_kept kept d) → (wanted : List Purpose)
-    → list_any (same_scan scan) (take 1 (unusable facts wanted)) ≡ option_map_or (same_scan scan) (find (λ d. not (is_kept kept d)) wanted) false
-first_same facts kept scan usable wanted = ap (λ l. list_any (same_scan scan) (take 1 l)) (unusable-missing facts kept usable wanted) ∙ any_first scan (λ d. not (is_kept kept d)) wanted
-
-opened_first : (facts : Facts) (kept : Kept) (scan : Purpose) → ((d : Purpose) → facts.usable d ≡ is_kept kept d) → (opened : List Opening)
-    → list_any (same_scan scan) (flat_map (λ o. take 1 (unusable facts (build_scans o.kind o.rel))) opened) ≡ list_any (λ o. is_first_missing scan kept o.kind o.rel) opened
-opened_first facts kept scan usable [] = refl
-opened_first facts kept scan usable (o ∷ opened) =
-    list_any-append (same_scan scan) (take 1 (unusable facts (build_scans o.kind o.rel))) (flat_map (λ p. take 1 (unusable facts (build_scans p.kind p.rel))) opened)
-    ∙ ap (λ t. t || list_any (same_scan scan) (flat_map (λ p. take 1 (unusable facts (build_scans p.kind p.rel))) opened)) (first_same facts kept scan usable (build_scans o.kind o.rel))
-    ∙ ap (λ t. is_first_missing scan kept o.kind o.rel || t) (opened_first facts kept scan usable opened)
+opened_first : (kept : Kept) (scan : Purpose) (opened : List Opening)
+    → list_any (same_scan scan) (flat_map (λ o. take 1 (missing kept (build_scans o.kind o.rel))) opened) ≡ list_any (λ o. is_first_missing scan kept o.kind o.rel) opened
+opened_first kept scan [] = refl
+opened_first kept scan (o ∷ opened) =
+    list_any-append (same_scan scan) (take 1 (missing kept (build_scans o.kind o.rel))) (flat_map (λ p. take 1 (missing kept (build_scans p.kind p.rel))) opened)
+    ∙ ap (λ t. t || list_any (same_scan scan) (flat_map (λ p. take 1 (missing kept (build_scans p.kind p.rel))) opened)) (any_first scan (λ d. not (is_kept kept d)) (build_scans o.kind o.rel))
+    ∙ ap (λ t. is_first_missing scan kept o.kind o.rel || t) (opened_first kept scan opened)
 
 -- a scan of a catalog cache is the first that is lacked
-one_first : (facts : Facts) (kept : Kept) (scan wanted : Purpose) → ((d : Purpose) → facts.usable d ≡ is_kept kept d) → list_any (same_scan scan) (take 1 (unusable facts (wanted ∷ []))) ≡ is_missing scan kept wanted
-one_first facts kept scan wanted usable = first_same facts kept scan usable (wanted ∷ []) ∙ by_test (is_kept kept wanted)
+one_first : (kept : Kept) (scan wanted : Purpose) → list_any (same_scan scan) (take 1 (missing kept (wanted ∷ []))) ≡ is_missing scan kept wanted
+one_first kept scan wanted = any_first scan (λ d. not (is_kept kept d)) (wanted ∷ []) ∙ by_test (is_kept kept wanted)
   where
     by_test : (t : Bool) → option_map_or (same_scan scan) (cond (not t) (Some wanted) None) false ≡ (not t && same_scan scan wanted)
     by_test true = refl
     by_test false = refl
 
-act_first : (facts : Facts) (s : Progress) (scan : Purpose) (p : Plan) → FactsFit facts s → list_any (same_scan scan) (act_next facts p) ≡ is_next_of_act scan s p
-act_first facts s scan (Do (Lookup name mode) rest) fits = one_first facts (kept_at s) scan (scans.RelName name) fits.usable
-act_first facts s scan (Do (Search wanted) rest) fits = one_first facts (kept_at s) scan wanted fits.usable
-act_first facts s scan (Do (Open rel kind) rest) fits = first_same facts (kept_at s) scan fits.usable (build_scans kind rel)
-act_first facts s scan (Do (Read d) rest) fits = refl
-act_first facts s scan (Do (Lock rel mode) rest) fits = refl
-act_first facts s scan (Do (Write draft) rest) fits = refl
-act_first facts s scan (Done (tells.Regclass oid)) fits = one_first facts (kept_at s) scan (scans.RelOid oid) fits.usable
-act_first facts s scan p fits = refl
+act_first : (facts : Facts) (scan : Purpose) (p : Plan) → list_any (same_scan scan) (act_next facts p) ≡ is_next_of_act scan facts.kept p
+act_first facts scan (Do (Lookup name mode) rest) = one_first facts.kept scan (scans.RelName name)
+act_first facts scan (Do (Search wanted) rest) = one_first facts.kept scan wanted
+act_first facts scan (Do (Open rel kind) rest) = any_first scan (λ d. not (is_kept facts.kept d)) (build_scans kind rel)
+act_first facts scan (Do (Read d) rest) = refl
+act_first facts scan (Do (Lock rel mode) rest) = refl
+act_first facts scan (Do (Write draft) rest) = refl
+act_first facts scan (Done (tells.Regclass oid)) = one_first facts.kept scan (scans.RelOid oid)
+act_first facts scan p = refl
 
--- the scan may be made now
-pub next_same : (facts : Facts) (s : Progress) (rest : Rest) (scan : Purpose) → FactsFit facts s → is_next_scan scan facts (session_at s rest) ≡ is_next_at scan s
-next_same facts s rest scan fits = by_outcome (outcome_of (plan_at s.opens s.exec))
+-- the scan may be made now, as the code tests it
+pub next_is : (scan : Purpose) (s : Progress) → (not (has_failed s) && (list_any (λ p. is_first_missing scan (kept_at s) p.kind p.rel) s.opened || is_next_of_act scan (kept_at s) (plan_at s.opens s.exec))) ≡ is_next_in scan (facts_at s) (work_at s)
+next_is scan s = sym (by_outcome (outcome_of (plan_at s.opens s.exec)))
   where
     builds : List Purpose
-    builds = flat_map (λ o. take 1 (unusable facts (build_scans o.kind o.rel))) s.opened
+    builds = flat_map (λ o. take 1 (missing (kept_at s) (build_scans o.kind o.rel))) s.opened
 
     acts : List Purpose
-    acts = act_next facts (plan_at s.opens s.exec)
+    acts = act_next (facts_at s) (plan_at s.opens s.exec)
 
-    both : list_any (same_scan scan) (builds ++ acts) ≡ (list_any (λ o. is_first_missing scan (kept_at s) o.kind o.rel) s.opened || is_next_of_act scan s (plan_at s.opens s.exec))
-    both = list_any-append (same_scan scan) builds acts ∙ ap (λ t. t || list_any (same_scan scan) acts) (opened_first facts (kept_at s) scan fits.usable s.opened)
-        ∙ ap (λ t. list_any (λ o. is_first_missing scan (kept_at s) o.kind o.rel) s.opened || t) (act_first facts s scan (plan_at s.opens s.exec) fits)
+    both : list_any (same_scan scan) (builds ++ acts) ≡ (list_any (λ o. is_first_missing scan (kept_at s) o.kind o.rel) s.opened || is_next_of_act scan (kept_at s) (plan_at s.opens s.exec))
+    both = list_any-append (same_scan scan) builds acts ∙ ap (λ t. t || list_any (same_scan scan) acts) (opened_first (kept_at s) scan s.opened)
+        ∙ ap (λ t. list_any (λ o. is_first_missing scan (kept_at s) o.kind o.rel) s.opened || t) (act_first (facts_at s) scan (plan_at s.opens s.exec))
 
     by_outcome : (o : Outcome) → list_any (same_scan scan) (elim o as (λ x. List Purpose) [ Badly ↦ [] | other ↦ builds ++ acts ])
-        ≡ (not (elim o as (λ x. Bool) [ Badly ↦ true | other ↦ false ]) && (list_any (λ p. is_first_missing scan (kept_at s) p.kind p.rel) s.opened || is_next_of_act scan s (plan_at s.opens s.exec)))
+        ≡ (not (elim o as (λ x. Bool) [ Badly ↦ true | other ↦ false ]) && (list_any (λ p. is_first_missing scan (kept_at s) p.kind p.rel) s.opened || is_next_of_act scan (kept_at s) (plan_at s.opens s.exec)))
     by_outcome Unsettled = both
     by_outcome Well = both
     by_outcome Badly = refl
@@ -201,14 +181,12 @@ lacks_any_is s = ap (λ t. not (not (has_failed s) && (t || not (is_empty (act_m
     by_outcome Well = apart (is_empty builds) (is_empty acts) ∙ sym (empty_append builds acts)
     by_outcome Badly = refl
 
--- nothing is owed
-pub owes_nothing_is : (facts : Facts) (command : Command) (s : Progress) (rest : Rest) → FactsFit facts s → is_empty (owed_of facts command (session_at s rest)) ≡ owes_nothing command s
-owes_nothing_is facts command s rest fits =
-    empty_append (owed_at_start facts command (session_at s rest) ++ owed_after facts.last) (map OwesScan (scans_owed facts (session_at s rest)))
-    ∙ ap (λ t. t && is_empty (map OwesScan (scans_owed facts (session_at s rest)))) (empty_append (owed_at_start facts command (session_at s rest)) (owed_after facts.last))
-    ∙ ap (λ l. is_empty l && is_empty (owed_after facts.last) && is_empty (map OwesScan (scans_owed facts (session_at s rest)))) (start_owed facts command s rest fits)
-    ∙ ap (λ l. is_empty (owed_first s command) && is_empty l && is_empty (map OwesScan (scans_owed facts (session_at s rest)))) fits.owed
-    ∙ ap (λ t. is_empty (owed_first s command) && is_empty (owed_at s.due) && t) (empty_map OwesScan (scans_owed facts (session_at s rest)) ∙ ap is_empty (scans_same facts s rest fits) ∙ sym (lacks_any_is s))
+-- nothing is owed, as the code tests it
+pub free_is : (command : Command) (s : Progress) → (is_empty (owed_first s command) && is_empty (owed_after s.due) && not (lacks_any s)) ≡ owes_nothing command s
+free_is command s =
+    ap (λ t. is_empty (owed_first s command) && is_empty (owed_after s.due) && t) (lacks_any_is s ∙ sym (empty_map OwesScan (scans_missing s)))
+    ∙ ap (λ t. t && is_empty (map OwesScan (scans_missing s))) (sym (empty_append (owed_first s command) (owed_after s.due)))
+    ∙ sym (empty_append (owed_first s command ++ owed_after s.due) (map OwesScan (scans_missing s)))
 
 -- the test of the opened descriptors, where the command hasn't failed
 pub lacks_builds_is : (s : Progress) → (not (has_failed s) && lacks_opened (kept_at s) s.opened) ≡ lacks_builds s
@@ -219,23 +197,13 @@ lacks_builds_is s = ap (λ t. not (has_failed s) && t) (lacks_opened_is (kept_at
     by_outcome Well = refl
     by_outcome Badly = refl
 
--- an accept of messages isn't over
-pub accept_same : (facts : Facts) (o : Option Command) (s : Progress) (rest : Rest) → FactsFit facts s → owes_accept facts o (session_at s rest) ≡ is_in_accept s o
-accept_same facts None s rest fits = ap (λ l. not (is_empty l)) fits.owed
-accept_same facts (Some command) s rest fits =
-    ap (λ t. not t || owes_build facts (session_at s rest)) (empty_append (owed_at_start facts command (session_at s rest)) (owed_after facts.last))
-    ∙ ap (λ l. not (is_empty l && is_empty (owed_after facts.last)) || owes_build facts (session_at s rest)) (start_owed facts command s rest fits)
-    ∙ ap (λ l. not (is_empty (owed_first s command) && is_empty l) || owes_build facts (session_at s rest)) fits.owed
-    ∙ apart (is_empty (owed_first s command)) (is_empty (owed_at s.due)) (owes_build facts (session_at s rest))
-    ∙ ap (λ t. not (is_empty (owed_first s command)) || not (is_empty (owed_at s.due)) || t) (lacks_same facts s rest fits)
+-- an accept of messages isn't over, as the code tests it
+pub accepting_is : (command : Command) (s : Progress) → (not (is_empty (owed_first s command)) || not (is_empty (owed_after s.due)) || lacks_builds s) ≡ is_in_accept s (Some command)
+accepting_is command s = sym (ap (λ t. not t || lacks_builds s) (empty_append (owed_first s command) (owed_after s.due)) ∙ apart (is_empty (owed_first s command)) (is_empty (owed_after s.due)) (lacks_builds s))
   where
     apart : (a b c : Bool) → (not (a && b) || c) ≡ (not a || not b || c)
     apart true b c = refl
     apart false b c = refl
-
--- a scan for a descriptor is owed
-pub full_same : (facts : Facts) (count : ℕ) (s : Progress) (rest : Rest) → FactsFit facts s → ((count == 32) && not (owes_build_scan facts (session_at s rest))) ≡ is_full count s
-full_same facts count s rest fits = ap (λ l. (count == 32) && not (list_any is_build_scan l)) (scans_same facts s rest fits)
 
 -- of scans for descriptors one passes a test
 any_found : (p : Purpose → Bool) (l : List Purpose) → AllByRecursion (λ d. is_build_scan d ≡ true) l → list_any is_build_scan (filter p l) ≡ is_some (find p l)
@@ -272,7 +240,7 @@ no_build kept scan other = by_test (is_kept kept scan)
     by_test true = refl
     by_test false = ap (λ t. t || false) other
 
-act_any : (s : Progress) (p : Plan) → ReadsBuilds p → list_any is_build_scan (act_missing s p) ≡ lacks_to_build s p
+act_any : (s : Progress) (p : Plan) → ReadsBuilds p → list_any is_build_scan (act_missing s p) ≡ lacks_to_build (kept_at s) p
 act_any s (Do (Lookup name mode) rest) reads = no_build (kept_at s) (scans.RelName name) refl
 act_any s (Do (Search scan) rest) reads = no_build (kept_at s) scan reads
 act_any s (Do (Open rel kind) rest) reads = any_found (λ scan. not (is_kept (kept_at s) scan)) (build_scans kind rel) (builds_of kind rel)
@@ -287,14 +255,14 @@ act_any s (Done (tells.Regclass oid)) reads = no_build (kept_at s) (scans.RelOid
 act_any s p reads = refl
 
 -- the test whether a scan for a descriptor is missing
-pub lacks_build_scan_is : (s : Progress) → (not (has_failed s) && (lacks_opened (kept_at s) s.opened || lacks_to_build s (plan_at s.opens s.exec))) ≡ list_any is_build_scan (scans_missing s)
+pub lacks_build_scan_is : (s : Progress) → (not (has_failed s) && (lacks_opened (kept_at s) s.opened || lacks_to_build (kept_at s) (plan_at s.opens s.exec))) ≡ list_any is_build_scan (scans_missing s)
 lacks_build_scan_is s = by_outcome (outcome_of (plan_at s.opens s.exec))
   where
-    both : (lacks_opened (kept_at s) s.opened || lacks_to_build s (plan_at s.opens s.exec)) ≡ list_any is_build_scan (builds_missing (kept_at s) s.opened ++ act_missing s (plan_at s.opens s.exec))
-    both = ap (λ t. t || lacks_to_build s (plan_at s.opens s.exec)) (sym (opened_any (kept_at s) s.opened)) ∙ ap (λ t. list_any is_build_scan (builds_missing (kept_at s) s.opened) || t) (sym (act_any s (plan_at s.opens s.exec) (stage_reads s.opens s.exec)))
+    both : (lacks_opened (kept_at s) s.opened || lacks_to_build (kept_at s) (plan_at s.opens s.exec)) ≡ list_any is_build_scan (builds_missing (kept_at s) s.opened ++ act_missing s (plan_at s.opens s.exec))
+    both = ap (λ t. t || lacks_to_build (kept_at s) (plan_at s.opens s.exec)) (sym (opened_any (kept_at s) s.opened)) ∙ ap (λ t. list_any is_build_scan (builds_missing (kept_at s) s.opened) || t) (sym (act_any s (plan_at s.opens s.exec) (stage_reads s.opens s.exec)))
         ∙ sym (list_any-append is_build_scan (builds_missing (kept_at s) s.opened) (act_missing s (plan_at s.opens s.exec)))
 
-    by_outcome : (o : Outcome) → (not (elim o as (λ x. Bool) [ Badly ↦ true | other ↦ false ]) && (lacks_opened (kept_at s) s.opened || lacks_to_build s (plan_at s.opens s.exec))) ≡ list_any is_build_scan (elim o as (λ x. List Purpose) [ Badly ↦ [] | other ↦ builds_missing (kept_at s) s.opened ++ act_missing s (plan_at s.opens s.exec) ])
+    by_outcome : (o : Outcome) → (not (elim o as (λ x. Bool) [ Badly ↦ true | other ↦ false ]) && (lacks_opened (kept_at s) s.opened || lacks_to_build (kept_at s) (plan_at s.opens s.exec))) ≡ list_any is_build_scan (elim o as (λ x. List Purpose) [ Badly ↦ [] | other ↦ builds_missing (kept_at s) s.opened ++ act_missing s (plan_at s.opens s.exec) ])
     by_outcome Unsettled = both
     by_outcome Well = both
     by_outcome Badly = refl

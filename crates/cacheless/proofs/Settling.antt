@@ -20,7 +20,7 @@ use Rattle.cacheless.specs.Settled.{gives, done_here, acted_on, acted, act_done,
 
 -- an act that is done here
 pub settled-act : (facts : Facts) (command : Command) (rest : List Command) (s : Session) (act : Act) (plan : List Row → Plan) (given : List Row)
-    → s.left ≡ Do act plan → is_empty (owed_at_start facts command s ++ owed_after facts.last) ≡ true → done_here facts s act (Do act plan) ≡ Some given
+    → s.left ≡ Do act plan → is_empty (owed_at_start facts command s ++ owed_after facts.due) ≡ true → done_here facts s act (Do act plan) ≡ Some given
     → settled facts (command ∷ rest) s ≡ settled facts (command ∷ rest) (act_done act given (plan given) s)
 settled-act facts command rest s act plan given left free done = ap (λ now. elim (is_finished facts command now) [ true ↦ settled facts rest (next_session command (first_of rest) now) | false ↦ now ]) same
   where
@@ -48,14 +48,14 @@ acted_on-out facts (Do act rest) s out = absurd (cc)
 
 -- a command that has come out has no act to do
 pub acted-out : (facts : Facts) (command : Command) (s : Session) → is_settled (outcome_of s.left) ≡ true → acted facts command s ≡ s
-acted-out facts command s out = elim (is_empty (owed_at_start facts command s ++ owed_after facts.last)) as (λ t. elim t [ true ↦ acted_on facts s.left s | false ↦ s ] ≡ s) [ true ↦ acted_on-out facts s.left s out | false ↦ refl ]
+acted-out facts command s out = elim (is_empty (owed_at_start facts command s ++ owed_after facts.due)) as (λ t. elim t [ true ↦ acted_on facts s.left s | false ↦ s ] ≡ s) [ true ↦ acted_on-out facts s.left s out | false ↦ refl ]
 
 is_empty-more : {X : Type 0} (xs ys : List X) → is_empty xs ≡ false → is_empty (xs ++ ys) ≡ false
 is_empty-more [] ys h = cc
 is_empty-more (x ∷ xs) ys h = refl
 
 -- a look or a fetch is owed
-pub waits-owed : (facts : Facts) (command : Command) (rest : List Command) (s : Session) → is_empty (owed_at_start facts command s ++ owed_after facts.last) ≡ false
+pub waits-owed : (facts : Facts) (command : Command) (rest : List Command) (s : Session) → is_empty (owed_at_start facts command s ++ owed_after facts.due) ≡ false
     → settled facts (command ∷ rest) s ≡ s
 waits-owed facts command rest s owed = settled-waits facts command rest s
     (ap (λ t. elim t [ true ↦ acted_on facts s.left s | false ↦ s ]) owed)
@@ -67,7 +67,7 @@ pub waits-act : (facts : Facts) (command : Command) (rest : List Command) (s : S
 waits-act facts command rest s act plan left none = settled-waits facts command rest s stays (ap (λ p. is_settled (outcome_of p) && is_none (end_left facts command s) && is_empty (owed_of facts command s)) left)
   where
     stays : acted facts command s ≡ s
-    stays = elim (is_empty (owed_at_start facts command s ++ owed_after facts.last)) as (λ t. elim t [ true ↦ acted_on facts s.left s | false ↦ s ] ≡ s) [
+    stays = elim (is_empty (owed_at_start facts command s ++ owed_after facts.due)) as (λ t. elim t [ true ↦ acted_on facts s.left s | false ↦ s ] ≡ s) [
       | true ↦ ap (λ p. acted_on facts p s) left ∙ ap (λ o. elim o [ None ↦ s | Some rows ↦ acted_on facts (plan rows) (act_done act rows (plan rows) s) ]) none
       | false ↦ refl
     ]
@@ -101,9 +101,9 @@ acted_on-owed facts (Do act rest) s owed = ap (λ o. elim o [ None ↦ s | Some 
 -- a scan is owed
 pub waits-scans : (facts : Facts) (command : Command) (rest : List Command) (s : Session) → is_empty (scans_owed facts s) ≡ false → settled facts (command ∷ rest) s ≡ s
 waits-scans facts command rest s owed = settled-waits facts command rest s
-    (elim (is_empty (owed_at_start facts command s ++ owed_after facts.last)) as (λ t. elim t [ true ↦ acted_on facts s.left s | false ↦ s ] ≡ s) [ true ↦ acted_on-owed facts s.left s owed | false ↦ refl ])
+    (elim (is_empty (owed_at_start facts command s ++ owed_after facts.due)) as (λ t. elim t [ true ↦ acted_on facts s.left s | false ↦ s ] ≡ s) [ true ↦ acted_on-owed facts s.left s owed | false ↦ refl ])
     (ap (λ t. is_settled (outcome_of s.left) && is_none (end_left facts command s) && t)
-    (is_empty-after (owed_at_start facts command s ++ owed_after facts.last) (map OwesScan (scans_owed facts s)) (is_empty-map OwesScan (scans_owed facts s) ∙ owed))
+    (is_empty-after (owed_at_start facts command s ++ owed_after facts.due) (map OwesScan (scans_owed facts s)) (is_empty-map OwesScan (scans_owed facts s) ∙ owed))
     ∙ and-false (is_settled (outcome_of s.left) && is_none (end_left facts command s)))
 
 first_of_each : (facts : Facts) (opened : List Opening) (scan : Purpose) (more : List Purpose) → builds_owed facts opened ≡ scan ∷ more

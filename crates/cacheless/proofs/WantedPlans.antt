@@ -1,10 +1,11 @@
 -- What is asked of a plan by what it wants next.
-use Rattle.std.proofs.Common.{◌≡◌, ℕ, Bool, true, false, not, Option, None, List, [], ap, ◌∷◌, ◌&&◌, ◌⊎◌, inl, inr, ◌∙◌, cond, refl, is_some}
+use Rattle.std.proofs.Common.{◌≡◌, ℕ, Bool, true, false, not, Option, None, List, [], ap, ◌∷◌, ◌&&◌, ◌⊎◌, inl, inr, ◌∙◌, cond, refl, is_some, slice_get}
 use Rattle.std.specs.Option.{option_map_or}
 use Rattle.std.specs.List.{cons_option, find}
 use Rattle.base_types.specs.Scans.{same_oid, build_scans}
 use Rattle.base_types.specs.Modes.{same_mode}
 use Rattle.base_types.specs.declared.scan.Purpose.TheVariants as scans
+use Rattle.base_types.specs.declared.row.Row.TheVariants as rows
 use Rattle.ddl_effect.specs.declared.want.Want.{Want}
 use Rattle.ddl_effect.specs.declared.want.Want.TheVariants as wants
 use Rattle.ddl_effect.specs.Plans.{Plan, Done, Fails, Absent, Do, Lookup, Open, Search, Read, Lock, left_rests_on, told_rests_on}
@@ -15,10 +16,13 @@ use Rattle.ddl_effect.proofs.Driven.{fails_is}
 use Rattle.history_model.specs.Changing.{is_empty}
 use Rattle.cacheless.specs.Types.{Oid, Mode, Kind, Row, Purpose, Command, CommandError, OpenRelation, Opening, OwnLock}
 use Rattle.cacheless.specs.Session.{Badly, Unsettled, outcome_of, is_settled}
-use Rattle.cacheless.specs.Settled.{if_locked, opens_badly, opens_passed}
-use Rattle.cacheless.specs.State.{Kept, kept_at, is_kept, missing, row_sought, row_next, blocks_passed}
-use Rattle.cacheless.specs.May.{is_missing, is_first_missing, is_next_of_act, lacks_to_build, is_lock_at, is_unlock_at, names_relation}
-use Rattle.cacheless.specs.Silently.{looks_up_at, gives_next, opened_for}
+use Rattle.cacheless.specs.Settled.{if_locked, opens_badly, opens_passed, looked_up_in, gives_left}
+use Rattle.cacheless.specs.State.{Kept, kept_at, is_kept, missing, row_sought, row_next, blocks_passed, facts_at, work_at, rows_kept}
+use Rattle.cacheless.specs.May.{is_missing, is_first_missing, is_next_of_act, lacks_to_build}
+use Rattle.cacheless.specs.Rule.{is_lock, is_unlock, names_relation}
+use Rattle.cacheless.specs.Facts.{Facts}
+use Rattle.cacheless.specs.Work.{Work}
+use Rattle.cacheless.specs.Silently.{opened_for}
 use Rattle.cacheless.specs.Told.{told_well, told_left}
 use Rattle.cacheless.specs.declared.progress.Progress.{Progress}
 
@@ -28,7 +32,7 @@ lock_of_want s (wants.Lookup name wanted) rel mode = names_relation rel (row_sou
 lock_of_want s (wants.Lock other wanted) rel mode = same_oid rel other && same_mode mode wanted
 lock_of_want s want rel mode = false
 
-pub lock_wanted : (s : Progress) (plan : Plan) (rel : Oid) (mode : Mode) → is_lock_at s plan rel mode ≡ lock_of_want s (want_of plan) rel mode
+pub lock_wanted : (s : Progress) (plan : Plan) (rel : Oid) (mode : Mode) → is_lock (facts_at s) plan rel mode ≡ lock_of_want s (want_of plan) rel mode
 lock_wanted s (Do (Lookup name wanted) rest) rel mode = refl
 lock_wanted s (Do (Lock other wanted) rest) rel mode = refl
 lock_wanted s (Do act rest) rel mode = refl
@@ -44,7 +48,7 @@ abbrev pub unlock_of_want : Progress → Want → Oid → Mode → Bool
 unlock_of_want s (wants.Lookup name wanted) rel mode = option_map_or (same_oid rel) s.taken false && same_mode mode wanted && not (names_relation rel (row_sought s name))
 unlock_of_want s want rel mode = false
 
-pub unlock_wanted : (s : Progress) (plan : Plan) (rel : Oid) (mode : Mode) → is_unlock_at s plan rel mode ≡ unlock_of_want s (want_of plan) rel mode
+pub unlock_wanted : (s : Progress) (plan : Plan) (rel : Oid) (mode : Mode) → is_unlock (facts_at s) s.taken plan rel mode ≡ unlock_of_want s (want_of plan) rel mode
 unlock_wanted s (Do (Lookup name wanted) rest) rel mode = refl
 unlock_wanted s (Do act rest) rel mode = refl
 unlock_wanted s plan rel mode = refl
@@ -59,7 +63,7 @@ build_of_want s (wants.Open rel kind) = is_some (find (λ scan. not (is_kept (ke
 build_of_want s (wants.Read scan) = not (is_kept (kept_at s) scan)
 build_of_want s want = false
 
-pub build_wanted : (s : Progress) (plan : Plan) → lacks_to_build s plan ≡ build_of_want s (want_of plan)
+pub build_wanted : (s : Progress) (plan : Plan) → lacks_to_build (kept_at s) plan ≡ build_of_want s (want_of plan)
 build_wanted s (Do (Open rel kind) rest) = refl
 build_wanted s (Do (Read scan) rest) = refl
 build_wanted s (Do act rest) = refl
@@ -78,7 +82,7 @@ next_of_want scan s (wants.Done told) = option_map_or (is_missing scan (kept_at 
 next_of_want scan s (wants.Open rel kind) = is_first_missing scan (kept_at s) kind rel
 next_of_want scan s want = false
 
-pub next_wanted : (scan : Purpose) (s : Progress) (plan : Plan) → is_next_of_act scan s plan ≡ next_of_want scan s (want_of plan)
+pub next_wanted : (scan : Purpose) (s : Progress) (plan : Plan) → is_next_of_act scan (kept_at s) plan ≡ next_of_want scan s (want_of plan)
 next_wanted scan s (Do (Lookup name mode) rest) = refl
 next_wanted scan s (Do (Search wanted) rest) = refl
 next_wanted scan s (Do (Open rel kind) rest) = refl
@@ -196,7 +200,7 @@ has_failed_of want (inr (name, is)) = ap failed_of_want is
 
 -- whether its next act is given rows without an entry
 abbrev pub gives_of_want : Progress → Want → Bool
-gives_of_want s (wants.Lookup name mode) = is_some (looks_up_at s mode (row_sought s name))
+gives_of_want s (wants.Lookup name mode) = is_some (looked_up_in (facts_at s) (work_at s) mode (cons_option (row_sought s name) []))
 gives_of_want s (wants.Open rel kind) = true
 gives_of_want s (wants.Search scan) = true
 gives_of_want s (wants.Read scan) = true
@@ -207,8 +211,13 @@ some_locked : (t : Bool) → is_some (if_locked t []) ≡ t
 some_locked true = refl
 some_locked false = refl
 
-pub gives_wanted : (s : Progress) (plan : Plan) → gives_next s plan ≡ gives_of_want s (want_of plan)
-gives_wanted s (Do (Lookup name mode) rest) = refl
+pub first_up : (facts : Facts) (w : Work) (mode : Mode) (given : List Row) → is_some (looked_up_in facts w mode given) ≡ is_some (looked_up_in facts w mode (cons_option (slice_get given 0) []))
+first_up facts w mode [] = refl
+first_up facts w mode (rows.Class oid name kind fill ∷ more) = refl
+first_up facts w mode (row ∷ more) = refl
+
+pub gives_wanted : (s : Progress) (plan : Plan) → gives_left (facts_at s) (work_at s) plan ≡ gives_of_want s (want_of plan)
+gives_wanted s (Do (Lookup name mode) rest) = first_up (facts_at s) (work_at s) mode (rows_kept (kept_at s) (scans.RelName name))
 gives_wanted s (Do (Lock rel mode) rest) = some_locked (has_lock s.locks.items rel mode)
 gives_wanted s (Do act rest) = refl
 gives_wanted s plan = refl

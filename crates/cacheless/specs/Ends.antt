@@ -9,7 +9,8 @@ use Rattle.history_model.specs.Transactions.{is_visible}
 use Rattle.history_model.specs.Sent.{unsent_in}
 use Rattle.cacheless.specs.Types.{Command, Event}
 use Rattle.cacheless.specs.Facts.{Facts}
-use Rattle.cacheless.specs.Session.{Session, number_of, Unsettled, Well, Badly, outcome_of}
+use Rattle.cacheless.specs.Session.{Session, Unsettled, Well, Badly, outcome_of}
+use Rattle.cacheless.specs.Work.{Work, work_of}
 
 -- with no entry, by a commit of the transaction with this first command, or by taking back the commands from this one on
 pub data End : Type 0 where
@@ -29,20 +30,20 @@ end_of_block facts Inside false = end_of_all facts
 end_of_block facts Failed commits = end_of_all facts
 
 -- the end of a command that came out well: `rollback to` takes back the level of the savepoint; outside a block a command is a transaction of its own
-abbrev pub end_well : Facts → Command → Session → End
-end_well facts commands.Begin s = Ends
-end_well facts commands.Commit s = end_of_block facts s.blocks.block true
-end_well facts commands.Rollback s = end_of_block facts s.blocks.block false
-end_well facts (commands.RollbackTo name) s = TakesBack (innermost (number_of s) (levels_up_to name s.blocks.levels))
-end_well facts command s = elim s.blocks.block [ Outside ↦ Commits (number_of s) | block ↦ Ends ]
+abbrev pub end_well_in : Facts → Command → Work → End
+end_well_in facts commands.Begin w = Ends
+end_well_in facts commands.Commit w = end_of_block facts w.blocks.block true
+end_well_in facts commands.Rollback w = end_of_block facts w.blocks.block false
+end_well_in facts (commands.RollbackTo name) w = TakesBack (innermost w.number (levels_up_to name w.blocks.levels))
+end_well_in facts command w = elim w.blocks.block [ Outside ↦ Commits w.number | block ↦ Ends ]
 
 -- the end of a command that failed: the innermost level is taken back, unless the blocks refused it and nothing is left behind
-abbrev pub end_badly : Session → End
-end_badly s = elim s.blocked [ true ↦ Ends | false ↦ TakesBack (innermost (number_of s) s.blocks.levels) ]
+abbrev pub end_badly_in : Work → End
+end_badly_in w = elim w.blocked [ true ↦ Ends | false ↦ TakesBack (innermost w.number w.blocks.levels) ]
 
 -- the end of a command
-abbrev pub end_of : Facts → Command → Session → End
-end_of facts command s = elim (outcome_of s.left) [ Well ↦ end_well facts command s | Badly ↦ end_badly s | Unsettled ↦ Ends ]
+abbrev pub end_in : Facts → Command → Work → End
+end_in facts command w = elim (outcome_of w.left) [ Well ↦ end_well_in facts command w | Badly ↦ end_badly_in w | Unsettled ↦ Ends ]
 
 -- the Xid of the running transaction
 abbrev pub xid_of : Facts → ℕ
@@ -68,5 +69,18 @@ next_of_end facts (Commits first) = Some (next_of_commit facts first)
 next_of_end facts (TakesBack from) = Some (next_of_taking_back facts from)
 
 -- the next entry of the end of a command, if one is left
+abbrev pub end_left_in : Facts → Command → Work → Option Event
+end_left_in facts command w = elim w.ended [ true ↦ None | false ↦ next_of_end facts (end_in facts command w) ]
+
+-- the same of sessions
+abbrev pub end_well : Facts → Command → Session → End
+end_well facts command s = end_well_in facts command (work_of s)
+
+abbrev pub end_badly : Session → End
+end_badly s = end_badly_in (work_of s)
+
+abbrev pub end_of : Facts → Command → Session → End
+end_of facts command s = end_in facts command (work_of s)
+
 abbrev pub end_left : Facts → Command → Session → Option Event
-end_left facts command s = elim s.ended [ true ↦ None | false ↦ next_of_end facts (end_of facts command s) ]
+end_left facts command s = end_left_in facts command (work_of s)

@@ -1,37 +1,81 @@
--- What a backend's next entry depends on of a history: facts of its own entries alone.
-use Rattle.std.specs.Prelude.{ℕ, Bool, Option, Some, List}
-use Rattle.inval_messages.specs.Lists.{Written}
+-- What a backend's next entry depends on of a history: facts of its own entries alone, as the code has them.
+use Rattle.std.specs.Prelude.{ℕ, Bool, true, false, Option, Some, None, List, ◌+◌, ◌==◌, length}
+use Rattle.event_kinds.specs.declared.entry.Event.TheVariants as events
+use Rattle.inval_messages.specs.Lists.{Written, lists_from, sent_in}
+use Rattle.local_caches.specs.Kept.{Read, Kept, nothing_kept, kept_with, kept_spared}
 use Rattle.history_model.specs.Lives.{last_event_of}
 use Rattle.history_model.specs.Transactions.{running_by, running_transaction_of}
 use Rattle.txn_blocks.specs.declared.transaction.RunningTransaction.{RunningTransaction as Running}
-use Rattle.history_model.specs.Sent.{lists_by, lists_of}
-use Rattle.history_model.specs.Read.{usable_by, is_usable, rows_by, rows_read}
+use Rattle.history_model.specs.Sent.{messages_written, lists_by, lists_of}
+use Rattle.history_model.specs.Read.{is_usable, rows_read, place_read}
+use Rattle.history_model.specs.Log.{fetched_by}
+use Rattle.history_model.specs.Versions.{answer_of}
 use Rattle.cacheless.specs.Types.{Row, Purpose, Entry, Event}
+use Rattle.cacheless.specs.declared.progress.Due.{Due}
+use Rattle.cacheless.specs.declared.progress.Due.TheVariants as dues
 
--- its last event, its running transaction, its writes that weren't taken back, which scans are usable, and what the last scan for each purpose gave
+-- what has to come right after its last event, its running transaction, its writes that weren't taken back, and what it may still rely on of each scan
 pub record Facts : Type 0 where
-  pub last : Option Event
+  pub due : Due
   pub running : Option Running
   pub lists : List Written
-  pub usable : Purpose → Bool
-  pub rows : Purpose → List Row
+  pub kept : Kept
+
+-- what is due after a fetch: where it gave the most messages that one gives, more may wait
+abbrev pub due_fetched : ℕ → Due
+due_fetched count = elim (count == 32) [ true ↦ dues.Look | false ↦ dues.Nothing ]
+
+-- what is due after a look
+abbrev pub due_looked : Bool → Due
+due_looked true = dues.Fetch
+due_looked false = dues.Quiet
+
+-- what is due after an event
+abbrev pub due_after : Event → Due
+due_after (events.LockOk rel mode) = dues.Look
+due_after (events.Look some_wait) = due_looked some_wait
+due_after (events.Fetch count) = due_fetched count
+due_after (events.Gone from) = dues.Gone from
+due_after event = dues.Nothing
+
+-- the same of the last event, if there is one
+abbrev pub due_last : Option Event → Due
+due_last None = dues.Nothing
+due_last (Some event) = due_after event
+
+-- what a scan gave, if it may still be relied on
+abbrev pub kept_if : Bool → List Row → ℕ → Option Read
+kept_if true rows at = Some (record { rows = rows; at = at })
+kept_if false rows at = None
+
+-- what a backend may still rely on of each scan: what the last one gave, and the number of its entry
+abbrev pub kept_in : List Entry → ℕ → Kept
+kept_in history b = λ scan. kept_if (is_usable history b scan) (rows_read history b scan) (place_read history b scan)
 
 -- the facts of a backend
 abbrev pub facts_of : List Entry → ℕ → Facts
 facts_of history b = record {
-  last = last_event_of history b;
+  due = due_last (last_event_of history b);
   running = running_transaction_of history b;
   lists = lists_of history b;
-  usable = is_usable history b;
-  rows = rows_read history b;
+  kept = kept_in history b;
 }
+
+-- what is kept after an event
+abbrev pub kept_by : List Entry → ℕ → Event → Kept → Kept
+kept_by before b (events.Scan scan count) kept = kept_with scan (answer_of before b scan) (length before + 1) kept
+kept_by before b (events.Fetch count) kept = kept_spared (fetched_by before b count) kept
+kept_by before b events.FetchReset kept = nothing_kept
+kept_by before b (events.Write xid items) kept = kept_spared (messages_written before b items) kept
+kept_by before b (events.Gone from) kept = kept_spared (sent_in (lists_from from (lists_of before b))) kept
+kept_by before b events.Fail kept = nothing_kept
+kept_by before b event kept = kept
 
 -- the facts after an entry of the backend
 abbrev pub facts_by : List Entry → ℕ → ℕ → Event → Facts → Facts
 facts_by before b command event old = record {
-  last = Some event;
+  due = due_after event;
   running = running_by command event old.running;
   lists = lists_by before b command event old.lists;
-  usable = λ scan. usable_by before b command scan event (old.usable scan);
-  rows = λ scan. rows_by before b scan event (old.rows scan);
+  kept = kept_by before b event old.kept;
 }

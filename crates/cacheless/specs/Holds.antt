@@ -14,24 +14,15 @@ use Rattle.cacheless.specs.declared.progress.Progress.{Progress}
 use Rattle.cacheless.specs.Facts.{Facts, facts_of}
 use Rattle.cacheless.specs.Session.{none_open, at_command}
 use Rattle.cacheless.specs.Owed.{owed_at_start, owed_after}
-use Rattle.cacheless.specs.Settled.{nothing_waits, done_here, act_done, is_finished, next_session, settled}
+use Rattle.cacheless.specs.Settled.{done_here, act_done, is_finished, next_session, settled}
 use Rattle.cacheless.specs.Sessions.{entered, session_of}
 use Rattle.cacheless.specs.Puts.{PutsOpened}
-use Rattle.cacheless.specs.State.{owed_at, is_quiet, running_of, lists_at, Kept, kept_at, is_kept, is_absent, IsNew, Rest, session_at}
+use Rattle.cacheless.specs.State.{facts_at, lists_at, is_absent, IsNew, Rest, session_at}
 use Rattle.cacheless.specs.Silently.{IsAtRest}
 
--- what is kept of a scan is what the last such scan gave
-abbrev pub AreRight : (Purpose → List Row) → Kept → Type 0
-AreRight rows kept = (scan : Purpose) → IfSome (kept scan) (λ read. read.rows ≡ rows scan)
-
 -- the facts of the backend's entries are what the code holds
-pub record FactsFit (facts : Facts) (s : Progress) : Type 0 where
-  pub running : facts.running ≡ running_of s.running
-  pub lists : facts.lists ≡ lists_at s
-  pub owed : owed_after facts.last ≡ owed_at s.due
-  pub quiet : nothing_waits facts.last ≡ is_quiet s.due
-  pub usable : (scan : Purpose) → facts.usable scan ≡ is_kept (kept_at s) scan
-  pub kept : AreRight facts.rows (kept_at s)
+abbrev pub FactsFit : Facts → Progress → Type 0
+FactsFit facts s = facts ≡ facts_at s
 
 -- the running command has made so many entries at most
 pub record CountsFit (c : Counts) (entries : ℕ) : Type 0 where
@@ -101,7 +92,7 @@ pub record HasActed (scenario : Scenario) (seen : List Entry) (was : Progress) (
   pub holds : Holds scenario seen now
   pub command : Command
   pub at : slice_get was.commands was.finished ≡ Some command
-  pub free : is_empty (owed_at_start (facts_of seen was.id) command (session_at was held.rest) ++ owed_after (facts_of seen was.id).last) ≡ true
+  pub free : is_empty (owed_at_start (facts_of seen was.id) command (session_at was held.rest) ++ owed_after (facts_of seen was.id).due) ≡ true
   pub act : Act
   pub further : List Row → Plan
   pub left : plan_at was.opens was.exec ≡ Do act further

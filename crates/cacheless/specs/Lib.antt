@@ -2,6 +2,7 @@ pub mod Types
 pub mod Facts
 pub mod Locks
 pub mod Session
+pub mod Work
 pub mod Owed
 pub mod Ends
 pub mod Settled
@@ -21,8 +22,10 @@ pub mod Told
 pub mod Judged
 pub mod OpenedReads
 pub mod Puts
-pub mod State
 pub mod SameItems
+pub mod Rule
+pub mod Nexts
+pub mod State
 pub mod May
 pub mod Suspects
 pub mod Endings

@@ -3,6 +3,8 @@ use Rattle.std.specs.Prelude.{ℕ, Bool, true, false, Option, Some, None, List, 
 use Rattle.std.specs.List.{list_any, flat_map}
 use Rattle.std.specs.Str.{bytes_eq}
 use Rattle.base_types.specs.Scenario.{IsBackend}
+use Rattle.base_types.specs.declared.change.Change.{Change}
+use Rattle.base_types.specs.declared.change.Change.TheVariants as changes
 use Rattle.base_types.specs.declared.row.Row.TheVariants as rows
 use Rattle.base_types.specs.declared.scan.Purpose.TheVariants as scans
 use Rattle.event_kinds.specs.declared.entry.Event.TheVariants as events
@@ -14,6 +16,7 @@ use Rattle.history_model.specs.Prefixes.{EachEntry}
 use Rattle.history_model.specs.Changes.{items_of}
 use Rattle.history_model.specs.Drawn.{next_oid}
 use Rattle.history_model.specs.Names.{has_name}
+use Rattle.local_caches.specs.Kept.{Kept, rows_kept}
 use Rattle.cacheless.specs.Types.{Oid, Mode, Draft, Command, Scenario, Entry, Event, Item}
 use Rattle.cacheless.specs.Facts.{Facts, facts_of}
 use Rattle.cacheless.specs.Session.{Session, number_of}
@@ -24,17 +27,17 @@ use Rattle.cacheless.specs.Sessions.{session_of}
 
 -- no fetch has to come first, and the looks of the command stay within their bound
 abbrev pub may_look : Facts → Session → Bool
-may_look facts s = elim (owed_after facts.last) [ OwesFetch ∷ owed ↦ false | owed ↦ nat_le (s.tally.looks + 1) (s.tally.scans + s.tally.grants + s.tally.unlocks + 2 * s.tally.fetches + 3) ]
+may_look facts s = elim (owed_after facts.due) [ OwesFetch ∷ owed ↦ false | owed ↦ nat_le (s.tally.looks + 1) (s.tally.scans + s.tally.grants + s.tally.unlocks + 2 * s.tally.fetches + 3) ]
 
 -- the next act asks for this lock
 abbrev pub IsLock : Facts → Plan → Oid → Mode → Type 0
-IsLock facts (Do (Lookup name wanted) rest) rel mode = (class_oid (facts.rows (scans.RelName name)) ≡ Some rel) × (mode ≡ wanted)
+IsLock facts (Do (Lookup name wanted) rest) rel mode = (class_oid (rows_kept facts.kept (scans.RelName name)) ≡ Some rel) × (mode ≡ wanted)
 IsLock facts (Do (Lock wanted_rel wanted) rest) rel mode = (rel ≡ wanted_rel) × (mode ≡ wanted)
 IsLock facts plan rel mode = ⊥
 
 -- the next act gives this lock back: its lookup has newly taken it, and finds no relation or another one
 abbrev pub IsUnlock : Facts → Option Oid → Plan → Oid → Mode → Type 0
-IsUnlock facts taken (Do (Lookup name wanted) rest) rel mode = (taken ≡ Some rel) × (mode ≡ wanted) × (finds rel (facts.rows (scans.RelName name)) ≡ false)
+IsUnlock facts taken (Do (Lookup name wanted) rest) rel mode = (taken ≡ Some rel) × (mode ≡ wanted) × (finds rel (rows_kept facts.kept (scans.RelName name)) ≡ false)
 IsUnlock facts taken plan rel mode = ⊥
 
 -- the items of a draft, where the first new oid is this one
@@ -49,17 +52,23 @@ IsWrite next plan items = ⊥
 -- the new name that an item gives a relation, if it gives one: none where the row that was read has it already
 abbrev pub names_of : Facts → Item → List (List ℕ)
 names_of facts (items.Add (rows.Class oid name kind fill)) = name ∷ []
-names_of facts (items.Put (rows.Class oid name kind fill)) = if list_any (has_name name) (facts.rows (scans.Class oid)) then [] else name ∷ []
+names_of facts (items.Put (rows.Class oid name kind fill)) = if list_any (has_name name) (rows_kept facts.kept (scans.Class oid)) then [] else name ∷ []
 names_of facts item = []
+
+-- the new name that a change gives a relation, if it gives one: none where the row that is kept of it has it already
+abbrev pub names_by : Kept → Change → List (List ℕ)
+names_by kept (changes.Insert (rows.Class oid name kind fill)) = name ∷ []
+names_by kept (changes.Replace (rows.Class oid name kind fill)) = if list_any (has_name name) (rows_kept kept (scans.Class oid)) then [] else name ∷ []
+names_by kept change = []
 
 -- the next act writes a relation of this name
 abbrev pub IsClash : Facts → ℕ → Plan → List ℕ → Type 0
-IsClash facts next (Do (Write draft) rest) name = list_any (bytes_eq name) (flat_map (names_of facts) (drafted next draft)) ≡ true
+IsClash facts next (Do (Write draft) rest) name = list_any (bytes_eq name) (flat_map (names_by facts.kept) draft.changes) ≡ true
 IsClash facts next plan name = ⊥
 
 -- what has to come before the next entry of the end: taking back waits for no scan
 abbrev pub owed_at_end : Facts → Command → Session → List Owes
-owed_at_end facts command s = elim (end_of facts command s) [ TakesBack from ↦ owed_after facts.last | end ↦ owed_of facts command s ]
+owed_at_end facts command s = elim (end_of facts command s) [ TakesBack from ↦ owed_after facts.due | end ↦ owed_of facts command s ]
 
 -- the next entry of the command's end
 abbrev pub IsEnd : Facts → Command → Session → Event → Type 0
@@ -70,7 +79,7 @@ abbrev pub MayPlay : ℕ → Facts → Command → Session → Event → Type 0
 MayPlay next facts command s (events.Look some_wait) = may_look facts s ≡ true
 MayPlay next facts command s (events.Fetch count) = ⊤
 MayPlay next facts command s events.FetchReset = ⊤
-MayPlay next facts command s (events.Scan scan count) = (owed_after facts.last ≡ []) × (is_next_scan scan facts s ≡ true) × (has_looked facts s ≡ true)
+MayPlay next facts command s (events.Scan scan count) = (owed_after facts.due ≡ []) × (is_next_scan scan facts s ≡ true) × (has_looked facts s ≡ true)
 MayPlay next facts command s (events.LockOk rel mode) = (owed_of facts command s ≡ []) × (s.taken ≡ None) × IsLock facts s.left rel mode
 MayPlay next facts command s (events.LockHeld rel mode holder held) = (owed_of facts command s ≡ []) × (s.taken ≡ None) × IsLock facts s.left rel mode
 MayPlay next facts command s (events.Unlock rel mode) = (owed_of facts command s ≡ []) × IsUnlock facts s.taken s.left rel mode
@@ -85,14 +94,14 @@ MayPlay next facts command s event = ⊥
 
 -- the next entry of taking back what still runs after the last command
 abbrev pub IsLastEnd : Facts → Event → Type 0
-IsLastEnd facts event = (owed_after facts.last ≡ []) × (next_of_end facts (end_of_all facts) ≡ Some event)
+IsLastEnd facts event = (owed_after facts.due ≡ []) × (next_of_end facts (end_of_all facts) ≡ Some event)
 
 -- after the last command what relations that are open lack may be scanned still, a transaction that still runs is taken back, and the stop follows
 abbrev pub MayPlayLast : Facts → Session → Event → Type 0
 MayPlayLast facts s (events.Look some_wait) = (is_some facts.running ≡ true) × (may_look facts s ≡ true)
 MayPlayLast facts s (events.Fetch count) = ⊤
 MayPlayLast facts s events.FetchReset = ⊤
-MayPlayLast facts s (events.Scan scan count) = (owed_after facts.last ≡ []) × (is_next_scan scan facts s ≡ true) × (has_looked facts s ≡ true)
+MayPlayLast facts s (events.Scan scan count) = (owed_after facts.due ≡ []) × (is_next_scan scan facts s ≡ true) × (has_looked facts s ≡ true)
 MayPlayLast facts s (events.Gone from) = IsLastEnd facts (events.Gone from)
 MayPlayLast facts s (events.Release from) = IsLastEnd facts (events.Release from)
 MayPlayLast facts s events.Stop = facts.running ≡ None

@@ -13,7 +13,8 @@ use Rattle.cacheless.specs.Types.{Command, CommandError, Scenario, Entry, Event}
 use Rattle.cacheless.specs.Facts.{Facts, facts_of}
 use Rattle.cacheless.specs.Locks.{locks_by}
 use Rattle.cacheless.specs.Session.{Session, Tally, first_of, none_open, opening_of, held_before, at_command}
-use Rattle.cacheless.specs.Owed.{owes_build_scan, owes_accept}
+use Rattle.cacheless.specs.Work.{work_of}
+use Rattle.cacheless.specs.Owed.{counts_full, owes_accept}
 use Rattle.cacheless.specs.Settled.{settled}
 
 -- the error that an entry shows ends the command
@@ -72,7 +73,7 @@ placed_at at command event s = record (noted event s) {
 
 -- after a fetch of 32 messages a further look is owed, and it counts for no scan where no scan for a descriptor is owed
 abbrev pub counted : Facts → Event → Session → Session
-counted facts (events.Fetch count) s = record s { tally = elim ((count == 32) && not (owes_build_scan facts s)) [ true ↦ record s.tally { full = s.tally.full + 1 } | false ↦ s.tally ] }
+counted facts (events.Fetch count) s = record s { tally = elim (counts_full count facts (work_of s)) [ true ↦ record s.tally { full = s.tally.full + 1 } | false ↦ s.tally ] }
 counted facts event s = s
 
 -- where no accept is left to end, all locks are clear

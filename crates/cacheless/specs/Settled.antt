@@ -1,21 +1,22 @@
 -- Acts and commands that need no entry are passed over at once.
-use Rattle.std.specs.Prelude.{ℕ, Bool, true, false, Option, Some, None, List, [], ◌∷◌, ◌++◌, ◌&&◌, length, take, slice_get, is_none}
+use Rattle.std.specs.Prelude.{ℕ, Bool, true, false, Option, Some, None, List, [], ◌∷◌, ◌++◌, ◌&&◌, length, take, slice_get, is_none, is_some}
 use Rattle.std.specs.Option.{option_map_or}
 use Rattle.base_types.specs.Scans.{same_oid}
 use Rattle.base_types.specs.declared.command.Command.TheVariants as commands
 use Rattle.base_types.specs.declared.row.Row.TheVariants as rows
 use Rattle.base_types.specs.declared.scan.Purpose.TheVariants as scans
-use Rattle.event_kinds.specs.declared.entry.Event.TheVariants as events
 use Rattle.lock_modes.specs.Own.{has_lock}
 use Rattle.ddl_effect.specs.Plans.{Act, Lookup, Open, Search, Read, Lock, Write, Plan, Do}
 use Rattle.ddl_effect.specs.Opens.{without_latest, opens_before}
 use Rattle.txn_blocks.specs.Blocks.{Blocks, Level, innermost, levels_up_to, blocks_well, blocks_badly}
 use Rattle.history_model.specs.Changing.{is_empty}
-use Rattle.cacheless.specs.Types.{Oid, Mode, Row, Command, Event, OpenRelation, Opening}
+use Rattle.local_caches.specs.Kept.{rows_kept}
+use Rattle.cacheless.specs.Types.{Oid, Mode, Row, Command, OpenRelation, Opening}
 use Rattle.cacheless.specs.Facts.{Facts}
 use Rattle.cacheless.specs.Session.{Session, Finished, number_of, first_of, at_command, Well, outcome_of, is_settled}
-use Rattle.cacheless.specs.Owed.{owed_at_start, owed_after, builds_owed, act_owed, owed_of, has_looked}
-use Rattle.cacheless.specs.Ends.{end_left}
+use Rattle.cacheless.specs.Work.{Work, work_of}
+use Rattle.cacheless.specs.Owed.{is_quiet, owed_at_start, owed_after, builds_owed, act_owed, is_free, has_looked_in}
+use Rattle.cacheless.specs.Ends.{end_left_in}
 
 -- the relation that a lookup found
 abbrev pub class_oid : List Row → Option Oid
@@ -35,28 +36,42 @@ finds rel given = option_map_or (same_oid rel) (class_oid given) false
 abbrev pub has_taken_no_other : Option Oid → Oid → Bool
 has_taken_no_other taken rel = option_map_or (same_oid rel) taken true
 
--- a look was the last event, and told that no message waits
-abbrev pub nothing_waits : Option Event → Bool
-nothing_waits (Some (events.Look false)) = true
-nothing_waits last = false
-
 -- a lookup that found no relation ends: it has locked none, and accepted messages since, and none came
-abbrev pub has_accepted : Facts → Session → Bool
-has_accepted facts s = is_none s.taken && nothing_waits facts.last && has_looked facts s
+abbrev pub has_accepted_in : Facts → Work → Bool
+has_accepted_in facts w = is_none w.taken && is_quiet facts.due && has_looked_in facts w
 
 -- what a lookup gives: its first row, once the relation that it names is locked and no other is, or none
-abbrev pub looked_up : Facts → Session → Mode → List Row → Option (List Row)
-looked_up facts s mode (rows.Class oid name kind fill ∷ more) = if_locked (has_lock s.locks oid mode && has_taken_no_other s.taken oid) (rows.Class oid name kind fill ∷ [])
-looked_up facts s mode given = if_locked (has_accepted facts s) (take 1 given)
+abbrev pub looked_up_in : Facts → Work → Mode → List Row → Option (List Row)
+looked_up_in facts w mode (rows.Class oid name kind fill ∷ more) = if_locked (has_lock w.locks oid mode && has_taken_no_other w.taken oid) (rows.Class oid name kind fill ∷ [])
+looked_up_in facts w mode given = if_locked (has_accepted_in facts w) (take 1 given)
 
 -- what an act gives that is done here and leaves no entry
+abbrev pub gives_in : Facts → Work → Act → Option (List Row)
+gives_in facts w (Lookup name mode) = looked_up_in facts w mode (rows_kept facts.kept (scans.RelName name))
+gives_in facts w (Open rel kind) = Some []
+gives_in facts w (Search scan) = Some (rows_kept facts.kept scan)
+gives_in facts w (Read scan) = Some (rows_kept facts.kept scan)
+gives_in facts w (Lock rel mode) = if_locked (has_lock w.locks rel mode) []
+gives_in facts w (Write draft) = None
+
+-- what is left is done here, if nothing has to come before it
+abbrev pub gives_left : Facts → Work → Plan → Bool
+gives_left facts w (Do act rest) = is_some (gives_in facts w act)
+gives_left facts w plan = false
+
+-- the running command is finished: it has come out, nothing of its end is left, and nothing is owed
+abbrev pub is_finished_in : Facts → Command → Work → Bool
+is_finished_in facts command w = is_settled (outcome_of w.left) && is_none (end_left_in facts command w) && is_free facts command w
+
+-- the same of sessions
+abbrev pub has_accepted : Facts → Session → Bool
+has_accepted facts s = has_accepted_in facts (work_of s)
+
+abbrev pub looked_up : Facts → Session → Mode → List Row → Option (List Row)
+looked_up facts s mode given = looked_up_in facts (work_of s) mode given
+
 abbrev pub gives : Facts → Session → Act → Option (List Row)
-gives facts s (Lookup name mode) = looked_up facts s mode (facts.rows (scans.RelName name))
-gives facts s (Open rel kind) = Some []
-gives facts s (Search scan) = Some (facts.rows scan)
-gives facts s (Read scan) = Some (facts.rows scan)
-gives facts s (Lock rel mode) = if_locked (has_lock s.locks rel mode) []
-gives facts s (Write draft) = None
+gives facts s act = gives_in facts (work_of s) act
 
 -- the descriptor that an act opens
 abbrev pub opened_by : Act → List Opening
@@ -88,11 +103,11 @@ acted_on facts plan s = s
 
 -- the same for the running command, if no look and no fetch is owed
 abbrev pub acted : Facts → Command → Session → Session
-acted facts command s = elim (is_empty (owed_at_start facts command s ++ owed_after facts.last)) [ true ↦ acted_on facts s.left s | false ↦ s ]
+acted facts command s = elim (is_empty (owed_at_start facts command s ++ owed_after facts.due)) [ true ↦ acted_on facts s.left s | false ↦ s ]
 
--- the running command is finished: it has come out, nothing of its end is left, and nothing is owed
+-- the running command is finished
 abbrev pub is_finished : Facts → Command → Session → Bool
-is_finished facts command s = is_settled (outcome_of s.left) && is_none (end_left facts command s) && is_empty (owed_of facts command s)
+is_finished facts command s = is_finished_in facts command (work_of s)
 
 -- the blocks after the running command
 abbrev pub blocks_after : Command → Session → Blocks

@@ -13,38 +13,16 @@ use Rattle.cacheless.specs.declared.progress.Progress.{Progress}
 use Rattle.cacheless.specs.declared.silent.Silent.{Silent}
 use Rattle.cacheless.specs.declared.silent.Silent.TheVariants as silents
 use Rattle.cacheless.specs.Ends.{End, Ends}
-use Rattle.cacheless.specs.Settled.{if_locked, has_taken_no_other}
-use Rattle.cacheless.specs.State.{Kept, kept_at, rows_kept, row_sought, is_quiet, is_out, end_at}
-use Rattle.cacheless.specs.May.{has_looked_at, has_failed, owes_nothing}
+use Rattle.cacheless.specs.Settled.{gives_left, is_finished_in, has_accepted_in, looked_up_in, gives_in}
+use Rattle.cacheless.specs.Owed.{is_free}
+use Rattle.cacheless.specs.State.{Kept, kept_at, rows_kept, facts_at, work_at, row_sought, is_out, owes_nothing}
+use Rattle.cacheless.specs.May.{has_failed}
 use Rattle.cacheless.specs.Answering.{IsToldText}
 use Rattle.cacheless.specs.Told.{tells_of_scans}
 
--- a lookup that found no relation ends: it has locked none, and accepted messages since, and none came
-abbrev pub has_accepted_at : Progress → Bool
-has_accepted_at s = is_none s.taken && is_quiet s.due && has_looked_at s
-
--- what a lookup gives that found this row, or none
-abbrev pub looks_up_at : Progress → Mode → Option Row → Option (List Row)
-looks_up_at s mode (Some (rows.Class oid name kind fill)) = if_locked (has_lock s.locks.items oid mode && has_taken_no_other s.taken oid) (rows.Class oid name kind fill ∷ [])
-looks_up_at s mode given = if_locked (has_accepted_at s) (cons_option given [])
-
--- what an act gives that needs no entry
-abbrev pub gives_at : Progress → Act → Option (List Row)
-gives_at s (Lookup name mode) = looks_up_at s mode (row_sought s name)
-gives_at s (Open rel kind) = Some []
-gives_at s (Search scan) = Some (rows_kept (kept_at s) scan)
-gives_at s (Read scan) = Some (rows_kept (kept_at s) scan)
-gives_at s (Lock rel mode) = if_locked (has_lock s.locks.items rel mode) []
-gives_at s (Write draft) = None
-
--- the next act gives rows, if nothing has to come before it
-abbrev pub gives_next : Progress → Plan → Bool
-gives_next s (Do act rest) = is_some (gives_at s act)
-gives_next s plan = false
-
--- the next act is done without an entry
+-- its next act is done without an entry
 abbrev pub acts_on : Command → Progress → Bool
-acts_on command s = owes_nothing command s && gives_next s (plan_at s.opens s.exec)
+acts_on command s = is_free (facts_at s) command (work_at s) && gives_left (facts_at s) (work_at s) (work_at s).left
 
 -- an end without an entry
 abbrev pub is_ends : End → Bool
@@ -53,7 +31,7 @@ is_ends end = false
 
 -- the command is finished
 abbrev pub is_finished_at : Command → Progress → Bool
-is_finished_at command s = is_out s && (s.ended || is_ends (end_at s command)) && owes_nothing command s
+is_finished_at command s = is_finished_in (facts_at s) command (work_at s)
 
 -- the command has come out, and nothing more can change what it answers: it has failed, or tells of no scan, or nothing has to come before its end
 abbrev pub is_to_answer : Command → Progress → Bool
@@ -135,3 +113,15 @@ unanswered s = option_map_or (λ text. 0) s.answer 1
 -- how much a backend has left to do without an entry, at most
 abbrev pub left_of : Progress → ℕ
 left_of s = (most_acts + 2) * (length s.commands - s.finished) + acts_left s.exec + unanswered s
+
+abbrev pub has_accepted_at : Progress → Bool
+has_accepted_at s = has_accepted_in (facts_at s) (work_at s)
+
+abbrev pub looks_up_at : Progress → Mode → Option Row → Option (List Row)
+looks_up_at s mode o = looked_up_in (facts_at s) (work_at s) mode (cons_option o [])
+
+abbrev pub gives_at : Progress → Act → Option (List Row)
+gives_at s act = gives_in (facts_at s) (work_at s) act
+
+abbrev pub gives_next : Progress → Plan → Bool
+gives_next s plan = gives_left (facts_at s) (work_at s) plan

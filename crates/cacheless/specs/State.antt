@@ -25,36 +25,20 @@ pub use Rattle.cacheless.specs.OnCourse.{is_absent}
 use Rattle.txn_blocks.specs.Transactions.{begun_own}
 use Rattle.cacheless.specs.Types.{Oid, Message, Row, Purpose, Command, CommandError, Clash, Item, Entry, Event, Opening, OwnLock}
 use Rattle.cacheless.specs.Session.{Session, Finished, Tally, Badly, Well, Unsettled, outcome_of, is_settled, none_open, plan_first, is_blocked}
-use Rattle.cacheless.specs.Owed.{Owes, OwesLook, OwesFetch}
-use Rattle.cacheless.specs.Ends.{End, Ends, Commits, TakesBack}
+pub use Rattle.cacheless.specs.Owed.{owed_after, is_quiet, missing, builds_missing}
+use Rattle.cacheless.specs.Owed.{act_owed, scans_owed_in, owes_build_in, counts_full, owed_first_in, accepts_in, is_free}
+use Rattle.cacheless.specs.Work.{Work}
+use Rattle.cacheless.specs.Rule.{row_of_name}
+pub use Rattle.cacheless.specs.Facts.{due_looked, due_fetched}
+use Rattle.cacheless.specs.Facts.{Facts}
+use Rattle.cacheless.specs.Owed.{Owes, OwesLook}
+use Rattle.cacheless.specs.Ends.{End, Ends, TakesBack, end_in}
 use Rattle.local_caches.specs.Caches.{kept_of}
 pub use Rattle.local_caches.specs.Kept.{Kept, nothing_kept, kept_with, kept_spared, is_kept, rows_kept, place_kept}
-use Rattle.cacheless.specs.declared.progress.Due.{Due}
 use Rattle.cacheless.specs.declared.progress.Due.TheVariants as dues
 use Rattle.txn_blocks.specs.declared.transaction.RunningTransaction.{RunningTransaction}
 use Rattle.cacheless.specs.declared.progress.Counts.{Counts}
 use Rattle.cacheless.specs.declared.progress.Progress.{Progress}
-
--- what has to come right after the last entry
-abbrev pub owed_at : Due → List Owes
-owed_at dues.Nothing = []
-owed_at dues.Quiet = []
-owed_at dues.Look = OwesLook ∷ []
-owed_at dues.Fetch = OwesFetch ∷ []
-
--- the last entry was a look, which told that no message waits
-abbrev pub is_quiet : Due → Bool
-is_quiet dues.Quiet = true
-is_quiet due = false
-
--- what is due after a look
-abbrev pub due_looked : Bool → Due
-due_looked true = dues.Fetch
-due_looked false = dues.Quiet
-
--- what is due after a fetch: where it gave the most messages that one gives, more may wait
-abbrev pub due_fetched : ℕ → Due
-due_fetched count = elim (count == 32) [ true ↦ dues.Look | false ↦ dues.Nothing ]
 
 -- 1 where a test holds
 abbrev pub one_if : Bool → ℕ
@@ -65,21 +49,9 @@ one_if false = 0
 abbrev pub no_counts : Counts
 no_counts = record { looks = 0; scans = 0; grants = 0; unlocks = 0; fetches = 0; full = 0 }
 
--- the running transaction
-abbrev pub running_of : Option RunningTransaction → Option Running
-running_of own = own
-
--- the transaction is committed, and its locks are still held
-abbrev pub is_visible_at : Progress → Bool
-is_visible_at s = option_map_or (λ t. t.visible) s.running false
-
 -- how many messages of the transaction are published
 abbrev pub published_at : Progress → ℕ
 published_at s = option_map_or (λ t. t.published) s.running 0
-
--- the Xid of the transaction, or 0
-abbrev pub xid_at : Progress → ℕ
-xid_at s = option_map_or (λ t. option_map_or (λ x. x.0) t.xid 0) s.running 0
 
 -- the writes that weren't taken back
 abbrev pub lists_at : Progress → List Written
@@ -93,63 +65,57 @@ lists_left ended lists = elim ended [ true ↦ [] | false ↦ lists ]
 abbrev pub unsent_at : Progress → List Message
 unsent_at s = unsent_after (published_at s) (lists_at s)
 
--- a write of this command or a later one wasn't taken back
-abbrev pub has_write_since : ℕ → Progress → Bool
-has_write_since from s = has_write_from from (lists_at s)
-
 -- what is kept of each scan
 abbrev pub kept_at : Progress → Kept
 kept_at s = kept_of s.caches
 
--- the row by which a lookup of the name goes on: the first of those that are kept
-abbrev pub row_sought : Progress → List ℕ → Option Row
-row_sought s name = slice_get (rows_kept (kept_at s) (scans.RelName name)) 0
+-- the tally that the code holds
+abbrev pub tally_at : Counts → Tally
+tally_at c = record { looks = c.looks; scans = c.scans; grants = c.grants; unlocks = c.unlocks; fetches = c.fetches; full = c.full }
 
--- that of the next act, if it is a lookup
+-- the facts of its backend's entries: what the code holds is these
+abbrev pub facts_at : Progress → Facts
+facts_at s = record { due = s.due; running = s.running; lists = lists_at s; kept = kept_at s }
+
+-- what of its session decides what may come next: what the code holds is this
+abbrev pub work_at : Progress → Work
+work_at s = record { number = s.finished + 1; blocks = s.blocks; left = plan_at s.opens s.exec; blocked = s.blocked; opened = s.opened; taken = s.taken; ended = s.ended; tally = tally_at s.tally; locks = s.locks.items }
+
+-- the row by which its next act goes on, if that is a lookup
 abbrev pub row_next : Progress → Plan → Option Row
-row_next s (Do (Lookup name mode) rest) = row_sought s name
+row_next s (Do (Lookup name mode) rest) = row_of_name (facts_at s) name
 row_next s plan = None
 
--- those of these scans that aren't kept
-abbrev pub missing : Kept → List Purpose → List Purpose
-missing kept wanted = filter (λ scan. not (is_kept kept scan)) wanted
+-- the rule's words for what the code holds: names by which it is reasoned about
+abbrev pub row_sought : Progress → List ℕ → Option Row
+row_sought s name = row_of_name (facts_at s) name
 
--- the scans that the opened descriptors lack
-abbrev pub builds_missing : Kept → List Opening → List Purpose
-builds_missing kept opened = flat_map (λ o. missing kept (build_scans o.kind o.rel)) opened
-
--- the scans that the next act or the answer lacks
 abbrev pub act_missing : Progress → Plan → List Purpose
-act_missing s plan = missing (kept_at s) (left_rests_on plan)
+act_missing s plan = act_owed (facts_at s) plan
 
--- the scans that come before the next act: none once the command has failed
 abbrev pub scans_missing : Progress → List Purpose
-scans_missing s = elim (outcome_of (plan_at s.opens s.exec)) [ Badly ↦ [] | other ↦ builds_missing (kept_at s) s.opened ++ act_missing s (plan_at s.opens s.exec) ]
+scans_missing s = scans_owed_in (facts_at s) (work_at s)
 
--- the running command has come out
 abbrev pub is_out : Progress → Bool
-is_out s = is_settled (outcome_of (plan_at s.opens s.exec))
+is_out s = is_settled (outcome_of (work_at s).left)
 
--- its opened descriptors lack scans, which messages took away, and it hasn't failed
 abbrev pub lacks_builds : Progress → Bool
-lacks_builds s = elim (outcome_of (plan_at s.opens s.exec)) [ Badly ↦ false | other ↦ not (is_empty (builds_missing (kept_at s) s.opened)) ]
+lacks_builds s = owes_build_in (facts_at s) (work_at s)
 
--- a fetch of so many messages asks for a look that counts for no scan
 abbrev pub is_full : ℕ → Progress → Bool
-is_full count s = (count == 32) && not (list_any is_build_scan (scans_missing s))
+is_full count s = counts_full count (facts_at s) (work_at s)
 
--- the command begins a transaction: outside blocks, where it doesn't end blocks and needs none
-abbrev pub begins_in : Blocks → Bool → Command → Bool
-begins_in blocks ended command = elim blocks.block [ Outside ↦ not (ends_block command) && not ended && is_none (refused_by no_block command) | block ↦ false ]
-
--- a look is owed at the start of a transaction
 abbrev pub owed_first : Progress → Command → List Owes
-owed_first s command = elim (begins_in s.blocks s.ended command && is_none s.running) [ true ↦ OwesLook ∷ [] | false ↦ [] ]
+owed_first s command = owed_first_in (facts_at s) command (work_at s)
 
--- an accept of messages isn't over: a look, a fetch, or a scan for an opened descriptor of the running command is owed
 abbrev pub is_in_accept : Progress → Option Command → Bool
-is_in_accept s None = not (is_empty (owed_at s.due))
-is_in_accept s (Some command) = not (is_empty (owed_first s command)) || not (is_empty (owed_at s.due)) || lacks_builds s
+is_in_accept s command = accepts_in (facts_at s) (work_at s) command
+
+abbrev pub owes_nothing : Command → Progress → Bool
+owes_nothing command s = is_free (facts_at s) command (work_at s)
+
+abbrev pub end_at : Progress → Command → End
+end_at s command = end_in (facts_at s) command (work_at s)
 
 -- the locks after an entry: where no accept is left to end they are clear
 abbrev pub locks_accepted : Bool → List OwnLock → List OwnLock
@@ -173,33 +139,6 @@ locks_made command (Some rel) = new_lock rel command ∷ []
 -- all messages of a write in the order of its changes
 abbrev pub messages_in : List Entry → ℕ → List Item → List Message
 messages_in before b items = flat_map (λ item. cats_by before b item ++ rels_by before b item) items
-
--- the running transaction as a whole is taken back
-abbrev pub end_of_running : Option RunningTransaction → End
-end_of_running own = option_map_or (λ t. TakesBack t.first) own Ends
-
--- the end of a block
-abbrev pub end_in_block : Option RunningTransaction → Block → Bool → End
-end_in_block own Outside commits = Ends
-end_in_block own Inside true = option_map_or (λ t. Commits t.first) own Ends
-end_in_block own Inside false = end_of_running own
-end_in_block own Failed commits = end_of_running own
-
--- the end of a command that came out well
-abbrev pub end_in_well : Progress → Command → End
-end_in_well s commands.Begin = Ends
-end_in_well s commands.Commit = end_in_block s.running s.blocks.block true
-end_in_well s commands.Rollback = end_in_block s.running s.blocks.block false
-end_in_well s (commands.RollbackTo name) = TakesBack (innermost (s.finished + 1) (levels_up_to name s.blocks.levels))
-end_in_well s command = elim s.blocks.block [ Outside ↦ Commits (s.finished + 1) | block ↦ Ends ]
-
--- the end of a command that failed
-abbrev pub end_in_badly : Progress → End
-end_in_badly s = elim s.blocked [ true ↦ Ends | false ↦ TakesBack (innermost (s.finished + 1) s.blocks.levels) ]
-
--- the end of the running command
-abbrev pub end_at : Progress → Command → End
-end_at s command = elim (outcome_of (plan_at s.opens s.exec)) [ Well ↦ end_in_well s command | Badly ↦ end_in_badly s | Unsettled ↦ Ends ]
 
 -- the blocks after a command of this number, by what is left of its plan
 abbrev pub blocks_passed : Plan → ℕ → Command → Blocks → Blocks
@@ -267,10 +206,6 @@ pub record Rest : Type 0 where
 abbrev pub rest_of : Session → Rest
 rest_of s = record { finished = s.finished; refused = s.refused; found = s.found; sought = s.sought; judged = s.judged; last = s.last }
 
--- the tally that the code holds
-abbrev pub tally_at : Counts → Tally
-tally_at c = record { looks = c.looks; scans = c.scans; grants = c.grants; unlocks = c.unlocks; fetches = c.fetches; full = c.full }
-
 -- the session of a backend: what it holds, and the rest
 abbrev pub session_at : Progress → Rest → Session
 session_at s rest = record {
@@ -290,3 +225,18 @@ session_at s rest = record {
   judged = rest.judged;
   last = rest.last;
 }
+
+abbrev pub end_of_running : Option RunningTransaction → End
+end_of_running own = option_map_or (λ t. TakesBack t.first) own Ends
+
+abbrev pub begins_in : Blocks → Bool → Command → Bool
+begins_in blocks ended command = elim blocks.block [ Outside ↦ not (ends_block command) && not ended && is_none (refused_by no_block command) | block ↦ false ]
+
+abbrev pub has_write_since : ℕ → Progress → Bool
+has_write_since from s = has_write_from from (lists_at s)
+
+abbrev pub is_visible_at : Progress → Bool
+is_visible_at s = option_map_or (λ t. t.visible) s.running false
+
+abbrev pub xid_at : Progress → ℕ
+xid_at s = option_map_or (λ t. option_map_or (λ x. x.0) t.xid 0) s.running 0

@@ -14,7 +14,7 @@ ghost use Rattle.history_model.specs.Covered.{same_row as rows_match, same_deman
 ghost use Rattle.history_model.specs.Names.{has_name as is_named};
 ghost use Rattle.cacheless.specs.Plays.{drafted};
 ghost use Rattle.cacheless.specs.SameItems.{same_item as items_match, same_items as all_match, changes_match, forced_match};
-ghost use Rattle.cacheless.specs.May.{is_write_at, is_clash_at, names_by};
+ghost use Rattle.cacheless.specs.Rule.{is_write, is_clash, names_by};
 ghost use Rattle.local_caches.specs.Caches.{kept_of};
 
 use crate::silent::rows_kept;
@@ -25,7 +25,7 @@ use local_caches::LocalCaches;
 
 // Whether the next act writes these items, where the next new oid is this one.
 pub(crate) fn writes_items(exec: &Exec, next: u32, items: &[Item]) -> bool
-    ensures { (opens : List OpenRelation) → result ≡ is_write_at next items.now (plan_at opens exec.now) }
+    ensures { (opens : List OpenRelation) → result ≡ is_write next items.now (plan_at opens exec.now) }
 {
     match exec {
         Exec::Writing(draft) => writes_draft(draft, next, items),
@@ -49,7 +49,7 @@ fn writes_draft(draft: &Draft, next: u32, items: &[Item]) -> bool
 
 // Whether an alteration writes these items.
 fn writes_row(altering: &Altering, next: u32, items: &[Item]) -> bool
-    ensures { (opens : List OpenRelation) → result ≡ is_write_at next items.now (altering_at opens altering.now) }
+    ensures { (opens : List OpenRelation) → result ≡ is_write next items.now (altering_at opens altering.now) }
 {
     match altering {
         Altering::Inserting { row } => are_drafted(items, &[Change::Insert(*row)], &[], next, 0),
@@ -372,7 +372,7 @@ fn same_name(a: &Name, b: &Name) -> bool
 
 // Whether the next act writes a relation of this new name.
 pub(crate) fn gives_name(exec: &Exec, caches: &LocalCaches, name: Name) -> bool
-    ensures { (opens : List OpenRelation) → result ≡ is_clash_at (kept_of caches.now) name (plan_at opens exec.now) }
+    ensures { (opens : List OpenRelation) → result ≡ is_clash (kept_of caches.now) name (plan_at opens exec.now) }
 {
     match exec {
         Exec::Writing(draft) => draft_gives(draft, caches, name),
@@ -399,7 +399,7 @@ fn any_gives(changes: &[Change], caches: &LocalCaches, name: Name) -> bool
 
 // Whether an alteration gives a relation this new name.
 fn alteration_gives(altering: &Altering, caches: &LocalCaches, name: Name) -> bool
-    ensures { (opens : List OpenRelation) → result ≡ is_clash_at (kept_of caches.now) name (altering_at opens altering.now) }
+    ensures { (opens : List OpenRelation) → result ≡ is_clash (kept_of caches.now) name (altering_at opens altering.now) }
 {
     match altering {
         Altering::Inserting { row } => change_gives(&Change::Insert(*row), caches, name),

@@ -2,9 +2,12 @@
 
 ghost use Rattle.std.specs.Prelude.{◌≡◌, ◌≤◌, ◌<◌, ◌+◌, ◌^◌, ◌==◌, is_none, length, take, min};
 ghost use Rattle.inval_messages.specs.Lists.{unsent_after, rest_of_parts};
-ghost use Rattle.cacheless.specs.State.{lists_at, published_at, unsent_at, end_at, end_in_well, end_in_badly, end_in_block, has_write_since as is_written_since, xid_at, is_visible_at};
+ghost use Rattle.inval_messages.specs.Lists.{has_write_from};
+ghost use Rattle.history_model.specs.Transactions.{is_visible as is_committed};
+ghost use Rattle.cacheless.specs.State.{facts_at, work_at, lists_at, published_at, unsent_at};
+ghost use Rattle.cacheless.specs.Ends.{end_of_block as block_end, end_well_in, end_badly_in, end_in, xid_of, next_of_commit, next_of_taking_back, next_of_end};
 ghost use Rattle.cacheless.specs.Endings.{end_of_ending};
-ghost use Rattle.cacheless.specs.May.{releases, shows, publishes, takes_back, is_next_of_commit as comes_of_commit, is_next_of_back as comes_of_back, is_next_of_end as comes_of_end, owes_no_end as nothing_before_end};
+ghost use Rattle.cacheless.specs.Rule.{same_end, comes_next, is_free_to};
 
 use crate::Progress;
 use base_types::Command;
@@ -27,21 +30,21 @@ pub enum Ending {
 }
 
 impl Progress {
-    ghost use Rattle.cacheless.specs.May.{may_end_at, may_end_last as ends_last};
+    ghost use Rattle.cacheless.specs.Rule.{may_end as ends_next, may_end_last as ends_last};
     ghost use Rattle.cacheless.specs.Silently.{is_ends};
 
     // Whether the event comes next of the command's end.
     pub(crate) fn may_end(&self, command: &Command, event: &Event) -> bool
         requires few { self.now.finished ≤ 20000 }
-        ensures { result ≡ may_end_at command.now self.now event.now }
+        ensures { result ≡ ends_next (facts_at self.now) command.now (work_at self.now) event.now }
     {
         let end = self.end(command);
-        !self.ended && self.owes_no_end(command, end) && self.is_next_of_end(end, event)
+        self.owes_no_end(command, end) && !self.ended && self.is_next_of_end(end, event)
     }
 
     // Whether the event comes next of taking back what still runs after the last command.
     pub(crate) fn may_end_last(&self, event: &Event) -> bool
-        ensures { result ≡ ends_last self.now event.now }
+        ensures { result ≡ ends_last (facts_at self.now) event.now }
     {
         match self.running {
             Some(t) => self.is_past_accept() && self.is_next_of_back(t.first, event),
@@ -51,7 +54,7 @@ impl Progress {
 
     // Whether nothing has to come before the next entry of this end: taking back waits for no scan.
     fn owes_no_end(&self, command: &Command, end: Ending) -> bool
-        ensures { result ≡ nothing_before_end command.now self.now (end_of_ending end) }
+        ensures { result ≡ is_free_to (end_of_ending end) (facts_at self.now) command.now (work_at self.now) }
     {
         match end {
             Ending::TakesBack { .. } => self.is_past_accept(),
@@ -61,7 +64,7 @@ impl Progress {
 
     // Whether the event comes next of this end.
     fn is_next_of_end(&self, end: Ending, event: &Event) -> bool
-        ensures { result ≡ comes_of_end self.now event.now (end_of_ending end) }
+        ensures { result ≡ comes_next (next_of_end (facts_at self.now) (end_of_ending end)) event.now }
     {
         match end {
             Ending::Ends => false,
@@ -73,7 +76,7 @@ impl Progress {
     // Whether the event comes next of a commit: the visibility step if it has a write, the publishes,
     // the release.
     fn is_next_of_commit(&self, first: u32, event: &Event) -> bool
-        ensures { result ≡ comes_of_commit first self.now event.now }
+        ensures { result ≡ same_end (next_of_commit (facts_at self.now) first) event.now }
     {
         if !self.has_write_since(first) {
             return is_release(event, first);
@@ -91,7 +94,7 @@ impl Progress {
     // Whether the event comes next of taking back these commands: that they are gone, if one has
     // written, and the release.
     fn is_next_of_back(&self, from: u32, event: &Event) -> bool
-        ensures { result ≡ comes_of_back from self.now event.now }
+        ensures { result ≡ same_end (next_of_taking_back (facts_at self.now) from) event.now }
     {
         if self.has_write_since(from) {
             is_gone(event, from)
@@ -102,7 +105,7 @@ impl Progress {
 
     /// Whether its transaction is committed, and holds its locks still.
     pub fn is_visible(&self) -> bool
-        ensures { result ≡ is_visible_at self.now }
+        ensures { result ≡ is_committed self.now.running }
     {
         match self.running {
             Some(t) => t.visible,
@@ -112,7 +115,7 @@ impl Progress {
 
     /// The Xid of its transaction, or 0.
     pub fn own_xid(&self) -> u32
-        ensures { result ≡ xid_at self.now }
+        ensures { result ≡ xid_of (facts_at self.now) }
     {
         match self.running {
             Some(t) => match t.xid {
@@ -152,7 +155,7 @@ impl Progress {
     // Whether the command ends without an entry.
     pub(crate) fn ends_silently(&self, command: &Command) -> bool
         requires few { self.now.finished ≤ 20000 }
-        ensures { result ≡ is_ends (end_at self.now command.now) }
+        ensures { result ≡ is_ends (end_in (facts_at self.now) command.now (work_at self.now)) }
     {
         matches!(self.end(command), Ending::Ends)
     }
@@ -160,7 +163,7 @@ impl Progress {
     /// How the running command ends.
     pub fn end(&self, command: &Command) -> Ending
         requires few { self.now.finished ≤ 20000 }
-        ensures { end_of_ending result ≡ end_at self.now command.now }
+        ensures { end_of_ending result ≡ end_in (facts_at self.now) command.now (work_at self.now) }
     {
         match self.exec.next() {
             Want::Done(_) => self.end_well(command),
@@ -173,7 +176,7 @@ impl Progress {
     // How a command ends that came out well.
     fn end_well(&self, command: &Command) -> Ending
         requires few { self.now.finished ≤ 20000 }
-        ensures { end_of_ending result ≡ end_in_well self.now command.now }
+        ensures { end_of_ending result ≡ end_well_in (facts_at self.now) command.now (work_at self.now) }
     {
         match command {
             Command::Begin => Ending::Ends,
@@ -191,7 +194,7 @@ impl Progress {
 
     // How a block ends, by `commit` or by `rollback`.
     fn end_of_block(&self, commits: bool) -> Ending
-        ensures { end_of_ending result ≡ end_in_block self.now.running self.now.blocks.block commits }
+        ensures { end_of_ending result ≡ block_end (facts_at self.now) self.now.blocks.block commits }
     {
         match self.running {
             Some(t) if self.blocks.is_open() => {
@@ -208,7 +211,7 @@ impl Progress {
     // How a command ends that failed.
     fn end_badly(&self) -> Ending
         requires few { self.now.finished ≤ 20000 }
-        ensures { end_of_ending result ≡ end_in_badly self.now }
+        ensures { end_of_ending result ≡ end_badly_in (work_at self.now) }
     {
         if self.blocked {
             return Ending::Ends;
@@ -220,7 +223,7 @@ impl Progress {
 
     /// Whether a write of this command or a later one wasn't taken back.
     pub fn has_write_since(&self, from: u32) -> bool
-        ensures { result ≡ is_written_since from self.now }
+        ensures { result ≡ has_write_from from (lists_at self.now) }
     {
         self.lists.has_from(from)
     }
@@ -228,7 +231,7 @@ impl Progress {
 
 // Whether the event is the release of these commands.
 fn is_release(event: &Event, first: u32) -> bool
-    ensures { result ≡ releases first event.now }
+    ensures { result ≡ same_end (Event.Release first) event.now }
 {
     match event {
         Event::Release { from } => *from == first,
@@ -238,7 +241,7 @@ fn is_release(event: &Event, first: u32) -> bool
 
 // Whether the event is the visibility step of this Xid.
 fn is_visible_of(event: &Event, own: u32) -> bool
-    ensures { result ≡ shows own event.now }
+    ensures { result ≡ same_end (Event.Visible (record { 0 = own })) event.now }
 {
     match event {
         Event::Visible { xid } => xid.0 == own,
@@ -248,7 +251,7 @@ fn is_visible_of(event: &Event, own: u32) -> bool
 
 // Whether the event is a publish of so many messages.
 fn is_publish(event: &Event, most: usize) -> bool
-    ensures { result ≡ publishes most event.now }
+    ensures { result ≡ same_end (Event.Publish most) event.now }
 {
     match event {
         Event::Publish { count } => *count as usize == most,
@@ -258,7 +261,7 @@ fn is_publish(event: &Event, most: usize) -> bool
 
 // Whether the event takes back what was written from this command on.
 fn is_gone(event: &Event, first: u32) -> bool
-    ensures { result ≡ takes_back first event.now }
+    ensures { result ≡ same_end (Event.Gone first) event.now }
 {
     match event {
         Event::Gone { from } => *from == first,

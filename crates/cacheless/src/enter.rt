@@ -21,7 +21,10 @@ const MOST_FETCHED: usize = 32;
 
 impl Progress {
     ghost use Rattle.std.specs.Prelude.{List, ℕ};
-    ghost use Rattle.cacheless.specs.State.{kept_at, nothing_kept, kept_spared, is_in_accept, is_full as counts_full, one_if, SearchesAgain};
+    ghost use Rattle.cacheless.specs.State.{facts_at, work_at, kept_at, nothing_kept, kept_spared, one_if, SearchesAgain};
+    ghost use Rattle.std.specs.Prelude.{◌||◌, not};
+    ghost use Rattle.history_model.specs.Changing.{is_empty as none_in};
+    ghost use Rattle.cacheless.specs.Owed.{owed_after, owed_first_in, owes_build_in, accepts_in, counts_full};
     ghost use Rattle.cacheless.specs.May.{HasRoom};
     ghost use Rattle.cacheless.specs.Holds.{HasNotStarted, HasStarted, Rests, HasEntered};
 
@@ -121,7 +124,7 @@ impl Progress {
     // 1 for a fetch of 32 messages after which no scan for a descriptor is owed: the look that it asks
     // for counts for no scan.
     fn full_of(&self, count: usize) -> u64
-        ensures is { result ≡ one_if (counts_full count self.now) }
+        ensures is { result ≡ one_if (counts_full count (facts_at self.now) (work_at self.now)) }
         ensures most { result ≤ 1 }
     {
         if count == MOST_FETCHED && !self.lacks_build_scan() {
@@ -133,7 +136,7 @@ impl Progress {
 
     // Whether an accept of messages isn't over.
     pub(crate) fn is_in_acceptance(&self) -> bool
-        ensures { result ≡ is_in_accept self.now (slice_get self.now.commands self.now.finished) }
+        ensures { result ≡ accepts_in (facts_at self.now) (work_at self.now) (slice_get self.now.commands self.now.finished) }
     {
         match self.commands.as_slice().get(self.finished as usize) {
             Some(command) => self.is_accepting(command),
@@ -143,7 +146,14 @@ impl Progress {
 
     // Whether one isn't over in this command.
     fn is_accepting(&self, command: &Command) -> bool
-        ensures { result ≡ is_in_accept self.now (Some command.now) }
+        ensures { result ≡ accepts_in (facts_at self.now) (work_at self.now) (Some command.now) }
+    {
+        self.lets_accept(command)
+    }
+
+    // The same, as it is tested.
+    fn lets_accept(&self, command: &Command) -> bool
+        ensures { result ≡ (not (none_in (owed_first_in (facts_at self.now) command.now (work_at self.now))) || not (none_in (owed_after self.now.due)) || owes_build_in (facts_at self.now) (work_at self.now)) }
     {
         self.owes_first_look(command) || !self.is_past_accept() || self.lacks_builds()
     }

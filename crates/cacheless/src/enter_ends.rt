@@ -75,7 +75,7 @@ impl Progress {
         self.caches.execute(self.lists.rels_from(from));
         self.suspects.find(&self.caches, &self.opened);
         self.lists.abort_from(from);
-        self.due = Due::Nothing;
+        self.due = Due::Gone { from };
         let accepting = self.is_in_acceptance();
         accept(&mut self.locks, accepting);
     }

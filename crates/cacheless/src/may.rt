@@ -1,13 +1,14 @@
 // What may come next.
 
-ghost use Rattle.std.specs.Prelude.{◌≡◌, ◌&&◌, ◌||◌, ◌≤◌, false, not, slice_get};
+ghost use Rattle.std.specs.Prelude.{◌≡◌, ◌+◌, ◌&&◌, ◌||◌, ◌≤◌, false, not, slice_get};
 ghost use Rattle.std.specs.List.{list_any};
 ghost use Rattle.base_types.specs.Modes.{same_mode as modes_match};
 ghost use Rattle.std.specs.Option.{option_map_or};
 ghost use Rattle.base_types.specs.Scans.{is_build_scan, same_oid as is_same_oid};
 ghost use Rattle.ddl_effect.specs.Stages.{plan_at, want_of};
 ghost use Rattle.txn_blocks.specs.Blocks.{ends_block as does_end_block};
-ghost use Rattle.cacheless.specs.May.{is_first_missing as is_first, is_missing as lacks, names_relation as names};
+ghost use Rattle.cacheless.specs.May.{is_first_missing as is_first, is_missing as lacks};
+ghost use Rattle.cacheless.specs.Rule.{names_relation as names};
 ghost use Rattle.local_caches.specs.Caches.{kept_of};
 
 use crate::draft_items::{gives_name, writes_items};
@@ -24,9 +25,11 @@ impl Progress {
     ghost use Rattle.history_model.specs.Changing.{is_empty as none_in};
     ghost use Rattle.cacheless.specs.Facts.{facts_of};
     ghost use Rattle.cacheless.specs.Plays.{MayPlayIn};
-    ghost use Rattle.cacheless.specs.State.{kept_at, owed_at, owed_first, act_missing, scans_missing, lacks_builds, session_at};
+    ghost use Rattle.cacheless.specs.State.{facts_at, work_at, kept_at, session_at};
+    ghost use Rattle.cacheless.specs.Owed.{owed_after, owed_first_in, act_owed, scans_owed_in, is_free, is_next_in, owes_build_in, started_in, has_looked_in};
+    ghost use Rattle.cacheless.specs.Rule.{may_look_in, may_scan as scans_next, may_lock as locks_next, is_lock as asks_for, is_unlock as gives_back, is_write, is_clash, may_play as plays_in, may_last as plays_last, may_come};
     ghost use Rattle.cacheless.specs.Holds.{Holds};
-    ghost use Rattle.cacheless.specs.May.{HasRoom, may_look_at, started_at, has_looked_at, has_failed as failed, lacks_opened, lacks_any, lacks_to_build, is_next_of_act, is_next_at, owes_nothing as nothing_owed, is_lock_at, may_scan_at, may_lock_at, is_unlock_at, may_unlock_at, may_write_at, may_clash_at, may_play_at, may_last_at, may_play_now};
+    ghost use Rattle.cacheless.specs.May.{HasRoom, has_failed as failed, lacks_opened, lacks_any, lacks_to_build, is_next_of_act};
     ghost use Rattle.std.specs.Bool.{Decides};
 
     /// Whether the event may come next, where the next new oid is this one: exactly where the
@@ -35,7 +38,7 @@ impl Progress {
     pub fn may_play(&self, next_oid: u32, event: &Event) -> bool
         requires few { self.now.finished ≤ 20000 }
         requires room { HasRoom self.now }
-        ensures now { result ≡ may_play_now next_oid self.now event.now }
+        ensures now { result ≡ may_come next_oid (facts_at self.now) (slice_get self.now.commands self.now.finished) (work_at self.now) event.now }
         ensures decides { (scenario : Scenario) (seen : List Entry) (holds : Holds scenario seen self.now) → Decides result (MayPlayIn next_oid (facts_of seen self.now.id) (slice_get self.now.commands self.now.finished) (session_at self.now holds.rest) event.now) }
     {
         self.may_now(next_oid, event)
@@ -45,7 +48,7 @@ impl Progress {
     fn may_now(&self, next_oid: u32, event: &Event) -> bool
         requires few { self.now.finished ≤ 20000 }
         requires room { HasRoom self.now }
-        ensures { result ≡ may_play_now next_oid self.now event.now }
+        ensures { result ≡ may_come next_oid (facts_at self.now) (slice_get self.now.commands self.now.finished) (work_at self.now) event.now }
     {
         match self.commands.as_slice().get(self.finished as usize) {
             Some(command) => self.may_play_in(next_oid, command, event),
@@ -57,7 +60,7 @@ impl Progress {
     fn may_play_in(&self, next_oid: u32, command: &Command, event: &Event) -> bool
         requires few { self.now.finished ≤ 20000 }
         requires room { HasRoom self.now }
-        ensures { result ≡ may_play_at next_oid command.now self.now event.now }
+        ensures { result ≡ plays_in next_oid (facts_at self.now) command.now (work_at self.now) event.now }
     {
         match event {
             Event::Look { .. } => self.may_look(),
@@ -83,7 +86,7 @@ impl Progress {
     fn may_last(&self, event: &Event) -> bool
         requires few { self.now.finished ≤ 20000 }
         requires room { HasRoom self.now }
-        ensures { result ≡ may_last_at self.now event.now }
+        ensures { result ≡ plays_last (facts_at self.now) (work_at self.now) event.now }
     {
         match event {
             Event::Look { .. } => self.running.is_some() && self.may_look(),
@@ -98,7 +101,7 @@ impl Progress {
     // Whether a look may come next.
     fn may_look(&self) -> bool
         requires room { HasRoom self.now }
-        ensures { result ≡ may_look_at self.now }
+        ensures { result ≡ may_look_in (facts_at self.now) (work_at self.now) }
     {
         match self.due {
             Due::Fetch => false,
@@ -116,7 +119,7 @@ impl Progress {
     // Whether there was a look for one more scan.
     pub(crate) fn has_looked(&self) -> bool
         requires few { self.now.finished ≤ 20000 }
-        ensures { result ≡ has_looked_at self.now }
+        ensures { result ≡ has_looked_in (facts_at self.now) (work_at self.now) }
     {
         let counted = (self.tally.scans as u128)
             + (self.tally.grants as u128)
@@ -128,7 +131,7 @@ impl Progress {
     // 1 if the running transaction started in the running command.
     fn started(&self) -> u64
         requires few { self.now.finished ≤ 20000 }
-        ensures is { result ≡ started_at self.now }
+        ensures is { result ≡ started_in (self.now.finished + 1) (facts_at self.now) }
         ensures most { result ≤ 1 }
     {
         match self.running {
@@ -140,21 +143,28 @@ impl Progress {
     // Whether the scan may come next.
     fn may_scan(&self, scan: &Purpose) -> bool
         requires few { self.now.finished ≤ 20000 }
-        ensures { result ≡ may_scan_at scan.now self.now }
+        ensures { result ≡ scans_next scan.now (facts_at self.now) (work_at self.now) }
     {
         self.is_past_accept() && self.is_next(scan) && self.has_looked()
     }
 
     // Whether no look and no fetch is owed in an accept of messages.
     pub(crate) fn is_past_accept(&self) -> bool
-        ensures { result ≡ none_in (owed_at self.now.due) }
+        ensures { result ≡ none_in (owed_after self.now.due) }
     {
-        matches!(self.due, Due::Nothing | Due::Quiet)
+        matches!(self.due, Due::Nothing | Due::Quiet | Due::Gone { .. })
     }
 
     // Whether the scan is the first that an opened descriptor or the next act lacks.
     fn is_next(&self, scan: &Purpose) -> bool
-        ensures { result ≡ is_next_at scan.now self.now }
+        ensures { result ≡ is_next_in scan.now (facts_at self.now) (work_at self.now) }
+    {
+        self.is_first_lacked(scan)
+    }
+
+    // The same, as it is tested.
+    fn is_first_lacked(&self, scan: &Purpose) -> bool
+        ensures { result ≡ (not (failed self.now) && (list_any (λ o. is_first scan.now (kept_at self.now) o.kind o.rel) self.now.opened || is_next_of_act scan.now (kept_at self.now) (plan_at self.now.opens self.now.exec))) }
     {
         !self.has_failed() && (self.is_next_build(scan) || self.is_next_of(scan, &self.exec.next()))
     }
@@ -172,7 +182,7 @@ impl Progress {
     // Whether the scan is the first that the next act or the answer lacks.
     fn is_next_of(&self, scan: &Purpose, want: &Want) -> bool
         requires want { want_of (plan_at self.now.opens self.now.exec) ≡ want.now }
-        ensures { result ≡ is_next_of_act scan.now self.now (plan_at self.now.opens self.now.exec) }
+        ensures { result ≡ is_next_of_act scan.now (kept_at self.now) (plan_at self.now.opens self.now.exec) }
     {
         match want {
             Want::Lookup { name, .. } => {
@@ -190,21 +200,21 @@ impl Progress {
 
     // Whether the lock, granted or refused, may come next.
     fn may_lock(&self, command: &Command, rel: Oid, mode: Mode) -> bool
-        ensures { result ≡ may_lock_at command.now rel mode self.now }
+        ensures { result ≡ locks_next (facts_at self.now) command.now (work_at self.now) rel mode }
     {
         self.owes_nothing(command) && self.taken.is_none() && self.is_lock(rel, mode)
     }
 
     // Whether the relation may be unlocked next.
     fn may_unlock(&self, command: &Command, rel: Oid, mode: Mode) -> bool
-        ensures { result ≡ may_unlock_at command.now rel mode self.now }
+        ensures { result ≡ (is_free (facts_at self.now) command.now (work_at self.now) && gives_back (facts_at self.now) self.now.taken (plan_at self.now.opens self.now.exec) rel mode) }
     {
         self.owes_nothing(command) && self.is_unlock(rel, mode)
     }
 
     // Whether the next act gives this lock back.
     fn is_unlock(&self, rel: Oid, mode: Mode) -> bool
-        ensures { result ≡ is_unlock_at self.now (plan_at self.now.opens self.now.exec) rel mode }
+        ensures { result ≡ gives_back (facts_at self.now) self.now.taken (plan_at self.now.opens self.now.exec) rel mode }
     {
         match self.exec.next() {
             Want::Lookup { name, mode: wanted } => {
@@ -228,7 +238,7 @@ impl Progress {
 
     // Whether the next act asks for this lock.
     fn is_lock(&self, rel: Oid, mode: Mode) -> bool
-        ensures { result ≡ is_lock_at self.now (plan_at self.now.opens self.now.exec) rel mode }
+        ensures { result ≡ asks_for (facts_at self.now) (plan_at self.now.opens self.now.exec) rel mode }
     {
         match self.exec.next() {
             Want::Lookup { name, mode: wanted } => {
@@ -244,28 +254,35 @@ impl Progress {
 
     // Whether a write of these items may come next.
     fn may_write(&self, next_oid: u32, command: &Command, items: &[Item]) -> bool
-        ensures { result ≡ may_write_at next_oid command.now items.now self.now }
+        ensures { result ≡ (is_free (facts_at self.now) command.now (work_at self.now) && is_write next_oid items.now (plan_at self.now.opens self.now.exec)) }
     {
         self.owes_nothing(command) && writes_items(&self.exec, next_oid, items)
     }
 
     // Whether a write that is refused for this name may come next.
     fn may_clash(&self, command: &Command, name: Name) -> bool
-        ensures { result ≡ may_clash_at command.now name self.now }
+        ensures { result ≡ (is_free (facts_at self.now) command.now (work_at self.now) && is_clash (kept_at self.now) name (plan_at self.now.opens self.now.exec)) }
     {
         self.owes_nothing(command) && gives_name(&self.exec, &self.caches, name)
     }
 
     /// Whether nothing has to come before the next act.
     pub fn owes_nothing(&self, command: &Command) -> bool
-        ensures { result ≡ nothing_owed command.now self.now }
+        ensures { result ≡ is_free (facts_at self.now) command.now (work_at self.now) }
+    {
+        self.lacks_nothing(command)
+    }
+
+    // The same, as it is tested.
+    fn lacks_nothing(&self, command: &Command) -> bool
+        ensures { result ≡ (none_in (owed_first_in (facts_at self.now) command.now (work_at self.now)) && none_in (owed_after self.now.due) && not (lacks_any self.now)) }
     {
         !self.owes_first_look(command) && self.is_past_accept() && !self.lacks_scan()
     }
 
     /// Whether the look at the start of its transaction is owed.
     pub fn owes_first_look(&self, command: &Command) -> bool
-        ensures { not result ≡ none_in (owed_first self.now command.now) }
+        ensures { not result ≡ none_in (owed_first_in (facts_at self.now) command.now (work_at self.now)) }
     {
         !self.blocks.is_open()
             && !ends_block(command)
@@ -284,14 +301,14 @@ impl Progress {
     // Whether a scan for a descriptor has to come before the next act: of an opened one, or of the one
     // that is opened next.
     pub(crate) fn lacks_build_scan(&self) -> bool
-        ensures { result ≡ list_any is_build_scan (scans_missing self.now) }
+        ensures { result ≡ list_any is_build_scan (scans_owed_in (facts_at self.now) (work_at self.now)) }
     {
         self.lacks_a_build()
     }
 
     // The same, as it is tested.
     fn lacks_a_build(&self) -> bool
-        ensures { result ≡ (not (failed self.now) && (lacks_opened (kept_at self.now) self.now.opened || lacks_to_build self.now (plan_at self.now.opens self.now.exec))) }
+        ensures { result ≡ (not (failed self.now) && (lacks_opened (kept_at self.now) self.now.opened || lacks_to_build (kept_at self.now) (plan_at self.now.opens self.now.exec))) }
     {
         !self.has_failed() && (self.lacks_build() || self.act_lacks_build())
     }
@@ -305,7 +322,7 @@ impl Progress {
 
     // Whether an opened descriptor lacks a scan, in a command that hasn't failed.
     pub(crate) fn lacks_builds(&self) -> bool
-        ensures { result ≡ lacks_builds self.now }
+        ensures { result ≡ owes_build_in (facts_at self.now) (work_at self.now) }
     {
         self.lacks_serving()
     }
@@ -326,7 +343,7 @@ impl Progress {
 
     // Whether the next act lacks a scan for a descriptor.
     fn act_lacks_build(&self) -> bool
-        ensures { result ≡ lacks_to_build self.now (plan_at self.now.opens self.now.exec) }
+        ensures { result ≡ lacks_to_build (kept_at self.now) (plan_at self.now.opens self.now.exec) }
     {
         match self.exec.next() {
             Want::Open { rel, kind } => self.caches.first_missing(kind, rel).is_some(),
@@ -338,7 +355,7 @@ impl Progress {
     // Whether the next act or the answer lacks a scan.
     fn act_lacks(&self, want: &Want) -> bool
         requires want { want_of (plan_at self.now.opens self.now.exec) ≡ want.now }
-        ensures { not result ≡ none_in (act_missing self.now (plan_at self.now.opens self.now.exec)) }
+        ensures { not result ≡ none_in (act_owed (facts_at self.now) (plan_at self.now.opens self.now.exec)) }
     {
         match want {
             Want::Lookup { name, .. } => { !self.caches.has(&Purpose::RelName(*name)) }

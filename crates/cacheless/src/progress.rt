@@ -21,6 +21,8 @@ pub enum Due {
     Look,
     /// Its look said that messages wait.
     Fetch,
+    /// Nothing: it took back what was written from this command on.
+    Gone { from: u32 },
 }
 
 /// How many looks, scans and fetches the running command has made, how many locks it was granted

@@ -1,6 +1,6 @@
 // What a backend does without an entry.
 
-ghost use Rattle.std.specs.Prelude.{◌≡◌, ◌≤◌, ◌<◌, ◌&&◌, List, [], None, true, OnOk, OnErr, IfOk, is_none, is_some, length};
+ghost use Rattle.std.specs.Prelude.{◌≡◌, ◌≤◌, ◌<◌, ◌&&◌, ◌||◌, List, [], None, true, OnOk, OnErr, IfOk, is_none, is_some, length};
 ghost use Rattle.ddl_effect.specs.Stages.{plan_at, told_of, want_of};
 ghost use Rattle.cacheless.specs.Told.{tells_of_scans as rests_on_scans};
 ghost use Rattle.cacheless.specs.State.{blocks_passed, rows_kept as kept_rows};
@@ -30,9 +30,13 @@ pub enum Silent {
 impl Progress {
     ghost use Rattle.base_types.specs.Scenario.{Scenario};
     ghost use Rattle.event_kinds.specs.declared.entry.Entry.{Entry};
-    ghost use Rattle.cacheless.specs.State.{kept_at, is_out as has_come_out, row_sought as sought_row, row_next as next_row};
-    ghost use Rattle.cacheless.specs.Settled.{has_taken_no_other as no_other};
-    ghost use Rattle.cacheless.specs.Silently.{opened_for, has_accepted_at, looks_up_at, gives_next, acts_on, is_to_answer, is_to_answer_at, is_finished_at, Acts, Answers, Finishes, IsSilentOf, HasAnswered, IsLineOf, left_of};
+    ghost use Rattle.cacheless.specs.State.{facts_at, work_at, kept_at, is_out as has_come_out, row_next as next_row};
+    ghost use Rattle.std.specs.List.{cons_option};
+    ghost use Rattle.cacheless.specs.Owed.{is_free};
+    ghost use Rattle.cacheless.specs.Ends.{end_in};
+    ghost use Rattle.cacheless.specs.Rule.{row_of_name};
+    ghost use Rattle.cacheless.specs.Settled.{has_taken_no_other as no_other, has_accepted_in, looked_up_in, gives_left, is_finished_in};
+    ghost use Rattle.cacheless.specs.Silently.{opened_for, acts_on, is_ends as ends_silently_by, is_to_answer, is_to_answer_at, is_finished_at, Acts, Answers, Finishes, IsSilentOf, HasAnswered, IsLineOf, left_of};
     ghost use Rattle.cacheless.specs.Holds.{Holds, Rests, HasActed, HasPassed};
     ghost use Rattle.cacheless.specs.Answering.{PlacesFit};
     ghost use Rattle.cacheless.specs.Telling.{TellsNow, HasGoneOn};
@@ -88,7 +92,7 @@ impl Progress {
     // Whether its next act gives rows, if nothing has to come before it.
     fn gives(&self) -> bool
         requires few { self.now.finished ≤ 20000 }
-        ensures { result ≡ gives_next self.now (plan_at self.now.opens self.now.exec) }
+        ensures { result ≡ gives_left (facts_at self.now) (work_at self.now) (plan_at self.now.opens self.now.exec) }
     {
         match self.exec.next() {
             Want::Lookup { name, mode } => self.looks_up(mode, &self.row_sought(name)),
@@ -103,7 +107,7 @@ impl Progress {
     // (`RangeVarGetRelidExtended` in `src/backend/catalog/namespace.c`).
     fn looks_up(&self, mode: Mode, row: &Option<Row>) -> bool
         requires few { self.now.finished ≤ 20000 }
-        ensures { result ≡ is_some (looks_up_at self.now mode row.now) }
+        ensures { result ≡ is_some (looked_up_in (facts_at self.now) (work_at self.now) mode (cons_option row.now [])) }
     {
         match row {
             Some(Row::Class { oid, .. }) => {
@@ -126,14 +130,14 @@ impl Progress {
     // Whether a lookup that found no relation ends.
     fn has_accepted(&self) -> bool
         requires few { self.now.finished ≤ 20000 }
-        ensures { result ≡ has_accepted_at self.now }
+        ensures { result ≡ has_accepted_in (facts_at self.now) (work_at self.now) }
     {
         self.taken.is_none() && matches!(self.due, Due::Quiet) && self.has_looked()
     }
 
     /// The row by which a lookup of the name goes on: the first of those that are kept.
     pub fn row_sought(&self, name: Name) -> Option<Row>
-        ensures { result ≡ sought_row self.now name }
+        ensures { result ≡ row_of_name (facts_at self.now) name }
     {
         rows_kept(&self.caches, Purpose::RelName(name))
             .first()
@@ -170,6 +174,14 @@ impl Progress {
     fn is_finished(&self, command: &Command) -> bool
         requires few { self.now.finished ≤ 20000 }
         ensures { result ≡ is_finished_at command.now self.now }
+    {
+        self.has_ended(command)
+    }
+
+    // The same, as it is tested.
+    fn has_ended(&self, command: &Command) -> bool
+        requires few { self.now.finished ≤ 20000 }
+        ensures { result ≡ (has_come_out self.now && (self.now.ended || ends_silently_by (end_in (facts_at self.now) command.now (work_at self.now))) && is_free (facts_at self.now) command.now (work_at self.now)) }
     {
         self.is_out() && (self.ended || self.ends_silently(command)) && self.owes_nothing(command)
     }

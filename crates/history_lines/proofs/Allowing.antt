@@ -5,7 +5,7 @@ use Rattle.std.specs.List.{AllByRecursion, flat_map}
 use Rattle.std.specs.Option.{IfSome}
 use Rattle.std.proofs.Math.Bool.{and-false}
 use Rattle.std.proofs.lemmas.Bool.{and_parts, eqb-true, ne_eqb, lt-ltb}
-use Rattle.std.proofs.lemmas.List.{length-take-le, length-drop}
+use Rattle.std.proofs.lemmas.List.{length-take, length-take-le, length-drop}
 use Rattle.base_types.specs.Modes.{same_mode}
 use Rattle.base_types.specs.declared.change.Change.{Change}
 use Rattle.base_types.specs.declared.change.Change.TheVariants as changes
@@ -31,23 +31,26 @@ use Rattle.history_model.specs.Allows.{is_lock_of}
 use Rattle.history_model.specs.MayFollow.{MayFollow}
 use Rattle.history_model.specs.Log.{log_of, position_of, fetched_by}
 use Rattle.history_model.specs.Versions.{answer_of}
-use Rattle.history_model.specs.Transactions.{has_written}
+use Rattle.history_model.specs.Sent.{unsent_in}
+use Rattle.history_model.specs.Transactions.{is_visible, has_written}
 use Rattle.history_model.proofs.Every.{any-weaker}
 use Rattle.history_model.proofs.Ordered.{locks_exclude}
 use Rattle.local_caches.specs.Kept.{is_keyed}
 use Rattle.cacheless.specs.ActsDone.{made_in, opening_by}
-use Rattle.cacheless.specs.Ends.{End, Ends, Commits, TakesBack}
+use Rattle.cacheless.specs.Ends.{End, Ends, Commits, TakesBack, end_well_in, end_badly_in, xid_of, next_sent, next_of_end, end_left_in}
+use Rattle.cacheless.specs.Rule.{same_end, comes_next, may_come}
+use Rattle.cacheless.proofs.CommandEnds.{least_64, unsent_same}
 use Rattle.cacheless.specs.Facts.{facts_of}
 use Rattle.cacheless.specs.Holds.{Holds, entry_of}
 use Rattle.cacheless.specs.Locks.{locked_by}
-use Rattle.cacheless.specs.May.{HasRoom, is_next_at, has_looked_at, is_next_sent, is_next_of_commit, is_next_of_back, is_next_of_end, owes_no_end, may_end_at, may_play_at, may_end_last, may_last_at, may_play_now}
+use Rattle.cacheless.specs.May.{HasRoom, is_next_at, has_looked_at, is_next_of_end, owes_no_end, may_play_now}
 use Rattle.cacheless.specs.OnCourse.{CourseOf, IsOnCourse, AllOnCourse, OnItsWay}
 use Rattle.cacheless.specs.Owed.{owed_of}
 use Rattle.cacheless.specs.Played.{IsPlayed}
 use Rattle.cacheless.specs.Plays.{drafted, IsWrite, MayPlayIn}
 use Rattle.cacheless.specs.Session.{Session as Course, Outcome, Unsettled, Well, Badly, number_of, outcome_of, is_settled}
 use Rattle.cacheless.specs.Sessions.{session_of}
-use Rattle.cacheless.specs.State.{lists_at, unsent_at, is_visible_at, xid_at, has_write_since, is_out, end_in_well, end_in_badly, end_at, change_makes, relation_made, locks_made, session_at}
+use Rattle.cacheless.specs.State.{facts_at, work_at, lists_at, unsent_at, has_write_since, is_out, end_at, change_makes, relation_made, locks_made, session_at}
 use Rattle.cacheless.specs.Types.{Draft, Row}
 use Rattle.cacheless.specs.Awaiting.{AwaitsEntry}
 use Rattle.cacheless.specs.declared.progress.Counts.{Counts}
@@ -187,39 +190,50 @@ lock_held ledger s rel mode k = sym (session_locks ledger s (events.Unlock rel m
     ∙ any-weaker (is_lock_of s.id (s.finished + 1) rel mode) (is_lock s.id rel mode) (λ g is. (and_parts (is_lock s.id rel mode g) _ is).0) (held_of k.seen) k.comes.follows.event.0
 
 -- a publish is of what comes next of its messages
-sends_next : (count first : ℕ) (unsent : List Message) → is_next_sent first unsent (events.Publish count) ≡ true → count ≡ length (take 64 unsent)
+sends_next : (count first : ℕ) (unsent : List Message) → same_end (next_sent first (length unsent)) (events.Publish count) ≡ true → count ≡ length (take 64 unsent)
 sends_next count first [] is = absurd (cc is)
-sends_next count first (message ∷ unsent) is = eqb-true count (length (take 64 (message ∷ unsent))) is
+sends_next count first (message ∷ unsent) is = eqb-true count _ is ∙ least_64 (length (message ∷ unsent)) ∙ sym (length-take 64 (message ∷ unsent))
 
 ends_by_publish : (s : Progress) (count : ℕ) (end : End) → is_next_of_end s (events.Publish count) end ≡ true → count ≡ length (take 64 (unsent_at s))
 ends_by_publish s count Ends is = absurd (cc is)
 ends_by_publish s count (TakesBack from) is = by_written (has_write_since from s) is
   where
-    by_written : (t : Bool) → (elim t as (λ x. Bool) [ true ↦ false | false ↦ false ]) ≡ true → count ≡ length (take 64 (unsent_at s))
+    by_written : (t : Bool) → same_end (elim t as (λ x. Event) [ true ↦ events.Gone from | false ↦ events.Release from ]) (events.Publish count) ≡ true → count ≡ length (take 64 (unsent_at s))
     by_written true is' = absurd (cc is')
     by_written false is' = absurd (cc is')
 ends_by_publish s count (Commits first) is = by_written (has_write_since first s) is
   where
-    by_visible : (t : Bool) → (elim t as (λ x. Bool) [ true ↦ is_next_sent first (unsent_at s) (events.Publish count) | false ↦ false ]) ≡ true → count ≡ length (take 64 (unsent_at s))
-    by_visible true is' = sends_next count first (unsent_at s) is'
-    by_visible false is' = absurd (cc is')
+    sends : Bool → Event
+    sends t = elim t [ true ↦ next_sent first (length (unsent_in (lists_at s) s.running)) | false ↦ events.Visible (record { 0 = xid_of (facts_at s) }) ]
 
-    by_written : (t : Bool) → (elim t as (λ x. Bool) [ true ↦ elim (is_visible_at s) as (λ x. Bool) [ true ↦ is_next_sent first (unsent_at s) (events.Publish count) | false ↦ false ] | false ↦ false ]) ≡ true → count ≡ length (take 64 (unsent_at s))
-    by_written true is' = by_visible (is_visible_at s) is'
+    by_visible : (t : Bool) → is_visible s.running ≡ t → same_end (sends t) (events.Publish count) ≡ true → count ≡ length (take 64 (unsent_at s))
+    by_visible true shown is' = sends_next count first (unsent_at s) (ap (λ l. same_end (next_sent first (length l)) (events.Publish count)) (sym (unsent_same s.running (lists_at s) shown)) ∙ is')
+    by_visible false shown is' = absurd (cc is')
+
+    by_written : (t : Bool) → same_end (elim t as (λ x. Event) [ true ↦ sends (is_visible s.running) | false ↦ events.Release first ]) (events.Publish count) ≡ true → count ≡ length (take 64 (unsent_at s))
+    by_written true is' = by_visible (is_visible s.running) refl is'
     by_written false is' = absurd (cc is')
+
+-- of an end whose release isn't made yet
+left_next : (s : Progress) (command : Command) (event : Event) → comes_next (end_left_in (facts_at s) command (work_at s)) event ≡ true → is_next_of_end s event (end_at s command) ≡ true
+left_next s command event is = by_ended s.ended is
+  where
+    by_ended : (t : Bool) → comes_next (elim t as (λ x. Option Event) [ true ↦ None | false ↦ next_of_end (facts_at s) (end_at s command) ]) event ≡ true → is_next_of_end s event (end_at s command) ≡ true
+    by_ended true none = absurd (cc none)
+    by_ended false comes = comes
 
 publish_next : (ledger : Ledger) (s : Progress) (count : ℕ) → MayTake ledger s (events.Publish count) → count ≡ length (take 64 (unsent_at s))
 publish_next ledger s count k = by_command (slice_get s.commands s.finished) (may ledger s (events.Publish count) k)
   where
-    by_command : (o : Option Command) → (elim o as (λ x. Bool) [ Some command ↦ may_play_at (next_oid k.seen) command s (events.Publish count) | None ↦ may_last_at s (events.Publish count) ]) ≡ true → count ≡ length (take 64 (unsent_at s))
+    by_command : (o : Option Command) → may_come (next_oid k.seen) (facts_at s) o (work_at s) (events.Publish count) ≡ true → count ≡ length (take 64 (unsent_at s))
     by_command None is = absurd (cc is)
-    by_command (Some command) is = ends_by_publish s count (end_at s command) (and_parts (not s.ended && owes_no_end command s (end_at s command)) _ is).1
+    by_command (Some command) is = ends_by_publish s count (end_at s command) (left_next s command (events.Publish count) (and_parts (owes_no_end command s (end_at s command)) _ is).1)
 
 -- a release comes when the command has come out
 ends_out : (s : Progress) (command : Command) (event : Event) → is_next_of_end s event (end_at s command) ≡ true → is_out s ≡ true
 ends_out s command event is = by_outcome (outcome_of (plan_at s.opens s.exec)) refl is
   where
-    by_outcome : (o : Outcome) → outcome_of (plan_at s.opens s.exec) ≡ o → is_next_of_end s event (elim o as (λ x. End) [ Well ↦ end_in_well s command | Badly ↦ end_in_badly s | Unsettled ↦ Ends ]) ≡ true → is_settled (outcome_of (plan_at s.opens s.exec)) ≡ true
+    by_outcome : (o : Outcome) → outcome_of (plan_at s.opens s.exec) ≡ o → is_next_of_end s event (elim o as (λ x. End) [ Well ↦ end_well_in (facts_at s) command (work_at s) | Badly ↦ end_badly_in (work_at s) | Unsettled ↦ Ends ]) ≡ true → is_settled (outcome_of (plan_at s.opens s.exec)) ≡ true
     by_outcome Well out is' = ap is_settled out
     by_outcome Badly out is' = ap is_settled out
     by_outcome Unsettled out is' = absurd (cc is')
@@ -227,16 +241,16 @@ ends_out s command event is = by_outcome (outcome_of (plan_at s.opens s.exec)) r
 pub release_out : (ledger : Ledger) (s : Progress) (from : ℕ) → MayTake ledger s (events.Release from) → is_out s ≡ true
 release_out ledger s from k = by_command (slice_get s.commands s.finished) refl (may ledger s (events.Release from) k)
   where
-    by_command : (o : Option Command) → slice_get s.commands s.finished ≡ o → (elim o as (λ x. Bool) [ Some command ↦ may_play_at (next_oid k.seen) command s (events.Release from) | None ↦ may_last_at s (events.Release from) ]) ≡ true → is_out s ≡ true
+    by_command : (o : Option Command) → slice_get s.commands s.finished ≡ o → may_come (next_oid k.seen) (facts_at s) o (work_at s) (events.Release from) ≡ true → is_out s ≡ true
     by_command None none is = past_out k.scenario s.id k.seen (course ledger s (events.Release from) k) k.comes.plays (session_is ledger s (events.Release from) k) (at_session ledger s (events.Release from) k ∙ none)
-    by_command (Some command) at is = ends_out s command (events.Release from) (and_parts (not s.ended && owes_no_end command s (end_at s command)) _ is).1
+    by_command (Some command) at is = ends_out s command (events.Release from) (left_next s command (events.Release from) (and_parts (owes_no_end command s (end_at s command)) _ is).1)
 
 -- within a script's commands neither a start nor a failure comes
-no_start_plays : (next : ℕ) (s : Progress) (o : Option Command) → (elim o as (λ x. Bool) [ Some command ↦ may_play_at next command s events.Start | None ↦ may_last_at s events.Start ]) ≡ true → ⊥
+no_start_plays : (next : ℕ) (s : Progress) (o : Option Command) → may_come next (facts_at s) o (work_at s) events.Start ≡ true → ⊥
 no_start_plays next s None is = cc is
 no_start_plays next s (Some command) is = cc is
 
-no_fail_plays : (next : ℕ) (s : Progress) (o : Option Command) → (elim o as (λ x. Bool) [ Some command ↦ may_play_at next command s events.Fail | None ↦ may_last_at s events.Fail ]) ≡ true → ⊥
+no_fail_plays : (next : ℕ) (s : Progress) (o : Option Command) → may_come next (facts_at s) o (work_at s) events.Fail ≡ true → ⊥
 no_fail_plays next s None is = cc is
 no_fail_plays next s (Some command) is = cc is
 
@@ -300,8 +314,8 @@ module _ (ledger : Ledger) (s : Progress) (xid : Xid) (items : List Item) (k : M
   by_draft : (command : Command) → slice_get s.commands s.finished ≡ Some command → WritesDraft (next_oid k.seen) (plan_at s.opens s.exec) items → MayWrite s items
   by_draft command at w = record {
     wants = ap want_of w.is;
-    order = subst (AllByRecursion (λ (list : Written). list.command < s.finished + 1)) k.rests.holds.facts.lists
-        (lists_before_it s.id k.seen (s.finished + 1) sound.sound (subst (λ n. has_written k.seen s.id (n + 1) ≡ false) k.rests.holds.count way.unwritten) (subst (AllByRecursion (λ (list : Written). list.command ≤ s.finished + 1)) (sym k.rests.holds.facts.lists) k.rests.holds.order));
+    order = subst (AllByRecursion (λ (list : Written). list.command < s.finished + 1)) (ap (λ f. f.lists) k.rests.holds.facts)
+        (lists_before_it s.id k.seen (s.finished + 1) sound.sound (subst (λ n. has_written k.seen s.id (n + 1) ≡ false) k.rests.holds.count way.unwritten) (subst (AllByRecursion (λ (list : Written). list.command ≤ s.finished + 1)) (sym (ap (λ f. f.lists) k.rests.holds.facts)) k.rests.holds.order));
     one = record { made = relation_made w.draft.changes first; locks = λ c. ap (flat_map (locked_by c)) w.are ∙ (fits c).locks first refl };
     new = of w.draft.changes;
   }

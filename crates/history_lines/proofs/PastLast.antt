@@ -60,7 +60,7 @@ acted_on_finished facts (Fails error) s = refl
 acted_on_finished facts (Absent name) s = refl
 
 acted_finished : (facts : Facts) (command : Command) (s : Course) → (acted facts command s).finished ≡ s.finished
-acted_finished facts command s = by_test (is_empty (owed_at_start facts command s ++ owed_after facts.last))
+acted_finished facts command s = by_test (is_empty (owed_at_start facts command s ++ owed_after facts.due))
   where
     by_test : (t : Bool) → (elim t as (λ x. Course) [ true ↦ acted_on facts s.left s | false ↦ s ]).finished ≡ s.finished
     by_test true = acted_on_finished facts s.left s

@@ -15,12 +15,13 @@ use Rattle.history_ledger.specs.Held.{Reads}
 use Rattle.cacheless.specs.Answering.{PlacesFit}
 use Rattle.cacheless.specs.Facts.{facts_of}
 use Rattle.cacheless.specs.Holds.{Holds, Rests, HasEntered, HasNotStarted, HasStarted, entry_of, with_own}
-use Rattle.cacheless.specs.May.{may_play_at, may_last_at, may_play_now}
+use Rattle.cacheless.specs.Rule.{may_come}
+use Rattle.cacheless.specs.May.{may_play_now}
 use Rattle.cacheless.specs.OnCourse.{AllOnCourse}
 use Rattle.cacheless.specs.Played.{AreSpelled, IsPlayed}
 use Rattle.cacheless.specs.Plays.{IsNext, Plays, MayPlayIn, MayPlayAt}
 use Rattle.cacheless.specs.Silently.{is_to_answer_at}
-use Rattle.cacheless.specs.State.{kept_at, session_at}
+use Rattle.cacheless.specs.State.{facts_at, work_at, kept_at, session_at}
 use Rattle.cacheless.specs.Telling.{TellsNow, HasGoneOn}
 use Rattle.cacheless.proofs.Allowed.AllowedHistories.{plays_on_course}
 use Rattle.cacheless.proofs.Resting.{settled_at_rest}
@@ -48,7 +49,7 @@ new_stands scenario seen s is stands = subst (λ t. elim t as (λ x. Type 0) [ t
 pub start_comes : (next : ℕ) (s : Session) (c : ℕ) → comes_at next s c events.Start ≡ true → s.is_started ≡ false
 start_comes next s c comes = by_started s.is_started refl
   where
-    none_plays : (o : Option Command) → (elim o as (λ x. Bool) [ Some command ↦ may_play_at next command s.progress events.Start | None ↦ may_last_at s.progress events.Start ]) ≡ false
+    none_plays : (o : Option Command) → may_come next (facts_at s.progress) o (work_at s.progress) events.Start ≡ false
     none_plays None = refl
     none_plays (Some command) = refl
 

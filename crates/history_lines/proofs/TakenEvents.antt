@@ -9,8 +9,9 @@ use Rattle.base_types.specs.declared.row.Row.{Row}
 use Rattle.base_types.specs.declared.scan.Purpose.{Purpose}
 use Rattle.local_caches.specs.Kept.{kept_with, kept_spared}
 use Rattle.cacheless.specs.Holds.{Holds, Rests, HasEntered}
-use Rattle.cacheless.specs.May.{has_looked_at, is_next_at, may_last_at, may_play_at, may_play_now}
-use Rattle.cacheless.specs.State.{IsLockedIn, kept_at}
+use Rattle.cacheless.specs.Rule.{may_come}
+use Rattle.cacheless.specs.May.{has_looked_at, is_next_at, may_play_now}
+use Rattle.cacheless.specs.State.{IsLockedIn, facts_at, work_at, kept_at}
 use Rattle.cacheless.specs.Awaiting.{HasTaken, KeepsScans, answer_after}
 use Rattle.history_lines.specs.Types.{Scenario, Command, Entry, Event, Ledger, Progress}
 
@@ -24,7 +25,7 @@ middle_of_three false b c is = absurd (cc)
 pub scan_is_next : (next : ℕ) (s : Progress) (scan : Purpose) (count : ℕ) → may_play_now next s (events.Scan scan count) ≡ true → is_next_at scan s ≡ true
 scan_is_next next s scan count may = by_command (slice_get s.commands s.finished) may
   where
-    by_command : (command : Option Command) → (elim command [ Some found ↦ may_play_at next found s (events.Scan scan count) | None ↦ may_last_at s (events.Scan scan count) ]) ≡ true → is_next_at scan s ≡ true
+    by_command : (command : Option Command) → may_come next (facts_at s) command (work_at s) (events.Scan scan count) ≡ true → is_next_at scan s ≡ true
     by_command (Some found) is = middle_of_three _ (is_next_at scan s) (has_looked_at s) is
     by_command None is = middle_of_three _ (is_next_at scan s) (has_looked_at s) is
 
@@ -40,10 +41,10 @@ fetched_takes ledger was now messages count same given kept none holds scenario 
 
 -- a scan gave rows
 pub scanned_takes : {E : Type 0} (result : Result (Unit {0}) E) (ledger : Ledger) (was now : Progress) (scan : Purpose) (rows : List Row) (at : ℕ) → ((seen : List Entry) → Reads seen ledger → rows ≡ answer_of seen was.id scan) → OnOk result (kept_at now ≡ kept_with scan rows at (kept_at was)) → OnOk result (now.answer ≡ None)
-    → OnOk result ((scenario : Scenario) (seen : List Entry) (count : ℕ) → (rests : Rests scenario seen was) → rows ≡ answer_of seen was.id scan → HasEntered scenario seen was (events.Scan scan count) rests now)
+    → OnOk result ((scenario : Scenario) (seen : List Entry) (count : ℕ) → (rests : Rests scenario seen was) → rows ≡ answer_of seen was.id scan → at ≡ length seen + 1 → HasEntered scenario seen was (events.Scan scan count) rests now)
     → OnOk result ((scenario : Scenario) (seen : List Entry) (count : ℕ) (rests : Rests scenario seen was) → Reads seen ledger → at ≡ length seen + 1 → HasTaken scenario seen was (events.Scan scan count) rests now)
 scanned_takes (Ok done) ledger was now scan rows at given kept none holds = λ scenario seen count rests reads place. record {
-  goes = holds scenario seen count rests (given seen reads);
+  goes = holds scenario seen count rests (given seen reads) place;
   kept = kept ∙ (λ i. kept_with scan (given seen reads i) (place i) (kept_at was));
   answer = none;
 }
@@ -71,7 +72,7 @@ room_holds scenario seen s room h = record {
   rest = h.rest;
   count = h.count;
   is = h.is;
-  facts = record { running = h.facts.running; lists = h.facts.lists; owed = h.facts.owed; quiet = h.facts.quiet; usable = h.facts.usable; kept = h.facts.kept };
+  facts = h.facts;
   counts = h.counts;
   order = h.order;
   sought = h.sought;

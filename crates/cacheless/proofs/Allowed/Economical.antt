@@ -18,33 +18,35 @@ use Rattle.cacheless.specs.Owed.{unusable, act_next, is_next_scan}
 use Rattle.cacheless.specs.Plays.{MayPlayIn, MayPlayAt, IsNext}
 use Rattle.cacheless.specs.Session.{Session, Outcome, Unsettled, Well, Badly, outcome_of}
 use Rattle.cacheless.specs.Sessions.{session_of}
+use Rattle.local_caches.specs.Kept.{is_kept}
+use Rattle.cacheless.proofs.Reading.{kept_usable}
 
 -- of some scans those that aren't usable are lacked
-first_lacked : (facts : Facts) (scan : Purpose) (wanted : List Purpose) → list_any (same_scan scan) (take 1 (unusable facts wanted)) ≡ true → facts.usable scan ≡ false
+first_lacked : (facts : Facts) (scan : Purpose) (wanted : List Purpose) → list_any (same_scan scan) (take 1 (unusable facts wanted)) ≡ true → is_kept facts.kept scan ≡ false
 first_lacked facts scan [] is = absurd (cc is)
-first_lacked facts scan (first ∷ wanted) is = by_usable (facts.usable first) refl is (first_lacked facts scan wanted)
+first_lacked facts scan (first ∷ wanted) is = by_usable (is_kept facts.kept first) refl is (first_lacked facts scan wanted)
   where
-    by_usable : (t : Bool) → facts.usable first ≡ t → list_any (same_scan scan) (take 1 (cond (not t) (first ∷ unusable facts wanted) (unusable facts wanted))) ≡ true → (list_any (same_scan scan) (take 1 (unusable facts wanted)) ≡ true → facts.usable scan ≡ false) → facts.usable scan ≡ false
+    by_usable : (t : Bool) → is_kept facts.kept first ≡ t → list_any (same_scan scan) (take 1 (cond (not t) (first ∷ unusable facts wanted) (unusable facts wanted))) ≡ true → (list_any (same_scan scan) (take 1 (unusable facts wanted)) ≡ true → is_kept facts.kept scan ≡ false) → is_kept facts.kept scan ≡ false
     by_usable true kept any more = more any
     by_usable false lacked any more = by_same (same_scan scan first) refl any
       where
-        by_same : (t : Bool) → same_scan scan first ≡ t → (t || false) ≡ true → facts.usable scan ≡ false
-        by_same true same has = ap facts.usable (same_scan-true scan first same) ∙ lacked
+        by_same : (t : Bool) → same_scan scan first ≡ t → (t || false) ≡ true → is_kept facts.kept scan ≡ false
+        by_same true same has = ap (is_kept facts.kept) (same_scan-true scan first same) ∙ lacked
         by_same false other has = absurd (cc has)
 
-each_lacked : (facts : Facts) (scan : Purpose) (opened : List Opening) → list_any (same_scan scan) (flat_map (λ o. take 1 (unusable facts (build_scans o.kind o.rel))) opened) ≡ true → facts.usable scan ≡ false
+each_lacked : (facts : Facts) (scan : Purpose) (opened : List Opening) → list_any (same_scan scan) (flat_map (λ o. take 1 (unusable facts (build_scans o.kind o.rel))) opened) ≡ true → is_kept facts.kept scan ≡ false
 each_lacked facts scan [] is = absurd (cc is)
 each_lacked facts scan (o ∷ opened) is = by_side (each_lacked facts scan opened) (or_cases _ _ (sym (list_any-append (same_scan scan) (take 1 (unusable facts (build_scans o.kind o.rel))) (flat_map (λ p. take 1 (unusable facts (build_scans p.kind p.rel))) opened)) ∙ is))
   where
     later : Bool
     later = list_any (same_scan scan) (flat_map (λ p. take 1 (unusable facts (build_scans p.kind p.rel))) opened)
 
-    by_side : (later ≡ true → facts.usable scan ≡ false) → (list_any (same_scan scan) (take 1 (unusable facts (build_scans o.kind o.rel))) ≡ true) ⊎ (later ≡ true) → facts.usable scan ≡ false
+    by_side : (later ≡ true → is_kept facts.kept scan ≡ false) → (list_any (same_scan scan) (take 1 (unusable facts (build_scans o.kind o.rel))) ≡ true) ⊎ (later ≡ true) → is_kept facts.kept scan ≡ false
     by_side more (inl here) = first_lacked facts scan (build_scans o.kind o.rel) here
     by_side more (inr there) = more there
 
 -- and so it is with the scans of the next act
-act_lacked : (facts : Facts) (scan : Purpose) (plan : Plan) → list_any (same_scan scan) (act_next facts plan) ≡ true → facts.usable scan ≡ false
+act_lacked : (facts : Facts) (scan : Purpose) (plan : Plan) → list_any (same_scan scan) (act_next facts plan) ≡ true → is_kept facts.kept scan ≡ false
 act_lacked facts scan (Do (Lookup name mode) rest) is = first_lacked facts scan (scans.RelName name ∷ []) is
 act_lacked facts scan (Do (Search wanted) rest) is = first_lacked facts scan (wanted ∷ []) is
 act_lacked facts scan (Do (Open rel kind) rest) is = first_lacked facts scan (build_scans kind rel) is
@@ -57,20 +59,20 @@ act_lacked facts scan (Fails error) is = absurd (cc is)
 act_lacked facts scan (Absent name) is = absurd (cc is)
 
 -- a scan that comes next isn't usable
-next_lacked : (facts : Facts) (scan : Purpose) (s : Session) → is_next_scan scan facts s ≡ true → facts.usable scan ≡ false
+next_lacked : (facts : Facts) (scan : Purpose) (s : Session) → is_next_scan scan facts s ≡ true → is_kept facts.kept scan ≡ false
 next_lacked facts scan s is = by_outcome (outcome_of s.left) is
   where
     builds : List Purpose
     builds = flat_map (λ (o : Opening). take 1 (unusable facts (build_scans o.kind o.rel))) s.opened
 
-    both : list_any (same_scan scan) (builds ++ act_next facts s.left) ≡ true → facts.usable scan ≡ false
+    both : list_any (same_scan scan) (builds ++ act_next facts s.left) ≡ true → is_kept facts.kept scan ≡ false
     both any = by_side (or_cases _ _ (sym (list_any-append (same_scan scan) builds (act_next facts s.left)) ∙ any))
       where
-        by_side : (list_any (same_scan scan) builds ≡ true) ⊎ (list_any (same_scan scan) (act_next facts s.left) ≡ true) → facts.usable scan ≡ false
+        by_side : (list_any (same_scan scan) builds ≡ true) ⊎ (list_any (same_scan scan) (act_next facts s.left) ≡ true) → is_kept facts.kept scan ≡ false
         by_side (inl here) = each_lacked facts scan s.opened here
         by_side (inr there) = act_lacked facts scan s.left there
 
-    by_outcome : (o : Outcome) → list_any (same_scan scan) (elim o as (λ x. List Purpose) [ Badly ↦ [] | other ↦ builds ++ act_next facts s.left ]) ≡ true → facts.usable scan ≡ false
+    by_outcome : (o : Outcome) → list_any (same_scan scan) (elim o as (λ x. List Purpose) [ Badly ↦ [] | other ↦ builds ++ act_next facts s.left ]) ≡ true → is_kept facts.kept scan ≡ false
     by_outcome Unsettled any = both any
     by_outcome Well any = both any
     by_outcome Badly any = absurd (cc any)
@@ -83,8 +85,8 @@ plays_needed scenario history e next = by_session (session_of scenario history e
     facts = facts_of history e.backend
 
     by_command : (s : Session) (o : Option Command) (event : Event) → MayPlayIn (next_oid history) facts o s event → ScansOnlyIfNeeded history e.backend event
-    by_command s None (events.Scan scan count) plays = next_lacked facts scan s plays.1
-    by_command s (Some command) (events.Scan scan count) plays = next_lacked facts scan s plays.1
+    by_command s None (events.Scan scan count) plays = sym (kept_usable history e.backend scan) ∙ next_lacked facts scan s plays.1
+    by_command s (Some command) (events.Scan scan count) plays = sym (kept_usable history e.backend scan) ∙ next_lacked facts scan s plays.1
     by_command s o event plays = tt
 
     by_session : (o : Option Session) (event : Event) → MayPlayAt scenario history e.backend o e.command event → ScansOnlyIfNeeded history e.backend event

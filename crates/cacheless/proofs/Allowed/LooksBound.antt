@@ -18,14 +18,15 @@ use Rattle.history_model.proofs.Allows.{legal_follows}
 use Rattle.history_model.proofs.Prefixes.{EachFrom-both, each-keeps}
 use Rattle.history_model.proofs.Reading.{last_event_of-own, last_event_of-other}
 use Rattle.cacheless.specs.Types.{Row, Item, Scenario, Command, Entry, Event}
-use Rattle.cacheless.specs.Facts.{Facts, facts_of, facts_by}
+use Rattle.cacheless.specs.Facts.{Facts, due_last, facts_of, facts_by}
 use Rattle.cacheless.specs.OnCourse.{FollowsPlan, AllOnCourse, CourseOf}
-use Rattle.cacheless.specs.Owed.{Owes, OwesLook, OwesFetch, OwesScan, owed_after, owed_at_start, owes_build_scan, started_in, has_looked}
+use Rattle.cacheless.specs.Owed.{Owes, OwesLook, OwesFetch, OwesScan, owed_after, owed_last, is_quiet, owed_at_start, counts_full, started_in, has_looked}
 use Rattle.cacheless.specs.Played.{AreSpelled, IsPlayed}
 use Rattle.cacheless.specs.Plays.{may_look, IsWrite, MayPlay, MayPlayLast, MayPlayIn, MayPlayAt, IsNext, Plays}
 use Rattle.cacheless.specs.Session.{Session, Tally, number_of, first_of, none_open, at_command, outcome_of, is_settled}
 use Rattle.cacheless.specs.Sessions.{noted, placed_at, counted, written, commands_left, entered, session_by, session_of}
-use Rattle.cacheless.specs.Settled.{nothing_waits, done_here, act_done, acted_on, acted, is_finished, finished_as, next_session, settled}
+use Rattle.cacheless.specs.Work.{work_of}
+use Rattle.cacheless.specs.Settled.{done_here, act_done, acted_on, acted, is_finished, finished_as, next_session, settled}
 use Rattle.cacheless.proofs.Allowed.AllowedHistories.{played_more, played_start}
 use Rattle.cacheless.proofs.Allowed.NextOnCourse.{entered_noted, noted_finished, no_start}
 use Rattle.cacheless.proofs.Allowed.OwnEntries.{IsNoted, ends_out}
@@ -93,7 +94,7 @@ bound_on last out other t going (inr is) = absurd (both_ways _ going is.1)
 
 -- a look that may be made has room
 look_room : (facts : Facts) (s : Session) → may_look facts s ≡ true → s.tally.looks + 1 ≤ earned s.tally + 3
-look_room facts s may = by_owed (owed_after facts.last) may
+look_room facts s may = by_owed (owed_after facts.due) may
   where
     by_owed : (l : List Owes) → elim l [ OwesFetch ∷ owed ↦ false | owed ↦ nat_le (s.tally.looks + 1) (s.tally.scans + s.tally.grants + s.tally.unlocks + 2 * s.tally.fetches + 3) ] ≡ true → s.tally.looks + 1 ≤ earned s.tally + 3
     by_owed [] is = leb-true _ _ is
@@ -114,32 +115,32 @@ acted_on-same get same facts (Do act rest) s = by_given (done_here facts s act (
     by_given (Some given) more = more given
 
 pub acted-same : {X : Type 0} (get : Session → X) → ((act : Act) (given : List Row) (rest : Plan) (s : Session) → get (act_done act given rest s) ≡ get s) → (facts : Facts) (command : Command) (s : Session) → get (acted facts command s) ≡ get s
-acted-same get same facts command s = by_free (is_empty (owed_at_start facts command s ++ owed_after facts.last))
+acted-same get same facts command s = by_free (is_empty (owed_at_start facts command s ++ owed_after facts.due))
   where
     by_free : (free : Bool) → get (elim free as (λ x. Session) [ true ↦ acted_on facts s.left s | false ↦ s ]) ≡ get s
     by_free true = acted_on-same get same facts s.left s
     by_free false = refl
 
 -- acts without entries keep the bound
-acted-bound : (facts : Facts) (command : Command) (s : Session) → LooksBound facts.last (Some command) s.left s.tally → LooksBound facts.last (Some command) (acted facts command s).left (acted facts command s).tally
-acted-bound facts command s fits = by_out (is_settled (outcome_of s.left)) refl
+acted-bound : (facts : Facts) (last : Option Event) (command : Command) (s : Session) → LooksBound last (Some command) s.left s.tally → LooksBound last (Some command) (acted facts command s).left (acted facts command s).tally
+acted-bound facts last command s fits = by_out (is_settled (outcome_of s.left)) refl
   where
     now : Session
     now = acted facts command s
 
-    by_out : (t : Bool) → is_settled (outcome_of s.left) ≡ t → LooksBound facts.last (Some command) now.left now.tally
-    by_out true out = subst (λ (x : Session). LooksBound facts.last (Some command) x.left x.tally) (sym (acted-out facts command s out)) fits
-    by_out false going = subst (λ (t : Tally). LooksBound facts.last (Some command) now.left t) (sym (acted-same (λ x. x.tally) (λ act given rest x. refl) facts command s))
-        (record { bound = bound_on facts.last (is_settled (outcome_of s.left)) (is_settled (outcome_of now.left)) s.tally going fits.bound; full = fits.full })
+    by_out : (t : Bool) → is_settled (outcome_of s.left) ≡ t → LooksBound last (Some command) now.left now.tally
+    by_out true out = subst (λ (x : Session). LooksBound last (Some command) x.left x.tally) (sym (acted-out facts command s out)) fits
+    by_out false going = subst (λ (t : Tally). LooksBound last (Some command) now.left t) (sym (acted-same (λ x. x.tally) (λ act given rest x. refl) facts command s))
+        (record { bound = bound_on last (is_settled (outcome_of s.left)) (is_settled (outcome_of now.left)) s.tally going fits.bound; full = fits.full })
 
 -- the bound of a session among these commands
 abbrev pub BoundOf : Option Event → List Command → Session → Type 0
 BoundOf last all s = LooksBound last (slice_get all (length s.finished)) s.left s.tally
 
 -- passing to the next command keeps it: that has made no look
-settled-bound : (facts : Facts) (all commands : List Command) (s : Session) → commands ≡ drop (length s.finished) all → LooksBound facts.last (first_of commands) s.left s.tally → BoundOf facts.last all (settled facts commands s)
-settled-bound facts all [] s are fits = subst (λ o. LooksBound facts.last o s.left s.tally) (ap first_of are ∙ first_left all (length s.finished)) fits
-settled-bound facts all (command ∷ rest) s are fits = by_end (is_finished facts command now) (settled-bound facts all rest next rest_is (record { bound = none_made facts.last (is_out (first_of rest) next.left) next.tally refl; full = omega arith }))
+settled-bound : (facts : Facts) (last : Option Event) (all commands : List Command) (s : Session) → commands ≡ drop (length s.finished) all → LooksBound last (first_of commands) s.left s.tally → BoundOf last all (settled facts commands s)
+settled-bound facts last all [] s are fits = subst (λ o. LooksBound last o s.left s.tally) (ap first_of are ∙ first_left all (length s.finished)) fits
+settled-bound facts last all (command ∷ rest) s are fits = by_end (is_finished facts command now) (settled-bound facts last all rest next rest_is (record { bound = none_made last (is_out (first_of rest) next.left) next.tally refl; full = omega arith }))
   where
     now : Session
     now = acted facts command s
@@ -153,10 +154,10 @@ settled-bound facts all (command ∷ rest) s are fits = by_end (is_finished fact
     rest_is : rest ≡ drop (length next.finished) all
     rest_is = rest_left all (length s.finished) command rest are ∙ ap (λ n. drop n all) (sym (length_push now.finished (finished_as now) ∙ ap (λ n. n + 1) counts))
 
-    here : BoundOf facts.last all now
-    here = subst (λ o. LooksBound facts.last o now.left now.tally) (ap first_of are ∙ first_left all (length s.finished) ∙ ap (slice_get all) (sym counts)) (acted-bound facts command s fits)
+    here : BoundOf last all now
+    here = subst (λ o. LooksBound last o now.left now.tally) (ap first_of are ∙ first_left all (length s.finished) ∙ ap (slice_get all) (sym counts)) (acted-bound facts last command s fits)
 
-    by_end : (t : Bool) → BoundOf facts.last all (settled facts rest next) → BoundOf facts.last all (elim t as (λ x. Session) [ true ↦ settled facts rest next | false ↦ now ])
+    by_end : (t : Bool) → BoundOf last all (settled facts rest next) → BoundOf last all (elim t as (λ x. Session) [ true ↦ settled facts rest next | false ↦ now ])
     by_end true more = more
     by_end false more = here
 
@@ -177,7 +178,7 @@ out_written history b s command next items follows writes = by_plan s.left refl 
 
 -- a fetch of 32 messages may count for a look of its own
 counted-bound : (facts : Facts) (count : ℕ) (s : Session) (o : Option Command) (plan : Plan) → LooksBound (Some (events.Fetch count)) o plan s.tally → s.tally.full + 1 ≤ s.tally.fetches → LooksBound (Some (events.Fetch count)) o plan (counted facts (events.Fetch count) s).tally
-counted-bound facts count s o plan fits low = by_test ((count == 32) && not (owes_build_scan facts s))
+counted-bound facts count s o plan fits low = by_test (counts_full count facts (work_of s))
   where
     by_test : (t : Bool) → LooksBound (Some (events.Fetch count)) o plan (elim t as (λ x. Tally) [ true ↦ record s.tally { full = s.tally.full + 1 } | false ↦ s.tally ])
     by_test true = record { bound = fits.bound; full = low }
@@ -244,11 +245,10 @@ BoundIn last all (Some s) = BoundOf last all s
 
 -- an own entry keeps the bound
 goes-bound : (scenario : Scenario) (history : List Entry) (b c : ℕ) (event : Event) (s : Session) → MayPlayIn (next_oid history) (facts_of history b) (slice_get (commands_of scenario b) (length s.finished)) s event → CourseOf scenario history b (Some s)
-    → BoundOf (last_event_of history b) (commands_of scenario b) s → (later : Facts) → later.last ≡ Some event → BoundOf later.last (commands_of scenario b) (settled later (commands_left scenario b s) (entered later (commands_left scenario b s) (length history + 1) c event s))
-goes-bound scenario history b c event s may course fits later last =
-    settled-bound later all left now (ap (λ n. drop n all) (sym counts)) (subst (λ l. LooksBound l (first_of left) now.left now.tally) (sym last)
-    (subst (λ o. LooksBound (Some event) o now.left now.tally) (sym (first_left all (length s.finished)))
-    (event-bound later (last_event_of history b) o s (length history + 1) c event now.left fits comes.0 (subst (λ p. OutAfter event (is_out o p)) (sym noted_is.after.left) comes.1))))
+    → BoundOf (last_event_of history b) (commands_of scenario b) s → (later : Facts) → BoundOf (Some event) (commands_of scenario b) (settled later (commands_left scenario b s) (entered later (commands_left scenario b s) (length history + 1) c event s))
+goes-bound scenario history b c event s may course fits later =
+    settled-bound later (Some event) all left now (ap (λ n. drop n all) (sym counts)) (subst (λ o. LooksBound (Some event) o now.left now.tally) (sym (first_left all (length s.finished)))
+    (event-bound later (last_event_of history b) o s (length history + 1) c event now.left fits comes.0 (subst (λ p. OutAfter event (is_out o p)) (sym noted_is.after.left) comes.1)))
   where
     all : List Command
     all = commands_of scenario b
@@ -277,15 +277,15 @@ goes-bound scenario history b c event s may course fits later last =
 
 -- an own entry keeps the bound, by the facts after it
 own-bound : (scenario : Scenario) (history : List Entry) (b c : ℕ) (event : Event) (o : Option Session) → MayPlayAt scenario history b o c event → CourseOf scenario history b o → BoundIn (last_event_of history b) (commands_of scenario b) o
-    → (later : Facts) → later.last ≡ Some event → BoundIn later.last (commands_of scenario b) (session_by scenario later b (length history + 1) c event o)
-own-bound scenario history b c events.Start None may course fits later last =
-    settled-bound later (commands_of scenario b) (commands_of scenario b) first refl (record { bound = none_made later.last (is_out (first_of (commands_of scenario b)) first.left) first.tally refl; full = omega arith })
+    → (later : Facts) → BoundIn (Some event) (commands_of scenario b) (session_by scenario later b (length history + 1) c event o)
+own-bound scenario history b c events.Start None may course fits later =
+    settled-bound later (Some events.Start) (commands_of scenario b) (commands_of scenario b) first refl (record { bound = none_made (Some events.Start) (is_out (first_of (commands_of scenario b)) first.left) first.tally refl; full = omega arith })
   where
     first : Session
     first = at_command no_block none_open [] [] (length history + 1) (first_of (commands_of scenario b))
-own-bound scenario history b c event None may course fits later last = absurd may
-own-bound scenario history b c events.Start (Some s) may course fits later last = absurd (no_start (next_oid history) (facts_of history b) _ s may.1)
-own-bound scenario history b c event (Some s) may course fits later last = goes-bound scenario history b c event s may.1 course fits later last
+own-bound scenario history b c event None may course fits later = absurd may
+own-bound scenario history b c events.Start (Some s) may course fits later = absurd (no_start (next_oid history) (facts_of history b) _ s may.1)
+own-bound scenario history b c event (Some s) may course fits later = goes-bound scenario history b c event s may.1 course fits later
 
 -- what is kept from entry to entry
 record Bounded (scenario : Scenario) (history : List Entry) : Type 0 where
@@ -304,7 +304,7 @@ bounded_more scenario history e was may = record { played = more.0; courses = mo
         (subst (BoundIn (last_event_of history b) (commands_of scenario b)) (sym (session_of-other scenario history e b other)) (was.looks b))
     by_owner b true own = subst (λ last. BoundIn last (commands_of scenario b) (session_of scenario (history ++ e ∷ []) b)) (sym (last_event_of-own history e b own))
         (subst (BoundIn (Some e.event) (commands_of scenario b)) (sym (session_of-own scenario history e b own))
-        (own-bound scenario history b e.command e.event (session_of scenario history b) (subst (λ x. MayPlayAt scenario history x (session_of scenario history x) e.command e.event) same may.1.1) (was.courses b) (was.looks b) (facts_by history b e.command e.event (facts_of history b)) refl))
+        (own-bound scenario history b e.command e.event (session_of scenario history b) (subst (λ x. MayPlayAt scenario history x (session_of scenario history x) e.command e.event) same may.1.1) (was.courses b) (was.looks b) (facts_by history b e.command e.event (facts_of history b))))
       where
         same : e.backend ≡ b
         same = eqb-true e.backend b own
@@ -316,8 +316,8 @@ looks_bound scenario history spelled legal plays = (each-keeps (λ before e. May
     (EachFrom-both MayFollow (IsNext scenario) [] history (legal_follows history legal) plays)).looks
 
 -- a look may be made where there is room and no fetch is owed
-pub look_may : (facts : Facts) (s : Session) → IsNoFetch (owed_after facts.last) → s.tally.looks + 1 ≤ earned s.tally + 3 → may_look facts s ≡ true
-look_may facts s free low = by_owed (owed_after facts.last) free
+pub look_may : (facts : Facts) (s : Session) → IsNoFetch (owed_after facts.due) → s.tally.looks + 1 ≤ earned s.tally + 3 → may_look facts s ≡ true
+look_may facts s free low = by_owed (owed_after facts.due) free
   where
     by_owed : (l : List Owes) → IsNoFetch l → elim l [ OwesFetch ∷ owed ↦ false | owed ↦ nat_le (s.tally.looks + 1) (s.tally.scans + s.tally.grants + s.tally.unlocks + 2 * s.tally.fetches + 3) ] ≡ true
     by_owed [] is = le-leb _ _ low
@@ -326,10 +326,10 @@ look_may facts s free low = by_owed (owed_after facts.last) free
     by_owed (OwesScan scan ∷ owed) is = le-leb _ _ low
 
 -- a look that is owed after a grant or a full fetch may be made
-pub owed_look_may : (facts : Facts) (o : Option Command) (s : Session) → LooksBound facts.last o s.left s.tally → owed_after facts.last ≡ OwesLook ∷ [] → may_look facts s ≡ true
-owed_look_may facts o s fits owes = look_may facts s (subst IsNoFetch (sym owes) tt) (by_last facts.last fits.bound owes)
+pub owed_look_may : (facts : Facts) (last : Option Event) (o : Option Command) (s : Session) → facts.due ≡ due_last last → LooksBound last o s.left s.tally → owed_last last ≡ OwesLook ∷ [] → may_look facts s ≡ true
+owed_look_may facts last o s is fits owes = look_may facts s (subst IsNoFetch (sym (ap owed_after is ∙ owes)) tt) (by_last last fits.bound owes)
   where
-    by_last : (last : Option Event) → BoundAfter last (is_out o s.left) s.tally → owed_after last ≡ OwesLook ∷ [] → s.tally.looks + 1 ≤ earned s.tally + 3
+    by_last : (last : Option Event) → BoundAfter last (is_out o s.left) s.tally → owed_last last ≡ OwesLook ∷ [] → s.tally.looks + 1 ≤ earned s.tally + 3
     by_last (Some (events.LockOk rel mode)) bound is = omega (arith, bound)
     by_last (Some (events.Fetch count)) bound is = omega (arith, bound)
     by_last (Some (events.Look true)) bound is = absurd (cc is)
@@ -348,19 +348,19 @@ started_most number facts = by_own facts.running
     by_own (Some t) = one (t.first == number)
 
 -- where a scan or an answer wants one look more, that may be made
-pub wanted_look_may : (facts : Facts) (o : Option Command) (s : Session) → LooksBound facts.last o s.left s.tally → owed_after facts.last ≡ [] → has_looked facts s ≡ false → may_look facts s ≡ true
-wanted_look_may facts o s fits free wants = look_may facts s (subst IsNoFetch (sym free) tt)
+pub wanted_look_may : (facts : Facts) (last : Option Event) (o : Option Command) (s : Session) → LooksBound last o s.left s.tally → owed_after facts.due ≡ [] → has_looked facts s ≡ false → may_look facts s ≡ true
+wanted_look_may facts last o s fits free wants = look_may facts s (subst IsNoFetch (sym free) tt)
     (omega (arith, ltb-false _ _ wants, fits.full, started_most (number_of s) facts))
 
 -- a lookup that found no relation, and whose last entry is no look that said no, may look
-pub unfound_look_may : (facts : Facts) (command : Command) (s : Session) → LooksBound facts.last (Some command) s.left s.tally → owed_after facts.last ≡ [] → is_settled (outcome_of s.left) ≡ false → nothing_waits facts.last ≡ false → may_look facts s ≡ true
-unfound_look_may facts command s fits free going waits = look_may facts s (subst IsNoFetch (sym free) tt) (by_last facts.last fits.bound free waits)
+pub unfound_look_may : (facts : Facts) (last : Option Event) (command : Command) (s : Session) → facts.due ≡ due_last last → LooksBound last (Some command) s.left s.tally → owed_last last ≡ [] → is_settled (outcome_of s.left) ≡ false → is_quiet (due_last last) ≡ false → may_look facts s ≡ true
+unfound_look_may facts last command s is fits free going waits = look_may facts s (subst IsNoFetch (sym (ap owed_after is ∙ free)) tt) (by_last last fits.bound free waits)
   where
     by_other : (s.tally.looks ≡ 0) ⊎ ((s.tally.looks ≤ earned s.tally + 3) × (is_settled (outcome_of s.left) ≡ true)) → s.tally.looks + 1 ≤ earned s.tally + 3
     by_other (inl none) = omega (arith, none)
     by_other (inr out) = absurd (both_ways _ going out.1)
 
-    by_last : (last : Option Event) → BoundAfter last (is_settled (outcome_of s.left)) s.tally → owed_after last ≡ [] → nothing_waits last ≡ false → s.tally.looks + 1 ≤ earned s.tally + 3
+    by_last : (last : Option Event) → BoundAfter last (is_settled (outcome_of s.left)) s.tally → owed_last last ≡ [] → is_quiet (due_last last) ≡ false → s.tally.looks + 1 ≤ earned s.tally + 3
     by_last (Some (events.Look true)) bound is quiet = absurd (cc is)
     by_last (Some (events.Look false)) bound is quiet = absurd (cc quiet)
     by_last (Some (events.LockOk rel mode)) bound is quiet = omega (arith, bound)

@@ -14,7 +14,7 @@ use Rattle.history_model.specs.Versions.{answer_of}
 use Rattle.history_model.specs.Changing.{is_empty}
 use Rattle.cacheless.specs.Types.{Oid, Kind, Row, Purpose, Command, Draft, Opening, Scenario, Entry}
 use Rattle.cacheless.specs.ActsDone.{LockOn, locks_by, IsHeldOn, made_in, opening_by}
-use Rattle.cacheless.specs.Facts.{Facts, facts_of}
+use Rattle.cacheless.specs.Facts.{Facts, facts_of, kept_in}
 use Rattle.cacheless.specs.OnCourse.{OnItsWay, IsOnCourse, ClearUnlessOwed}
 use Rattle.cacheless.specs.Owed.{OwesScan, unusable, owed_at_start, owed_after, builds_owed, act_owed, scans_owed, owed_of}
 use Rattle.cacheless.specs.Played.{IsPlayed}
@@ -26,6 +26,8 @@ use Rattle.cacheless.proofs.Plans.Formers.{plain_rows}
 use Rattle.cacheless.proofs.Plans.SilentActs.{both_empty, its_place}
 use Rattle.cacheless.proofs.Plans.UnderLocks.{IsKeptBy}
 use Rattle.cacheless.proofs.Written.NamesGiven.{AreReadAsNow}
+use Rattle.local_caches.specs.Kept.{is_kept}
+use Rattle.cacheless.proofs.Reading.{kept_usable, kept_rows_read}
 
 none_mapped : {X Y : Type 0} (f : X → Y) (xs : List X) → map f xs ≡ [] → xs ≡ []
 none_mapped f [] none = refl
@@ -41,7 +43,7 @@ class_read : (scenario : Scenario) (history : List Entry) (b : ℕ) (s : Session
 class_read scenario history b s locked [] played is clear held kept none = tt
 class_read scenario history b s locked (o ∷ opened) played is clear held kept none =
     let both = both_empty (unusable (facts_of history b) (build_scans o.kind o.rel)) (builds_owed (facts_of history b) opened) none in (
-      sym (class_plain o.rel (rows_read history b (scans.Class o.rel))) ∙ sym (kept_now scenario history b s locked (scans.Class o.rel) played is clear held kept.0 (class_usable o.kind o.rel both.0)) ∙ class_plain o.rel (answer_of history b (scans.Class o.rel)),
+      kept_rows_read history b (scans.Class o.rel) (class_usable o.kind o.rel both.0) ∙ sym (class_plain o.rel (rows_read history b (scans.Class o.rel))) ∙ sym (kept_now scenario history b s locked (scans.Class o.rel) played is clear held kept.0 (class_usable o.kind o.rel both.0)) ∙ class_plain o.rel (answer_of history b (scans.Class o.rel)),
       class_read scenario history b s locked opened played is clear held kept.1 both.1,
     )
   where
@@ -50,8 +52,8 @@ class_read scenario history b s locked (o ∷ opened) played is clear held kept 
     first_usable false scan more owed = absurd (cc owed)
 
     class_usable : (kind : Kind) (rel : Oid) → unusable (facts_of history b) (build_scans kind rel) ≡ [] → is_usable history b (scans.Class rel) ≡ true
-    class_usable Table rel owed = first_usable (is_usable history b (scans.Class rel)) (scans.Class rel) _ owed
-    class_usable Index rel owed = first_usable (is_usable history b (scans.Class rel)) (scans.Class rel) _ owed
+    class_usable Table rel owed = sym (kept_usable history b (scans.Class rel)) ∙ first_usable (is_kept (kept_in history b) (scans.Class rel)) (scans.Class rel) _ owed
+    class_usable Index rel owed = sym (kept_usable history b (scans.Class rel)) ∙ first_usable (is_kept (kept_in history b) (scans.Class rel)) (scans.Class rel) _ owed
 
 -- so it is where nothing is owed, and the backend is on its course
 pub read_as_now : (scenario : Scenario) (history : List Entry) (b : ℕ) (s : Session) (command : Command) (draft : Draft) (rest : List Row → Plan) → IsPlayed scenario history → session_of scenario history b ≡ Some s → IsOnCourse scenario history b s → slice_get (commands_of scenario b) (length s.finished) ≡ Some command
@@ -65,15 +67,15 @@ read_as_now scenario history b s command draft rest played is course here at non
     opened : List Opening
     opened = made_in opening_by way.gave (plan_of s.opens command)
 
-    start : owed_at_start facts command s ++ owed_after facts.last ≡ []
-    start = (both_empty (owed_at_start facts command s ++ owed_after facts.last) (map OwesScan (scans_owed facts s)) none).0
+    start : owed_at_start facts command s ++ owed_after facts.due ≡ []
+    start = (both_empty (owed_at_start facts command s ++ owed_after facts.due) (map OwesScan (scans_owed facts s)) none).0
 
     same : scans_owed facts s ≡ builds_owed facts s.opened ++ act_owed facts (Do (Write draft) rest)
     same = ap (λ p. elim (outcome_of p) as (λ x. List Purpose) [ Badly ↦ [] | other ↦ builds_owed facts s.opened ++ act_owed facts p ]) at
 
     builds : builds_owed facts s.opened ≡ []
     builds = (both_empty (builds_owed facts s.opened) (act_owed facts (Do (Write draft) rest))
-        (none_mapped OwesScan _ (sym (ap (map OwesScan) same) ∙ (both_empty (owed_at_start facts command s ++ owed_after facts.last) (map OwesScan (scans_owed facts s)) none).1))).0
+        (none_mapped OwesScan _ (sym (ap (map OwesScan) same) ∙ (both_empty (owed_at_start facts command s ++ owed_after facts.due) (map OwesScan (scans_owed facts s)) none).1))).0
 
     own_builds : builds_owed facts opened ≡ []
     own_builds = (both_empty (builds_owed facts (held_before s)) (builds_owed facts opened)

@@ -32,15 +32,18 @@ use Rattle.history_model.proofs.Reading.{last_event_of-own, last_event_of-other,
 use Rattle.history_model.proofs.Touched.{entry_of}
 use Rattle.history_model.proofs.Waiting.{not_waited}
 use Rattle.cacheless.specs.Types.{Oid, Mode, Row, Purpose, Scenario, Command, Entry, Event}
-use Rattle.cacheless.specs.Facts.{Facts, facts_of, facts_by}
+use Rattle.cacheless.specs.declared.progress.Due.{Due}
+use Rattle.cacheless.specs.declared.progress.Due.TheVariants as dues
+use Rattle.local_caches.specs.Kept.{rows_kept}
+use Rattle.cacheless.specs.Facts.{Facts, due_last, facts_of, facts_by}
 use Rattle.cacheless.specs.Output.{IsAllowed}
-use Rattle.cacheless.specs.Owed.{OwesLook, owed_after, owed_of, has_looked, is_next_scan}
+use Rattle.cacheless.specs.Owed.{OwesLook, owed_after, owed_last, is_quiet, owed_of, has_looked, is_next_scan}
 use Rattle.cacheless.specs.Played.{AreSpelled}
 use Rattle.cacheless.specs.Plays.{may_look, IsLock, MayPlayIn, MayPlayAt, IsNext, Plays}
 use Rattle.cacheless.specs.Schedule.{has_stopped, is_stopped}
 use Rattle.cacheless.specs.Session.{Session, number_of, first_of, outcome_of, is_settled}
 use Rattle.cacheless.specs.Sessions.{noted, commands_left, entered, session_by, session_of}
-use Rattle.cacheless.specs.Settled.{class_oid, if_locked, has_taken_no_other, nothing_waits, has_accepted, looked_up, gives, acted, is_finished, finished_as, next_session, settled}
+use Rattle.cacheless.specs.Settled.{class_oid, if_locked, has_taken_no_other, has_accepted, looked_up, gives, acted, is_finished, finished_as, next_session, settled}
 use Rattle.cacheless.proofs.Allowed.AllowedHistories.{allowed_sound, plays_economical}
 use Rattle.cacheless.proofs.Allowed.LooksBound.{LooksBound, BoundIn, looks_bound, owed_look_may, wanted_look_may, unfound_look_may, acted-same}
 use Rattle.cacheless.proofs.Allowed.NextOnCourse.{entered_noted, noted_finished, no_start}
@@ -295,7 +298,7 @@ look_next scenario history b s free may = free_next scenario history b s (events
     by_wait false is = not_waited history b free.allowed.legal is
 
 -- a scan that is next gives its answer
-pub scan_next : (scenario : Scenario) (history : List Entry) (b : ℕ) (s : Session) (scan : Purpose) → IsFree scenario history b s → owed_after (last_event_of history b) ≡ [] → is_next_scan scan (facts_of history b) s ≡ true → has_looked (facts_of history b) s ≡ true → HasNext scenario history b
+pub scan_next : (scenario : Scenario) (history : List Entry) (b : ℕ) (s : Session) (scan : Purpose) → IsFree scenario history b s → owed_last (last_event_of history b) ≡ [] → is_next_scan scan (facts_of history b) s ≡ true → has_looked (facts_of history b) s ≡ true → HasNext scenario history b
 scan_next scenario history b s scan free none next looked = free_next scenario history b s (events.Scan scan (length (answer_of history b scan))) free tt refl tt (by_command (slice_get (commands_of scenario b) (length s.finished)))
   where
     by_command : (o : Option Command) → MayPlayIn (next_oid history) (facts_of history b) o s (events.Scan scan (length (answer_of history b scan)))
@@ -321,7 +324,7 @@ Accepts (Some (events.Look some_wait)) = ⊤
 Accepts (Some (events.Fetch count)) = ⊤
 Accepts last = ⊥
 
-owes_accepts : (last : Option Event) → (owed_after last ≡ [] → ⊥) → Accepts last
+owes_accepts : (last : Option Event) → (owed_last last ≡ [] → ⊥) → Accepts last
 owes_accepts (Some (events.LockOk rel mode)) owes = tt
 owes_accepts (Some (events.Look some_wait)) owes = tt
 owes_accepts (Some (events.Fetch count)) owes = tt
@@ -346,7 +349,7 @@ accepts_runs (Some (events.Fetch count)) own accepts runs = runs
 accepts_runs last own accepts runs = absurd accepts
 
 -- what a backend owes after its last entry, a look or a fetch, may come next
-pub owed_next : (scenario : Scenario) (history : List Entry) (b : ℕ) (s : Session) → AreSpelled scenario → IsBackend scenario.backends b → IsAllowed scenario history → has_stopped history b ≡ false → session_of scenario history b ≡ Some s → (owed_after (last_event_of history b) ≡ [] → ⊥) → HasNext scenario history b
+pub owed_next : (scenario : Scenario) (history : List Entry) (b : ℕ) (s : Session) → AreSpelled scenario → IsBackend scenario.backends b → IsAllowed scenario history → has_stopped history b ≡ false → session_of scenario history b ≡ Some s → (owed_last (last_event_of history b) ≡ [] → ⊥) → HasNext scenario history b
 owed_next scenario history b s spelled number allowed stopped is owes = by_last (last_event_of history b) refl accepts
   where
     o : Option Command
@@ -365,11 +368,11 @@ owed_next scenario history b s spelled number allowed stopped is owes = by_last 
         by_test false here = refl
         by_test true here = absurd (accepts_hidden (last_event_of history b) accepts (stands.sends here))
 
-    looks : owed_after (last_event_of history b) ≡ OwesLook ∷ [] → HasNext scenario history b
+    looks : owed_last (last_event_of history b) ≡ OwesLook ∷ [] → HasNext scenario history b
     looks owed = look_next scenario history b s free (λ some_wait. by_command some_wait o)
       where
         may : may_look (facts_of history b) s ≡ true
-        may = owed_look_may (facts_of history b) o s (bound_is scenario history b s free) owed
+        may = owed_look_may (facts_of history b) (last_event_of history b) o s refl (bound_is scenario history b s free) owed
 
         by_command : (some_wait : Bool) (x : Option Command) → MayPlayIn (next_oid history) (facts_of history b) x s (events.Look some_wait)
         by_command some_wait None = (accepts_runs (last_event_of history b) (running_transaction_of history b) accepts stands.runs, may)
@@ -394,13 +397,13 @@ owed_next scenario history b s spelled number allowed stopped is owes = by_last 
         by_lapped false served = free_next scenario history b s (events.Fetch count) free tt (told, refl) served (some o)
 
     by_full : (count : ℕ) (t : Bool) → (count == 32) ≡ t → last_event_of history b ≡ Some (events.Fetch count) → HasNext scenario history b
-    by_full count true full at = looks (ap owed_after at ∙ ap (λ t. elim t [ true ↦ OwesLook ∷ [] | false ↦ [] ]) full)
-    by_full count false full at = absurd (owes (ap owed_after at ∙ ap (λ t. elim t [ true ↦ OwesLook ∷ [] | false ↦ [] ]) full))
+    by_full count true full at = looks (ap owed_last at ∙ ap (λ t. owed_after (elim t as (λ x. Due) [ true ↦ dues.Look | false ↦ dues.Nothing ])) full)
+    by_full count false full at = absurd (owes (ap owed_last at ∙ ap (λ t. owed_after (elim t as (λ x. Due) [ true ↦ dues.Look | false ↦ dues.Nothing ])) full))
 
     by_last : (last : Option Event) → last_event_of history b ≡ last → Accepts last → HasNext scenario history b
-    by_last (Some (events.LockOk rel mode)) at accepted = looks (ap owed_after at)
+    by_last (Some (events.LockOk rel mode)) at accepted = looks (ap owed_last at)
     by_last (Some (events.Look true)) at accepted = fetches at
-    by_last (Some (events.Look false)) at accepted = absurd (owes (ap owed_after at))
+    by_last (Some (events.Look false)) at accepted = absurd (owes (ap owed_last at))
     by_last (Some (events.Fetch count)) at accepted = by_full count (count == 32) refl at
     by_last last at accepted = absurd accepted
 
@@ -425,32 +428,32 @@ stop_next scenario history b s spelled number allowed stopped is past none = fre
     }
 
 -- a scan that is next comes, or the look for it
-pub lacking_next : (scenario : Scenario) (history : List Entry) (b : ℕ) (s : Session) (command : Command) (scan : Purpose) → IsFree scenario history b s → slice_get (commands_of scenario b) (length s.finished) ≡ Some command → owed_after (last_event_of history b) ≡ [] → is_next_scan scan (facts_of history b) s ≡ true → HasNext scenario history b
+pub lacking_next : (scenario : Scenario) (history : List Entry) (b : ℕ) (s : Session) (command : Command) (scan : Purpose) → IsFree scenario history b s → slice_get (commands_of scenario b) (length s.finished) ≡ Some command → owed_last (last_event_of history b) ≡ [] → is_next_scan scan (facts_of history b) s ≡ true → HasNext scenario history b
 lacking_next scenario history b s command scan free at none next = by_looked (has_looked (facts_of history b) s) refl
   where
     by_looked : (t : Bool) → has_looked (facts_of history b) s ≡ t → HasNext scenario history b
     by_looked true looked = scan_next scenario history b s scan free none next looked
     by_looked false wants = look_next scenario history b s free (λ some_wait. subst (λ o. MayPlayIn (next_oid history) (facts_of history b) o s (events.Look some_wait)) (sym at)
-        (wanted_look_may (facts_of history b) (slice_get (commands_of scenario b) (length s.finished)) s (bound_is scenario history b s free) none wants))
+        (wanted_look_may (facts_of history b) (last_event_of history b) (slice_get (commands_of scenario b) (length s.finished)) s (bound_is scenario history b s free) none wants))
 
 -- a lookup that found no relation looks, unless it has accepted what it waits for
-pub unfound_next : (scenario : Scenario) (history : List Entry) (b : ℕ) (s : Session) (command : Command) → IsFree scenario history b s → slice_get (commands_of scenario b) (length s.finished) ≡ Some command → owed_after (last_event_of history b) ≡ [] → is_settled (outcome_of s.left) ≡ false
+pub unfound_next : (scenario : Scenario) (history : List Entry) (b : ℕ) (s : Session) (command : Command) → IsFree scenario history b s → slice_get (commands_of scenario b) (length s.finished) ≡ Some command → owed_last (last_event_of history b) ≡ [] → is_settled (outcome_of s.left) ≡ false
     → s.taken ≡ None → has_accepted (facts_of history b) s ≡ false → HasNext scenario history b
 unfound_next scenario history b s command free at none going untaken waits = look_next scenario history b s free (λ some_wait. subst (λ o. MayPlayIn (next_oid history) (facts_of history b) o s (events.Look some_wait)) (sym at) may)
   where
     facts : Facts
     facts = facts_of history b
 
-    bound : LooksBound facts.last (Some command) s.left s.tally
-    bound = subst (λ o. LooksBound facts.last o s.left s.tally) at (bound_is scenario history b s free)
+    bound : LooksBound (last_event_of history b) (Some command) s.left s.tally
+    bound = subst (λ o. LooksBound (last_event_of history b) o s.left s.tally) at (bound_is scenario history b s free)
 
-    by_tests : (quiet looked : Bool) → nothing_waits facts.last ≡ quiet → has_looked facts s ≡ looked → may_look facts s ≡ true
-    by_tests false looked is wants = unfound_look_may facts command s bound none going is
-    by_tests true false is wants = wanted_look_may facts (Some command) s bound none wants
-    by_tests true true is wants = absurd (both_ways _ waits (ap (λ o. is_none o && nothing_waits facts.last && has_looked facts s) untaken ∙ ap (λ t. t && has_looked facts s) is ∙ wants))
+    by_tests : (quiet looked : Bool) → is_quiet facts.due ≡ quiet → has_looked facts s ≡ looked → may_look facts s ≡ true
+    by_tests false looked is wants = unfound_look_may facts (last_event_of history b) command s refl bound none going is
+    by_tests true false is wants = wanted_look_may facts (last_event_of history b) (Some command) s bound none wants
+    by_tests true true is wants = absurd (both_ways _ waits (ap (λ o. is_none o && is_quiet facts.due && has_looked facts s) untaken ∙ ap (λ t. t && has_looked facts s) is ∙ wants))
 
     may : may_look facts s ≡ true
-    may = by_tests (nothing_waits facts.last) (has_looked facts s) refl refl
+    may = by_tests (is_quiet facts.due) (has_looked facts s) refl refl
 
 -- the act asks for a lock
 abbrev pub IsAsked : Act → Type 0
@@ -480,12 +483,12 @@ asking_next scenario history b s command act rest free at none left asks untaken
     locks : (rel : Oid) (mode : Mode) → IsLock facts s.left rel mode → has_lock s.locks rel mode ≡ false → HasNext scenario history b
     locks rel mode is free_lock = lock_next scenario history b s command rel mode free at none untaken is (held rel mode ∙ free_lock)
 
-    looks_up : (name : List ℕ) (mode : Mode) (given : List Row) → facts.rows (scans.RelName name) ≡ given → s.left ≡ Do (Lookup name mode) rest → looked_up facts s mode given ≡ None → HasNext scenario history b
+    looks_up : (name : List ℕ) (mode : Mode) (given : List Row) → rows_kept facts.kept (scans.RelName name) ≡ given → s.left ≡ Do (Lookup name mode) rest → looked_up facts s mode given ≡ None → HasNext scenario history b
     looks_up name mode (rows.Class oid own kind fill ∷ more) gave here is = locks oid mode (subst (λ p. IsLock facts p oid mode) (sym here) (ap class_oid gave, refl))
         (sym (alone (has_lock s.locks oid mode)) ∙ sym (ap (λ t. has_lock s.locks oid mode && has_taken_no_other t oid) untaken) ∙ unlocked _ _ is)
     looks_up name mode given gave here is = unfound_next scenario history b s command free at (nothing_owed facts command s none) (ap (λ p. is_settled (outcome_of p)) here) untaken (unlocked _ _ is)
 
     by_act : (a : Act) → s.left ≡ Do a rest → IsAsked a → gives facts s a ≡ None → HasNext scenario history b
-    by_act (Lookup name mode) here asked is = looks_up name mode (facts.rows (scans.RelName name)) refl here is
+    by_act (Lookup name mode) here asked is = looks_up name mode (rows_kept facts.kept (scans.RelName name)) refl here is
     by_act (Lock rel mode) here asked is = locks rel mode (subst (λ p. IsLock facts p rel mode) (sym here) (refl, refl)) (unlocked _ _ is)
     by_act a here asked is = absurd asked

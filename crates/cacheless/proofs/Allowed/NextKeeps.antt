@@ -1,5 +1,5 @@
 -- What backends do next that follow their commands keeps order and tables.
-use Rattle.std.proofs.Common.{◌≡◌, ◌<◌, ◌∙◌, ◌==◌, ℕ, zero, suc, true, Option, Some, None, List, [], ◌∷◌, ◌++◌, refl, sym, ap, subst, map, filter, length, slice_get}
+use Rattle.std.proofs.Common.{◌≡◌, ◌<◌, ◌∙◌, ◌==◌, ℕ, zero, suc, true, Option, Some, None, List, [], ◌∷◌, ◌++◌, refl, sym, ap, subst, map, filter, length, slice_get, Bool, false}
 use Rattle.std.specs.List.{AllByRecursion}
 use Rattle.base_types.specs.Commands.{IsCommand}
 use Rattle.base_types.specs.declared.row.Row.TheVariants as rows
@@ -12,11 +12,11 @@ use Rattle.history_model.specs.Drawn.{next_oid}
 use Rattle.history_model.specs.Orderly.{IsOrderlyWrite, IsOrderlyEvent}
 use Rattle.history_model.specs.Sound.{IsSound}
 use Rattle.history_model.specs.Prefixes.{EachEntry}
-use Rattle.history_model.specs.Read.{rows_read}
+use Rattle.history_model.specs.Read.{rows_read, is_usable, place_read}
 use Rattle.history_model.proofs.Every.{every-weaker, every-map, every-filter, SomeOf, from_some}
 use Rattle.cacheless.specs.Types.{Oid, Mode, Row, Purpose, Item, Scenario, Command, Entry, Event}
 use Rattle.cacheless.specs.ActsDone.{named_by, IsDrawn, made_in}
-use Rattle.cacheless.specs.Facts.{Facts, facts_of}
+use Rattle.cacheless.specs.Facts.{Facts, facts_of, kept_if}
 use Rattle.cacheless.specs.OnCourse.{FollowsPlan, IsOnCourse, CourseOf, AllOnCourse}
 use Rattle.cacheless.specs.Owed.{OwesScan, builds_owed, act_owed, scans_owed, owed_of}
 use Rattle.cacheless.specs.Played.{AreSpelled, IsPlayed}
@@ -29,6 +29,8 @@ use Rattle.cacheless.proofs.FoundKept.{asked_drawn}
 use Rattle.cacheless.proofs.Plans.SilentActs.{both_empty, its_place, on_its_way}
 use Rattle.cacheless.proofs.Written.FitToWrite.{KeepsAll}
 use Rattle.cacheless.proofs.Written.WriteFits.{write_fits}
+use Rattle.std.specs.Option.{option_map_or}
+use Rattle.local_caches.specs.Kept.{Read as KeptRead}
 
 -- the scan on which a command's next act rests isn't owed, where nothing is
 pub nothing_owed : (facts : Facts) (command : Command) (s : Session) (act : Act) (rest : List Row → Plan) → s.left ≡ Do act rest → owed_of facts command s ≡ [] → act_owed facts (Do act rest) ≡ []
@@ -55,7 +57,11 @@ pub lock_drawn : (history : List Entry) (b : ℕ) (s : Session) (command : Comma
 lock_drawn history b s command rel mode sound follows lock = by_plan s.left refl lock
   where
     by_plan : (p : Plan) → s.left ≡ p → IsLock (facts_of history b) p rel mode → rel.0 < next_oid history
-    by_plan (Do (Lookup name wanted) rest) at asks = named_drawn history b name rel (rows_read history b (scans.RelName name)) sound refl asks.0
+    by_plan (Do (Lookup name wanted) rest) at asks = named_drawn history b name rel (rows_read history b (scans.RelName name)) sound refl (by_kept (is_usable history b (scans.RelName name)) asks.0)
+      where
+        by_kept : (t : Bool) → class_oid (option_map_or (λ (read : KeptRead). read.rows) (kept_if t (rows_read history b (scans.RelName name)) (place_read history b (scans.RelName name))) []) ≡ Some rel → class_oid (rows_read history b (scans.RelName name)) ≡ Some rel
+        by_kept true is = is
+        by_kept false is = absurd (cc is)
     by_plan (Do (Lock on wanted) rest) at asks = let way = on_its_way history b s command (Lock on wanted) rest follows at in
         subst (λ (o : Oid). o.0 < next_oid history) (sym asks.0) (some_drawn history on (made_in named_by way.gave (plan_of s.opens command)) way.holds.drawn (its_place history b s command (Lock on wanted) rest way at).2)
     by_plan (Do (Open of kind) rest) at asks = absurd asks

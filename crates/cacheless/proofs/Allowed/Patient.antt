@@ -8,9 +8,11 @@ use Rattle.event_kinds.specs.declared.entry.Event.{Event}
 use Rattle.event_kinds.specs.declared.entry.Event.TheVariants as events
 use Rattle.history_model.specs.Lives.{last_event_of}
 use Rattle.history_model.specs.Drawn.{next_oid}
+use Rattle.cacheless.specs.declared.progress.Due.{Due}
+use Rattle.cacheless.specs.declared.progress.Due.TheVariants as dues
 use Rattle.cacheless.specs.Facts.{Facts, facts_of}
 use Rattle.cacheless.specs.Session.{Session}
-use Rattle.cacheless.specs.Owed.{Owes, OwesLook, OwesFetch, owed_after, owed_of}
+use Rattle.cacheless.specs.Owed.{Owes, OwesLook, OwesFetch, owed_after, owed_last, owed_of}
 use Rattle.cacheless.specs.Ends.{End, Ends, Commits, TakesBack, end_of}
 use Rattle.cacheless.specs.Plays.{may_look, owed_at_end, MayPlay, MayPlayLast, MayPlayIn, IsStart, MayPlayAt, IsNext}
 use Rattle.cacheless.specs.Sessions.{session_of}
@@ -37,30 +39,25 @@ right_empty : {X : Type 0} (xs ys : List X) → xs ++ ys ≡ [] → ys ≡ []
 right_empty [] ys none = none
 right_empty (x ∷ xs) ys none = absurd (cc)
 
-pub nothing_owed : (facts : Facts) (command : Command) (s : Session) → owed_of facts command s ≡ [] → owed_after facts.last ≡ []
-nothing_owed facts command s none = right_empty _ (owed_after facts.last) (left_empty _ _ none)
+pub nothing_owed : (facts : Facts) (command : Command) (s : Session) → owed_of facts command s ≡ [] → owed_after facts.due ≡ []
+nothing_owed facts command s none = right_empty _ (owed_after facts.due) (left_empty _ _ none)
 
-at_end : (facts : Facts) (command : Command) (s : Session) → owed_at_end facts command s ≡ [] → owed_after facts.last ≡ []
+at_end : (facts : Facts) (command : Command) (s : Session) → owed_at_end facts command s ≡ [] → owed_after facts.due ≡ []
 at_end facts command s none = by_end (end_of facts command s) none
   where
-    by_end : (end : End) → (elim end as (λ x. List Owes) [ TakesBack from ↦ owed_after facts.last | other ↦ owed_of facts command s ]) ≡ [] → owed_after facts.last ≡ []
+    by_end : (end : End) → (elim end as (λ x. List Owes) [ TakesBack from ↦ owed_after facts.due | other ↦ owed_of facts command s ]) ≡ [] → owed_after facts.due ≡ []
     by_end (TakesBack from) h = h
     by_end Ends h = nothing_owed facts command s h
     by_end (Commits first) h = nothing_owed facts command s h
 
-look_allowed : (facts : Facts) (s : Session) → may_look facts s ≡ true → IsNoFetch (owed_after facts.last)
-look_allowed facts s may = by_last facts.last may
+look_allowed : (facts : Facts) (s : Session) → may_look facts s ≡ true → IsNoFetch (owed_after facts.due)
+look_allowed facts s may = by_due facts.due may
   where
-    full : (t : Bool) → IsNoFetch (elim t as (λ x. List Owes) [ true ↦ OwesLook ∷ [] | false ↦ [] ])
-    full true = tt
-    full false = tt
+    by_due : (due : Due) → may_look (record facts { due = due }) s ≡ true → IsNoFetch (owed_after due)
+    by_due dues.Fetch h = absurd (cc)
+    by_due due h = tt
 
-    by_last : (last : Option Event) → may_look (record facts { last = last }) s ≡ true → IsNoFetch (owed_after last)
-    by_last (Some (events.Look true)) h = absurd (cc)
-    by_last (Some (events.Fetch count)) h = full (count == 32)
-    by_last last h = tt
-
-in_command : (next : ℕ) (facts : Facts) (command : Command) (s : Session) (event : Event) → MayPlay next facts command s event → IsPatient (owed_after facts.last) event
+in_command : (next : ℕ) (facts : Facts) (command : Command) (s : Session) (event : Event) → MayPlay next facts command s event → IsPatient (owed_after facts.due) event
 in_command next facts command s (events.Look some_wait) may = look_allowed facts s may
 in_command next facts command s (events.Fetch count) may = tt
 in_command next facts command s events.FetchReset may = tt
@@ -77,7 +74,7 @@ in_command next facts command s (events.Gone from) may = at_end facts command s 
 in_command next facts command s (events.Release from) may = at_end facts command s may.0
 in_command next facts command s event may = absurd may
 
-after_all : (facts : Facts) (s : Session) (event : Event) → MayPlayLast facts s event → IsPatient (owed_after facts.last) event
+after_all : (facts : Facts) (s : Session) (event : Event) → MayPlayLast facts s event → IsPatient (owed_after facts.due) event
 after_all facts s (events.Look some_wait) may = look_allowed facts s may.1
 after_all facts s (events.Fetch count) may = tt
 after_all facts s events.FetchReset may = tt
@@ -92,16 +89,16 @@ at_start owed events.Start is = tt
 at_start owed event is = absurd is
 
 -- what backends do next that follow their commands
-pub patient : (scenario : Scenario) (history : List Entry) (e : Entry) → IsNext scenario history e → IsPatient (owed_after (last_event_of history e.backend)) e.event
+pub patient : (scenario : Scenario) (history : List Entry) (e : Entry) → IsNext scenario history e → IsPatient (owed_last (last_event_of history e.backend)) e.event
 patient scenario history e next = by_session (session_of scenario history e.backend) next.1
   where
     facts : Facts
     facts = facts_of history e.backend
 
-    by_command : (s : Session) (command : Option Command) → MayPlayIn (next_oid history) facts command s e.event → IsPatient (owed_after facts.last) e.event
+    by_command : (s : Session) (command : Option Command) → MayPlayIn (next_oid history) facts command s e.event → IsPatient (owed_after facts.due) e.event
     by_command s None may = after_all facts s e.event may
     by_command s (Some command) may = in_command (next_oid history) facts command s e.event may
 
-    by_session : (s : Option Session) → MayPlayAt scenario history e.backend s e.command e.event → IsPatient (owed_after facts.last) e.event
-    by_session None may = at_start (owed_after facts.last) e.event may
+    by_session : (s : Option Session) → MayPlayAt scenario history e.backend s e.command e.event → IsPatient (owed_after facts.due) e.event
+    by_session None may = at_start (owed_after facts.due) e.event may
     by_session (Some s) may = by_command s _ may.1

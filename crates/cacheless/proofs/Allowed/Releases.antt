@@ -135,7 +135,7 @@ ends_free facts command s plain well none = by_end (end_well facts command s) re
     end_if o = elim o as (λ x. End) [ Well ↦ end_well facts command s | Badly ↦ end_badly s | Unsettled ↦ Ends ]
 
     owed_if : End → List Owes
-    owed_if end = elim end as (λ x. List Owes) [ TakesBack from ↦ owed_after facts.last | other ↦ owed_of facts command s ]
+    owed_if end = elim end as (λ x. List Owes) [ TakesBack from ↦ owed_after facts.due | other ↦ owed_of facts command s ]
 
     by_end : (end : End) → end_well facts command s ≡ end → owed_if end ≡ [] → AnswerOwesNone facts s
     by_end Ends is nothing = (owes_no_scan facts command s well nothing).1
@@ -172,7 +172,7 @@ released_well seen b facts command s from follows holds well none next = by_end 
     end_if o = elim o as (λ x. End) [ Well ↦ end_well facts command s | Badly ↦ end_badly s | Unsettled ↦ Ends ]
 
     owed_if : End → List Owes
-    owed_if end = elim end as (λ x. List Owes) [ TakesBack from ↦ owed_after facts.last | other ↦ owed_of facts command s ]
+    owed_if end = elim end as (λ x. List Owes) [ TakesBack from ↦ owed_after facts.due | other ↦ owed_of facts command s ]
 
     by_end : (end : End) → end_well facts command s ≡ end → owed_if end ≡ [] → next_of_end facts end ≡ Some (events.Release from) → OwesNothingLeft facts s from ⊎ TellsAlone seen b s command
     by_end Ends is nothing release = absurd (cc release)

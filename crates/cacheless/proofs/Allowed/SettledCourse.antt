@@ -26,7 +26,7 @@ use Rattle.cacheless.proofs.Allowed.KindsHeld.{IsOpenKind, act_kinds, begin_kind
 use Rattle.cacheless.proofs.Plans.SilentActs.{both_empty, empty_list, IsDoneHere, is_done_here, named_there, absent_name, takes_none, act_follows}
 
 -- whether its accept of messages is over doesn't change where an act is done here
-pub builds_done : (facts : Facts) (command : Command) (s : Session) → builds_owed facts s.opened ≡ [] → is_empty (owed_at_start facts command s ++ owed_after facts.last) ≡ true → owes_accept facts (Some command) s ≡ false
+pub builds_done : (facts : Facts) (command : Command) (s : Session) → builds_owed facts s.opened ≡ [] → is_empty (owed_at_start facts command s ++ owed_after facts.due) ≡ true → owes_accept facts (Some command) s ≡ false
 builds_done facts command s builds free =
     ap (λ t. not t || owes_build facts s) free
     ∙ ap (λ l. elim (outcome_of s.left) as (λ x. Bool) [ Badly ↦ false | other ↦ not (is_empty l) ]) builds ∙ by_outcome (outcome_of s.left)
@@ -53,7 +53,7 @@ record HasActed (seen : List Entry) (b : ℕ) (command : Command) (s now : Sessi
   kinds : AreOfKinds seen now.opens now.opened
 
 -- all acts that are done here keep it on its course
-acts_follow : (scenario : Scenario) (seen : List Entry) (b : ℕ) (command : Command) (plan : Plan) (s : Session) → HasSession scenario seen b s.locks → s.left ≡ plan → is_empty (owed_at_start (facts_of seen b) command s ++ owed_after (facts_of seen b).last) ≡ true
+acts_follow : (scenario : Scenario) (seen : List Entry) (b : ℕ) (command : Command) (plan : Plan) (s : Session) → HasSession scenario seen b s.locks → s.left ≡ plan → is_empty (owed_at_start (facts_of seen b) command s ++ owed_after (facts_of seen b).due) ≡ true
     → ClearUnlessOwed (facts_of seen b) (Some command) s → FollowsPlan seen b s command → AreOfKinds seen s.opens s.opened → HasActed seen b command s (acted_on (facts_of seen b) plan s)
 acts_follow scenario seen b command (Do act rest) s has at free clear follows kinds = by_done (done_here (facts_of seen b) s act (Do act rest)) refl
     (λ given done. acts_follow scenario seen b command (rest given) (act_done act given (rest given) s) (record { played = has.played; session = has.session; is = has.is; holds = has.holds }) refl free (λ owes. cleared_here given done)
@@ -71,9 +71,9 @@ acts_follow scenario seen b command plan s has at free clear follows kinds = rec
 
 acted_follows : (scenario : Scenario) (seen : List Entry) (b : ℕ) (command : Command) (s : Session) → HasSession scenario seen b s.locks → ClearUnlessOwed (facts_of seen b) (Some command) s → FollowsPlan seen b s command → AreOfKinds seen s.opens s.opened
     → HasActed seen b command s (acted (facts_of seen b) command s)
-acted_follows scenario seen b command s has clear follows kinds = by_test (is_empty (owed_at_start (facts_of seen b) command s ++ owed_after (facts_of seen b).last)) refl
+acted_follows scenario seen b command s has clear follows kinds = by_test (is_empty (owed_at_start (facts_of seen b) command s ++ owed_after (facts_of seen b).due)) refl
   where
-    by_test : (t : Bool) → is_empty (owed_at_start (facts_of seen b) command s ++ owed_after (facts_of seen b).last) ≡ t → HasActed seen b command s (elim t as (λ x. Session) [ true ↦ acted_on (facts_of seen b) s.left s | false ↦ s ])
+    by_test : (t : Bool) → is_empty (owed_at_start (facts_of seen b) command s ++ owed_after (facts_of seen b).due) ≡ t → HasActed seen b command s (elim t as (λ x. Session) [ true ↦ acted_on (facts_of seen b) s.left s | false ↦ s ])
     by_test true free = acts_follow scenario seen b command s.left s has refl free clear follows kinds
     by_test false owed = record { follows = follows; finished = refl; locks = refl; ended = refl; clear = clear; kinds = kinds }
 
@@ -141,7 +141,7 @@ finished_accepts : (facts : Facts) (command : Command) (s : Session) → is_fini
 finished_accepts facts command s finished = by_parts (empty_list _ (and_parts (is_settled (outcome_of s.left) && is_none (end_left facts command s)) _ finished).1)
   where
     first : List Owes
-    first = owed_at_start facts command s ++ owed_after facts.last
+    first = owed_at_start facts command s ++ owed_after facts.due
 
     by_outcome : (o : Outcome) → map OwesScan (elim o as (λ x. List Purpose) [ Badly ↦ [] | other ↦ builds_owed facts s.opened ++ act_owed facts s.left ]) ≡ [] → elim o as (λ x. Bool) [ Badly ↦ false | other ↦ not (is_empty (builds_owed facts s.opened)) ] ≡ false
     by_outcome Unsettled none = by_builds (builds_owed facts s.opened) none
@@ -218,7 +218,7 @@ settled_on_course scenario seen b (command ∷ rest) s has are course = by_end (
 
 -- one act that is done here keeps it so
 pub act_enters : (scenario : Scenario) (seen : List Entry) (b : ℕ) (s : Session) (command : Command) (act : Act) (rest : List Row → Plan) (given : List Row) → HasSession scenario seen b s.locks → slice_get (commands_of scenario b) (length s.finished) ≡ Some command
-    → is_empty (owed_at_start (facts_of seen b) command s ++ owed_after (facts_of seen b).last) ≡ true → s.left ≡ Do act rest → done_here (facts_of seen b) s act (Do act rest) ≡ Some given → EntersCourse scenario seen b s → EntersCourse scenario seen b (act_done act given (rest given) s)
+    → is_empty (owed_at_start (facts_of seen b) command s ++ owed_after (facts_of seen b).due) ≡ true → s.left ≡ Do act rest → done_here (facts_of seen b) s act (Do act rest) ≡ Some given → EntersCourse scenario seen b s → EntersCourse scenario seen b (act_done act given (rest given) s)
 act_enters scenario seen b s command act rest given has at free left done course = record {
   follows = λ other here. subst (FollowsPlan seen b (act_done act given (rest given) s)) (let both : Some command ≡ Some other = sym at ∙ here in cc both)
       (act_follows scenario seen b s command act rest given (record { played = has.played; session = has.session; is = has.is; holds = has.holds; clear = clear }) left here_done (course.follows command at));

@@ -14,7 +14,7 @@ use Rattle.history_model.proofs.Prefixes.{each-keeps}
 use Rattle.history_model.proofs.Reading.{running_transaction_of-own, running_transaction_of-other}
 use Rattle.cacheless.specs.Types.{Row, Scenario, Command, Entry, Event}
 use Rattle.cacheless.specs.Facts.{Facts, facts_of, facts_by}
-use Rattle.cacheless.specs.Owed.{Owes, OwesLook, begins, owed_at_start, owed_after}
+use Rattle.cacheless.specs.Owed.{Owes, OwesLook, begins, owed_at_start, owed_last}
 use Rattle.cacheless.specs.Plays.{MayPlayIn, MayPlayAt, IsNext, Plays}
 use Rattle.cacheless.specs.Session.{Session, first_of}
 use Rattle.cacheless.specs.Sessions.{tally_by, noted, counted, placed_at, commands_left, entered, session_by, session_of}
@@ -103,7 +103,7 @@ starts facts command s owes = by_block s.blocks.block refl
     by_block Failed is = empty (ap (λ x. elim x as (λ y. Bool) [ Outside ↦ not (ends_block command) && not s.ended && is_none (refused_by no_block command) | block ↦ false ]) is)
 
 -- the look at the start of a transaction may come next
-pub begin_next : (scenario : Scenario) (history : List Entry) (b : ℕ) (s : Session) (command : Command) → IsFree scenario history b s → slice_get (commands_of scenario b) (length s.finished) ≡ Some command → owed_after (last_event_of history b) ≡ []
+pub begin_next : (scenario : Scenario) (history : List Entry) (b : ℕ) (s : Session) (command : Command) → IsFree scenario history b s → slice_get (commands_of scenario b) (length s.finished) ≡ Some command → owed_last (last_event_of history b) ≡ []
     → is_empty (owed_at_start (facts_of history b) command s) ≡ false → HasNext scenario history b
 begin_next scenario history b s command free at none owes = look_next scenario history b s free (λ some_wait. subst (λ o. MayPlayIn (next_oid history) (facts_of history b) o s (events.Look some_wait)) (sym at)
     (look_may (facts_of history b) s (subst IsNoFetch (sym none) tt) (omega (arith, no_look (subst (HasBegun (running_transaction_of history b)) free.is (has_begun scenario history free.allowed.plays b))))))

@@ -19,20 +19,20 @@ use Rattle.cacheless.specs.OnCourse.{FollowsPlan, TellsStill, AreOfKinds}
 use Rattle.cacheless.specs.Played.{IsPlayed}
 use Rattle.cacheless.specs.Session.{Outcome, Badly, number_of, outcome_of}
 use Rattle.cacheless.specs.Settled.{finished_as, settled}
-use Rattle.cacheless.specs.State.{Kept, kept_at, is_kept, rows_kept, place_kept, is_out, Rest, session_at}
-use Rattle.cacheless.specs.May.{has_failed, owes_nothing}
+use Rattle.cacheless.specs.State.{Kept, kept_at, is_kept, rows_kept, place_kept, is_out, Rest, session_at, owes_nothing}
+use Rattle.cacheless.specs.May.{has_failed}
 use Rattle.cacheless.specs.Silently.{is_to_answer}
 use Rattle.cacheless.specs.Told.{tells_of_scans}
 use Rattle.cacheless.specs.Holds.{FactsFit, Holds}
 use Rattle.cacheless.specs.Answering.{told_at, IsToldText, AreLastScans}
 use Rattle.cacheless.proofs.Same.{owes_nothing_is}
 use Rattle.cacheless.proofs.HeldLocks.{settled-locks}
-use Rattle.cacheless.proofs.Resting.{kept_rows}
+use Rattle.cacheless.proofs.Reading.{kept_usable, kept_read}
 use Rattle.cacheless.proofs.Plans.SilentActs.{both_empty, empty_list}
 use Rattle.cacheless.proofs.Allowed.SettledCourse.{HasSession}
 use Rattle.cacheless.proofs.Answers.ToldAlike.{IsAlike, AreAlike, answer_told_by}
 use Rattle.cacheless.proofs.Answers.ToldAnswers.{HasComeOut, has_come_out, answer_told, line_told}
-use Rattle.cacheless.proofs.Answers.ToldFields.{none_unusable}
+use Rattle.cacheless.proofs.Answers.ToldFields.{none_usable}
 
 -- the place that is found of a scan is that of the last such scan
 kept_place : (places : Purpose → ℕ) (kept : Kept) (scan : Purpose) → IfSome (kept scan) (λ read. places scan ≡ read.at) → is_kept kept scan ≡ true → places scan ≡ place_kept kept scan
@@ -45,12 +45,12 @@ kept_place places kept scan at is = by_read (kept scan) at is
 -- a scan that is usable is told of alike
 kept_alike : (seen : List Entry) (p : Progress) (scan : Purpose) → FactsFit (facts_of seen p.id) p → AreLastScans seen p.id (kept_at p) → is_usable seen p.id scan ≡ true → IsAlike (rows_read seen p.id) (rows_kept (kept_at p)) (place_read seen p.id) (place_kept (kept_at p)) scan
 kept_alike seen p scan fits at usable = record {
-  rows_are = sym (kept_rows (rows_read seen p.id) (kept_at p) scan fits.kept has);
+  rows_are = sym (kept_read seen p.id (kept_at p) scan (ap (λ f. f.kept) fits) has);
   place_is = sym (kept_place (place_read seen p.id) (kept_at p) scan (at scan) has);
 }
   where
     has : is_kept (kept_at p) scan ≡ true
-    has = sym (fits.usable scan) ∙ usable
+    has = sym (ap (λ f. is_kept f.kept scan) fits) ∙ kept_usable seen p.id scan ∙ usable
 
 -- so are several
 all_alike : (seen : List Entry) (p : Progress) (wanted : List Purpose) → FactsFit (facts_of seen p.id) p → AreLastScans seen p.id (kept_at p) → AllByRecursion (λ d. is_usable seen p.id d ≡ true) wanted
@@ -64,7 +64,7 @@ opened_alike : (seen : List Entry) (p : Progress) (opened : List Opening) → Fa
 opened_alike seen p [] fits at none = tt
 opened_alike seen p (o ∷ opened) fits at none =
     let both = both_empty (unusable (facts_of seen p.id) (build_scans o.kind o.rel)) (builds_owed (facts_of seen p.id) opened) none in
-    (all_alike seen p (build_scans o.kind o.rel) fits at (none_unusable (facts_of seen p.id) (build_scans o.kind o.rel) both.0), opened_alike seen p opened fits at both.1)
+    (all_alike seen p (build_scans o.kind o.rel) fits at (none_usable seen p.id (build_scans o.kind o.rel) both.0), opened_alike seen p opened fits at both.1)
 
 -- a command that failed to find a relation has the scan of its name at hand
 abbrev pub KeepsMissed : Progress → Type 0

@@ -20,9 +20,9 @@ use Rattle.cacheless.specs.OnCourse.{is_absent, is_over, OnItsWay, EntersCourse,
 use Rattle.cacheless.specs.Session.{Session, number_of, first_of, outcome_of, is_settled}
 use Rattle.cacheless.specs.Owed.{act_owed}
 use Rattle.cacheless.specs.Settled.{act_done, blocks_after, opens_after, finished_as, next_session}
-use Rattle.cacheless.specs.May.{has_failed, owes_nothing}
+use Rattle.cacheless.specs.May.{has_failed}
 use Rattle.cacheless.specs.Silently.{acts_on, is_ends, is_finished_at, is_to_answer, is_to_answer_at, Answers, Finishes, IsSettled, HasAnswered, IsLineOf}
-use Rattle.cacheless.specs.State.{kept_at, is_kept, is_out, end_at, Rest, session_at}
+use Rattle.cacheless.specs.State.{kept_at, is_kept, is_out, end_at, Rest, session_at, owes_nothing, facts_at, work_at}
 use Rattle.cacheless.specs.Telling.{AreLines, IsJudgedHere, TellsNow, HasGoneOn}
 use Rattle.cacheless.specs.Told.{tells_of_scans}
 use Rattle.cacheless.proofs.Plans.AfterActs.{IsUnfound, after_lookup, after_opening, after_lock, after_search, after_reading}
@@ -33,6 +33,7 @@ use Rattle.cacheless.proofs.Resting.{first_left, left_command, cond_none}
 use Rattle.cacheless.proofs.Allowed.SettledCourse.{act_enters, finish_enters}
 use Rattle.cacheless.proofs.Answers.JudgedLines.{lines-push}
 use Rattle.cacheless.proofs.Answers.KeptTells.{session_held, told_now}
+use Rattle.cacheless.specs.Ends.{end_left_in}
 
 -- a command that is to be answered is, where none is left
 answered_if : (s : Progress) (command : Command) → (is_none s.answer && is_to_answer command s) ≡ false → is_to_answer command s ≡ true → is_some s.answer ≡ true
@@ -50,8 +51,8 @@ finished_asks : (s : Progress) (command : Command) → is_finished_at command s 
 finished_asks s command finished = both_true (is_out s) (has_failed s || not (tells_of_scans (told_of (plan_at s.opens s.exec))) || owes_nothing command s) (and_parts (is_out s) _ parts.0).0
     (ap (λ t. has_failed s || not (tells_of_scans (told_of (plan_at s.opens s.exec))) || t) parts.1 ∙ or-true (has_failed s || not (tells_of_scans (told_of (plan_at s.opens s.exec)))))
   where
-    parts : ((is_out s && (s.ended || is_ends (end_at s command))) ≡ true) × (owes_nothing command s ≡ true)
-    parts = and_parts (is_out s && (s.ended || is_ends (end_at s command))) (owes_nothing command s) finished
+    parts : ((is_out s && (is_none (end_left_in (facts_at s) command (work_at s)))) ≡ true) × (owes_nothing command s ≡ true)
+    parts = and_parts (is_out s && (is_none (end_left_in (facts_at s) command (work_at s)))) (owes_nothing command s) finished
 
 -- so it passes over a command that is finished
 pub finishes : (s : Progress) (command : Command) → slice_get s.commands s.finished ≡ Some command → (is_none s.answer && is_to_answer command s) ≡ false → is_finished_at command s ≡ true → Finishes s
@@ -87,7 +88,7 @@ over_same last s later same = same
 
 -- a lookup that is done has its scan kept
 lookup_kept : (facts : Facts) (s : Progress) (name : List ℕ) (mode : Mode) (rest : List Row → Plan) → FactsFit facts s → act_owed facts (Do (Lookup name mode) rest) ≡ [] → is_kept (kept_at s) (scans.RelName name) ≡ true
-lookup_kept facts s name mode rest fits owed = sym (fits.usable (scans.RelName name)) ∙ cond_none (facts.usable (scans.RelName name)) (scans.RelName name) owed
+lookup_kept facts s name mode rest fits owed = sym (ap (λ f. is_kept f.kept (scans.RelName name)) fits) ∙ cond_none (is_kept facts.kept (scans.RelName name)) (scans.RelName name) owed
 
 -- where an act left that no relation has a name, the scan of the name is kept
 absent_kept : (seen : List Entry) (was : Progress) (rest : Rest) (command : Command) (act : Act) (further : List Row → Plan) (given : List Row) → FactsFit (facts_of seen was.id) was → OnItsWay seen was.id (session_at was rest) command → plan_at was.opens was.exec ≡ Do act further
@@ -172,7 +173,7 @@ answer_holds scenario seen s text holds = record {
   rest = holds.rest;
   count = holds.count;
   is = holds.is;
-  facts = let f = holds.facts in record { running = f.running; lists = f.lists; owed = f.owed; quiet = f.quiet; usable = f.usable; kept = f.kept };
+  facts = holds.facts;
   counts = holds.counts;
   order = holds.order;
   sought = holds.sought;

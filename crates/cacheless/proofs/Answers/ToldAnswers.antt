@@ -33,7 +33,7 @@ use Rattle.cacheless.proofs.Plans.ToldHeld.{tells_held, ends_told}
 use Rattle.cacheless.proofs.Plans.EffectAlong.{effect_along}
 use Rattle.cacheless.proofs.Allowed.SettledCourse.{HasSession}
 use Rattle.cacheless.proofs.Answers.ReadPlaces.{read_at_place}
-use Rattle.cacheless.proofs.Answers.ToldFields.{none_unusable, one_owes_none, field_told, fields_told}
+use Rattle.cacheless.proofs.Answers.ToldFields.{none_usable, one_owes_none, field_told, fields_told}
 
 -- a command that has come out, before anything of it is taken back or released; if it came out well and tells of scans, its backend may rely on all scans for the descriptors that it has opened, and on that of the oid of which it tells
 pub record HasComeOut (scenario : Scenario) (seen : List Entry) (b : ℕ) (s : Session) (command : Command) : Type 0 where
@@ -147,7 +147,7 @@ has_come_out scenario seen b s command has follows out stands kinds owes = recor
   stands = stands;
   kinds = kinds;
   builds = λ well tells. (by_side owes well tells).0;
-  named = λ oid is. (none_unusable (facts_of seen b) (scans.RelOid oid ∷ []) ((by_side owes (ap outcome_of is) (ap (λ p. tells_of_scans (told_of p)) is)).1 (tells.Regclass oid) is)).0;
+  named = λ oid is. (none_usable seen b (scans.RelOid oid ∷ []) ((by_side owes (ap outcome_of is) (ap (λ p. tells_of_scans (told_of p)) is)).1 (tells.Regclass oid) is)).0;
 }
   where
     by_side : (outcome_of s.left ≡ Badly) ⊎ (tells_of_scans (told_of s.left) ≡ false) ⊎ (owed_of (facts_of seen b) command s ≡ []) → outcome_of s.left ≡ Well → tells_of_scans (told_of s.left) ≡ true → OwesNoScan (facts_of seen b) s

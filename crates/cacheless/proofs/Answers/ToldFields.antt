@@ -1,5 +1,5 @@
 -- A field as it is told by the last scan for it is what the definition shows.
-use Rattle.std.proofs.Common.{◌≡◌, ◌∙◌, ℕ, Bool, true, false, not, Some, None, List, [], ◌∷◌, ◌++◌, Contains, cond, if◌then◌else◌, refl, ap, map}
+use Rattle.std.proofs.Common.{◌≡◌, ◌∙◌, ℕ, Bool, true, false, not, Some, None, List, [], ◌∷◌, ◌++◌, Contains, cond, if◌then◌else◌, refl, ap, map, sym}
 use Rattle.std.specs.List.{AllByRecursion}
 use Rattle.std.proofs.lemmas.List.Elements.{All-contains, All-from_recursion}
 use Rattle.std.specs.Option.{option_map_or}
@@ -12,7 +12,7 @@ use Rattle.history_model.specs.Read.{place_read, rows_read, is_usable}
 use Rattle.history_model.specs.Versions.{fresh_text}
 use Rattle.history_model.specs.OfKind.{IsOfKind}
 use Rattle.cacheless.specs.Types.{Oid, Kind, Field, Purpose, Shown, Opening, OwnLock, Scenario, Entry}
-use Rattle.cacheless.specs.Facts.{Facts, facts_of}
+use Rattle.cacheless.specs.Facts.{Facts, facts_of, kept_in}
 use Rattle.cacheless.specs.Lines.{read_field, shown_field}
 use Rattle.cacheless.specs.Owed.{unusable, builds_owed}
 use Rattle.cacheless.specs.Protected.{protects, is_protected}
@@ -22,6 +22,9 @@ use Rattle.cacheless.proofs.ProtectedFields.{protected_fresh}
 use Rattle.cacheless.proofs.Answers.ReadPlaces.{read_at_place}
 use Rattle.cacheless.proofs.Plans.SilentActs.{both_empty}
 use Rattle.cacheless.proofs.Allowed.SettledCourse.{HasSession}
+use Rattle.local_caches.specs.Kept.{is_kept}
+use Rattle.cacheless.proofs.Reading.{kept_usable}
+use Rattle.history_model.proofs.Every.{every-weaker}
 
 -- the scan of a field is one of those that build the descriptor
 pub field_among : (P : Purpose → Type 0) (kind : Kind) (rel : Oid) (field : Field) → has_field kind field ≡ true → AllByRecursion P (build_scans kind rel) → P (read_by field rel)
@@ -41,14 +44,17 @@ field_among P Index rel fields.Valid has all = all.1.0
 field_among P Index rel field has all = absurd (cc)
 
 -- where none is owed, each is usable
-pub none_unusable : (facts : Facts) (wanted : List Purpose) → unusable facts wanted ≡ [] → AllByRecursion (λ scan. facts.usable scan ≡ true) wanted
+pub none_unusable : (facts : Facts) (wanted : List Purpose) → unusable facts wanted ≡ [] → AllByRecursion (λ scan. is_kept facts.kept scan ≡ true) wanted
 none_unusable facts [] none = tt
-none_unusable facts (scan ∷ wanted) none = by_first (facts.usable scan) refl none (none_unusable facts wanted)
+none_unusable facts (scan ∷ wanted) none = by_first (is_kept facts.kept scan) refl none (none_unusable facts wanted)
   where
-    by_first : (t : Bool) → facts.usable scan ≡ t → cond (not t) (scan ∷ unusable facts wanted) (unusable facts wanted) ≡ [] → (unusable facts wanted ≡ [] → AllByRecursion (λ s. facts.usable s ≡ true) wanted)
-        → (facts.usable scan ≡ true) × AllByRecursion (λ s. facts.usable s ≡ true) wanted
+    by_first : (t : Bool) → is_kept facts.kept scan ≡ t → cond (not t) (scan ∷ unusable facts wanted) (unusable facts wanted) ≡ [] → (unusable facts wanted ≡ [] → AllByRecursion (λ s. is_kept facts.kept s ≡ true) wanted)
+        → (is_kept facts.kept scan ≡ true) × AllByRecursion (λ s. is_kept facts.kept s ≡ true) wanted
     by_first true is nothing rest = (is, rest nothing)
     by_first false is nothing rest = absurd (cc nothing)
+
+pub none_usable : (seen : List Entry) (b : ℕ) (wanted : List Purpose) → unusable (facts_of seen b) wanted ≡ [] → AllByRecursion (λ scan. is_usable seen b scan ≡ true) wanted
+none_usable seen b wanted none = every-weaker (λ scan. is_kept (kept_in seen b) scan ≡ true) (λ scan. is_usable seen b scan ≡ true) (λ scan has. sym (kept_usable seen b scan) ∙ has) wanted (none_unusable (facts_of seen b) wanted none)
 
 -- what is owed for no descriptor is owed for none of them
 each_owes_none : (facts : Facts) (opened : List Opening) → builds_owed facts opened ≡ [] → AllByRecursion (λ o. unusable facts (build_scans o.kind o.rel) ≡ []) opened
@@ -80,7 +86,7 @@ field_told scenario seen b locks o field can has =
     guarded = ap (λ s. protects (option_map_or (λ (x : Session). clear_modes x.locks o.rel) s []) o.kind field) can.has.is ∙ ap (λ l. protects (clear_modes l o.rel) o.kind field) can.has.holds
 
     usable : is_usable seen b scan ≡ true
-    usable = field_among (λ d. is_usable seen b d ≡ true) o.kind o.rel field has (none_unusable (facts_of seen b) (build_scans o.kind o.rel) (both_empty (unusable (facts_of seen b) (build_scans o.kind o.rel)) [] can.builds).0)
+    usable = field_among (λ d. is_usable seen b d ≡ true) o.kind o.rel field has (none_usable seen b (build_scans o.kind o.rel) (both_empty (unusable (facts_of seen b) (build_scans o.kind o.rel)) [] can.builds).0)
 
     now : is_protected scenario seen b o.rel o.kind field ≡ true → fresh_text seen b o.rel field ≡ field_text field o.rel (rows_read seen b scan)
     now protected = protected_fresh scenario seen b o.rel o.kind field can.kind can.has.played.sound can.has.played.plays has protected usable

@@ -1,5 +1,5 @@
 -- What the entries of a command's end make of what the code holds.
-use Rattle.std.proofs.Common.{◌≡◌, ◌≤◌, ◌+◌, ◌∙◌, ◌&&◌, ◌||◌, ℕ, Bool, true, false, not, Option, Some, None, List, ◌++◌, refl, sym, ap, subst, slice_get, map, filter, nat_lt}
+use Rattle.std.proofs.Common.{◌≡◌, ◌≤◌, ◌+◌, ◌∙◌, ◌&&◌, ◌||◌, ℕ, Bool, true, false, not, Option, Some, None, List, ◌++◌, refl, sym, ap, subst, slice_get, map, filter, nat_lt, if◌then◌else◌}
 use Rattle.std.specs.List.{AllByRecursion, list_any}
 use Rattle.std.proofs.lemmas.List.Folds.{list_any-append}
 use Rattle.event_kinds.specs.declared.entry.Event.TheVariants as events
@@ -23,19 +23,16 @@ use Rattle.txn_blocks.specs.Transactions.{begun_own, ends_own, released_own}
 use Rattle.ddl_effect.specs.Opens.{opens_before}
 use Rattle.ddl_effect.specs.Stages.{plan_at}
 use Rattle.cacheless.specs.Session.{opening_of}
-use Rattle.cacheless.specs.State.{running_of, lists_at, lists_left, is_out, Kept, kept_at, is_kept, kept_spared, is_in_accept, locks_accepted}
-use Rattle.cacheless.specs.Holds.{AreRight, FactsFit, Rests, HasEntered}
+use Rattle.cacheless.specs.State.{lists_at, lists_left, is_out, Kept, kept_at, is_kept, kept_spared, is_in_accept, locks_accepted}
+use Rattle.cacheless.specs.Holds.{FactsFit, Rests, HasEntered}
 use Rattle.cacheless.proofs.Written.Putting.{puts_out}
 use Rattle.cacheless.proofs.Entries.EnteredFetches.{is_kept-spared, all-spared}
-use Rattle.cacheless.proofs.Entries.Entering.{facts_after, noted_after, with_locks, own_entered, release_begun, ends_same, runs_begun, counts_stay}
+use Rattle.cacheless.proofs.Entries.Entering.{facts_after, noted_after, with_locks, own_entered, ends_same, runs_begun, counts_stay}
+use Rattle.local_caches.specs.Kept.{Read}
 
 -- the state after the visibility step
 abbrev pub shown : Progress → Progress
 shown was = record was { due = dues.Nothing; running = Some (record (begun_own (was.finished + 1) was.running) { visible = true }) }
-
-runs_shown : (number : ℕ) (own : Option RunningTransaction) → Some (record (begun number (running_of own)) { visible = true }) ≡ running_of (Some (record (begun_own number own) { visible = true }))
-runs_shown number None = refl
-runs_shown number (Some t) = refl
 
 pub visible_holds : (scenario : Scenario) (old : List Entry) (was : Progress) (xid : Xid) (locks : Roomy OwnLock) (rests : Rests scenario old was)
     → locks.items ≡ locks_accepted (is_in_accept (shown was) (slice_get was.commands was.finished)) was.locks.items
@@ -43,14 +40,7 @@ pub visible_holds : (scenario : Scenario) (old : List Entry) (was : Progress) (x
 visible_holds scenario old was xid locks rests items = own_entered scenario old was (shown was) (events.Visible xid) locks rests (record { session = λ _ _ _ _ _ _. refl; finished = λ _. refl }) (record {
   moves = record { id = refl; commands = refl; finished = refl };
   session = refl;
-  facts = let f = rests.holds.facts in record {
-    running = ap (λ o. Some (record (begun (was.finished + 1) o) { visible = true })) f.running ∙ runs_shown (was.finished + 1) was.running;
-    lists = f.lists;
-    owed = refl;
-    quiet = refl;
-    usable = f.usable;
-    kept = f.kept;
-  };
+  facts = let f = rests.holds.facts in λ i. record { due = dues.Nothing; running = Some (record (runs_begun (was.finished + 1) was f i) { visible = true }); lists = (f i).lists; kept = (f i).kept };
   counts = counts_stay rests.holds.counts;
   order = rests.holds.order;
   sought = rests.holds.sought;
@@ -61,24 +51,13 @@ visible_holds scenario old was xid locks rests items = own_entered scenario old 
 abbrev pub sent : Progress → ℕ → Progress
 sent was count = record was { due = dues.Nothing; running = Some (record (begun_own (was.finished + 1) was.running) { published = (begun_own (was.finished + 1) was.running).published + count }) }
 
-runs_sent : (number count : ℕ) (own : Option RunningTransaction) → Some (record (begun number (running_of own)) { published = (begun number (running_of own)).published + count }) ≡ running_of (Some (record (begun_own number own) { published = (begun_own number own).published + count }))
-runs_sent number count None = refl
-runs_sent number count (Some t) = refl
-
 pub publish_holds : (scenario : Scenario) (old : List Entry) (was : Progress) (count : ℕ) (locks : Roomy OwnLock) (rests : Rests scenario old was)
     → locks.items ≡ locks_accepted (is_in_accept (sent was count) (slice_get was.commands was.finished)) was.locks.items
     → HasEntered scenario old was (events.Publish count) rests (with_locks (sent was count) locks)
 publish_holds scenario old was count locks rests items = own_entered scenario old was (sent was count) (events.Publish count) locks rests (record { session = λ _ _ _ _ _ _. refl; finished = λ _. refl }) (record {
   moves = record { id = refl; commands = refl; finished = refl };
   session = refl;
-  facts = let f = rests.holds.facts in record {
-    running = ap (λ o. Some (record (begun (was.finished + 1) o) { published = (begun (was.finished + 1) o).published + count })) f.running ∙ runs_sent (was.finished + 1) count was.running;
-    lists = f.lists;
-    owed = refl;
-    quiet = refl;
-    usable = f.usable;
-    kept = f.kept;
-  };
+  facts = let f = rests.holds.facts in λ i. record { due = dues.Nothing; running = Some (let own = runs_begun (was.finished + 1) was f i in record own { published = own.published + count }); lists = (f i).lists; kept = (f i).kept };
   counts = counts_stay rests.holds.counts;
   order = rests.holds.order;
   sought = rests.holds.sought;
@@ -93,20 +72,22 @@ is_spared-append scan first later = ap not (list_any-append (covers scan) first 
     apart true b = refl
     apart false b = refl
 
-kept_twice : (first later : List Message) (kept : Kept) (scan : Purpose) → (is_spared scan (first ++ later) && is_kept kept scan) ≡ is_kept (kept_spared later (kept_spared first kept)) scan
-kept_twice first later kept scan =
-    ap (λ t. t && is_kept kept scan) (is_spared-append scan first later) ∙ turned (is_spared scan first) (is_spared scan later) (is_kept kept scan)
-    ∙ ap (λ t. is_spared scan later && t) (sym (is_kept-spared first kept scan)) ∙ sym (is_kept-spared later (kept_spared first kept) scan)
+kept_twice : (first later : List Message) (kept : Kept) → kept_spared (first ++ later) kept ≡ kept_spared later (kept_spared first kept)
+kept_twice first later kept = λ i scan. at scan i
   where
-    turned : (a b c : Bool) → ((a && b) && c) ≡ (b && (a && c))
-    turned true b c = refl
-    turned false true c = refl
-    turned false false c = refl
+    by_tests : (a b : Bool) (o : Option Read) → (if (a && b) then o else None) ≡ (if b then (if a then o else None) else None)
+    by_tests true true o = refl
+    by_tests true false o = refl
+    by_tests false true o = refl
+    by_tests false false o = refl
+
+    at : (scan : Purpose) → kept_spared (first ++ later) kept scan ≡ kept_spared later (kept_spared first kept) scan
+    at scan = ap (λ t. if t then kept scan else None) (is_spared-append scan first later) ∙ by_tests (is_spared scan first) (is_spared scan later) (kept scan)
 
 -- the state once writes are taken back
-abbrev pub taken_back : (was : Progress) (caches : LocalCaches) (suspects : Suspects) → AreKnown (is_kept (kept_of caches)) was.opened suspects → Held → Progress
-taken_back was caches suspects known lists = record was {
-  due = dues.Nothing;
+abbrev pub taken_back : (was : Progress) (from : ℕ) (caches : LocalCaches) (suspects : Suspects) → AreKnown (is_kept (kept_of caches)) was.opened suspects → Held → Progress
+taken_back was from caches suspects known lists = record was {
+  due = dues.Gone from;
   running = Some (begun_own (was.finished + 1) was.running);
   caches = caches;
   suspects = suspects;
@@ -114,26 +95,14 @@ taken_back was caches suspects known lists = record was {
   lists = lists;
 }
 
--- what a scan gave, once writes are taken back
-gone_usable : (old : List Entry) (was : Progress) (from : ℕ) (cats rels : List Message) (scan : Purpose) → FactsFit (facts_of old was.id) was → cats ≡ cats_in (lists_from from (lists_at was)) → rels ≡ rels_in (lists_from from (lists_at was))
-    → is_spared scan (sent_in (lists_from from (facts_of old was.id).lists)) ≡ is_spared scan (cats ++ rels)
-gone_usable old was from cats rels scan fits cats_are rels_are = ap (λ l. is_spared scan (sent_in (lists_from from l))) fits.lists ∙ sym (λ i. is_spared scan (cats_are i ++ rels_are i))
-
 pub gone_holds : (scenario : Scenario) (old : List Entry) (was : Progress) (from : ℕ) (cats rels : List Message) (caches : LocalCaches) (suspects : Suspects) (known : AreKnown (is_kept (kept_of caches)) was.opened suspects) (lists : Held) (locks : Roomy OwnLock) (rests : Rests scenario old was)
     → cats ≡ cats_in (lists_from from (lists_at was)) → rels ≡ rels_in (lists_from from (lists_at was)) → kept_of caches ≡ kept_spared rels (kept_spared cats (kept_at was)) → all_lists lists.lists ≡ lists_before from (lists_at was)
-    → locks.items ≡ locks_accepted (is_in_accept (taken_back was caches suspects known lists) (slice_get was.commands was.finished)) was.locks.items
-    → HasEntered scenario old was (events.Gone from) rests (with_locks (taken_back was caches suspects known lists) locks)
-gone_holds scenario old was from cats rels caches suspects known lists locks rests cats_are rels_are keeps before items = own_entered scenario old was (taken_back was caches suspects known lists) event locks rests (record { session = λ _ _ _ _ _ _. refl; finished = λ _. refl }) (record {
+    → locks.items ≡ locks_accepted (is_in_accept (taken_back was from caches suspects known lists) (slice_get was.commands was.finished)) was.locks.items
+    → HasEntered scenario old was (events.Gone from) rests (with_locks (taken_back was from caches suspects known lists) locks)
+gone_holds scenario old was from cats rels caches suspects known lists locks rests cats_are rels_are keeps before items = own_entered scenario old was (taken_back was from caches suspects known lists) event locks rests (record { session = λ _ _ _ _ _ _. refl; finished = λ _. refl }) (record {
   moves = record { id = refl; commands = refl; finished = refl };
   session = refl;
-  facts = let f = rests.holds.facts in record {
-    running = ap (λ o. Some (begun (was.finished + 1) o)) f.running ∙ runs_begun (was.finished + 1) was.running;
-    lists = ap (lists_before from) f.lists ∙ sym before;
-    owed = refl;
-    quiet = refl;
-    usable = λ scan. ap (λ t. t && (facts_of old was.id).usable scan) (gone_usable old was from cats rels scan f cats_are rels_are) ∙ ap (λ t. is_spared scan (cats ++ rels) && t) (f.usable scan) ∙ kept_twice cats rels (kept_at was) scan ∙ ap (λ k. is_kept k scan) (sym keeps);
-    kept = subst (AreRight after.rows) (sym keeps) (all-spared (λ scan read. read.rows ≡ after.rows scan) rels (kept_spared cats (kept_at was)) (all-spared (λ scan read. read.rows ≡ after.rows scan) cats (kept_at was) f.kept));
-  };
+  facts = let f = rests.holds.facts in λ i. record { due = dues.Gone from; running = Some (runs_begun (was.finished + 1) was f i); lists = (ap (lists_before from) (ap (λ g. g.lists) f) ∙ sym before) i; kept = (ap (λ g. kept_spared (sent_in (lists_from from g.lists)) g.kept) f ∙ (λ j. kept_spared (sym cats_are j ++ sym rels_are j) (kept_at was)) ∙ kept_twice cats rels (kept_at was) ∙ sym keeps) i };
   counts = counts_stay rests.holds.counts;
   order = subst (AllByRecursion (λ (list : Written). list.command ≤ was.finished + 1)) (sym before)
       (every-filter (λ (list : Written). list.command ≤ was.finished + 1) (λ w. nat_lt w.command from) (lists_at was) (every-weaker (λ (list : Written). list.command ≤ was.finished + 1) (λ (list : Written). nat_lt list.command from ≡ true → list.command ≤ was.finished + 1) (λ list low kept. low) (lists_at was) rests.holds.order));
@@ -158,14 +127,7 @@ pub release_holds : (scenario : Scenario) (old : List Entry) (was : Progress) (f
 release_holds scenario old was from caches suspects known lists held locks rests out keeps left stay items = own_entered scenario old was (let_go was from caches suspects known lists held) event locks rests (record { session = λ _ _ _ _ _ _. refl; finished = λ _. refl }) (record {
   moves = record { id = refl; commands = refl; finished = refl };
   session = λ i. record (noted_after old was event rests.holds.rest) { locks = sym stay i };
-  facts = let f = rests.holds.facts in record {
-    running = ap (λ o. after_release from (begun (was.finished + 1) o)) f.running ∙ release_begun from (was.finished + 1) was.running;
-    lists = ap (λ o. lists_left (ends_transaction from o) (facts_of old was.id).lists) f.running ∙ ap (λ t. lists_left t (facts_of old was.id).lists) (ends_same from was.running) ∙ ap (lists_left (ends_own from was.running)) f.lists ∙ sym left;
-    owed = refl;
-    quiet = refl;
-    usable = λ scan. f.usable scan ∙ ap (λ k. is_kept k scan) (sym keeps);
-    kept = subst (AreRight after.rows) (sym keeps) f.kept;
-  };
+  facts = let f = rests.holds.facts in λ i. record { due = dues.Nothing; running = after_release from (runs_begun (was.finished + 1) was f i); lists = (ap (λ o. lists_left (ends_transaction from o) (facts_of old was.id).lists) (ap (λ g. g.running) f) ∙ ap (λ t. lists_left t (facts_of old was.id).lists) (ends_same from was.running) ∙ ap (lists_left (ends_own from was.running)) (ap (λ g. g.lists) f) ∙ sym left) i; kept = (ap (λ g. g.kept) f ∙ sym keeps) i };
   counts = counts_stay rests.holds.counts;
   order = subst (AllByRecursion (λ (list : Written). list.command ≤ was.finished + 1)) (sym left) (left_low (ends_own from was.running));
   sought = rests.holds.sought;

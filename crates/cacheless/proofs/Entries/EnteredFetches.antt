@@ -22,12 +22,11 @@ use Rattle.cacheless.specs.declared.progress.Progress.{Progress}
 use Rattle.cacheless.specs.Facts.{Facts, facts_of}
 use Rattle.cacheless.specs.Session.{Session, Tally}
 use Rattle.cacheless.specs.Owed.{Owes, OwesLook, owed_after}
-use Rattle.cacheless.specs.Settled.{nothing_waits}
 use Rattle.cacheless.specs.Sessions.{resumed, placed_at, counted}
 use Rattle.cacheless.specs.Puts.{PutsOpened}
 use Rattle.txn_blocks.specs.Transactions.{begun_own}
-use Rattle.cacheless.specs.State.{owed_at, is_quiet, due_fetched, one_if, Kept, kept_at, nothing_kept, is_kept, kept_spared, is_absent, is_full, is_in_accept, locks_accepted, Rest, rest_of, tally_at, session_at}
-use Rattle.cacheless.specs.Holds.{AreRight, FactsFit, Rests, HasEntered}
+use Rattle.cacheless.specs.State.{owed_after, is_quiet, due_fetched, one_if, Kept, kept_at, nothing_kept, is_kept, kept_spared, is_absent, is_full, is_in_accept, locks_accepted, Rest, rest_of, tally_at, session_at}
+use Rattle.cacheless.specs.Holds.{FactsFit, Rests, HasEntered}
 use Rattle.cacheless.proofs.ReadsBuilds.{opened_begins, begins_there}
 use Rattle.cacheless.proofs.Tests.{not_both}
 use Rattle.cacheless.proofs.Same.{full_same}
@@ -116,20 +115,6 @@ fetched_first was count caches suspects known exec = record was {
 abbrev pub fetched : (was : Progress) (count : ℕ) (caches : LocalCaches) (suspects : Suspects) → AreKnown (is_kept (kept_of caches)) was.opened suspects → Exec → Progress
 fetched was count caches suspects known exec = record (fetched_first was count caches suspects known exec) { tally = record was.tally { fetches = was.tally.fetches + 1; full = was.tally.full + one_if (is_full count (fetched_first was count caches suspects known exec)) } }
 
-owed_fetched : (count : ℕ) → owed_after (Some (events.Fetch count)) ≡ owed_at (due_fetched count)
-owed_fetched count = by_test (count == 32)
-  where
-    by_test : (t : Bool) → ◌≡◌ {A = List Owes} (elim t [ true ↦ OwesLook ∷ [] | false ↦ [] ]) (owed_at (elim t as (λ x. Due) [ true ↦ dues.Look | false ↦ dues.Nothing ]))
-    by_test true = refl
-    by_test false = refl
-
-quiet_fetched : (count : ℕ) → nothing_waits (Some (events.Fetch count)) ≡ is_quiet (due_fetched count)
-quiet_fetched count = by_test (count == 32)
-  where
-    by_test : (t : Bool) → false ≡ is_quiet (elim t as (λ x. Due) [ true ↦ dues.Look | false ↦ dues.Nothing ])
-    by_test true = refl
-    by_test false = refl
-
 full_more : (t : Bool) (tally : Tally) → elim t as (λ x. Tally) [ true ↦ record tally { full = tally.full + 1 } | false ↦ tally ] ≡ record tally { full = tally.full + one_if t }
 full_more true tally = refl
 full_more false tally = λ i. record tally { full = same i }
@@ -147,7 +132,7 @@ pub fetch_holds : (scenario : Scenario) (old : List Entry) (was : Progress) (cou
 fetch_holds scenario old was count messages caches suspects known exec locks rests are keeps again items = own_entered scenario old was now event locks rests (record { session = λ _ _ _ _ _ _. refl; finished = λ s. ends_same s.left s }) (record {
   moves = record { id = refl; commands = refl; finished = refl };
   session = whole ∙ sym (ap (λ t. session_at now (rest_of t)) whole);
-  facts = record { running = fits.running; lists = fits.lists; owed = fits.owed; quiet = fits.quiet; usable = fits.usable; kept = fits.kept };
+  facts = fits;
   counts = let c = rests.holds.counts in record { looks = omega (arith, c.looks); scans = omega (arith, c.scans); grants = omega (arith, c.grants); unlocks = omega (arith, c.unlocks); fetches = omega (arith, c.fetches); full = omega (arith, c.full, one_at_most (is_full count first)) };
   order = rests.holds.order;
   sought = λ is. absurd (not_both (is_absent (plan_at was.opens exec)) is (ap is_absent again ∙ never_absent was.opens was.exec));
@@ -171,14 +156,7 @@ fetch_holds scenario old was count messages caches suspects known exec locks res
     after = facts_after old was event
 
     fits : FactsFit after first
-    fits = let f = rests.holds.facts in record {
-      running = ap (λ o. Some (begun (was.finished + 1) o)) f.running ∙ runs_begun (was.finished + 1) was.running;
-      lists = f.lists;
-      owed = owed_fetched count;
-      quiet = quiet_fetched count;
-      usable = λ scan. ap (λ l. is_spared scan l && (facts_of old was.id).usable scan) (sym are) ∙ ap (λ t. is_spared scan messages && t) (f.usable scan) ∙ sym (is_kept-spared messages (kept_at was) scan) ∙ ap (λ k. is_kept k scan) (sym keeps);
-      kept = subst (AreRight after.rows) (sym keeps) (all-spared (λ scan read. read.rows ≡ after.rows scan) messages (kept_at was) f.kept);
-    }
+    fits = let f = rests.holds.facts in λ i. record { due = due_fetched count; running = Some (runs_begun (was.finished + 1) was f i); lists = (f i).lists; kept = (ap (λ g. kept_spared (fetched_by old was.id count) g.kept) f ∙ ap (λ l. kept_spared l (kept_at was)) (sym are) ∙ sym keeps) i }
 
     s : Session
     s = session_at was rests.holds.rest
@@ -217,14 +195,7 @@ pub reset_holds : (scenario : Scenario) (old : List Entry) (was : Progress) (cac
 reset_holds scenario old was caches suspects known exec locks rests keeps again items = own_entered scenario old was now event locks rests (record { session = λ _ _ _ _ _ _. refl; finished = λ s. ends_same s.left s }) (record {
   moves = record { id = refl; commands = refl; finished = refl };
   session = whole ∙ sym (ap (λ t. session_at now (rest_of t)) whole);
-  facts = let f = rests.holds.facts in record {
-    running = ap (λ o. Some (begun (was.finished + 1) o)) f.running ∙ runs_begun (was.finished + 1) was.running;
-    lists = f.lists;
-    owed = refl;
-    quiet = refl;
-    usable = λ scan. ap (λ k. is_kept k scan) (sym keeps);
-    kept = subst (AreRight after.rows) (sym keeps) (λ scan. tt);
-  };
+  facts = let f = rests.holds.facts in λ i. record { due = dues.Nothing; running = Some (runs_begun (was.finished + 1) was f i); lists = (f i).lists; kept = sym keeps i };
   counts = let c = rests.holds.counts in record { looks = omega (arith, c.looks); scans = omega (arith, c.scans); grants = omega (arith, c.grants); unlocks = omega (arith, c.unlocks); fetches = omega (arith, c.fetches); full = omega (arith, c.full) };
   order = rests.holds.order;
   sought = λ is. absurd (not_both (is_absent (plan_at was.opens exec)) is (ap is_absent again ∙ never_absent was.opens was.exec));

@@ -16,14 +16,14 @@ use Rattle.history_model.specs.Changing.{is_empty}
 use Rattle.cacheless.specs.Types.{Oid, Mode, Row, Purpose, Command, CommandError, Clash, Scenario, Entry, Event, OwnLock}
 use Rattle.cacheless.specs.declared.progress.Due.TheVariants as dues
 use Rattle.cacheless.specs.declared.progress.Progress.{Progress}
-use Rattle.cacheless.specs.Facts.{facts_of}
-use Rattle.cacheless.specs.Owed.{Owes, OwesLook, owed_after}
-use Rattle.cacheless.specs.Settled.{nothing_waits}
+use Rattle.cacheless.specs.Facts.{facts_of, due_after, kept_by}
+use Rattle.cacheless.specs.Owed.{Owes, OwesLook, owed_after, begins_in}
 use Rattle.cacheless.specs.Sessions.{refused_with}
 use Rattle.txn_blocks.specs.Transactions.{begun_own}
-use Rattle.cacheless.specs.State.{Kept, kept_at, begins_in, owed_first, lacks_builds, is_in_accept, locks_accepted, clash_event, error_of, failed_with, Rest, rest_of, session_at}
-use Rattle.cacheless.specs.Holds.{AreRight, Rests, HasEntered}
+use Rattle.cacheless.specs.State.{Kept, kept_at, work_at, owed_first, lacks_builds, is_in_accept, locks_accepted, clash_event, error_of, failed_with, Rest, rest_of, session_at}
+use Rattle.cacheless.specs.Holds.{Rests, HasEntered}
 use Rattle.cacheless.proofs.Entries.Entering.{noted_after, with_locks, GoesOn, own_entered, runs_begun, counts_stay}
+use Rattle.cacheless.proofs.Settling.{is_empty-after}
 
 -- the state after a lock
 abbrev pub granted : Progress → Oid → Roomy OwnLock → Progress
@@ -31,7 +31,7 @@ granted was rel locks = record was { due = dues.Look; running = Some (begun_own 
 
 accepts_on : (s : Progress) (o : Option Command) → s.due ≡ dues.Look → is_in_accept s o ≡ true
 accepts_on s None due = ap (λ d. is_in_accept (record s { due = d }) None) due
-accepts_on s (Some command) due = ap (λ d. is_in_accept (record s { due = d }) (Some command)) due ∙ ap (λ t. t || lacks_builds s) (or-true (not (is_empty (owed_first s command))))
+accepts_on s (Some command) due = ap (λ d. is_in_accept (record s { due = d }) (Some command)) due ∙ ap (λ t. not t || lacks_builds s) (is_empty-after (owed_first s command) (OwesLook ∷ []) refl)
 
 -- a lock that is granted
 pub granted_holds : (scenario : Scenario) (old : List Entry) (was : Progress) (rel : Oid) (mode : Mode) (locks : Roomy OwnLock) (rests : Rests scenario old was)
@@ -40,14 +40,7 @@ pub granted_holds : (scenario : Scenario) (old : List Entry) (was : Progress) (r
 granted_holds scenario old was rel mode locks rests items = own_entered scenario old was (granted was rel locks) (events.LockOk rel mode) locks rests (record { session = λ _ _ _ _ _ _. refl; finished = λ _. refl }) (record {
   moves = record { id = refl; commands = refl; finished = refl };
   session = λ i. record (noted_after old was (events.LockOk rel mode) rests.holds.rest) { locks = sym items i };
-  facts = let f = rests.holds.facts in record {
-    running = ap (λ o. Some (begun (was.finished + 1) o)) f.running ∙ runs_begun (was.finished + 1) was.running;
-    lists = f.lists;
-    owed = refl;
-    quiet = refl;
-    usable = f.usable;
-    kept = f.kept;
-  };
+  facts = let f = rests.holds.facts in λ i. record { due = dues.Look; running = Some (runs_begun (was.finished + 1) was f i); lists = (f i).lists; kept = (f i).kept };
   counts = let c = rests.holds.counts in record { looks = omega (arith, c.looks); scans = omega (arith, c.scans); grants = omega (arith, c.grants); unlocks = omega (arith, c.unlocks); fetches = omega (arith, c.fetches); full = c.full };
   order = rests.holds.order;
   sought = rests.holds.sought;
@@ -64,14 +57,7 @@ pub unlock_holds : (scenario : Scenario) (old : List Entry) (was : Progress) (re
 unlock_holds scenario old was rel mode left locks rests stay items = own_entered scenario old was (gave_back was left) (events.Unlock rel mode) locks rests (record { session = λ _ _ _ _ _ _. refl; finished = λ _. refl }) (record {
   moves = record { id = refl; commands = refl; finished = refl };
   session = λ i. record (noted_after old was (events.Unlock rel mode) rests.holds.rest) { locks = sym stay i };
-  facts = let f = rests.holds.facts in record {
-    running = ap (λ o. Some (begun (was.finished + 1) o)) f.running ∙ runs_begun (was.finished + 1) was.running;
-    lists = f.lists;
-    owed = refl;
-    quiet = refl;
-    usable = f.usable;
-    kept = f.kept;
-  };
+  facts = let f = rests.holds.facts in λ i. record { due = dues.Nothing; running = Some (runs_begun (was.finished + 1) was f i); lists = (f i).lists; kept = (f i).kept };
   counts = let c = rests.holds.counts in record { looks = omega (arith, c.looks); scans = omega (arith, c.scans); grants = omega (arith, c.grants); unlocks = omega (arith, c.unlocks); fetches = omega (arith, c.fetches); full = c.full };
   order = rests.holds.order;
   sought = rests.holds.sought;
@@ -84,37 +70,20 @@ record Fails (event : Event) (error : CommandError) : Type 0 where
   noted : (old : List Entry) (was : Progress) (rest : Rest) → noted_after old was event rest ≡ record (refused_with error (session_at was rest)) { judged = length old + 1; last = length old + 1 }
   running : (command : ℕ) (o : Option Running) → running_by command event o ≡ Some (begun command o)
   lists : (before : List Entry) (b command : ℕ) (lists : List Written) → lists_by before b command event lists ≡ lists
-  owed : owed_after (Some event) ≡ []
-  quiet : nothing_waits (Some event) ≡ false
-  usable : (before : List Entry) (b command : ℕ) (scan : Purpose) (t : Bool) → usable_by before b command scan event t ≡ t
-  rows : (before : List Entry) (b : ℕ) (scan : Purpose) (given : List Row) → rows_by before b scan event given ≡ given
-
--- what is kept is right still where the scans give what they gave
-right_still : (before after : Purpose → List Row) (kept : Kept) → ((scan : Purpose) → before scan ≡ after scan) → AreRight before kept → AreRight after kept
-right_still before after kept same right scan = by_read (kept scan) (right scan)
-  where
-    by_read : (o : Option Read) → IfSome o (λ read. read.rows ≡ before scan) → IfSome o (λ read. read.rows ≡ after scan)
-    by_read None is = tt
-    by_read (Some read) is = is ∙ same scan
+  due : due_after event ≡ dues.Nothing
+  kept : (before : List Entry) (b : ℕ) (kept : Kept) → kept_by before b event kept ≡ kept
 
 -- a command that has failed accepts nothing
 accepts_none : (error : CommandError) (was : Progress) (o : Option Command) → is_in_accept (failed_with error was) o ≡ false
 accepts_none error was None = refl
-accepts_none error was (Some command) = ap (λ t. not (is_empty (elim t as (λ x. List Owes) [ true ↦ OwesLook ∷ [] | false ↦ [] ])) || false || false) (and-false (begins_in was.blocks was.ended command))
+accepts_none error was (Some command) = ap (λ t. not (is_empty (elim t as (λ x. List Owes) [ true ↦ OwesLook ∷ [] | false ↦ [] ] ++ [])) || false) (and-false (begins_in command (work_at (failed_with error was))))
 
 fails_holds : (event : Event) (error : CommandError) → Fails event error → (scenario : Scenario) (old : List Entry) (was : Progress) (locks : Roomy OwnLock) → (rests : Rests scenario old was) → locks.items ≡ map cleared was.locks.items
     → HasEntered scenario old was event rests (with_locks (failed_with error was) locks)
 fails_holds event error fails scenario old was locks rests items = own_entered scenario old was (failed_with error was) event locks rests fails.on (record {
   moves = record { id = refl; commands = refl; finished = refl };
   session = fails.noted old was rests.holds.rest ∙ sym (ap (λ t. session_at (failed_with error was) (rest_of t)) (fails.noted old was rests.holds.rest));
-  facts = let f = rests.holds.facts in record {
-    running = fails.running (was.finished + 1) (facts_of old was.id).running ∙ ap (λ o. Some (begun (was.finished + 1) o)) f.running ∙ runs_begun (was.finished + 1) was.running;
-    lists = fails.lists old was.id (was.finished + 1) (facts_of old was.id).lists ∙ f.lists;
-    owed = fails.owed;
-    quiet = fails.quiet;
-    usable = λ scan. fails.usable old was.id (was.finished + 1) scan ((facts_of old was.id).usable scan) ∙ f.usable scan;
-    kept = right_still (facts_of old was.id).rows _ (kept_at was) (λ scan. sym (fails.rows old was.id scan ((facts_of old was.id).rows scan))) f.kept;
-  };
+  facts = let f = rests.holds.facts in λ i. record { due = fails.due i; running = (fails.running (was.finished + 1) (facts_of old was.id).running ∙ ap Some (runs_begun (was.finished + 1) was f)) i; lists = (fails.lists old was.id (was.finished + 1) (facts_of old was.id).lists ∙ (ap (λ g. g.lists) f)) i; kept = (fails.kept old was.id (facts_of old was.id).kept ∙ ap (λ g. g.kept) f) i };
   counts = counts_stay rests.holds.counts;
   order = rests.holds.order;
   sought = λ is. absurd (cc);
@@ -124,10 +93,10 @@ fails_holds event error fails scenario old was locks rests items = own_entered s
 -- a lock that is refused
 pub refused_holds : (scenario : Scenario) (old : List Entry) (was : Progress) (rel : Oid) (mode : Mode) (holder : ℕ) (held : Mode) (locks : Roomy OwnLock) → (rests : Rests scenario old was) → locks.items ≡ map cleared was.locks.items
     → HasEntered scenario old was (events.LockHeld rel mode holder held) rests (with_locks (failed_with (errors.Locked rel holder held) was) locks)
-refused_holds scenario old was rel mode holder held = fails_holds (events.LockHeld rel mode holder held) (errors.Locked rel holder held) (record { on = record { session = λ _ _ _ _ _ _. refl; finished = λ _. refl }; noted = λ _ _ _. refl; running = λ _ _. refl; lists = λ _ _ _ _. refl; owed = refl; quiet = refl; usable = λ _ _ _ _ _. refl; rows = λ _ _ _ _. refl }) scenario old was
+refused_holds scenario old was rel mode holder held = fails_holds (events.LockHeld rel mode holder held) (errors.Locked rel holder held) (record { on = record { session = λ _ _ _ _ _ _. refl; finished = λ _. refl }; noted = λ _ _ _. refl; running = λ _ _. refl; lists = λ _ _ _ _. refl; due = refl; kept = λ _ _ _. refl }) scenario old was
 
 -- a write that is refused
 pub clash_holds : (scenario : Scenario) (old : List Entry) (was : Progress) (name : List ℕ) (clash : Clash) (locks : Roomy OwnLock) → (rests : Rests scenario old was) → locks.items ≡ map cleared was.locks.items
     → HasEntered scenario old was (clash_event name clash) rests (with_locks (failed_with (error_of name clash) was) locks)
-clash_holds scenario old was name (clashes.Row rel) = fails_holds (events.ClashRow name rel) (errors.RelationExists name) (record { on = record { session = λ _ _ _ _ _ _. refl; finished = λ _. refl }; noted = λ _ _ _. refl; running = λ _ _. refl; lists = λ _ _ _ _. refl; owed = refl; quiet = refl; usable = λ _ _ _ _ _. refl; rows = λ _ _ _ _. refl }) scenario old was
-clash_holds scenario old was name (clashes.Running xid) = fails_holds (events.ClashRunning name xid) (errors.NameInUse name xid) (record { on = record { session = λ _ _ _ _ _ _. refl; finished = λ _. refl }; noted = λ _ _ _. refl; running = λ _ _. refl; lists = λ _ _ _ _. refl; owed = refl; quiet = refl; usable = λ _ _ _ _ _. refl; rows = λ _ _ _ _. refl }) scenario old was
+clash_holds scenario old was name (clashes.Row rel) = fails_holds (events.ClashRow name rel) (errors.RelationExists name) (record { on = record { session = λ _ _ _ _ _ _. refl; finished = λ _. refl }; noted = λ _ _ _. refl; running = λ _ _. refl; lists = λ _ _ _ _. refl; due = refl; kept = λ _ _ _. refl }) scenario old was
+clash_holds scenario old was name (clashes.Running xid) = fails_holds (events.ClashRunning name xid) (errors.NameInUse name xid) (record { on = record { session = λ _ _ _ _ _ _. refl; finished = λ _. refl }; noted = λ _ _ _. refl; running = λ _ _. refl; lists = λ _ _ _ _. refl; due = refl; kept = λ _ _ _. refl }) scenario old was

@@ -17,10 +17,10 @@ use Rattle.cacheless.specs.declared.progress.Progress.{Progress}
 use Rattle.cacheless.specs.Facts.{Facts, facts_of, facts_by}
 use Rattle.cacheless.specs.Session.{none_open, plan_admitted, plan_first, refused_first, at_command, first_of}
 use Rattle.cacheless.specs.Owed.{owed_after}
-use Rattle.cacheless.specs.Settled.{nothing_waits, settled}
+use Rattle.cacheless.specs.Settled.{settled}
 use Rattle.cacheless.specs.Puts.{PutsOpened}
 use Rattle.txn_blocks.specs.Transactions.{begun_own}
-use Rattle.cacheless.specs.State.{owed_at, is_quiet, due_looked, is_absent, is_in_accept, locks_accepted, IsNew, Rest, tally_at, session_at}
+use Rattle.cacheless.specs.State.{owed_after, is_quiet, due_looked, is_absent, is_in_accept, locks_accepted, IsNew, Rest, tally_at, session_at}
 use Rattle.cacheless.specs.Holds.{FactsFit, CountsFit, Holds, Rests, HasNotStarted, entry_of, HasEntered, HasStarted}
 use Rattle.cacheless.proofs.Plans.ActOrder.{follows_order}
 use Rattle.cacheless.proofs.Plans.UnderLocks.{order_there}
@@ -29,14 +29,6 @@ use Rattle.cacheless.proofs.Tests.{not_both}
 use Rattle.cacheless.proofs.Resting.{first_left}
 use Rattle.cacheless.proofs.Written.Putting.{puts_first}
 use Rattle.cacheless.proofs.Entries.Entering.{with_locks, own_entered, runs_begun, counts_stay}
-
-owed_looked : (some_wait : Bool) → owed_after (Some (events.Look some_wait)) ≡ owed_at (due_looked some_wait)
-owed_looked true = refl
-owed_looked false = refl
-
-quiet_looked : (some_wait : Bool) → nothing_waits (Some (events.Look some_wait)) ≡ is_quiet (due_looked some_wait)
-quiet_looked true = refl
-quiet_looked false = refl
 
 -- the state after a look
 abbrev pub looked : Progress → Bool → Progress
@@ -48,14 +40,7 @@ pub look_holds : (scenario : Scenario) (old : List Entry) (was : Progress) (some
 look_holds scenario old was some_wait locks rests items = own_entered scenario old was (looked was some_wait) (events.Look some_wait) locks rests (record { session = λ _ _ _ _ _ _. refl; finished = λ _. refl }) (record {
   moves = record { id = refl; commands = refl; finished = refl };
   session = refl;
-  facts = let f = rests.holds.facts in record {
-    running = ap (λ o. Some (begun (was.finished + 1) o)) f.running ∙ runs_begun (was.finished + 1) was.running;
-    lists = f.lists;
-    owed = owed_looked some_wait;
-    quiet = quiet_looked some_wait;
-    usable = f.usable;
-    kept = f.kept;
-  };
+  facts = let f = rests.holds.facts in λ i. record { due = due_looked some_wait; running = Some (runs_begun (was.finished + 1) was f i); lists = (f i).lists; kept = (f i).kept };
   counts = let c = rests.holds.counts in record { looks = omega (arith, c.looks); scans = omega (arith, c.scans); grants = omega (arith, c.grants); unlocks = omega (arith, c.unlocks); fetches = omega (arith, c.fetches); full = c.full };
   order = rests.holds.order;
   sought = rests.holds.sought;
@@ -72,7 +57,7 @@ pub stop_holds : (scenario : Scenario) (old : List Entry) (was : Progress) (lock
 stop_holds scenario old was locks rests items = own_entered scenario old was (stopped was) events.Stop locks rests (record { session = λ _ _ _ _ _ _. refl; finished = λ _. refl }) (record {
   moves = record { id = refl; commands = refl; finished = refl };
   session = refl;
-  facts = let f = rests.holds.facts in record { running = f.running; lists = f.lists; owed = refl; quiet = refl; usable = f.usable; kept = f.kept };
+  facts = let f = rests.holds.facts in λ i. record { due = dues.Nothing; running = (f i).running; lists = (f i).lists; kept = (f i).kept };
   counts = counts_stay rests.holds.counts;
   order = rests.holds.order;
   sought = rests.holds.sought;
@@ -106,7 +91,7 @@ start_holds scenario old was waits = record {
       ∙ ap (λ s. Some (settled after was.commands s)) same
       ∙ ap (λ n. Some (settled after (drop n was.commands) (session_at (started was) rest))) (sym new.finished)
       ∙ ap (λ f. Some (settled f (drop was.finished was.commands) (session_at (started was) rest))) (sym facts);
-  facts = subst (λ f. FactsFit f (started was)) (sym facts) (let f = waits.facts in record { running = refl; lists = f.lists; owed = refl; quiet = refl; usable = f.usable; kept = f.kept });
+  facts = facts ∙ (let f = waits.facts in λ i. record { due = dues.Nothing; running = None; lists = (f i).lists; kept = (f i).kept });
   counts = subst (λ c. CountsFit c (length (old ++ e ∷ []))) (sym new.tally) (record { looks = omega arith; scans = omega arith; grants = omega arith; unlocks = omega arith; fetches = omega arith; full = omega arith });
   order = subst (AllByRecursion (λ list. list.command ≤ was.finished + 1)) (sym (ap all_lists new.lists)) tt;
   sought = λ is. absurd (not_both (is_absent (plan_at was.opens was.exec)) is found);

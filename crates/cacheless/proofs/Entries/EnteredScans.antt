@@ -1,5 +1,5 @@
 -- What a scan makes of what the code holds.
-use Rattle.std.proofs.Common.{◌≡◌, ◌+◌, ◌∙◌, ◌||◌, ℕ, Bool, true, false, not, Option, Some, None, IfSome, is_some, List, [], ◌∷◌, refl, sym, ap, subst, slice_get, arith, cond, if◌then◌else◌}
+use Rattle.std.proofs.Common.{◌≡◌, ◌+◌, ◌∙◌, ◌||◌, ℕ, Bool, true, false, not, Option, Some, None, IfSome, is_some, List, [], ◌∷◌, refl, sym, ap, subst, slice_get, arith, cond, if◌then◌else◌, length}
 use Rattle.std.specs.List.{find, list_any, AllByRecursion}
 use Rattle.std.specs.Option.{option_map_or}
 use Rattle.base_types.specs.Scans.{same_scan, build_scans, is_build_scan}
@@ -23,12 +23,13 @@ use Rattle.cacheless.specs.declared.suspects.Suspects.{Suspects}
 use Rattle.cacheless.specs.declared.progress.Progress.{Progress}
 use Rattle.cacheless.specs.Facts.{Facts, facts_of}
 use Rattle.txn_blocks.specs.Transactions.{begun_own}
-use Rattle.cacheless.specs.State.{Kept, kept_at, kept_with, is_kept, is_in_accept, locks_accepted}
-use Rattle.cacheless.specs.May.{is_first_missing, is_missing, is_next_of_act, is_next_at, has_failed}
-use Rattle.cacheless.specs.Holds.{AreRight, Rests, HasEntered}
+use Rattle.cacheless.specs.State.{Kept, kept_at, kept_with, is_kept, is_in_accept, locks_accepted, facts_at, work_at}
+use Rattle.cacheless.specs.May.{is_first_missing, is_missing, is_next_of_act, has_failed}
+use Rattle.cacheless.specs.Holds.{Rests, HasEntered}
 use Rattle.cacheless.proofs.Tests.{and_true, or_either}
-use Rattle.cacheless.proofs.Same.{builds_of}
+use Rattle.cacheless.proofs.Same.{builds_of, next_is}
 use Rattle.cacheless.proofs.Entries.Entering.{facts_after, with_locks, own_entered, runs_begun}
+use Rattle.cacheless.specs.Owed.{is_next_in}
 
 -- a scan for a descriptor that isn't kept
 abbrev pub IsLacking : Kept → Purpose → Type 0
@@ -52,7 +53,7 @@ opened_lacks kept scan (o ∷ opened) is = or_either (is_first_missing scan kept
 pub missing_lacks : (kept : Kept) (scan wanted : Purpose) → is_missing scan kept wanted ≡ true → not (is_kept kept scan) ≡ true
 missing_lacks kept scan wanted is = let parts = and_true (not (is_kept kept wanted)) (same_scan scan wanted) is in ap (λ d. not (is_kept kept d)) (same_scan-true scan wanted parts.1) ∙ parts.0
 
-act_lacking : (s : Progress) (scan : Purpose) (p : Plan) → is_next_of_act scan s p ≡ true → not (is_kept (kept_at s) scan) ≡ true
+act_lacking : (s : Progress) (scan : Purpose) (p : Plan) → is_next_of_act scan (kept_at s) p ≡ true → not (is_kept (kept_at s) scan) ≡ true
 act_lacking s scan (Do (Lookup name mode) rest) is = missing_lacks (kept_at s) scan (scans.RelName name) is
 act_lacking s scan (Do (Search wanted) rest) is = missing_lacks (kept_at s) scan wanted is
 act_lacking s scan (Do (Open rel kind) rest) is = (first_lacks (kept_at s) scan kind rel is).0
@@ -64,64 +65,21 @@ none_read None is = refl
 none_read (Some read) is = absurd (cc)
 
 -- a scan that may be made isn't kept
-pub next_lacks : (s : Progress) (scan : Purpose) → is_next_at scan s ≡ true → kept_at s scan ≡ None
-next_lacks s scan is = none_read (kept_at s scan) (or_either _ _ (and_true (not (has_failed s)) _ is).1 (λ here. (opened_lacks (kept_at s) scan s.opened here).0) (act_lacking s scan (plan_at s.opens s.exec)))
-
-no_named : (build named : Purpose) → is_build_scan build ≡ true → is_build_scan named ≡ false → same_scan build named ≡ false
-no_named build named is other = by_test (same_scan build named) refl
-  where
-    by_test : (t : Bool) → same_scan build named ≡ t → same_scan build named ≡ false
-    by_test true same = absurd (let both : true ≡ false = sym is ∙ ap is_build_scan (same_scan-true build named same) ∙ other in cc)
-    by_test false same = same
-
-rows_by-others : (old : List Entry) (b : ℕ) (made scan : Purpose) (count : ℕ) (given : List Row) → same_scan made scan ≡ false → rows_by old b scan (events.Scan made count) given ≡ given
-rows_by-others old b made scan count given other = ap (λ t. elim t [ true ↦ answer_of old b scan | false ↦ given ]) other
-
-rows_by-own : (old : List Entry) (b : ℕ) (made scan : Purpose) (count : ℕ) (given : List Row) → same_scan made scan ≡ true → rows_by old b scan (events.Scan made count) given ≡ answer_of old b made
-rows_by-own old b made scan count given is = ap (λ t. elim t [ true ↦ answer_of old b scan | false ↦ given ]) is ∙ ap (answer_of old b) (sym (same_scan-true made scan is))
+pub next_lacks : (s : Progress) (scan : Purpose) → is_next_in scan (facts_at s) (work_at s) ≡ true → kept_at s scan ≡ None
+next_lacks s scan is = none_read (kept_at s scan) (or_either _ _ (and_true (not (has_failed s)) _ (next_is scan s ∙ is)).1 (λ here. (opened_lacks (kept_at s) scan s.opened here).0) (act_lacking s scan (plan_at s.opens s.exec)))
 
 -- the state after a scan
 abbrev pub built_scan : (was : Progress) (caches : LocalCaches) (suspects : Suspects) → AreKnown (is_kept (kept_of caches)) was.opened suspects → Progress
 built_scan was caches suspects known = record was { due = dues.Nothing; running = Some (begun_own (was.finished + 1) was.running); tally = record was.tally { scans = was.tally.scans + 1 }; caches = caches; suspects = suspects; known = known; answer = None }
 
--- with the scan more is kept
-kept_more : (kept : Kept) (scan : Purpose) (given : List Row) (at : ℕ) (other : Purpose) → (same_scan scan other || is_kept kept other) ≡ is_kept (kept_with scan given at kept) other
-kept_more kept scan given at other = by_test (same_scan scan other)
-  where
-    by_test : (t : Bool) → (t || is_kept kept other) ≡ is_some (if t then Some (record { rows = given; at = at }) else kept other)
-    by_test true = refl
-    by_test false = refl
-
--- and what is kept is right
-right_more : (old : List Entry) (b : ℕ) (kept : Kept) (scan : Purpose) (given : List Row) (at count : ℕ) → given ≡ answer_of old b scan → AreRight (facts_of old b).rows kept → AreRight (λ other. rows_by old b other (events.Scan scan count) ((facts_of old b).rows other)) (kept_with scan given at kept)
-right_more old b kept scan given at count are right other = by_test (same_scan scan other) refl
-  where
-    before : List Row
-    before = (facts_of old b).rows other
-
-    by_read : same_scan scan other ≡ false → (o : Option Read) → IfSome o (λ read. read.rows ≡ before) → IfSome o (λ read. read.rows ≡ rows_by old b other (events.Scan scan count) before)
-    by_read apart None is = tt
-    by_read apart (Some read) is = is ∙ sym (rows_by-others old b scan other count before apart)
-
-    by_test : (t : Bool) → same_scan scan other ≡ t → IfSome (if t then Some (record { rows = given; at = at }) else kept other) (λ read. read.rows ≡ rows_by old b other (events.Scan scan count) before)
-    by_test true same = are ∙ sym (rows_by-own old b scan other count before same)
-    by_test false apart = by_read apart (kept other) (right other)
-
 pub built_holds : (scenario : Scenario) (old : List Entry) (was : Progress) (scan : Purpose) (count : ℕ) (given : List Row) (at : ℕ) (caches : LocalCaches) (suspects : Suspects) (known : AreKnown (is_kept (kept_of caches)) was.opened suspects) (locks : Roomy OwnLock) (rests : Rests scenario old was)
-    → is_next_at scan was ≡ true → given ≡ answer_of old was.id scan → kept_of caches ≡ kept_with scan given at (kept_at was)
+    → given ≡ answer_of old was.id scan → at ≡ length old + 1 → kept_of caches ≡ kept_with scan given at (kept_at was)
     → locks.items ≡ locks_accepted (is_in_accept (built_scan was caches suspects known) (slice_get was.commands was.finished)) was.locks.items
     → HasEntered scenario old was (events.Scan scan count) rests (with_locks (built_scan was caches suspects known) locks)
-built_holds scenario old was scan count given at caches suspects known locks rests next are pushed items = own_entered scenario old was (built_scan was caches suspects known) event locks rests (record { session = λ _ _ _ _ _ _. refl; finished = λ _. refl }) (record {
+built_holds scenario old was scan count given at caches suspects known locks rests are placed pushed items = own_entered scenario old was (built_scan was caches suspects known) event locks rests (record { session = λ _ _ _ _ _ _. refl; finished = λ _. refl }) (record {
   moves = record { id = refl; commands = refl; finished = refl };
   session = refl;
-  facts = let f = rests.holds.facts in record {
-    running = ap (λ o. Some (begun (was.finished + 1) o)) f.running ∙ runs_begun (was.finished + 1) was.running;
-    lists = f.lists;
-    owed = refl;
-    quiet = refl;
-    usable = λ other. ap (λ t. same_scan scan other || t) (f.usable other) ∙ kept_more (kept_at was) scan given at other ∙ ap (λ k. is_kept k other) (sym pushed);
-    kept = subst (AreRight after.rows) (sym pushed) (right_more old was.id (kept_at was) scan given at count are f.kept);
-  };
+  facts = let f = rests.holds.facts in λ i. record { due = dues.Nothing; running = Some (runs_begun (was.finished + 1) was f i); lists = (f i).lists; kept = (ap (λ g. kept_with scan (answer_of old was.id scan) (length old + 1) g.kept) f ∙ (λ j. kept_with scan (sym are j) (sym placed j) (kept_at was)) ∙ sym pushed) i };
   counts = let c = rests.holds.counts in record { looks = omega (arith, c.looks); scans = omega (arith, c.scans); grants = omega (arith, c.grants); unlocks = omega (arith, c.unlocks); fetches = omega (arith, c.fetches); full = c.full };
   order = rests.holds.order;
   sought = rests.holds.sought;

@@ -1,5 +1,5 @@
 -- What a write makes of what the code holds.
-use Rattle.std.proofs.Common.{◌≡◌, ◌≤◌, ◌+◌, ◌∙◌, ◌&&◌, ◌||◌, ℕ, Bool, true, false, not, Option, Some, None, List, [], ◌∷◌, ◌++◌, refl, sym, ap, subst, length, slice_get, fold, arith}
+use Rattle.std.proofs.Common.{◌≡◌, ◌≤◌, ◌+◌, ◌∙◌, ◌&&◌, ◌||◌, ℕ, Bool, true, false, not, Option, Some, None, List, [], ◌∷◌, ◌++◌, refl, sym, ap, subst, length, slice_get, fold, arith, if◌then◌else◌}
 use Rattle.std.specs.List.{AllByRecursion, flat_map, list_any}
 use Rattle.std.proofs.lemmas.List.Folds.{list_any-append}
 use Rattle.event_kinds.specs.declared.entry.Event.TheVariants as events
@@ -36,12 +36,13 @@ use Rattle.cacheless.specs.Session.{Session, held_in, held_before}
 use Rattle.cacheless.specs.Sessions.{written}
 use Rattle.cacheless.specs.Puts.{PutsOpened}
 use Rattle.txn_blocks.specs.Transactions.{begun_own}
-use Rattle.cacheless.specs.State.{running_of, lists_at, kept_at, kept_spared, is_kept, is_absent, is_in_accept, locks_accepted, messages_in, rest_of, session_at, locks_made}
-use Rattle.cacheless.specs.Holds.{AreRight, Rests, HasEntered}
+use Rattle.cacheless.specs.State.{lists_at, kept_at, kept_spared, is_kept, is_absent, is_in_accept, locks_accepted, messages_in, rest_of, session_at, locks_made}
+use Rattle.cacheless.specs.Holds.{Rests, HasEntered}
 use Rattle.cacheless.proofs.Tests.{not_both}
 use Rattle.cacheless.proofs.Written.WrittenMessages.{any_once}
 use Rattle.cacheless.proofs.Entries.EnteredFetches.{is_kept-spared, all-spared}
-use Rattle.cacheless.proofs.Entries.Entering.{facts_after, noted_after, with_locks, own_entered, counts_stay}
+use Rattle.cacheless.proofs.Entries.Entering.{facts_after, noted_after, with_locks, own_entered, runs_begun, counts_stay}
+use Rattle.local_caches.specs.Kept.{Kept}
 
 cats_for_caches : (before : List Entry) (b : ℕ) (item : Item) → ForCaches (cats_by before b item)
 cats_for_caches before b item = cats_of-caches (old_row before b item) (added_row item)
@@ -115,10 +116,6 @@ wrote was xid caches suspects known lists exec locks = record was {
   answer = None;
 }
 
-runs_written : (number : ℕ) (xid : Xid) (own : Option RunningTransaction) → Some (record (begun number (running_of own)) { xid = Some xid }) ≡ running_of (Some (record (begun_own number own) { xid = Some xid }))
-runs_written number xid None = refl
-runs_written number xid (Some t) = refl
-
 pub write_holds : (scenario : Scenario) (old : List Entry) (was : Progress) (xid : Xid) (items : List Item) (messages : List Message) (made : Option Oid) (caches : LocalCaches) (suspects : Suspects) (known : AreKnown (is_kept (kept_of caches)) (held_in was.blocks.block was.opens) suspects) (lists : Held) (exec : Exec) (locked locks : Roomy OwnLock) (rests : Rests scenario old was)
     → want_of (plan_at was.opens was.exec) ≡ wants.Write → messages ≡ messages_in old was.id items → flat_map (locked_by (was.finished + 1)) items ≡ locks_made (was.finished + 1) made
     → all_lists lists.lists ≡ lists_at was ++ with_messages messages (new_list (was.finished + 1)) ∷ [] → kept_of caches ≡ kept_spared messages (kept_at was) → plan_at was.opens exec ≡ after_act [] (plan_at was.opens was.exec) → locked.items ≡ was.locks.items ++ locks_made (was.finished + 1) made
@@ -127,14 +124,7 @@ pub write_holds : (scenario : Scenario) (old : List Entry) (was : Progress) (xid
 write_holds scenario old was xid items messages made caches suspects known lists exec locked locks rests wants_it are makes pushed keeps goes held accepts = own_entered scenario old was now event locks rests (record { session = λ _ _ _ _ _ _. refl; finished = λ s. ends_same s.left s }) (record {
   moves = record { id = refl; commands = refl; finished = refl };
   session = whole ∙ sym (ap (λ t. session_at now (rest_of t)) whole);
-  facts = let f = rests.holds.facts in record {
-    running = ap (λ o. Some (record (begun (was.finished + 1) o) { xid = Some xid })) f.running ∙ runs_written (was.finished + 1) xid was.running;
-    lists = ap (λ l. l ++ written_by old was.id (was.finished + 1) items ∷ []) f.lists ∙ sym listed;
-    owed = refl;
-    quiet = refl;
-    usable = λ scan. ap (λ t. t && (facts_of old was.id).usable scan) (sym (spared_alike old was.id items scan)) ∙ ap (λ l. is_spared scan l && (facts_of old was.id).usable scan) (sym are) ∙ ap (λ t. is_spared scan messages && t) (f.usable scan) ∙ sym (is_kept-spared messages (kept_at was) scan) ∙ ap (λ k. is_kept k scan) (sym keeps);
-    kept = subst (AreRight after.rows) (sym keeps) (all-spared (λ scan read. read.rows ≡ after.rows scan) messages (kept_at was) f.kept);
-  };
+  facts = let f = rests.holds.facts in λ i. record { due = dues.Nothing; running = Some (record (runs_begun (was.finished + 1) was f i) { xid = Some xid }); lists = (ap (λ l. l ++ written_by old was.id (was.finished + 1) items ∷ []) (ap (λ g. g.lists) f) ∙ sym listed) i; kept = (ap (λ g. kept_spared (messages_written old was.id items) g.kept) f ∙ kept_alike (kept_at was) ∙ ap (λ l. kept_spared l (kept_at was)) (sym are) ∙ sym keeps) i };
   counts = counts_stay rests.holds.counts;
   order = subst (AllByRecursion (λ (list : Written). list.command ≤ was.finished + 1)) (sym listed)
       (every-append (λ (list : Written). list.command ≤ was.finished + 1) (lists_at was) (written_by old was.id (was.finished + 1) items ∷ []) rests.holds.order (omega arith, tt));
@@ -157,6 +147,9 @@ write_holds scenario old was xid items messages made caches suspects known lists
 
     done : plan_at was.opens exec ≡ Done tells.Ok
     done = goes ∙ done_written was.opens was.exec [] wants_it
+
+    kept_alike : (kept : Kept) → kept_spared (messages_written old was.id items) kept ≡ kept_spared (messages_in old was.id items) kept
+    kept_alike kept = λ i scan. if sym (spared_alike old was.id items scan) i then kept scan else None
 
     listed : lists_at now ≡ lists_at was ++ written_by old was.id (was.finished + 1) items ∷ []
     listed = pushed ∙ ap (λ l. lists_at was ++ l ∷ []) (ap (λ m. with_messages m (new_list (was.finished + 1))) are ∙ registered_is old was.id (was.finished + 1) items)

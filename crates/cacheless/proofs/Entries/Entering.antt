@@ -10,7 +10,7 @@ use Rattle.lock_modes.specs.Own.{cleared}
 use Rattle.lock_modes.specs.Rooms.{Roomy}
 use Rattle.ddl_effect.specs.Commands.{commands_of}
 use Rattle.ddl_effect.specs.Stages.{plan_at, plan_again}
-use Rattle.history_model.specs.Transactions.{begun, after_release}
+use Rattle.history_model.specs.Transactions.{begun}
 use Rattle.txn_blocks.specs.declared.transaction.RunningTransaction.{RunningTransaction as Running}
 use Rattle.history_model.specs.Sent.{ends_transaction}
 use Rattle.cacheless.specs.Types.{Command, Scenario, Entry, Event, OwnLock}
@@ -22,8 +22,8 @@ use Rattle.cacheless.specs.Session.{Session, first_of}
 use Rattle.cacheless.specs.Settled.{settled}
 use Rattle.cacheless.specs.Sessions.{noted, placed_at, counted, accepted, entered, commands_left, session_by, session_of}
 use Rattle.cacheless.specs.Puts.{PutsOpened}
-use Rattle.txn_blocks.specs.Transactions.{begun_own, ends_own, released_own}
-use Rattle.cacheless.specs.State.{running_of, lists_at, is_absent, is_in_accept, locks_accepted, Rest, rest_of, session_at}
+use Rattle.txn_blocks.specs.Transactions.{begun_own, ends_own}
+use Rattle.cacheless.specs.State.{lists_at, is_absent, is_in_accept, locks_accepted, Rest, rest_of, session_at}
 use Rattle.cacheless.specs.Holds.{FactsFit, CountsFit, Holds, Rests, IsWhere, HasEntered, entry_of, with_own}
 use Rattle.cacheless.proofs.Reading.{facts_of-own, session_of-own}
 use Rattle.cacheless.proofs.Same.{accept_same}
@@ -88,7 +88,7 @@ own_holds scenario old was now event locks rests on enters items = record {
       ∙ ap (λ o. Some (settled after (drop now.finished now.commands) (accepted after o (session_at now rest)))) (first_left now.commands now.finished)
       ∙ ap (λ s. Some (settled after (drop now.finished now.commands) s)) (accepted_same after (slice_get now.commands now.finished) now locks rest enters.facts items)
       ∙ ap (λ f. Some (settled f (drop now.finished now.commands) (session_at (with_locks now locks) rest))) (sym facts);
-  facts = subst (λ f. FactsFit f (with_locks now locks)) (sym facts) (record { running = enters.facts.running; lists = enters.facts.lists; owed = enters.facts.owed; usable = enters.facts.usable; quiet = enters.facts.quiet; kept = enters.facts.kept });
+  facts = facts ∙ enters.facts;
   counts = subst (CountsFit now.tally) (sym (length_push old e)) enters.counts;
   order = enters.order;
   sought = enters.sought;
@@ -144,18 +144,14 @@ own_entered scenario old was now event locks rests on enters items = record {
     rest = rest_after old was event rests.holds.rest
 
 -- the transaction of the entry runs
-pub runs_begun : (number : ℕ) (own : Option RunningTransaction) → Some (begun number (running_of own)) ≡ running_of (Some (begun_own number own))
-runs_begun number None = refl
-runs_begun number (Some t) = refl
+begun_same : (number : ℕ) (own : Option RunningTransaction) → begun number own ≡ begun_own number own
+begun_same number None = refl
+begun_same number (Some t) = refl
 
-released_same : (from : ℕ) (own : RunningTransaction) → after_release from own ≡ running_of (released_own from own)
-released_same from own = refl
+pub runs_begun : (number : ℕ) (s : Progress) {facts : Facts} → FactsFit facts s → begun number facts.running ≡ begun_own number s.running
+runs_begun number s fits = ap (λ f. begun number f.running) fits ∙ begun_same number s.running
 
-pub release_begun : (from number : ℕ) (own : Option RunningTransaction) → after_release from (begun number (running_of own)) ≡ running_of (released_own from (begun_own number own))
-release_begun from number None = released_same from (record { first = number; xid = None; published = 0; visible = false })
-release_begun from number (Some t) = released_same from t
-
-pub ends_same : (from : ℕ) (own : Option RunningTransaction) → ends_transaction from (running_of own) ≡ ends_own from own
+pub ends_same : (from : ℕ) (own : Option RunningTransaction) → ends_transaction from own ≡ ends_own from own
 ends_same from None = refl
 ends_same from (Some t) = refl
 

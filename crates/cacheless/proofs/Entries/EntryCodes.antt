@@ -26,7 +26,6 @@ use Rattle.cacheless.specs.Session.{opening_of, held_in}
 use Rattle.cacheless.specs.Locks.{locked_by}
 use Rattle.txn_blocks.specs.Transactions.{begun_own, ends_own, released_own}
 use Rattle.cacheless.specs.State.{is_kept, due_looked, due_fetched, one_if, lists_at, lists_left, kept_at, nothing_kept, kept_with, kept_spared, is_full, is_in_accept, locks_accepted, messages_in, clash_event, error_of, failed_with, FailsWith, SearchesAgain, is_out, locks_made}
-use Rattle.cacheless.specs.May.{is_next_at}
 use Rattle.cacheless.specs.Holds.{Rests, HasEntered}
 use Rattle.cacheless.proofs.Lacking.{another_known, with_known}
 use Rattle.cacheless.proofs.Entries.EnteredLooks.{looked, look_holds}
@@ -118,14 +117,14 @@ pub clash_code : (was now : Progress) (name : List ℕ) (clash : Clash) (error :
     → (scenario : Scenario) (seen : List Entry) → (rests : Rests scenario seen was) → HasEntered scenario seen was (clash_event name clash) rests now
 clash_code was now name clash error is fails scenario seen rests = subst (HasEntered scenario seen was (clash_event name clash) rests) (sym (fails.is ∙ ap (λ e. record (failed_with e was) { locks = now.locks }) is)) (clash_holds scenario seen was name clash now.locks rests fails.locks)
 
-pub built_code : (was : Progress) (scan : Purpose) (rows : Vec Row Global) (at : ℕ) (own : RunningTransaction) (caches : LocalCaches) (suspects : Suspects) (known : AreKnown (is_kept (kept_of caches)) was.opened suspects) (locks : Roomy OwnLock) → own ≡ begun_own (was.finished + 1) was.running → is_next_at scan was ≡ true
+pub built_code : (was : Progress) (scan : Purpose) (rows : Vec Row Global) (at : ℕ) (own : RunningTransaction) (caches : LocalCaches) (suspects : Suspects) (known : AreKnown (is_kept (kept_of caches)) was.opened suspects) (locks : Roomy OwnLock) → own ≡ begun_own (was.finished + 1) was.running
     → kept_of caches ≡ kept_with scan rows.items at (kept_at was)
     → locks.items ≡ locks_accepted (is_in_accept (record was { caches = caches; suspects = suspects; known = known; running = Some own; due = dues.Nothing }) (slice_get was.commands was.finished)) was.locks.items
-    → (scenario : Scenario) (seen : List Entry) (count : ℕ) → (rests : Rests scenario seen was) → rows.items ≡ answer_of seen was.id scan
+    → (scenario : Scenario) (seen : List Entry) (count : ℕ) → (rests : Rests scenario seen was) → rows.items ≡ answer_of seen was.id scan → at ≡ length seen + 1
     → HasEntered scenario seen was (events.Scan scan count) rests (record was { due = dues.Nothing; running = Some own; tally = record was.tally { scans = was.tally.scans + 1 }; caches = caches; suspects = suspects; known = known; locks = locks; answer = None })
-built_code was scan rows at own caches suspects known locks begins next pushed items scenario seen count rests are =
+built_code was scan rows at own caches suspects known locks begins pushed items scenario seen count rests are placed =
     subst (HasEntered scenario seen was (events.Scan scan count) rests) (λ i. record (built_scan was caches suspects known) { running = Some (sym begins i); locks = locks })
-    (built_holds scenario seen was scan count rows.items at caches suspects known locks rests next are pushed items)
+    (built_holds scenario seen was scan count rows.items at caches suspects known locks rests are placed pushed items)
 
 pub write_code : (was : Progress) (xid : Xid) (messages : List Message) (made : Option Oid) (own : RunningTransaction) (lists : Held) (caches : LocalCaches) (suspects : Suspects) (exec : Exec) (open_now : List OpenRelation) (opened : List Opening) (known : AreKnown (is_kept (kept_of caches)) opened suspects) (locked locks : Roomy OwnLock)
     → own ≡ record (begun_own (was.finished + 1) was.running) { xid = Some xid } → want_of (plan_at was.opens was.exec) ≡ wants.Write → all_lists lists.lists ≡ lists_at was ++ with_messages messages (new_list (was.finished + 1)) ∷ []
@@ -162,10 +161,10 @@ pub gone_code : (was : Progress) (from : ℕ) (own : RunningTransaction) (cats r
     → cats ≡ cats_in (lists_from from (lists_at was)) → rels ≡ rels_in (lists_from from (lists_at was))
     → kept_of caches_first ≡ kept_spared cats (kept_at was) → kept_of caches ≡ kept_spared rels (kept_of caches_first)
     → all_lists lists.lists ≡ lists_before from (lists_at was)
-    → locks.items ≡ locks_accepted (is_in_accept (record was { running = Some own; caches = caches; suspects = suspects; known = known; lists = lists; due = dues.Nothing }) (slice_get was.commands was.finished)) was.locks.items
-    → (scenario : Scenario) (seen : List Entry) → (rests : Rests scenario seen was) → HasEntered scenario seen was (events.Gone from) rests (record was { due = dues.Nothing; running = Some own; caches = caches; suspects = suspects; known = known; lists = lists; locks = locks })
+    → locks.items ≡ locks_accepted (is_in_accept (record was { running = Some own; caches = caches; suspects = suspects; known = known; lists = lists; due = dues.Gone from }) (slice_get was.commands was.finished)) was.locks.items
+    → (scenario : Scenario) (seen : List Entry) → (rests : Rests scenario seen was) → HasEntered scenario seen was (events.Gone from) rests (record was { due = dues.Gone from; running = Some own; caches = caches; suspects = suspects; known = known; lists = lists; locks = locks })
 gone_code was from own cats rels caches_first caches suspects known lists locks begins cats_are rels_are first keeps before items scenario seen rests =
-    subst (HasEntered scenario seen was (events.Gone from) rests) (λ i. record (taken_back was caches suspects known lists) { running = Some (sym begins i); locks = locks })
+    subst (HasEntered scenario seen was (events.Gone from) rests) (λ i. record (taken_back was from caches suspects known lists) { running = Some (sym begins i); locks = locks })
     (gone_holds scenario seen was from cats rels caches suspects known lists locks rests cats_are rels_are (keeps ∙ ap (kept_spared rels) first) before items)
 
 pub release_code : (was : Progress) (from : ℕ) (first : Bool) (begun : RunningTransaction) (own : Option RunningTransaction) (lists : Held) (opened : List Opening) (caches : LocalCaches) (suspects : Suspects) (known : AreKnown (is_kept (kept_of caches)) opened suspects) (held locks : Roomy OwnLock) → is_out was ≡ true → first ≡ ends_own from was.running → begun ≡ begun_own (was.finished + 1) was.running → own ≡ released_own from begun

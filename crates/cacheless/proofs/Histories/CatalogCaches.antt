@@ -17,6 +17,7 @@ use Rattle.cacheless.specs.Lines.{lines_of}
 use Rattle.cacheless.specs.declared.check_kind.CheckKind.TheVariants.{Walk}
 use Rattle.cacheless.specs.Output.{IsOutput}
 use Rattle.cacheless.proofs.Plans.Given.{oid, xid, entry, placed, turns, script, creating, new_table}
+use Rattle.cacheless.proofs.Deciding.{plays_by}
 
 at_least_1 : 1 ≤ 1
 at_least_1 = omega arith
@@ -90,133 +91,7 @@ abbrev pub listed : List Entry
 listed = list_scanned_again ++ entry 2 8 (Release 8) ∷ []
 
 pub columns_of_a_later_table_plays : Plays columns_of_a_later_table listed
-columns_of_a_later_table_plays = (
-  ((at_least_2, at_most_2), tt),
-  (
-    ((at_least_2, at_most_2), (refl, refl)),
-    (
-      ((at_least_2, at_most_2), (refl, refl)),
-      (
-        ((at_least_2, at_most_2), (refl, (refl, refl, refl))),
-        (
-          ((at_least_2, at_most_2), (refl, refl)),
-          (
-            ((at_least_2, at_most_2), (refl, (refl, refl))),
-            (
-              ((at_least_2, at_most_2), (refl, refl)),
-              (
-                ((at_least_2, at_most_2), (refl, refl)),
-                (
-                  ((at_least_2, at_most_2), (refl, (refl, refl))),
-                  (
-                    ((at_least_1, at_most_1), tt),
-                    (
-                      ((at_least_1, at_most_1), (refl, refl)),
-                      (
-                        ((at_least_1, at_most_1), (refl, (refl, refl))),
-                        (
-                          ((at_least_1, at_most_1), (refl, (refl, refl))),
-                          (
-                            ((at_least_1, at_most_1), (refl, (refl, refl))),
-                            (
-                              ((at_least_1, at_most_1), (refl, (refl, refl))),
-                              (
-                                ((at_least_1, at_most_1), (refl, (refl, refl))),
-                                (
-                                  ((at_least_2, at_most_2), (refl, refl)),
-                                  (
-                                    ((at_least_2, at_most_2), (refl, tt)),
-                                    (
-                                      ((at_least_2, at_most_2), (refl, refl)),
-                                      (
-                                        ((at_least_2, at_most_2), (refl, (refl, refl, refl))),
-                                        (
-                                          ((at_least_2, at_most_2), (refl, (refl, refl, (refl, refl)))),
-                                          (
-                                            ((at_least_2, at_most_2), (refl, refl)),
-                                            (
-                                              ((at_least_2, at_most_2), (refl, refl)),
-                                              (
-                                                ((at_least_2, at_most_2), (refl, (refl, refl, refl))),
-                                                (
-                                                  ((at_least_2, at_most_2), (refl, refl)),
-                                                  (
-                                                    ((at_least_2, at_most_2), (refl, (refl, refl, refl))),
-                                                    (
-                                                      ((at_least_2, at_most_2), (refl, refl)),
-                                                      (
-                                                        ((at_least_2, at_most_2), (refl, (refl, refl, refl))),
-                                                        (
-                                                          ((at_least_2, at_most_2), (refl, (refl, refl))),
-                                                          (
-                                                            ((at_least_1, at_most_1), (refl, refl)),
-                                                            (
-                                                              ((at_least_1, at_most_1), (refl, tt)),
-                                                              (
-                                                                ((at_least_1, at_most_1), (refl, (refl, refl))),
-                                                                (
-                                                                  ((at_least_1, at_most_1), (refl, (refl, refl))),
-                                                                  (
-                                                                    ((at_least_1, at_most_1), (refl, (refl, refl))),
-                                                                    (
-                                                                      ((at_least_1, at_most_1), (refl, (refl, refl))),
-                                                                      (
-                                                                        ((at_least_1, at_most_1), (refl, (refl, refl))),
-                                                                        (
-                                                                          ((at_least_2, at_most_2), (refl, refl)),
-                                                                          (
-                                                                            ((at_least_2, at_most_2), (refl, tt)),
-                                                                            (
-                                                                              ((at_least_2, at_most_2), (refl, (refl, refl, (refl, refl)))),
-                                                                              (
-                                                                                ((at_least_2, at_most_2), (refl, refl)),
-                                                                                (
-                                                                                  ((at_least_2, at_most_2), (refl, refl)),
-                                                                                  (
-                                                                                    ((at_least_2, at_most_2), (refl, (refl, refl, refl))),
-                                                                                    (((at_least_2, at_most_2), (refl, (refl, refl))), tt),
-                                                                                  ),
-                                                                                ),
-                                                                              ),
-                                                                            ),
-                                                                          ),
-                                                                        ),
-                                                                      ),
-                                                                    ),
-                                                                  ),
-                                                                ),
-                                                              ),
-                                                            ),
-                                                          ),
-                                                        ),
-                                                      ),
-                                                    ),
-                                                  ),
-                                                ),
-                                              ),
-                                            ),
-                                          ),
-                                        ),
-                                      ),
-                                    ),
-                                  ),
-                                ),
-                              ),
-                            ),
-                          ),
-                        ),
-                      ),
-                    ),
-                  ),
-                ),
-              ),
-            ),
-          ),
-        ),
-      ),
-    ),
-  ),
-)
+columns_of_a_later_table_plays = plays_by columns_of_a_later_table [] listed refl
 
 pub columns_of_a_later_table_queue : FollowsQueue 4096 listed
 columns_of_a_later_table_queue = (tt, (tt, (tt, (tt, (tt, (tt, (tt, (tt, (tt, (tt, (tt, (tt, (tt, (tt, (tt, (tt, (tt, (refl, (tt, (tt, (tt, (tt, (tt, (tt, (tt, (tt, (tt, (tt, (tt, (tt, (refl, (tt, (tt, (tt, (tt, (tt, (tt, (refl, (tt, (tt, (tt, (tt, (tt, tt)))))))))))))))))))))))))))))))))))))))))))

@@ -13,7 +13,7 @@ use Rattle.history_model.specs.Changing.{is_empty}
 use Rattle.history_model.proofs.Every.{every-append}
 use Rattle.cacheless.specs.Types.{Mode, Row, Purpose, Scenario, Command, CommandError, OwnLock, Entry}
 use Rattle.cacheless.specs.ActsDone.{LockOn, locks_by, named_by, IsDrawn, IsHeldOn, after_given, made_in, made_first, opening_by, IsFirstStill}
-use Rattle.cacheless.specs.Facts.{Facts, facts_of}
+use Rattle.cacheless.specs.Facts.{Facts, facts_of, kept_in}
 use Rattle.cacheless.specs.OnCourse.{is_absent, TakesNew, OnItsWay, Way, Begun, Wrote, Over, GaveNow, NamedFits, WasSought, FollowsPlan}
 use Rattle.cacheless.specs.Owed.{builds_owed, act_owed}
 use Rattle.cacheless.specs.Played.{IsPlayed}
@@ -28,6 +28,8 @@ use Rattle.cacheless.proofs.NamedDrawn.{read_names}
 use Rattle.cacheless.proofs.Plans.StillUnder.{still-push}
 use Rattle.cacheless.proofs.Plans.UnderLocks.{GoesUnder, at_first, footing_after, Follows, FollowsOrder, follows_at}
 use Rattle.cacheless.proofs.Plans.Ways.{acts, none_reached, reached-push, made_in-push}
+use Rattle.local_caches.specs.Kept.{is_kept, rows_kept}
+use Rattle.cacheless.proofs.Reading.{kept_usable, kept_rows_read}
 
 pub both_empty : {X : Type 0} (xs ys : List X) → xs ++ ys ≡ [] → (xs ≡ []) × (ys ≡ [])
 both_empty [] ys none = (refl, none)
@@ -74,6 +76,13 @@ lookup_says seen b s command name mode rest given follows at none =
 pub kept_already : (t : Bool) (scan : Purpose) → cond (not t) (scan ∷ []) [] ≡ [] → t ≡ true
 kept_already true scan none = refl
 kept_already false scan none = absurd (cc none)
+
+pub usable_already : (seen : List Entry) (b : ℕ) (scan : Purpose) → cond (not (is_kept (kept_in seen b) scan)) (scan ∷ []) [] ≡ [] → is_usable seen b scan ≡ true
+usable_already seen b scan none = sym (kept_usable seen b scan) ∙ kept_already (is_kept (kept_in seen b) scan) scan none
+
+-- what a scan gave that is done here is what the last such scan gave
+gave_rows : (seen : List Entry) (b : ℕ) (scan : Purpose) (given : List Row) → cond (not (is_kept (kept_in seen b) scan)) (scan ∷ []) [] ≡ [] → Some (rows_kept (kept_in seen b) scan) ≡ Some given → rows_read seen b scan ≡ given
+gave_rows seen b scan given none gave = sym (kept_rows_read seen b scan (usable_already seen b scan none)) ∙ some_is (rows_kept (kept_in seen b) scan) given gave
 
 -- a played history in which the session of a backend has these locks, which are clear
 pub record HoldsClear (scenario : Scenario) (seen : List Entry) (b : ℕ) (locks : List OwnLock) : Type 0 where
@@ -130,17 +139,17 @@ scan_still scenario seen b s command scan rest given holds way goes usable gave 
 act_gave : (scenario : Scenario) (seen : List Entry) (b : ℕ) (s : Session) (command : Command) (act : Act) (rest : List Row → Plan) (given : List Row) → HoldsClear scenario seen b s.locks → (way : OnItsWay seen b s command) → s.left ≡ Do act rest
     → IsDoneHere (facts_of seen b) s act rest given → GaveNow seen b act rest given
 act_gave scenario seen b s command (Lookup name mode) rest given holds way at done = lookup_ends scenario seen b holds.session s (facts_of seen b) name mode rest given holds.played.sound holds.played.plays holds.is holds.holds holds.clear
-    (kept_already (is_usable seen b (scans.RelName name)) (scans.RelName name) done.owed) done.gave
+    (usable_already seen b (scans.RelName name) done.owed) (ap (looked_up (facts_of seen b) s mode) (sym (kept_rows_read seen b (scans.RelName name) (usable_already seen b (scans.RelName name) done.owed))) ∙ done.gave)
 act_gave scenario seen b s command (Open rel kind) rest given holds way at done = record { locked = tt; drawn = tt; still = tt }
 act_gave scenario seen b s command (Search scan) rest given holds way at done = record {
   locked = tt;
   drawn = tt;
-  still = scan_still scenario seen b s command scan rest given holds way (its_place seen b s command (Search scan) rest way at).0 (kept_already (is_usable seen b scan) scan done.owed) (some_is (rows_read seen b scan) given done.gave);
+  still = scan_still scenario seen b s command scan rest given holds way (its_place seen b s command (Search scan) rest way at).0 (usable_already seen b scan done.owed) (gave_rows seen b scan given done.owed done.gave);
 }
 act_gave scenario seen b s command (Read scan) rest given holds way at done = record {
   locked = tt;
-  drawn = read_names seen b scan holds.played.sound given (some_is (rows_read seen b scan) given done.gave);
-  still = scan_still scenario seen b s command scan rest given holds way (its_place seen b s command (Read scan) rest way at).0 (kept_already (is_usable seen b scan) scan done.owed) (some_is (rows_read seen b scan) given done.gave);
+  drawn = read_names seen b scan holds.played.sound given (gave_rows seen b scan given done.owed done.gave);
+  still = scan_still scenario seen b s command scan rest given holds way (its_place seen b s command (Read scan) rest way at).0 (usable_already seen b scan done.owed) (gave_rows seen b scan given done.owed done.gave);
 }
 act_gave scenario seen b s command (Lock rel mode) rest given holds way at done = record {
   locked = (session_holds scenario seen b holds.session holds.played.sound holds.is rel mode ∙ ap (λ l. has_lock l rel mode) holds.holds ∙ if_has (has_lock s.locks rel mode) given done.gave, tt);
@@ -202,7 +211,7 @@ there_or_fails seen b s command (Lookup name mode) rest given way at done absent
   mode = mode;
   lookup = refl;
   is = unfound.is;
-  none = gives_class (facts_of seen b) s mode (rows_read seen b (scans.RelName name)) given done.gave ∙ unfound.none;
+  none = ap class_oid (sym (kept_rows_read seen b (scans.RelName name) (usable_already seen b (scans.RelName name) done.owed))) ∙ gives_class (facts_of seen b) s mode (rows_kept (kept_in seen b) (scans.RelName name)) given done.gave ∙ unfound.none;
   lost = unfound.none;
 }
   where

@@ -19,6 +19,7 @@ use Rattle.cacheless.specs.Types.{Oid, Mode, AccessExclusive, Kind, Row, Purpose
 use Rattle.cacheless.proofs.Plans.MadeAlong.{locks_at, opens_at}
 use Rattle.cacheless.proofs.Written.NamesGiven.{AreReadAsNow}
 use Rattle.cacheless.proofs.Written.SeenRows.{first_given}
+use Rattle.local_caches.specs.Kept.{rows_kept}
 
 -- a backend that is about to write a draft, in a command that has opened these descriptors
 pub record Writer : Type 0 where
@@ -41,7 +42,7 @@ Sees w row = IsIn row (rows_of w.history w.backend)
 
 -- what was read of the relation's own row is what it is now, where so it is of all descriptors that were opened
 abbrev pub IsReadAsNow : Writer → Oid → Type 0
-IsReadAsNow w rel = (facts : Facts) → AreReadAsNow w.history w.backend facts w.opened → facts.rows (scans.Class rel) ≡ now_of w (scans.Class rel)
+IsReadAsNow w rel = (facts : Facts) → AreReadAsNow w.history w.backend facts w.opened → rows_kept facts.kept (scans.Class rel) ≡ now_of w (scans.Class rel)
 
 -- by the rows of now a plan comes to the draft, the locks that it takes are held, and the descriptors that it opens are among those that were opened
 pub record ComesTo (w : Writer) (found : List (Option Oid)) (plan : Plan) : Type 0 where

@@ -12,10 +12,11 @@ use Rattle.history_model.proofs.Locked.{IsSeenAs}
 use Rattle.cacheless.specs.Types.{Oid, Kind, Entry, Item, Opening}
 use Rattle.cacheless.specs.Facts.{Facts}
 use Rattle.cacheless.specs.Plays.{names_of}
+use Rattle.local_caches.specs.Kept.{rows_kept}
 
 -- what was read last of the rows of these relations is what is seen of them
 abbrev pub AreReadAsNow : List Entry → ℕ → Facts → List Opening → Type 0
-AreReadAsNow before b facts relations = AllByRecursion (λ (o : Opening). facts.rows (scans.Class o.rel) ≡ answer_of before b (scans.Class o.rel)) relations
+AreReadAsNow before b facts relations = AllByRecursion (λ (o : Opening). rows_kept facts.kept (scans.Class o.rel) ≡ answer_of before b (scans.Class o.rel)) relations
 
 -- then each new name that these items give is one that their plan names
 abbrev pub AreNamesGiven : List Entry → ℕ → List Opening → List Item → Type 0
@@ -38,7 +39,7 @@ renamed_given before b rel own to kind old new seen was = λ facts read name is.
     items : List Item
     items = forms.Put (rows.Class rel to kind new) ∷ []
 
-    same : (facts : Facts) → facts.rows (scans.Class rel) ≡ answer_of before b (scans.Class rel) → flat_map (names_of facts) items ≡ new_names before b items
+    same : (facts : Facts) → rows_kept facts.kept (scans.Class rel) ≡ answer_of before b (scans.Class rel) → flat_map (names_of facts) items ≡ new_names before b items
     same facts read =
         ap (λ l. (if list_any (has_name to) l then [] else to ∷ []) ++ []) (read ∙ seen.1)
         ∙ ap (λ t. (if t then [] else to ∷ []) ++ []) (drop_false (bytes_eq own to))

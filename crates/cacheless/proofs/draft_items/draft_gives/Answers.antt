@@ -2,7 +2,7 @@ use Rattle.std.proofs.Common.{◌∙◌, ap}
 use Rattle.std.specs.List.{list_any}
 use Rattle.std.specs.Str.{bytes_eq}
 use Rattle.local_caches.specs.Caches.{kept_of}
-use Rattle.cacheless.specs.May.{names_by}
+use Rattle.cacheless.specs.Rule.{names_by}
 use Rattle.cacheless.proofs.Matching.{any_given}
 use Rattle.cacheless.proofs.draft_items.draft_gives.Goals as goal
 

@@ -1,6 +1,8 @@
-use Rattle.std.proofs.Common.{◌∙◌, ap, sym, is_some}
+use Rattle.std.proofs.Common.{◌∙◌, ap, sym, is_some, []}
 use Rattle.ddl_effect.specs.Stages.{plan_at}
-use Rattle.cacheless.specs.Silently.{looks_up_at}
+use Rattle.std.specs.List.{cons_option}
+use Rattle.cacheless.specs.Settled.{looked_up_in}
+use Rattle.cacheless.specs.State.{facts_at, work_at}
 use Rattle.cacheless.proofs.WantedPlans.{gives_of_want, gives_wanted, gives_always, no_gives}
 use Rattle.cacheless.proofs.progress.Progress.gives.Goals as goal
 
@@ -23,5 +25,5 @@ returns-in-Lock c =
 
 pub returns-in-Lookup : goal.returns-in-Lookup
 returns-in-Lookup c =
-    c.looks_up.ensures ∙ ap (λ o. is_some (looks_up_at c.args.self.now c.in-Lookup.mode o)) c.row_sought.ensures
+    c.looks_up.ensures ∙ ap (λ o. is_some (looked_up_in (facts_at c.args.self.now) (work_at c.args.self.now) c.in-Lookup.mode (cons_option o []))) c.row_sought.ensures
     ∙ sym (gives_wanted c.args.self.now (plan_at c.args.self.now.opens c.args.self.now.exec) ∙ ap (gives_of_want c.args.self.now) (sym (c.next.ensures c.args.self.now.opens) ∙ c.in-Lookup.is))

@@ -2,7 +2,7 @@ use Rattle.std.proofs.Common.{◌≡◌, ◌∙◌, ◌&&◌, false, ap, sym, ru
 use Rattle.base_types.specs.Modes.{same_mode}
 use Rattle.ddl_effect.specs.declared.want.Want.TheVariants as wants
 use Rattle.ddl_effect.specs.Stages.{plan_at}
-use Rattle.cacheless.specs.May.{names_relation}
+use Rattle.cacheless.specs.Rule.{names_relation}
 use Rattle.cacheless.specs.State.{row_sought}
 use Rattle.cacheless.proofs.WantedPlans.{lock_of_want, lock_wanted, no_lock}
 use Rattle.cacheless.proofs.progress.Progress.is_lock.Goals as goal

@@ -1,5 +1,6 @@
-use Rattle.std.proofs.Common.{sym}
+use Rattle.std.proofs.Common.{◌∙◌}
+use Rattle.cacheless.proofs.Same.{next_is}
 use Rattle.cacheless.proofs.progress.Progress.is_next.Goals as goal
 
-pub is_next_of-requires : goal.is_next_of-requires
-is_next_of-requires c = record { want = sym (c.next.ensures c.args.self.now.opens) }
+pub returns : goal.returns
+returns c = c.is_first_lacked.ensures ∙ next_is c.args.scan.now c.args.self.now

@@ -4,7 +4,7 @@ use Rattle.base_types.specs.Modes.{same_mode}
 use Rattle.base_types.specs.Scans.{same_oid}
 use Rattle.ddl_effect.specs.declared.want.Want.TheVariants as wants
 use Rattle.ddl_effect.specs.Stages.{plan_at}
-use Rattle.cacheless.specs.May.{names_relation}
+use Rattle.cacheless.specs.Rule.{names_relation}
 use Rattle.cacheless.specs.State.{row_sought}
 use Rattle.cacheless.proofs.WantedPlans.{unlock_of_want, unlock_wanted, no_unlock}
 use Rattle.cacheless.proofs.progress.Progress.is_unlock.Goals.{then-has_taken, else-has_taken}
