@@ -24,7 +24,8 @@ use Rattle.history_model.specs.Changing.{is_empty}
 use Rattle.history_model.proofs.Prefixes.{each-keeps, along-keeps}
 use Rattle.history_model.proofs.Reading.{is_usable-own, is_usable-other}
 use Rattle.cacheless.specs.Types.{OpenRelation}
-use Rattle.cacheless.specs.Facts.{Facts, facts_of}
+use Rattle.cacheless.specs.Facts.{Facts, kept_in, facts_of}
+use Rattle.cacheless.proofs.Reading.{kept_usable}
 use Rattle.cacheless.specs.Owed.{owed_at_start, owed_after, unusable, act_next, is_next_scan}
 use Rattle.cacheless.specs.Plays.{MayPlayIn, MayPlayAt, IsNext, Plays}
 use Rattle.cacheless.specs.Session.{Session, Outcome, Unsettled, Well, Badly, outcome_of, first_of, none_open, at_command, plan_admitted, plan_first}
@@ -36,6 +37,7 @@ use Rattle.cacheless.proofs.Plans.EffectAlong.{plain_row}
 use Rattle.cacheless.proofs.Plans.UnderLocks.{Footing, at_first, with_lock, with_found, with_open, with_rows, FollowsUnfound, FollowsOrder, unfound}
 use Rattle.backend_core.specs.Types.{Oid, Kind, Row, Purpose, Command, CommandError, Message, Opening, Scenario, Entry, Event}
 use Rattle.backend_core.proofs.Stacking.Lacking.{each_of}
+use Rattle.local_caches.specs.Kept.{is_kept}
 
 -- the scan of the row of the relation that a scan names
 abbrev pub class_scan : Purpose → Purpose
@@ -144,7 +146,7 @@ named_settled facts (command ∷ rest) s named = by_end (is_finished facts comma
   where
     by_end : (t : Bool) → ((x : Session) → IsNamed x → IsNamed (settled facts rest x)) → IsNamed (elim t as (λ x. Session) [ true ↦ settled facts rest (next_session command (first_of rest) (acted facts command s)) | false ↦ acted facts command s ])
     by_end true more = more (next_session command (first_of rest) (acted facts command s)) (named_first (blocks_after command (acted facts command s)) (opens_after command (acted facts command s)) (first_of rest), tt)
-    by_end false more = named_acted facts s (is_empty (owed_at_start facts command s ++ owed_after facts.last)) named
+    by_end false more = named_acted facts s (is_empty (owed_at_start facts command s ++ owed_after facts.due)) named
 
 named_written : (plan : Plan) (s : Session) → SearchesNamed plan → IsNamed s → IsNamed (written plan s)
 named_written (Do (Write draft) rest) s plan named = (plan [], named.1)
@@ -190,7 +192,7 @@ named_session scenario history b = along-keeps (λ before o. AreNamed o) (λ bef
 -- the first of some scans that isn't usable is one of them
 key_of : (facts : Facts) (scan : Purpose) (n : ℕ) (wanted : List Purpose) → AllByRecursion (λ d. (scan_key d).1 ≡ n) wanted → list_any (same_scan scan) (take 1 (unusable facts wanted)) ≡ true → (scan_key scan).1 ≡ n
 key_of facts scan n [] all is = absurd (cc is)
-key_of facts scan n (first ∷ wanted) all is = by_usable (facts.usable first) is (key_of facts scan n wanted all.1)
+key_of facts scan n (first ∷ wanted) all is = by_usable (is_kept facts.kept first) is (key_of facts scan n wanted all.1)
   where
     by_usable : (t : Bool) → list_any (same_scan scan) (take 1 (cond (not t) (first ∷ unusable facts wanted) (unusable facts wanted))) ≡ true → (list_any (same_scan scan) (take 1 (unusable facts wanted)) ≡ true → (scan_key scan).1 ≡ n) → (scan_key scan).1 ≡ n
     by_usable true any more = more any
@@ -202,17 +204,17 @@ key_of facts scan n (first ∷ wanted) all is = by_usable (facts.usable first) i
 
 -- a scan is that of a relation's row, or that one is usable
 abbrev Begins : Facts → Purpose → Type 0
-Begins facts scan = (same_scan scan (class_scan scan) || facts.usable (class_scan scan)) ≡ true
+Begins facts scan = (same_scan scan (class_scan scan) || is_kept facts.kept (class_scan scan)) ≡ true
 
 class_first : (facts : Facts) (scan : Purpose) (rel : Oid) (wanted : List Purpose) → AllByRecursion (λ d. (scan_key d).1 ≡ rel.0) wanted → list_any (same_scan scan) (take 1 (unusable facts (scans.Class rel ∷ wanted))) ≡ true → Begins facts scan
-class_first facts scan rel wanted all is = by_usable (facts.usable (scans.Class rel)) refl is
+class_first facts scan rel wanted all is = by_usable (is_kept facts.kept (scans.Class rel)) refl is
   where
-    by_usable : (t : Bool) → facts.usable (scans.Class rel) ≡ t → list_any (same_scan scan) (take 1 (cond (not t) (scans.Class rel ∷ unusable facts wanted) (unusable facts wanted))) ≡ true → Begins facts scan
-    by_usable true kept any = or_right (same_scan scan (class_scan scan)) (facts.usable (class_scan scan)) ((λ i. facts.usable (scans.Class (record { 0 = key_of facts scan rel.0 wanted all any i }))) ∙ kept)
+    by_usable : (t : Bool) → is_kept facts.kept (scans.Class rel) ≡ t → list_any (same_scan scan) (take 1 (cond (not t) (scans.Class rel ∷ unusable facts wanted) (unusable facts wanted))) ≡ true → Begins facts scan
+    by_usable true kept any = or_right (same_scan scan (class_scan scan)) (is_kept facts.kept (class_scan scan)) ((λ i. is_kept facts.kept (scans.Class (record { 0 = key_of facts scan rel.0 wanted all any i }))) ∙ kept)
     by_usable false lacked any = by_same (same_scan scan (scans.Class rel)) refl any
       where
         by_same : (t : Bool) → same_scan scan (scans.Class rel) ≡ t → (t || false) ≡ true → Begins facts scan
-        by_same true same has = or_left (same_scan scan (class_scan scan)) (facts.usable (class_scan scan)) (ap (λ d. same_scan d (class_scan d)) (same_scan-true scan (scans.Class rel) same) ∙ same_scan-itself (scans.Class rel))
+        by_same true same has = or_left (same_scan scan (class_scan scan)) (is_kept facts.kept (class_scan scan)) (ap (λ d. same_scan d (class_scan d)) (same_scan-true scan (scans.Class rel) same) ∙ same_scan-itself (scans.Class rel))
         by_same false other has = absurd (cc has)
 
 -- so it is with the scan that comes next for a descriptor
@@ -233,7 +235,7 @@ each_first facts scan (o ∷ opened) is = by_side (each_first facts scan opened)
 
 -- a scan that isn't for a descriptor is another one
 not_named : (facts : Facts) (scan wanted : Purpose) → is_build_scan scan ≡ true → is_build_scan wanted ≡ false → list_any (same_scan scan) (take 1 (unusable facts (wanted ∷ []))) ≡ true → Begins facts scan
-not_named facts scan wanted builds named is = by_usable (facts.usable wanted) is
+not_named facts scan wanted builds named is = by_usable (is_kept facts.kept wanted) is
   where
     by_usable : (t : Bool) → list_any (same_scan scan) (take 1 (cond (not t) (wanted ∷ []) [])) ≡ true → Begins facts scan
     by_usable true any = absurd (cc any)
@@ -287,7 +289,7 @@ module _ (scenario : Scenario) (history : List Entry) (b c : ℕ) (begun : AreBe
     where
       by_same : (t : Bool) → same_scan made scan ≡ t → (t || is_usable history b scan) ≡ true → (same_scan made (class_scan scan) || is_usable history b (class_scan scan)) ≡ true
       by_same true same was = let it : made ≡ scan = same_scan-true made scan same in
-          ap (λ d. same_scan d (class_scan scan) || is_usable history b (class_scan scan)) it ∙ next_first (facts_of history b) scan s named builds (ap (λ d. is_next_scan d (facts_of history b) s) (sym it) ∙ next)
+          ap (λ d. same_scan d (class_scan scan) || is_usable history b (class_scan scan)) it ∙ ap (λ t. same_scan scan (class_scan scan) || t) (sym (kept_usable history b (class_scan scan))) ∙ next_first (facts_of history b) scan s named builds (ap (λ d. is_next_scan d (facts_of history b) s) (sym it) ∙ next)
       by_same false other was = or_right (same_scan made (class_scan scan)) (is_usable history b (class_scan scan)) (begun scan builds was)
 
   asked : (s : Session) (o : Option Command) (made : Purpose) (count : ℕ) → MayPlayIn (next_oid history) (facts_of history b) o s (events.Scan made count) → is_next_scan made (facts_of history b) s ≡ true
@@ -301,8 +303,8 @@ module _ (scenario : Scenario) (history : List Entry) (b c : ℕ) (begun : AreBe
   own_begun (Some s) event named plays used = spared event used
 
 -- in a history in which backends do what their commands say it is so with what each may rely on
-pub builds_begin : (scenario : Scenario) (history : List Entry) → Plays scenario history → (b : ℕ) → AreBegun (is_usable history b)
-builds_begin scenario history plays = each-keeps (IsNext scenario) (λ h. (b : ℕ) → AreBegun (is_usable h b)) (λ b scan builds used. absurd (cc used)) more history plays
+usable_begin : (scenario : Scenario) (history : List Entry) → Plays scenario history → (b : ℕ) → AreBegun (is_usable history b)
+usable_begin scenario history plays = each-keeps (IsNext scenario) (λ h. (b : ℕ) → AreBegun (is_usable h b)) (λ b scan builds used. absurd (cc used)) more history plays
   where
     more : (before : List Entry) (e : Entry) → ((b : ℕ) → AreBegun (is_usable before b)) → IsNext scenario before e → (b : ℕ) → AreBegun (is_usable (before ++ e ∷ []) b)
     more before e begun next b = by_owner (e.backend == b) refl
@@ -312,3 +314,7 @@ builds_begin scenario history plays = each-keeps (IsNext scenario) (λ h. (b : �
             ∙ own_begun scenario before b e.command (begun b) scan builds (session_of scenario before b) e.event (named_session scenario before b)
             (subst (λ a. MayPlayAt scenario before a (session_of scenario before a) e.command e.event) (eqb-true e.backend b own) next.1) (sym (is_usable-own before e b scan own) ∙ used)
         by_owner false other = λ scan builds used. is_usable-other before e b (class_scan scan) other ∙ begun b scan builds (sym (is_usable-other before e b scan other) ∙ used)
+
+-- so it is with what each keeps
+pub builds_begin : (scenario : Scenario) (history : List Entry) → Plays scenario history → (b : ℕ) → AreBegun (is_kept (kept_in history b))
+builds_begin scenario history plays b = subst AreBegun (λ i scan. sym (kept_usable history b scan) i) (usable_begin scenario history plays b)

@@ -6,37 +6,37 @@ use Rattle.history_model.specs.Coming.{IsAccounted}
 use Rattle.history_model.specs.Versions.{answer_of}
 use Rattle.history_model.proofs.Accounted.{usable_accounted, usable_read}
 use Rattle.history_model.proofs.Prefixes.{EachEntry-weaker}
-use Rattle.cacheless.specs.Facts.{facts_of}
-use Rattle.cacheless.specs.Holds.{AreRight, FactsFit}
+use Rattle.cacheless.specs.Facts.{kept_if, kept_in, facts_of}
+use Rattle.cacheless.specs.Holds.{FactsFit}
 use Rattle.cacheless.specs.Locks.{grant_of}
 use Rattle.cacheless.specs.State.{kept_at, is_kept}
 use Rattle.cacheless.specs.Suspects.{lacks}
 use Rattle.cacheless.proofs.HeldLocks.{Follows, locks_of, locks_are_held}
-use Rattle.backend_core.specs.Types.{Purpose, Scenario, Entry, Read, Kept, Opening, Life, Frame, Backend}
+use Rattle.backend_core.specs.Types.{Purpose, Scenario, Entry, Kept, Opening, Life, Frame, Progress, Backend}
 use Rattle.backend_core.specs.declared.life.Life.TheVariants as lives
-use Rattle.backend_core.specs.Agrees.{AreLastScans, HasNotJoined, AwaitsEntry, HasLeft, Stands}
+use Rattle.backend_core.specs.Agrees.{HasNotJoined, AwaitsEntry, HasLeft, Stands}
 use Rattle.backend_core.specs.Coherent.{IsCoherentScan, IsCoherentSession, IsCoherent}
-use Rattle.backend_core.specs.Frames.{IsFound}
+use Rattle.backend_core.specs.Fits.{keeps_whole}
+use Rattle.backend_core.specs.Frames.{IsFound, IsStack}
+use Rattle.cacheless.proofs.Reading.{kept_usable}
 use Rattle.backend_core.proofs.Fitting.Rebuilding.{usable_is}
 use Rattle.backend_core.proofs.Own.{waiting, waiting_is}
 use Rattle.cacheless.proofs.Answers.ReadPlaces.{read_at_place}
 
 -- what is kept of a scan that is usable, with its place and what it gave
-scan_coherent : (seen : List Entry) (b : ℕ) (scan : Purpose) (read : Read) → IsSound seen → is_usable seen b scan ≡ true → place_read seen b scan ≡ read.at → read.rows ≡ rows_read seen b scan → IsCoherentScan seen b scan read
-scan_coherent seen b scan read sound usable fits right = record {
-  at = usable_read seen b scan usable ∙ ap Some fits;
-  right = ap (λ n. answer_of (take n seen) b scan) (sym fits) ∙ read_at_place seen b scan ∙ sym right;
-  accounted = subst (λ n. IsAccounted seen b scan n read.rows) fits (subst (IsAccounted seen b scan _) (sym right) (usable_accounted seen b scan sound usable));
-}
+scan_coherent : (seen : List Entry) (b : ℕ) (scan : Purpose) → IsSound seen → is_usable seen b scan ≡ true → IsCoherentScan seen b scan (record { rows = rows_read seen b scan; at = place_read seen b scan })
+scan_coherent seen b scan sound usable = record { at = usable_read seen b scan usable; right = read_at_place seen b scan; accounted = usable_accounted seen b scan sound usable }
 
--- all that is kept, where just what is usable is
-pub all_coherent : (seen : List Entry) (b : ℕ) (kept : Kept) → IsSound seen → ((scan : Purpose) → is_usable seen b scan ≡ is_kept kept scan) → AreRight (rows_read seen b) kept → AreLastScans seen b kept
-    → (scan : Purpose) → IfSome (kept scan) (IsCoherentScan seen b scan)
-all_coherent seen b kept sound usable right at scan = by_read (kept scan) (usable scan) (right scan) (at scan)
+-- all that is kept
+all_coherent : (seen : List Entry) (b : ℕ) → IsSound seen → (scan : Purpose) → IfSome (kept_in seen b scan) (IsCoherentScan seen b scan)
+all_coherent seen b sound scan = by_usable (is_usable seen b scan) refl
   where
-    by_read : (o : Option Read) → is_usable seen b scan ≡ is_some o → IfSome o (λ (read : Read). read.rows ≡ rows_read seen b scan) → IfSome o (λ (read : Read). place_read seen b scan ≡ read.at) → IfSome o (IsCoherentScan seen b scan)
-    by_read None serves rows place = tt
-    by_read (Some read) serves rows place = scan_coherent seen b scan read sound serves place rows
+    by_usable : (t : Bool) → is_usable seen b scan ≡ t → IfSome (kept_if t (rows_read seen b scan) (place_read seen b scan)) (IsCoherentScan seen b scan)
+    by_usable true usable = scan_coherent seen b scan sound usable
+    by_usable false usable = tt
+
+progress_coherent : (seen : List Entry) (p : Progress) → IsSound seen → FactsFit (facts_of seen p.id) p → (scan : Purpose) → IfSome (kept_at p scan) (IsCoherentScan seen p.id scan)
+progress_coherent seen p sound fits = subst (λ (kept : Kept). (scan : Purpose) → IfSome (kept scan) (IsCoherentScan seen p.id scan)) (ap (λ f. f.kept) fits) (all_coherent seen p.id sound)
 
 -- where a relation isn't rebuilt and no reset goes on, what is in use of it is whole
 whole_found : (has : Purpose → Bool) (frames : List Frame) (o : Opening) → frames ≡ [] → IsFound has frames o → lacks has o ≡ false
@@ -52,21 +52,27 @@ session_coherent : (scenario : Scenario) (seen : List Entry) (s : Backend) → I
 session_coherent scenario seen s sound waits = record {
   session = waiting waits;
   is = waiting_is scenario seen s waits;
-  keeps = record { scans = λ scan. sym (facts.usable scan); descriptors = λ o. ap (λ has. lacks has o) (sym (usable_is (facts_of seen s.progress.id) s.progress facts)) };
+  keeps = record { scans = λ scan. ap (λ has. has scan) usable; descriptors = λ o. ap (λ has. lacks has o) usable };
   uses = record { opens = refl; opened = refl };
   holds = record {
     locks = refl;
     grants = locks_are_held scenario seen s.progress.id (EachEntry-weaker MayComeNext Follows (λ before e comes. comes.follows.life) seen sound) ∙ ap (λ x. map (grant_of s.progress.id) (locks_of x)) (waiting_is scenario seen s waits);
   };
   rebuilds = record {
-    stack = waits.fits.rebuilds.stack;
-    whole = λ whole none o among. whole_found (is_usable seen s.progress.id) s.frames o none ((waits.fits.rebuilds.stack whole).found o among);
+    stack = stack;
+    whole = λ whole none o among. whole_found (is_usable seen s.progress.id) s.frames o none ((stack whole).found o among);
     over = waits.fits.rebuilds.over;
   };
 }
   where
-    facts : FactsFit (facts_of seen s.progress.id) s.progress
-    facts = waits.rests.holds.facts
+    all : is_kept (facts_of seen s.progress.id).kept ≡ is_usable seen s.progress.id
+    all = λ i scan. kept_usable seen s.progress.id scan i
+
+    usable : is_kept (kept_at s.progress) ≡ is_usable seen s.progress.id
+    usable = sym (usable_is (facts_of seen s.progress.id) s.progress waits.rests.holds.facts) ∙ all
+
+    stack : keeps_whole (facts_of seen s.progress.id) (waiting waits) ≡ true → IsStack (is_usable seen s.progress.id) (waiting waits).opened s.frames
+    stack whole = subst (λ has. IsStack has (waiting waits).opened s.frames) all (waits.fits.rebuilds.stack whole)
 
 -- where it stands in a sound history, it is coherent with it: right after a step of its own, and after any entry of another
 pub stands_coherent : (scenario : Scenario) (seen : List Entry) (s : Backend) → IsSound seen → Stands scenario seen s → IsCoherent scenario seen s
@@ -81,10 +87,10 @@ stands_coherent scenario seen s sound stands = by_life s.life refl stands
       running = runs_not lives.Unstarted is (λ same. cc same);
     }
     by_life lives.Alive is waits = record {
-      scans = all_coherent seen s.progress.id (kept_at s.progress) sound waits.rests.holds.facts.usable waits.rests.holds.facts.kept waits.keeps.places.kept;
+      scans = progress_coherent seen s.progress sound waits.rests.holds.facts;
       running = λ alive. session_coherent scenario seen s sound waits;
     }
     by_life lives.Stopped is left = record {
-      scans = all_coherent seen s.progress.id (kept_at s.progress) sound left.holds.facts.usable left.holds.facts.kept left.kept;
+      scans = progress_coherent seen s.progress sound left.holds.facts;
       running = runs_not lives.Stopped is (λ same. cc same);
     }

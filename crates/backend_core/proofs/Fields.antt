@@ -18,8 +18,8 @@ use Rattle.cacheless.specs.Settled.{settled}
 use Rattle.cacheless.specs.State.{Kept, session_at, kept_at, is_kept, rows_kept}
 use Rattle.cacheless.specs.Types.{Command, OpenRelation}
 use Rattle.cacheless.specs.Suspects.{lacks}
+use Rattle.cacheless.proofs.Reading.{kept_usable, kept_read}
 use Rattle.cacheless.proofs.ProtectedFields.{protected_fresh}
-use Rattle.cacheless.proofs.Resting.{kept_rows}
 use Rattle.cacheless.proofs.Tests.{not_true}
 use Rattle.cacheless.proofs.Answers.ToldFields.{field_among}
 use Rattle.cacheless.proofs.Allowed.AllowedHistories.{plays_on_course}
@@ -83,8 +83,8 @@ shown_fresh scenario seen s field o of_kind played fits = by_test (has_field o.k
     fresh : IsAtHand (kept_at s.progress) field o → is_protected scenario seen s.progress.id o.rel o.kind field ≡ true → field_text field o.rel (rows_kept (kept_at s.progress) scan) ≡ fresh_text seen s.progress.id o.rel field
     fresh is protected =
         let has = at_hand (kept_at s.progress) field o is in
-        ap (field_text field o.rel) (sym (kept_rows (facts_of seen s.progress.id).rows (kept_at s.progress) scan fits.kept has))
-        ∙ sym (protected_fresh scenario seen s.progress.id o.rel o.kind field of_kind played.sound played.plays (and_parts (has_field o.kind field) (not (lacks (is_kept (kept_at s.progress)) (opening_of o))) is).0 protected (fits.usable scan ∙ has))
+        ap (field_text field o.rel) (sym (kept_read seen s.progress.id (kept_at s.progress) scan (ap (λ f. f.kept) fits) has))
+        ∙ sym (protected_fresh scenario seen s.progress.id o.rel o.kind field of_kind played.sound played.plays (and_parts (has_field o.kind field) (not (lacks (is_kept (kept_at s.progress)) (opening_of o))) is).0 protected (sym (kept_usable seen s.progress.id scan) ∙ ap (λ f. is_kept f.kept scan) fits ∙ has))
 
     by_test : (t : Bool) → (has_field o.kind field && not (lacks (is_kept (kept_at s.progress)) (opening_of o))) ≡ t
         → IfSome (cond t (Some (field_text field o.rel (rows_kept (kept_at s.progress) scan))) None) (λ text. is_protected scenario seen s.progress.id o.rel o.kind field ≡ true → text ≡ fresh_text seen s.progress.id o.rel field)

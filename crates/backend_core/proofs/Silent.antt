@@ -26,6 +26,7 @@ use Rattle.ddl_effect.specs.Stages.{plan_at}
 use Rattle.cacheless.specs.Types.{Mode}
 use Rattle.cacheless.specs.Settled.{act_done, class_oid, is_finished, next_session, if_locked, has_accepted, looked_up}
 use Rattle.cacheless.proofs.Plans.SilentActs.{IsDoneHere, is_done_here, lookup_says, gives_class, kept_already, there_or_fails, on_its_way}
+use Rattle.local_caches.specs.Kept.{is_kept, rows_kept}
 
 -- a command whose next act is done without an entry hasn't made its release
 acts_going : (scenario : Scenario) (seen : List Entry) (b : ℕ) (s : Session) (command : Command) → EntersCourse scenario seen b s → slice_get (commands_of scenario b) (length s.finished) ≡ Some command → is_settled (outcome_of s.left) ≡ false → s.ended ≡ false
@@ -96,13 +97,13 @@ no_relation (rows.Class rel own kind fill ∷ more) none = absurd (cc none)
 no_relation (row ∷ more) none = refl
 
 -- so it has found none
-misses : (facts : Facts) (s : Session) (name : List ℕ) (mode : Mode) (rest : List Row → Plan) (given : List Row) → IsDoneHere facts s (Lookup name mode) rest given → class_oid (facts.rows (scans.RelName name)) ≡ None → finds_no_name facts s.taken (Do (Lookup name mode) rest) ≡ true
-misses facts s name mode rest given done none = λ i. took_none facts s mode (facts.rows (scans.RelName name)) given none done.gave i && kept_already (facts.usable (scans.RelName name)) (scans.RelName name) done.owed i && no_relation (facts.rows (scans.RelName name)) none i
+misses : (facts : Facts) (s : Session) (name : List ℕ) (mode : Mode) (rest : List Row → Plan) (given : List Row) → IsDoneHere facts s (Lookup name mode) rest given → class_oid (rows_kept facts.kept (scans.RelName name)) ≡ None → finds_no_name facts s.taken (Do (Lookup name mode) rest) ≡ true
+misses facts s name mode rest given done none = λ i. took_none facts s mode (rows_kept facts.kept (scans.RelName name)) given none done.gave i && kept_already (is_kept facts.kept (scans.RelName name)) (scans.RelName name) done.owed i && no_relation (rows_kept facts.kept (scans.RelName name)) none i
 
 -- and one that has found none comes to where the command says so
 loses : (facts : Facts) (s : Session) (act : Act) (rest : List Row → Plan) (given : List Row) → IsDoneHere facts s act rest given → ((name : List ℕ) (mode : Mode) → act ≡ Lookup name mode → class_oid given ≡ None → is_absent (rest given) ≡ true) → finds_no_name facts s.taken (Do act rest) ≡ true → is_absent (rest given) ≡ true
 loses facts s (Lookup name mode) rest given done says is =
-    says name mode refl (sym (gives_class facts s mode (facts.rows (scans.RelName name)) given done.gave) ∙ no_class (facts.rows (scans.RelName name)) (and_parts (is_none s.taken && facts.usable (scans.RelName name)) _ is).1)
+    says name mode refl (sym (gives_class facts s mode (rows_kept facts.kept (scans.RelName name)) given done.gave) ∙ no_class (rows_kept facts.kept (scans.RelName name)) (and_parts (is_none s.taken && is_kept facts.kept (scans.RelName name)) _ is).1)
 loses facts s act rest given done says is = absurd (cc is)
 
 both_same : (s t : Bool) → (s ≡ true → t ≡ true) → (t ≡ true → s ≡ true) → s ≡ t

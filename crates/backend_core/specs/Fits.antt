@@ -24,6 +24,9 @@ use Rattle.cacheless.specs.Suspects.{lacks, same_kind}
 use Rattle.backend_core.specs.Types.{Oid, Command, Event, OwnLock, Opening, Frame}
 use Rattle.backend_core.specs.Frames.{IsStack}
 use Rattle.backend_core.specs.Words.{relation_named, has_error}
+use Rattle.local_caches.specs.Kept.{is_kept, rows_kept}
+use Rattle.cacheless.specs.declared.progress.Due.{Due}
+use Rattle.cacheless.specs.declared.progress.Due.TheVariants as dues
 
 -- 1 if a look is owed in an accept of messages
 abbrev pub looks_due : List Owes → ℕ
@@ -56,8 +59,8 @@ came_well plan = 0
 
 -- its looks are as many as these, those that were made for next scans and its full fetches that ask for one, and no more than these, that for the scan that comes next and two for each fetch; where messages came since a lookup began, one more may be made, and so once the command has come out well, and once its release is made, unless its transaction started in it
 pub record LooksFit (facts : Facts) (s : Session) (looked : Bool) (frames : List Frame) (told : Bool) : Type 0 where
-  pub enough : s.tally.full + looks_owed facts s + one_if looked + looked_in frames ≤ s.tally.looks + looks_due (owed_after facts.last)
-  pub within : s.tally.looks + looks_due (owed_after facts.last) + told_owed told frames ≤ 2 * s.tally.fetches + looks_owed facts s + looked_on_top looked frames + came_well s.left + one_if s.ended
+  pub enough : s.tally.full + looks_owed facts s + one_if looked + looked_in frames ≤ s.tally.looks + looks_due (owed_after facts.due)
+  pub within : s.tally.looks + looks_due (owed_after facts.due) + told_owed told frames ≤ 2 * s.tally.fetches + looks_owed facts s + looked_on_top looked frames + came_well s.left + one_if s.ended
   pub once : started_in (number_of s) facts + one_if s.ended ≤ 1
 
 -- the first command of the running transaction, or 0
@@ -134,7 +137,7 @@ pub record OnCommit (facts : Facts) (o : Option Command) (s : Session) : Type 0 
 -- the end of a command takes back the commands from this one on: nothing asks for an entry, and its answer rests on no scan
 pub record IsTakenBack (facts : Facts) (command : Command) (s : Session) (from : ℕ) : Type 0 where
   pub end : end_of facts command s ≡ TakesBack from
-  pub free : owed_after facts.last ≡ []
+  pub free : owed_after facts.due ≡ []
   pub plain : left_rests_on s.left ≡ []
 
 -- taking back on its way: nothing is left of it but the release
@@ -148,7 +151,7 @@ pub record OnTakingBack (facts : Facts) (o : Option Command) (s : Session) (from
 -- after the last command
 pub record IsPast (facts : Facts) (s : Session) : Type 0 where
   pub out : is_settled (outcome_of s.left) ≡ true
-  pub free : owed_after facts.last ≡ []
+  pub free : owed_after facts.due ≡ []
 
 -- the lock that a lookup took, or a further one, is held by a grant of its command; a lookup that found no relation took none
 abbrev pub TakesFit : ℕ → List OwnLock → Option Oid → Plan → Type 0
@@ -159,26 +162,32 @@ TakesFit number locks taken plan = ⊤
 
 -- the next act, or the answer, lacks a scan
 abbrev pub lacks_scan : Facts → Plan → Bool
-lacks_scan facts (Do (Lookup name mode) rest) = not (facts.usable (scans.RelName name))
-lacks_scan facts (Do (Search scan) rest) = not (facts.usable scan)
-lacks_scan facts (Do (Open rel kind) rest) = lacks facts.usable (record { rel = rel; kind = kind })
-lacks_scan facts (Done told) = option_map_or (λ scan. not (facts.usable scan)) (told_rests_on told) false
+lacks_scan facts (Do (Lookup name mode) rest) = not (is_kept facts.kept (scans.RelName name))
+lacks_scan facts (Do (Search scan) rest) = not (is_kept facts.kept scan)
+lacks_scan facts (Do (Open rel kind) rest) = lacks (is_kept facts.kept) (record { rel = rel; kind = kind })
+lacks_scan facts (Done told) = option_map_or (λ scan. not (is_kept facts.kept scan)) (told_rests_on told) false
 lacks_scan facts plan = false
 
 -- the next act is a lookup that has found no relation, by a scan that is usable, and holds no lock that it took
 abbrev pub finds_no_name : Facts → Option Oid → Plan → Bool
-finds_no_name facts taken (Do (Lookup name mode) rest) = is_none taken && facts.usable (scans.RelName name) && is_none (relation_named (slice_get (facts.rows (scans.RelName name)) 0))
+finds_no_name facts taken (Do (Lookup name mode) rest) = is_none taken && is_kept facts.kept (scans.RelName name) && is_none (relation_named (slice_get (rows_kept facts.kept (scans.RelName name)) 0))
 finds_no_name facts taken plan = false
 
 -- the last entry was a look
-abbrev pub is_look : Option Event → Bool
-is_look (Some (events.Look some_wait)) = true
-is_look last = false
+abbrev pub is_look : Due → Bool
+is_look dues.Quiet = true
+is_look dues.Fetch = true
+is_look due = false
+
+-- the last entry took writes back
+abbrev pub is_gone_due : Due → Bool
+is_gone_due (dues.Gone from) = true
+is_gone_due due = false
 
 -- what a look was made for: a scan that the next act lacks, a lookup that has found no relation, after which nothing else came and while nothing is rebuilt, or one that says so
 pub data IsLookedFor (facts : Facts) (frames : List Frame) (taken : Option Oid) (plan : Plan) : Type 0 where
   Lacks : lacks_scan facts plan ≡ true → IsLookedFor facts frames taken plan
-  Unfound : finds_no_name facts taken plan ≡ true → is_look facts.last ≡ true → frames ≡ [] → IsLookedFor facts frames taken plan
+  Unfound : finds_no_name facts taken plan ≡ true → is_look facts.due ≡ true → frames ≡ [] → IsLookedFor facts frames taken plan
   Said : is_absent plan ≡ true → IsLookedFor facts frames taken plan
 
 -- the descriptor that the next act opens isn't held yet, unless it is held as one of another kind
@@ -192,11 +201,11 @@ is_lost s = s.ended && is_absent s.left
 
 -- what is held is kept whole: the command hasn't failed, for good or with its release, and nothing was taken back just now
 abbrev pub keeps_whole : Facts → Session → Bool
-keeps_whole facts s = not (took_back facts.last) && not (is_lost s) && not (has_error s.left)
+keeps_whole facts s = not (is_gone_due facts.due) && not (is_lost s) && not (has_error s.left)
 
 -- the rebuilds: while what is held is kept whole, they see to that; else there are none, and none in a command that has failed, or after the last one
 pub record FramesFit (facts : Facts) (o : Option Command) (s : Session) (frames : List Frame) : Type 0 where
-  pub stack : keeps_whole facts s ≡ true → IsStack facts.usable s.opened frames
+  pub stack : keeps_whole facts s ≡ true → IsStack (is_kept facts.kept) s.opened frames
   pub over : keeps_whole facts s ≡ false → frames ≡ []
   pub badly : outcome_of s.left ≡ Badly → frames ≡ []
   pub past : o ≡ None → frames ≡ []
@@ -229,8 +238,8 @@ pub record Fits (facts : Facts) (o : Option Command) (s : Session) (looked : Boo
   pub settled : is_settled (outcome_of (plan_first s.blocks s.opens o)) ≡ true → s.left ≡ plan_first s.blocks s.opens o
   pub written : has_write_from 0 facts.lists ≡ true → option_map_or (λ t. is_some t.xid) facts.running false ≡ true
   pub visible : is_visible facts.running ≡ true → OnCommit facts o s
-  pub taken : (from : ℕ) → facts.last ≡ Some (events.Gone from) → OnTakingBack facts o s from
-  pub accepts : is_empty (owed_after facts.last) ≡ false → is_some facts.running ≡ true
+  pub taken : (from : ℕ) → facts.due ≡ dues.Gone from → OnTakingBack facts o s from
+  pub accepts : is_empty (owed_after facts.due) ≡ false → is_some facts.running ≡ true
   pub past : o ≡ None → IsPast facts s
   pub relations : OpensFit o s
   pub since : opens_before (first_at facts) s.opens ≡ []

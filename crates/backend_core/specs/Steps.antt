@@ -9,7 +9,7 @@ use Rattle.cacheless.specs.declared.progress.Due.TheVariants as dues
 use Rattle.cacheless.specs.May.{is_next_at, is_next_of_act, has_failed, lacks_opened, lacks_any, owes_nothing, may_lock_at, may_unlock_at, may_end_at, is_next_of_end, is_next_of_commit, is_next_of_back}
 use Rattle.cacheless.specs.MayEnter.{MayEnter}
 use Rattle.cacheless.specs.Silently.{has_accepted_at}
-use Rattle.cacheless.specs.State.{owed_at, is_quiet, is_absent, is_kept, kept_at, owed_first, unsent_at, is_out, end_at, end_of_running}
+use Rattle.cacheless.specs.State.{owed_after, is_quiet, is_absent, is_kept, kept_at, owed_first, unsent_at, is_out, end_at, end_of_running}
 use Rattle.cacheless.specs.Ends.{TakesBack}
 use Rattle.backend_core.specs.Types.{Oid, Mode, Purpose, Command, Scenario, Entry, Event, Next, Frame, Progress, Backend}
 use Rattle.backend_core.specs.declared.life.Life.TheVariants as lives
@@ -56,19 +56,19 @@ pub data MakesNext (scenario : Scenario) (old new : List Entry) (had has : ℕ �
 -- in a command whose transaction's first look is made, where the last entry asks for nothing
 pub record IsFree (s : Progress) (command : Command) : Type 0 where
   pub at : slice_get s.commands s.finished ≡ Some command
-  pub due : owed_at s.due ≡ []
+  pub due : owed_after s.due ≡ []
   pub first : owed_first s command ≡ []
 
 -- a look is owed: in an accept of messages, or at the start of a transaction
 pub record OwesLookNow (s : Progress) : Type 0 where
   pub command : Command
   pub at : slice_get s.commands s.finished ≡ Some command
-  pub owes : (s.due ≡ dues.Look) ⊎ ((owed_at s.due ≡ []) × (owed_first s command ≢ []))
+  pub owes : (s.due ≡ dues.Look) ⊎ ((owed_after s.due ≡ []) × (owed_first s command ≢ []))
 
 -- a scan is the first of the rebuild on top, or the first that the next act lacks, where nothing is rebuilt
 abbrev pub IsInTurn : Bool → Backend → Purpose → Type 0
 IsInTurn true s scan = scan_on_top s ≡ Some scan
-IsInTurn false s scan = (s.frames ≡ []) × (is_next_of_act scan s.progress (plan_at s.progress.opens s.progress.exec) ≡ true)
+IsInTurn false s scan = (s.frames ≡ []) × (is_next_of_act scan (kept_at s.progress) (plan_at s.progress.opens s.progress.exec) ≡ true)
 
 -- this scan comes next, of the rebuild on top or of the next act
 pub record IsScanNext (s : Backend) (scan : Purpose) (rebuilds : Bool) : Type 0 where
@@ -139,7 +139,7 @@ pub record IsLookNext (rebuilds : Bool) (s : Backend) : Type 0 where
 -- what the choice rests on: a lock that the running lookup took is held by a grant of its command, where a look was made for a lookup that has found no relation, the lookup ends, the rebuild on top is of a held descriptor that lacks a scan, and where nothing is rebuilt none does, unless the command's writes were taken back
 pub record IsChoiceSound (s : Backend) : Type 0 where
   pub takes : TakesFit (s.progress.finished + 1) s.progress.locks.items s.progress.taken (plan_at s.progress.opens s.progress.exec)
-  pub accepts : s.looked ≡ true → is_unfound s.progress (plan_at s.progress.opens s.progress.exec) ≡ true → owed_at s.progress.due ≡ [] → has_accepted_at s.progress ≡ true
+  pub accepts : s.looked ≡ true → is_unfound s.progress (plan_at s.progress.opens s.progress.exec) ≡ true → owed_after s.progress.due ≡ [] → has_accepted_at s.progress ≡ true
   pub builds : (f : Frame) → top s.frames ≡ Some f → IsRebuilt (is_kept (kept_at s.progress)) s.progress.opened f
   pub whole : (command : Command) → slice_get s.progress.commands s.progress.finished ≡ Some command → s.frames ≡ [] → has_failed s.progress ≡ false → IsWhole s command
 

@@ -5,7 +5,7 @@ ghost use Rattle.std.specs.Prelude.{◌≡◌, ◌≤◌, [], None, Some, true, 
 ghost use Rattle.ddl_effect.specs.Stages.{plan_at, want_of};
 ghost use Rattle.cacheless.specs.OpenedReads.{ReadsOpened};
 ghost use Rattle.cacheless.specs.Silently.{IsAtRest};
-ghost use Rattle.cacheless.specs.State.{owed_at, is_out, row_sought};
+ghost use Rattle.cacheless.specs.State.{owed_after, is_out, row_sought};
 ghost use Rattle.cacheless.specs.May.{has_failed, lacks_opened, owes_nothing};
 ghost use Rattle.backend_core.specs.Frames.{top};
 ghost use Rattle.backend_core.specs.Words.{relation_named, accepts_again as accepts_once_more};
@@ -62,7 +62,7 @@ impl Backend {
         match self.progress.due {
             Due::Look => Next::Look,
             Due::Fetch => Next::Fetch,
-            Due::Nothing | Due::Quiet => self.next_of_free(command),
+            Due::Nothing | Due::Quiet | Due::Gone { .. } => self.next_of_free(command),
         }
     }
 
@@ -73,7 +73,7 @@ impl Backend {
         requires chosen { IsChoiceSound self.now }
         requires reads { ReadsOpened self.now.progress.opened (plan_at self.now.progress.opens self.now.progress.exec) }
         requires at { slice_get self.now.progress.commands self.now.progress.finished ≡ Some command.now }
-        requires due { owed_at self.now.progress.due ≡ [] }
+        requires due { owed_after self.now.progress.due ≡ [] }
         ensures { IsNextOf self.now result }
     {
         if self.progress.owes_first_look(command) {

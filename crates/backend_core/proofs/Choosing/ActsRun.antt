@@ -188,10 +188,10 @@ module _ (scenario : Scenario) (seen : List Entry) (s : Backend) (waits : Awaits
   pub scan_runs : (scan : Purpose) → is_next_at scan s.progress ≡ true → owed_first s.progress command ≡ [] → is_some (facts_of seen s.progress.id).running ≡ true
   scan_runs scan next free = by_ended (waiting waits).ended refl
     where
-      both : (not (has_failed s.progress) ≡ true) × ((list_any (λ o. is_first_missing scan (kept_at s.progress) o.kind o.rel) s.progress.opened || is_next_of_act scan s.progress (plan_at s.progress.opens s.progress.exec)) ≡ true)
+      both : (not (has_failed s.progress) ≡ true) × ((list_any (λ o. is_first_missing scan (kept_at s.progress) o.kind o.rel) s.progress.opened || is_next_of_act scan (kept_at s.progress) (plan_at s.progress.opens s.progress.exec)) ≡ true)
       both = and_true (not (has_failed s.progress)) _ next
 
-      by_plan : (p : Plan) → plan_at s.progress.opens s.progress.exec ≡ p → is_next_of_act scan s.progress p ≡ true → DoesSome (plan_of s.progress.opens command)
+      by_plan : (p : Plan) → plan_at s.progress.opens s.progress.exec ≡ p → is_next_of_act scan (kept_at s.progress) p ≡ true → DoesSome (plan_of s.progress.opens command)
       by_plan (Do act rest) is of = acts_none act rest is
       by_plan (Done told) is of = λ given none. both_ways _ (ap (λ o. option_map_or (is_missing scan (kept_at s.progress)) o false)
           (subst RestsFirst (none ∙ sym (((follows scenario seen s waits courses command at).plain given none).left (ap outcome_of is)) ∙ is) (rests_first s.progress.opens command))) of
@@ -199,7 +199,7 @@ module _ (scenario : Scenario) (seen : List Entry) (s : Backend) (waits : Awaits
 
       -- where nothing is held the command does some act
       acts : ((told : Told) → plan_of s.progress.opens command ≡ Done told → s.progress.opened ≡ []) → DoesSome (plan_of s.progress.opens command)
-      acts none told is = or_either (list_any (λ o. is_first_missing scan (kept_at s.progress) o.kind o.rel) s.progress.opened) (is_next_of_act scan s.progress (plan_at s.progress.opens s.progress.exec)) both.1
+      acts none told is = or_either (list_any (λ o. is_first_missing scan (kept_at s.progress) o.kind o.rel) s.progress.opened) (is_next_of_act scan (kept_at s.progress) (plan_at s.progress.opens s.progress.exec)) both.1
           (λ opened. both_ways _ (ap (list_any (λ o. is_first_missing scan (kept_at s.progress) o.kind o.rel)) (none told is)) opened)
           (λ act. by_plan (plan_at s.progress.opens s.progress.exec) refl act told is)
 

@@ -6,30 +6,32 @@ use Rattle.std.proofs.Math.Bool.{and-false}
 use Rattle.std.proofs.lemmas.Bool.{both_ways, eq-eqb, le-leb}
 use Rattle.event_kinds.specs.declared.entry.Event.TheVariants as events
 use Rattle.history_model.specs.Drawn.{next_oid}
-use Rattle.history_model.specs.MayFollow.{AllowsEvent}
+use Rattle.history_model.specs.MayFollow.{FollowsGone, AllowsEvent}
 use Rattle.history_model.specs.Transactions.{begun, is_visible}
 use Rattle.txn_blocks.specs.declared.transaction.RunningTransaction.{RunningTransaction as Running}
 use Rattle.history_model.specs.Changing.{is_empty}
 use Rattle.seg_calls.specs.Calls.{entry_of, took_back, MayCall, MayRequest}
 use Rattle.seg_calls.proofs.Allowed.{is_start, request_follows}
-use Rattle.cacheless.specs.Facts.{Facts, facts_of}
+use Rattle.cacheless.specs.Facts.{Facts, due_last, facts_of}
 use Rattle.cacheless.specs.May.{lacks_any, owes_nothing, may_play_now}
 use Rattle.cacheless.specs.Owed.{Owes as Owing, OwesLook, OwesFetch, OwesScan, owed_after, owed_of, started_in}
 use Rattle.cacheless.specs.Plays.{may_look, MayPlayIn}
 use Rattle.cacheless.specs.Ends.{TakesBack, end_of, end_of_all, Commits, Ends, End, end_well, end_badly}
 use Rattle.cacheless.specs.Session.{Session, Well, Badly, Unsettled, number_of, outcome_of}
-use Rattle.cacheless.specs.State.{owed_at, owed_first, begins_in, running_of, one_if, is_out, is_absent, is_quiet}
+use Rattle.cacheless.specs.State.{owed_first, begins_in, one_if, is_out, is_absent, is_quiet}
 use Rattle.txn_blocks.specs.declared.transaction.RunningTransaction.{RunningTransaction}
 use Rattle.cacheless.proofs.Deciding.{holds_decides}
-use Rattle.cacheless.proofs.Same.{owes_nothing_is}
+use Rattle.cacheless.proofs.Same.{free_is, owes_nothing_is}
 use Rattle.backend_core.specs.Types.{Command, Scenario, Entry, Event, Progress, Backend}
 use Rattle.backend_core.specs.Agrees.{command_at, AwaitsEntry}
 use Rattle.backend_core.proofs.Own.{waiting}
-use Rattle.backend_core.specs.Fits.{first_at, IsTakenBack}
+use Rattle.backend_core.specs.Fits.{first_at, IsTakenBack, is_gone_due}
 use Rattle.txn_blocks.specs.Blocks.{innermost}
-use Rattle.cacheless.specs.Settled.{nothing_waits}
 use Rattle.ddl_effect.specs.Plans.{Absent, Plan}
 use Rattle.ddl_effect.specs.Stages.{plan_at}
+use Rattle.cacheless.specs.declared.progress.Due.{Due as DueNext}
+use Rattle.cacheless.specs.declared.progress.Due.TheVariants as dues
+use Rattle.history_model.specs.Lives.{last_event_of}
 
 pub one_at_most : (t : Bool) → one_if t ≤ 1
 one_at_most true = omega arith
@@ -58,8 +60,8 @@ started_still n m None some = absurd (cc some)
 started_still n m (Some t) some = refl
 
 -- a look may come where no fetch is owed
-pub look_may : (facts : Facts) (s : Session) → (owed_after facts.last ≡ []) ⊎ (owed_after facts.last ≡ OwesLook ∷ []) → s.tally.looks + 1 ≤ s.tally.scans + s.tally.grants + 2 * s.tally.fetches + 3 → may_look facts s ≡ true
-look_may facts s owes low = by_owed (owed_after facts.last) owes
+pub look_may : (facts : Facts) (s : Session) → (owed_after facts.due ≡ []) ⊎ (owed_after facts.due ≡ OwesLook ∷ []) → s.tally.looks + 1 ≤ s.tally.scans + s.tally.grants + 2 * s.tally.fetches + 3 → may_look facts s ≡ true
+look_may facts s owes low = by_owed (owed_after facts.due) owes
   where
     by_owed : (l : List Owing) → (l ≡ []) ⊎ (l ≡ OwesLook ∷ []) → elim l [ OwesFetch ∷ owed ↦ false | owed ↦ nat_le (s.tally.looks + 1) (s.tally.scans + s.tally.grants + s.tally.unlocks + 2 * s.tally.fetches + 3) ] ≡ true
     by_owed [] is = le-leb _ _ (omega (arith, low))
@@ -68,13 +70,29 @@ look_may facts s owes low = by_owed (owed_after facts.last) owes
     by_owed (OwesFetch ∷ owed) (inr look) = absurd (cc look)
     by_owed (OwesScan scan ∷ owed) is = le-leb _ _ (omega (arith, low))
 
+-- the last event took writes back where that is what is due after it
+pub gone_same : (last : Option Event) → took_back last ≡ is_gone_due (due_last last)
+gone_same (Some (events.Fetch count)) = by_full (count == 32)
+  where
+    by_full : (t : Bool) → false ≡ is_gone_due (elim t as (λ x. DueNext) [ true ↦ dues.Look | false ↦ dues.Nothing ])
+    by_full true = refl
+    by_full false = refl
+gone_same (Some (events.Look true)) = refl
+gone_same (Some (events.Look false)) = refl
+gone_same last = refl
+
+-- where it took nothing back, whatever the backend does may follow
+pub follows_stand : (last : Option Event) (event : Event) → is_gone_due (due_last last) ≡ false → FollowsGone last event
+follows_stand (Some (events.Gone from)) event stands = absurd (cc stands)
+follows_stand last event stands = tt
+
 -- in a command that runs no end is on its way: nothing is published or released; scans for what is held may be missing where writes were taken back, and aren't made then
-pub data Busy (last : Option Event) (p : Progress) (command : Command) : Type 0 where
-  Due : is_empty (owed_at p.due) ≡ false → Busy last p command
-  Begins : owed_first p command ≢ [] → Busy last p command
-  Scans : lacks_any p ≡ true → took_back last ≡ false → Busy last p command
-  Acts : is_out p ≡ false → Busy last p command
-  Sought : is_absent (plan_at p.opens p.exec) ≡ true → is_quiet p.due ≡ true → Busy last p command
+pub data Busy (due : DueNext) (p : Progress) (command : Command) : Type 0 where
+  Due : is_empty (owed_after p.due) ≡ false → Busy due p command
+  Begins : owed_first p command ≢ [] → Busy due p command
+  Scans : lacks_any p ≡ true → is_gone_due due ≡ false → Busy due p command
+  Acts : is_out p ≡ false → Busy due p command
+  Sought : is_absent (plan_at p.opens p.exec) ≡ true → is_quiet p.due ≡ true → Busy due p command
 
 not_empty : {X : Type 0} (xs : List X) → xs ≢ [] → is_empty xs ≡ false
 not_empty [] some = absurd (some refl)
@@ -100,10 +118,13 @@ module _ (scenario : Scenario) (seen : List Entry) (s : Backend) (waits : Awaits
   owes_same : is_empty (owed_of facts command (waiting waits)) ≡ owes_nothing command s.progress
   owes_same = owes_nothing_is facts command s.progress waits.rests.holds.rest waits.rests.holds.facts
 
-  not_busy : owed_of facts command (waiting waits) ≡ [] → is_out s.progress ≡ true → Busy facts.last s.progress command → (is_absent (plan_at s.progress.opens s.progress.exec) ≡ true → is_quiet s.progress.due ≡ true → ⊥) → ⊥
-  not_busy free out (Due due) never = both_ways _ (ap (λ t. is_empty (owed_first s.progress command) && t && not (lacks_any s.progress)) due ∙ ap (λ t. t && not (lacks_any s.progress)) (and-false (is_empty (owed_first s.progress command)))) (sym owes_same ∙ ap is_empty free)
-  not_busy free out (Begins owes) never = both_ways _ (ap (λ t. t && is_empty (owed_at s.progress.due) && not (lacks_any s.progress)) (not_empty (owed_first s.progress command) owes)) (sym owes_same ∙ ap is_empty free)
-  not_busy free out (Scans lacks stays) never = both_ways _ (ap (λ t. is_empty (owed_first s.progress command) && is_empty (owed_at s.progress.due) && not t) lacks ∙ and-false (is_empty (owed_first s.progress command) && is_empty (owed_at s.progress.due))) (sym owes_same ∙ ap is_empty free)
+  all_free : owed_of facts command (waiting waits) ≡ [] → (is_empty (owed_first s.progress command) && is_empty (owed_after s.progress.due) && not (lacks_any s.progress)) ≡ true
+  all_free free = free_is command s.progress ∙ sym owes_same ∙ ap is_empty free
+
+  not_busy : owed_of facts command (waiting waits) ≡ [] → is_out s.progress ≡ true → Busy facts.due s.progress command → (is_absent (plan_at s.progress.opens s.progress.exec) ≡ true → is_quiet s.progress.due ≡ true → ⊥) → ⊥
+  not_busy free out (Due due) never = both_ways _ (ap (λ t. is_empty (owed_first s.progress command) && t && not (lacks_any s.progress)) due ∙ ap (λ t. t && not (lacks_any s.progress)) (and-false (is_empty (owed_first s.progress command)))) (all_free free)
+  not_busy free out (Begins owes) never = both_ways _ (ap (λ t. t && is_empty (owed_after s.progress.due) && not (lacks_any s.progress)) (not_empty (owed_first s.progress command) owes)) (all_free free)
+  not_busy free out (Scans lacks stays) never = both_ways _ (ap (λ t. is_empty (owed_first s.progress command) && is_empty (owed_after s.progress.due) && not t) lacks ∙ and-false (is_empty (owed_first s.progress command) && is_empty (owed_after s.progress.due))) (all_free free)
   not_busy free out (Acts busy) never = both_ways _ busy out
   not_busy free out (Sought absent quiet) never = never absent quiet
 
@@ -120,11 +141,11 @@ module _ (scenario : Scenario) (seen : List Entry) (s : Backend) (waits : Awaits
       by_plan p is of = cc of
 
   -- nor has it taken anything back where its last entry was a look
-  never_gone : (from : ℕ) → facts.last ≡ Some (events.Gone from) → is_quiet s.progress.due ≡ true → ⊥
-  never_gone from gone quiet = both_ways _ (ap nothing_waits gone) (waits.rests.holds.facts.quiet ∙ quiet)
+  never_gone : (from : ℕ) → facts.due ≡ dues.Gone from → is_quiet s.progress.due ≡ true → ⊥
+  never_gone from gone quiet = both_ways _ (ap is_quiet gone) ((ap (λ f. is_quiet f.due) waits.rests.holds.facts) ∙ quiet)
 
   -- the transaction isn't visible
-  pub hidden : Busy facts.last s.progress command → is_visible facts.running ≡ false
+  pub hidden : Busy facts.due s.progress command → is_visible facts.running ≡ false
   hidden busy = by_test (is_visible facts.running) refl
     where
       by_test : (t : Bool) → is_visible facts.running ≡ t → is_visible facts.running ≡ false
@@ -133,22 +154,22 @@ module _ (scenario : Scenario) (seen : List Entry) (s : Backend) (waits : Awaits
           not_busy (subst (λ x. owed_of facts x (waiting waits) ≡ []) one c.free) c.out busy (λ absent quiet. never_commits (first_at facts) (subst (λ x. end_of facts x (waiting waits) ≡ Commits (first_at facts)) one c.end) absent))
 
   -- and the last entry took nothing back
-  pub standing : Busy facts.last s.progress command → took_back facts.last ≡ false
-  standing busy = by_last facts.last refl
+  pub standing : Busy facts.due s.progress command → is_gone_due facts.due ≡ false
+  standing busy = by_due facts.due refl
     where
-      none_gone : (from : ℕ) → facts.last ≡ Some (events.Gone from) → IsTakenBack facts command (waiting waits) from → Busy facts.last s.progress command → ⊥
-      none_gone from is back (Due due) = both_ways _ due (ap is_empty (sym waits.rests.holds.facts.owed ∙ back.free))
-      none_gone from is back (Begins owes) = both_ways _ (ap (λ r. is_some r) (waits.rests.holds.facts.running ∙ ap running_of (starts_now s.progress command owes).none)) (waits.fits.taken from is).runs
-      none_gone from is back (Scans lacks stays) = both_ways _ stays (ap took_back is)
+      none_gone : (from : ℕ) → facts.due ≡ dues.Gone from → IsTakenBack facts command (waiting waits) from → Busy facts.due s.progress command → ⊥
+      none_gone from is back (Due due) = both_ways _ due (ap is_empty (sym (ap (λ f. owed_after f.due) waits.rests.holds.facts) ∙ back.free))
+      none_gone from is back (Begins owes) = both_ways _ (ap (λ r. is_some r) ((ap (λ f. f.running) waits.rests.holds.facts) ∙ (starts_now s.progress command owes).none)) (waits.fits.taken from is).runs
+      none_gone from is back (Scans lacks stays) = both_ways _ stays (ap is_gone_due is)
       none_gone from is back (Acts busy) = both_ways _ busy (waits.fits.taken from is).out
       none_gone from is back (Sought absent quiet) = never_gone from is quiet
 
-      by_last : (last : Option Event) → facts.last ≡ last → took_back last ≡ false
-      by_last (Some (events.Gone from)) is = absurd (none_gone from is (subst (λ o. elim o as (λ x. Type 0) [ Some c ↦ IsTakenBack facts c (waiting waits) from | None ↦ end_of_all facts ≡ TakesBack from ]) at (waits.fits.taken from is).end) busy)
-      by_last last is = refl
+      by_due : (due : DueNext) → facts.due ≡ due → is_gone_due due ≡ false
+      by_due (dues.Gone from) is = absurd (none_gone from is (subst (λ o. elim o as (λ x. Type 0) [ Some c ↦ IsTakenBack facts c (waiting waits) from | None ↦ end_of_all facts ≡ TakesBack from ]) at (waits.fits.taken from is).end) busy)
+      by_due due is = refl
 
   -- so it may ask for something
-  pub may_request : Busy facts.last s.progress command → MayRequest scenario seen s.progress.id (s.progress.finished + 1)
+  pub may_request : Busy facts.due s.progress command → MayRequest scenario seen s.progress.id (s.progress.finished + 1)
   may_request busy = record {
     backend = waits.rests.holds.number;
     number = omega (arith, waits.rests.holds.most, ap length waits.rests.holds.commands);
@@ -156,10 +177,10 @@ module _ (scenario : Scenario) (seen : List Entry) (s : Backend) (waits : Awaits
     alive = waits.keeps.life.alive;
     rises = waits.keeps.life.most;
     visible = hidden busy;
-    gone = standing busy;
+    gone = gone_same (last_event_of seen s.progress.id) ∙ standing busy;
   }
 
-  pub may_call : (event : Event) → Busy facts.last s.progress command → is_start event ≡ false → AllowsEvent seen s.progress.id (s.progress.finished + 1) event → MayCall scenario seen (entry_of s.progress.id (s.progress.finished + 1) event)
+  pub may_call : (event : Event) → Busy facts.due s.progress command → is_start event ≡ false → AllowsEvent seen s.progress.id (s.progress.finished + 1) event → MayCall scenario seen (entry_of s.progress.id (s.progress.finished + 1) event)
   may_call event busy other allows = record {
     backend = waits.rests.holds.number;
     number = omega (arith, waits.rests.holds.most, ap length waits.rests.holds.commands);

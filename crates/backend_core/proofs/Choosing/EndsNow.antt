@@ -29,6 +29,7 @@ use Rattle.backend_core.specs.Types.{Xid, Command, Event, Frame}
 use Rattle.backend_core.specs.Fits.{LevelsRise, OpensIn, outermost, first_at, RunsBlock, RunsFailed, RunsAt, RunsIn, RunsBy, RunsAfter, TransactionFits, Fits, IsTakenBack}
 use Rattle.backend_core.proofs.Fitting.NextTransaction.{some_first, block_open, place_there, well_admitted, runs_cut, blocks_out}
 use Rattle.backend_core.proofs.Fitting.Levels.{rise_within, rise_above, rise_take, IsWithin, within, none_outside}
+use Rattle.cacheless.specs.declared.progress.Due.TheVariants as dues
 
 -- the end of the running command, or after the last one that of what still runs
 abbrev pub end_by : Facts → Option Command → Session → End
@@ -39,7 +40,7 @@ end_by facts (Some command) s = end_of facts command s
 pub record EndsBy (facts : Facts) (o : Option Command) (s : Session) (event : Event) : Type 0 where
   pub going : s.ended ≡ false
   pub out : is_settled (outcome_of s.left) ≡ true
-  pub after : owed_after facts.last ≡ []
+  pub after : owed_after facts.due ≡ []
   pub comes : next_of_end facts (end_by facts o s) ≡ Some event
 
 pub is_end : (next : ℕ) (facts : Facts) (command : Command) (s : Session) (event : Event) → ends_command event ≡ true → MayPlay next facts command s event → IsEnd facts command s event
@@ -62,10 +63,10 @@ ends_by next facts (Some command) s looked frames told event ends fits plays = b
     end : IsEnd facts command s event
     end = is_end next facts command s event ends plays
 
-    free : owed_of facts command s ≡ [] → owed_after facts.last ≡ []
-    free none = (both_empty (owed_at_start facts command s) (owed_after facts.last) (both_empty (owed_at_start facts command s ++ owed_after facts.last) (map OwesScan (scans_owed facts s)) none).0).1
+    free : owed_of facts command s ≡ [] → owed_after facts.due ≡ []
+    free none = (both_empty (owed_at_start facts command s) (owed_after facts.due) (both_empty (owed_at_start facts command s ++ owed_after facts.due) (map OwesScan (scans_owed facts s)) none).0).1
 
-    by_end : (e : End) → elim e as (λ x. List Owes) [ TakesBack from ↦ owed_after facts.last | other ↦ owed_of facts command s ] ≡ [] → owed_after facts.last ≡ []
+    by_end : (e : End) → elim e as (λ x. List Owes) [ TakesBack from ↦ owed_after facts.due | other ↦ owed_of facts command s ] ≡ [] → owed_after facts.due ≡ []
     by_end Ends none = free none
     by_end (Commits first) none = free none
     by_end (TakesBack from) none = none
@@ -413,7 +414,7 @@ pub commit_end : (facts : Facts) (o : Option Command) (s : Session) (looked : Bo
 commit_end facts o s looked frames told fits visible = let c = fits.visible visible in ap (λ x. end_by facts x s) c.at ∙ c.end
 
 -- and what is taken back on its taking back
-pub back_end : (facts : Facts) (o : Option Command) (s : Session) (looked : Bool) (frames : List Frame) (told : Bool) (from : ℕ) → Fits facts o s looked frames told → facts.last ≡ Some (events.Gone from) → end_by facts o s ≡ TakesBack from
+pub back_end : (facts : Facts) (o : Option Command) (s : Session) (looked : Bool) (frames : List Frame) (told : Bool) (from : ℕ) → Fits facts o s looked frames told → facts.due ≡ dues.Gone from → end_by facts o s ≡ TakesBack from
 back_end facts o s looked frames told from fits gone = by_command o (fits.taken from gone).end
   where
     by_command : (x : Option Command) → elim x as (λ y. Type 0) [ Some c ↦ IsTakenBack facts c s from | None ↦ end_of_all facts ≡ TakesBack from ] → end_by facts x s ≡ TakesBack from

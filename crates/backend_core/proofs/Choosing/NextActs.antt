@@ -19,8 +19,9 @@ use Rattle.cacheless.specs.May.{has_failed, names_relation, is_lock_at, is_first
 use Rattle.cacheless.specs.OpenedReads.{ReadsOpened}
 use Rattle.cacheless.specs.Session.{Badly, outcome_of}
 use Rattle.cacheless.specs.Silently.{gives_at, gives_next, IsAtRest, looks_up_at, has_accepted_at}
-use Rattle.cacheless.specs.State.{kept_at, is_kept, row_sought, builds_missing, act_missing, owed_at, owed_first}
-use Rattle.cacheless.proofs.Same.{lacks_opened_is}
+use Rattle.cacheless.specs.State.{facts_at, work_at, kept_at, is_kept, rows_kept, row_sought, builds_missing, act_missing, owed_after, owed_first}
+use Rattle.cacheless.proofs.Same.{free_is, next_is as next_as, lacks_opened_is}
+use Rattle.cacheless.proofs.WantedPlans.{first_up}
 use Rattle.cacheless.proofs.Plans.SilentActs.{empty_list}
 use Rattle.cacheless.proofs.Tests.{both_true, not_true}
 use Rattle.backend_core.specs.Types.{Oid, Mode, Kind, Row, Purpose, Command, Progress, Backend}
@@ -67,8 +68,8 @@ goes_on p act wants = ap (λ q. elim (outcome_of q) as (λ x. Bool) [ Badly ↦ 
 lacks_is : (p : Progress) (act : Act) (wants : Wants (plan_at p.opens p.exec) act) → lacks_opened (kept_at p) p.opened ≡ false → lacks_any p ≡ not (is_empty (act_missing p (Do act wants.rest)))
 lacks_is p act wants whole = λ i. not (goes_on p act wants i) && (whole i || not (is_empty (act_missing p (wants.is i))))
 
-next_is : (p : Progress) (act : Act) (wants : Wants (plan_at p.opens p.exec) act) (scan : Purpose) → is_next_of_act scan p (Do act wants.rest) ≡ true → is_next_at scan p ≡ true
-next_is p act wants scan is = (λ i. not (goes_on p act wants i) && (list_any (λ o. is_first_missing scan (kept_at p) o.kind o.rel) p.opened || is_next_of_act scan p (wants.is i)))
+next_is : (p : Progress) (act : Act) (wants : Wants (plan_at p.opens p.exec) act) (scan : Purpose) → is_next_of_act scan (kept_at p) (Do act wants.rest) ≡ true → is_next_at scan p ≡ true
+next_is p act wants scan is = sym (next_as scan p) ∙ (λ i. not (goes_on p act wants i) && (list_any (λ o. is_first_missing scan (kept_at p) o.kind o.rel) p.opened || is_next_of_act scan (kept_at p) (wants.is i)))
     ∙ ap (λ t. list_any (λ o. is_first_missing scan (kept_at p) o.kind o.rel) p.opened || t) is ∙ or-true (list_any (λ o. is_first_missing scan (kept_at p) o.kind o.rel) p.opened)
 
 -- a list lacks what is found of it
@@ -124,7 +125,7 @@ module _ (s : Backend) (command : Command) (still : IsAtRest s.progress) (free :
         free = free;
         lacks = lacks false has;
         next = next_is p (Lookup name mode) act (scans.RelName name) (first_of has);
-        turn = (bare, ap (is_next_of_act (scans.RelName name) p) act.is ∙ first_of has);
+        turn = (bare, ap (is_next_of_act (scans.RelName name) (kept_at p)) act.is ∙ first_of has);
       }
 
   -- the scan of a catalog cache
@@ -144,7 +145,7 @@ module _ (s : Backend) (command : Command) (still : IsAtRest s.progress) (free :
         free = free;
         lacks = lacks false is;
         next = next_is p (Search scan) act scan (ap (λ t. not t && same_scan scan scan) is ∙ same_scan-itself scan);
-        turn = (bare, ap (is_next_of_act scan p) act.is ∙ ap (λ t. not t && same_scan scan scan) is ∙ same_scan-itself scan);
+        turn = (bare, ap (is_next_of_act scan (kept_at p)) act.is ∙ ap (λ t. not t && same_scan scan scan) is ∙ same_scan-itself scan);
       }
 
   -- the first scan of a descriptor that is to be opened
@@ -154,7 +155,7 @@ module _ (s : Backend) (command : Command) (still : IsAtRest s.progress) (free :
     free = free;
     lacks = lacks_is p (Open rel kind) act whole ∙ ap not (found_lacks (λ d. not (is_kept (kept_at p) d)) (build_scans kind rel)) ∙ ap (λ f. not (not (is_some f))) is;
     next = next_is p (Open rel kind) act scan (ap (λ f. option_map_or (same_scan scan) f false) is ∙ same_scan-itself scan);
-    turn = (bare, ap (is_next_of_act scan p) act.is ∙ ap (λ f. option_map_or (same_scan scan) f false) is ∙ same_scan-itself scan);
+    turn = (bare, ap (is_next_of_act scan (kept_at p)) act.is ∙ ap (λ f. option_map_or (same_scan scan) f false) is ∙ same_scan-itself scan);
   }
     where
       act : Wants (plan_at p.opens p.exec) (Open rel kind)
@@ -248,7 +249,7 @@ module _ (s : Backend) (command : Command) (still : IsAtRest s.progress) (chosen
 
   -- a relation that is locked already ends the lookup
   pub locked_ends : (rel taken : Oid) → relation_named (row_sought s.progress name) ≡ Some rel → s.progress.taken ≡ Some taken → (taken.0 == rel.0) ≡ true → ⊥
-  locked_ends rel taken found took same = not_at_rest s.progress command (Lookup name mode) still free act owes (by_row (row_sought s.progress name) found)
+  locked_ends rel taken found took same = not_at_rest s.progress command (Lookup name mode) still free act owes (first_up (facts_at s.progress) (work_at s.progress) mode (rows_kept (kept_at s.progress) (scans.RelName name)) ∙ by_row (row_sought s.progress name) found)
     where
       has : list_any (λ lock. is_own taken mode lock && (lock.command == s.progress.finished + 1)) s.progress.locks.items ≡ true
       has = subst (TakesFit (s.progress.finished + 1) s.progress.locks.items (Some taken)) act.is (subst (λ o. TakesFit (s.progress.finished + 1) s.progress.locks.items o (plan_at s.progress.opens s.progress.exec)) took chosen.takes)
@@ -274,7 +275,7 @@ module _ (s : Backend) (command : Command) (still : IsAtRest s.progress) (chosen
 
       by_test : (t : Bool) → is_kept (kept_at s.progress) (scans.RelName name) ≡ t → t ≡ true
       by_test true is = refl
-      by_test false is = absurd (both_ways _ (not_true (lacks_any s.progress) (and_parts (is_empty (owed_first s.progress command) && is_empty (owed_at s.progress.due)) (not (lacks_any s.progress)) owes).1)
+      by_test false is = absurd (both_ways _ (not_true (lacks_any s.progress) (and_parts (is_empty (owed_first s.progress command) && is_empty (owed_after s.progress.due)) (not (lacks_any s.progress)) (free_is command s.progress ∙ owes)).1)
           (lacks_same ∙ ap (λ t. lacks_opened (kept_at s.progress) s.progress.opened || not t) is ∙ or-true (lacks_opened (kept_at s.progress) s.progress.opened)))
 
   unfound_next : relation_named (row_sought s.progress name) ≡ None → s.progress.taken ≡ None → is_unfound s.progress (plan_at s.progress.opens s.progress.exec) ≡ true
@@ -282,7 +283,7 @@ module _ (s : Backend) (command : Command) (still : IsAtRest s.progress) (chosen
 
   -- one that found no relation, and looked, ends
   pub accepted_ends : relation_named (row_sought s.progress name) ≡ None → s.progress.taken ≡ None → s.looked ≡ true → ⊥
-  accepted_ends none free_of looked = not_at_rest s.progress command (Lookup name mode) still free act owes (by_row (row_sought s.progress name) none)
+  accepted_ends none free_of looked = not_at_rest s.progress command (Lookup name mode) still free act owes (first_up (facts_at s.progress) (work_at s.progress) mode (rows_kept (kept_at s.progress) (scans.RelName name)) ∙ by_row (row_sought s.progress name) none)
     where
       accepted : has_accepted_at s.progress ≡ true
       accepted = chosen.accepts looked (unfound_next none free_of) free.due

@@ -13,7 +13,10 @@ use Rattle.ddl_effect.specs.Stages.{plan_at, want_of}
 use Rattle.ddl_effect.specs.declared.want.Want.TheVariants as wants
 use Rattle.history_model.specs.Changing.{is_empty}
 use Rattle.cacheless.specs.ActsDone.{reached, made_in, opening_by}
-use Rattle.cacheless.specs.Ends.{End, Commits, TakesBack}
+use Rattle.cacheless.specs.Ends.{End, Commits, TakesBack, next_of_end, end_left_in}
+use Rattle.cacheless.specs.Rule.{comes_next}
+use Rattle.cacheless.proofs.Resting.{over_is}
+use Rattle.cacheless.proofs.Same.{free_is}
 use Rattle.ddl_effect.specs.declared.want.Want.{Want}
 use Rattle.cacheless.specs.May.{owes_no_end, has_failed, is_first_missing, is_next_of_act, lacks_opened, lacks_any, owes_nothing, is_next_of_end, may_end_at}
 use Rattle.cacheless.specs.OnCourse.{Way, Begun, Wrote, Over, FollowsPlan, IsOnCourse, AllOnCourse}
@@ -21,7 +24,7 @@ use Rattle.cacheless.specs.OpenedReads.{ReadsOpened}
 use Rattle.cacheless.specs.Settled.{opened_by}
 use Rattle.cacheless.specs.Session.{held_before, plan_admitted}
 use Rattle.cacheless.specs.Silently.{is_ends, IsAtRest}
-use Rattle.cacheless.specs.State.{kept_at, is_kept, is_absent, is_quiet, act_missing, is_out, end_at, owed_at, owed_first}
+use Rattle.cacheless.specs.State.{facts_at, work_at, kept_at, is_kept, is_absent, is_quiet, act_missing, is_out, end_at, owed_after, owed_first}
 use Rattle.cacheless.specs.Suspects.{lacks}
 use Rattle.cacheless.proofs.Answers.OpenedReads.{reads_out, reads_first, reads_after}
 use Rattle.cacheless.proofs.Tests.{both_true, not_both, empty_is}
@@ -52,19 +55,19 @@ some_weaker None P Q all some = some
 some_weaker (Some event) P Q all some = all event some
 
 -- a command that owes no first look, and whose last entry asks for nothing
-pub free_of : (p : Progress) (command : Command) (owes : Bool) → slice_get p.commands p.finished ≡ Some command → owed_at p.due ≡ [] → not owes ≡ is_empty (owed_first p command) → owes ≡ false → IsFree p command
+pub free_of : (p : Progress) (command : Command) (owes : Bool) → slice_get p.commands p.finished ≡ Some command → owed_after p.due ≡ [] → not owes ≡ is_empty (owed_first p command) → owes ≡ false → IsFree p command
 free_of p command owes at due is none = record { at = at; due = due; first = empty_is (owed_first p command) (sym is ∙ ap not none) }
 
 -- in a command that has come out and owes nothing, at rest
 pub out_owes : (p : Progress) (command : Command) → IsFree p command → lacks_any p ≡ false → owes_nothing command p ≡ true
-out_owes p command free lacks = λ i. is_empty (free.first i) && is_empty (free.due i) && not (lacks i)
+out_owes p command free lacks = sym (free_is command p) ∙ (λ i. is_empty (free.first i) && is_empty (free.due i) && not (lacks i))
 
 -- its end is still to be made
 end_is : (p : Progress) (command : Command) (end : End) → IsAtRest p → IsFree p command → is_out p ≡ true → lacks_any p ≡ false → end_at p command ≡ end → (p.ended ≡ false) × (is_ends end ≡ false)
 end_is p command end still free out lacks is = by_tests p.ended (is_ends end) refl refl unfinished
   where
     unfinished : (is_out p && (p.ended || is_ends end) && owes_nothing command p) ≡ false
-    unfinished = ap (λ e. is_out p && (p.ended || is_ends e) && owes_nothing command p) (sym is) ∙ (still command free.at).1
+    unfinished = ap (λ e. is_out p && (p.ended || is_ends e) && owes_nothing command p) (sym is) ∙ ap (λ t. is_out p && t && owes_nothing command p) (sym (over_is (facts_at p) command (work_at p))) ∙ (still command free.at).1
 
     by_tests : (x y : Bool) → p.ended ≡ x → is_ends end ≡ y → (is_out p && (p.ended || is_ends end) && owes_nothing command p) ≡ false → (p.ended ≡ false) × (is_ends end ≡ false)
     by_tests false false a b none = (a, b)
@@ -95,9 +98,8 @@ once_more s command free again = record { command = command; free = free; finds 
 
 -- so the entry of its end may come
 may_now : (p : Progress) (command : Command) (event : Event) (end : End) → p.ended ≡ false → end_at p command ≡ end → owes_no_end command p end ≡ true → is_next_of_end p event end ≡ true → may_end_at command p event ≡ true
-may_now p command event end going is free comes = both_true (not p.ended && owes_no_end command p (end_at p command)) (is_next_of_end p event (end_at p command))
-    (both_true (not p.ended) (owes_no_end command p (end_at p command)) (ap not going) (ap (owes_no_end command p) is ∙ free))
-    (ap (is_next_of_end p event) is ∙ comes)
+may_now p command event end going is free comes = both_true (owes_no_end command p (end_at p command)) (comes_next (end_left_in (facts_at p) command (work_at p)) event) (ap (owes_no_end command p) is ∙ free)
+    (ap (λ t. comes_next (elim t as (λ x. Option Event) [ true ↦ None | false ↦ next_of_end (facts_at p) (end_at p command) ]) event) going ∙ ap (is_next_of_end p event) is ∙ comes)
 
 pub commits_next : (s : Backend) (command : Command) (next : Next) (first : ℕ) → IsAtRest s.progress → IsFree s.progress command → is_out s.progress ≡ true → WaitsForNone s command → accepts_again s ≡ false → end_at s.progress command ≡ Commits first → ComesOfCommit first s.progress next → IsNextOf s next
 commits_next s command next first still free out (inl lacks) accepted end comes = ends_next s next (some_weaker (end_event s.progress next) _ (EndsNext s) (λ event is. InCommand command free out (inl (out_owes s.progress command free lacks)) accepted
@@ -186,7 +188,7 @@ module _ (s : Backend) (command : Command) (f : Frame) (sound : IsChoiceSound s)
     command = command;
     free = free;
     lacks = λ i. not (goes i) && (lacking i || not (is_empty (act_missing s.progress (plan_at s.progress.opens s.progress.exec))));
-    next = λ i. not (goes i) && (first i || is_next_of_act scan s.progress (plan_at s.progress.opens s.progress.exec));
+    next = λ i. not (goes i) && (first i || is_next_of_act scan (kept_at s.progress) (plan_at s.progress.opens s.progress.exec));
     turn = ap (λ o. elim o as (λ x. Option Purpose) [ Some g ↦ find (λ d. not (is_kept (kept_at s.progress) d)) (build_scans g.opening.kind g.opening.rel) | None ↦ None ]) on ∙ is;
   }
     where

@@ -124,7 +124,7 @@ module _ (scenario : Scenario) (seen : List Entry) (was : Backend) (awaits : Awa
     rest = rest;
     count = held.count;
     is = says part (subst (λ m. IsBackend m b) (sym is.backends) held.number) (is.own ∙ ap (take n) (sym held.commands)) ∙ ap (λ l. Some (settled facts l (session_at now rest))) (sym (left_none now.commands n none));
-    facts = let f = held.facts in record { running = f.running; lists = f.lists; owed = f.owed; quiet = f.quiet; usable = f.usable; kept = f.kept };
+    facts = held.facts;
     counts = held.counts;
     order = held.order;
     sought = λ absent. absurd (cc absent);

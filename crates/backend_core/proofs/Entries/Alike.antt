@@ -1,19 +1,19 @@
 -- A backend whose locks have more room, or whose plan is held in another form, agrees as before.
-use Rattle.std.proofs.Common.{◌≡◌, ◌∙◌, ◌&&◌, ◌||◌, ℕ, Bool, true, false, not, Option, Some, None, List, refl, sym, ap, subst, take, drop, is_some}
+use Rattle.std.proofs.Common.{◌≡◌, ◌∙◌, ◌&&◌, ℕ, Bool, true, false, Option, Some, None, List, refl, sym, ap, subst, take, drop, is_some}
 use Rattle.std.proofs.Math.Bool.{and-false}
 use Rattle.lock_modes.specs.Rooms.{Roomy}
 use Rattle.ddl_effect.specs.Commands.{writing}
 use Rattle.ddl_effect.specs.Stages.{plan_at, plan_again}
 use Rattle.ddl_effect.specs.declared.exec.Exec.TheVariants as stages
-use Rattle.history_model.specs.Changing.{is_empty}
 use Rattle.cacheless.specs.Facts.{facts_of}
 use Rattle.cacheless.specs.Holds.{Holds}
-use Rattle.cacheless.specs.May.{lacks_opened, owes_nothing}
+use Rattle.cacheless.specs.May.{owes_nothing}
 use Rattle.cacheless.specs.Puts.{PutsOpened}
-use Rattle.cacheless.specs.Session.{Badly, outcome_of, is_settled}
+use Rattle.cacheless.specs.Session.{outcome_of, is_settled}
 use Rattle.cacheless.specs.Settled.{settled}
 use Rattle.cacheless.specs.Silently.{IsAtRest, is_to_answer_at}
-use Rattle.cacheless.specs.State.{kept_at, is_kept, owed_at, owed_first, act_missing, is_absent, IsLockedIn, Rest, session_at}
+use Rattle.cacheless.specs.State.{facts_at, work_at, kept_at, is_kept, is_absent, IsLockedIn, Rest, session_at}
+use Rattle.cacheless.specs.Owed.{is_free}
 use Rattle.cacheless.specs.Suspects.{AreKnown}
 use Rattle.cacheless.proofs.Lacking.{with_known}
 use Rattle.backend_core.specs.Types.{Oid, Mode, Command, Draft, Exec, OwnLock, Scenario, Entry, Progress, Backend}
@@ -37,14 +37,7 @@ module _ (scenario : Scenario) (seen : List Entry) (s : Backend) (exec : Exec) (
     rest = h.rest;
     count = h.count;
     is = h.is ∙ ap (λ x. Some (settled (facts_of seen s.progress.id) (drop s.progress.finished s.progress.commands) x)) (sym (session_same h.rest));
-    facts = record {
-      running = h.facts.running;
-      lists = h.facts.lists;
-      owed = h.facts.owed;
-      quiet = h.facts.quiet;
-      usable = h.facts.usable;
-      kept = h.facts.kept;
-    };
+    facts = h.facts;
     counts = h.counts;
     order = h.order;
     sought = λ is. h.sought (ap is_absent (sym plan) ∙ is) ∙ again is;
@@ -105,6 +98,6 @@ pub drafted_write : (s : Progress) (draft : Draft) (known : AreKnown (is_kept (k
 drafted_write s draft known plan next = record {
   command = next.command;
   free = record { at = next.free.at; due = next.free.due; first = next.free.first };
-  owes = subst (λ p. (is_empty (owed_first s next.command) && is_empty (owed_at s.due) && not (not (elim (outcome_of p) as (λ x. Bool) [ Badly ↦ true | outcome ↦ false ]) && (lacks_opened (kept_at s) s.opened || not (is_empty (act_missing s p))))) ≡ true) plan next.owes;
+  owes = subst (λ p. is_free (facts_at s) next.command (record (work_at s) { left = p }) ≡ true) plan next.owes;
   wants = refl;
 }

@@ -10,27 +10,30 @@ use Rattle.history_model.specs.MayFollow.{FollowsVisible, FollowsGone}
 use Rattle.history_model.specs.Sent.{unsent_in, unsent_of}
 use Rattle.history_model.specs.Transactions.{begun, has_xid, is_visible}
 use Rattle.txn_blocks.specs.declared.transaction.RunningTransaction.{RunningTransaction as Running}
-use Rattle.seg_calls.specs.Calls.{entry_of, ArePublishedNext, MayCall, Appends, took_back}
+use Rattle.seg_calls.specs.Calls.{entry_of, ArePublishedNext, MayCall, Appends}
 use Rattle.txn_blocks.specs.declared.transaction.RunningTransaction.{RunningTransaction}
 use Rattle.cacheless.specs.Ends.{Ends, Commits, TakesBack}
-use Rattle.cacheless.specs.Facts.{Facts, facts_of}
+use Rattle.cacheless.specs.Facts.{Facts, due_last, due_after, facts_of}
 use Rattle.cacheless.specs.Holds.{HasEntered}
 use Rattle.cacheless.specs.OnCourse.{AllOnCourse}
 use Rattle.cacheless.specs.Owed.{Owes, owed_after, owed_of}
 use Rattle.cacheless.specs.Plays.{MayPlayIn}
 use Rattle.cacheless.specs.Session.{Session, Well, outcome_of}
 use Rattle.cacheless.specs.Sessions.{ends_command}
-use Rattle.cacheless.specs.State.{kept_at, running_of, lists_at, unsent_at}
+use Rattle.cacheless.specs.State.{kept_at, lists_at, unsent_at}
 use Rattle.cacheless.proofs.Allowed.Releases.{OwesNoScan, owes_no_scan}
 use Rattle.backend_core.specs.Types.{Xid, Command, Scenario, Entry, Event, Message, OwnLock, Progress, Backend, Frame}
 use Rattle.backend_core.specs.Agrees.{IsPlayed, command_at, AwaitsEntry}
-use Rattle.backend_core.specs.Fits.{Fits}
+use Rattle.backend_core.specs.Fits.{is_gone_due, Fits}
 use Rattle.backend_core.specs.Steps.{EndsNext, Enters}
 use Rattle.backend_core.proofs.Entries.EndEntries.{end_plays, end_now, end_call, end_enters}
 use Rattle.backend_core.proofs.Choosing.EndsNow.{end_by, is_end, EndsBy, IsCommit, ShowsNow, PublishesNow, comes_now, back_end}
 use Rattle.backend_core.proofs.Fitting.FitsEnds.{later_at, GoesOn, fits_ending, commits_on, write_from_first, goes_first, begun_xid, written_runs}
 use Rattle.backend_core.proofs.Own.{waiting}
 use Rattle.backend_core.proofs.Fitting.Rebuilding.{same_fits}
+use Rattle.history_model.specs.Lives.{last_event_of}
+use Rattle.cacheless.specs.declared.progress.Due.{Due as DueNext}
+use Rattle.cacheless.specs.declared.progress.Due.TheVariants as dues
 
 -- the Xid of a transaction that has written
 xid_own : (own : Option Running) (xid : ℕ) → option_map_or (λ t. is_some t.xid) own false ≡ true → xid ≡ option_map_or (λ t. option_map_or (λ (x : Xid). x.0) t.xid 0) own 0 → has_xid xid own ≡ true
@@ -42,19 +45,16 @@ xid_own (Some t) xid some is = by_xid t.xid some is
     by_xid (Some x) there at = eq-eqb x.0 xid (sym at)
 
 -- where a commit comes next nothing was taken back
-untaken : (facts : Facts) (o : Option Command) (s : Session) (looked : Bool) (frames : List Frame) (told : Bool) → Fits facts o s looked frames told → IsCommit facts (end_by facts o s) → (from : ℕ) → facts.last ≡ Some (events.Gone from) → ⊥
+untaken : (facts : Facts) (o : Option Command) (s : Session) (looked : Bool) (frames : List Frame) (told : Bool) → Fits facts o s looked frames told → IsCommit facts (end_by facts o s) → (from : ℕ) → facts.due ≡ dues.Gone from → ⊥
 untaken facts o s looked frames told fits commit from is = let no : TakesBack from ≡ Commits commit.first = sym (back_end facts o s looked frames told from fits is) ∙ commit.is in cc no
 
-not_back : (last : Option Event) → ((from : ℕ) → last ≡ Some (events.Gone from) → ⊥) → took_back last ≡ false
-not_back (Some (events.Gone from)) never = absurd (never from refl)
-not_back last never = refl
+not_back : (due : DueNext) → ((from : ℕ) → due ≡ dues.Gone from → ⊥) → is_gone_due due ≡ false
+not_back (dues.Gone from) never = absurd (never from refl)
+not_back due never = refl
 
-none_gone : (facts : Facts) (o : Option Command) (s : Session) (looked : Bool) (frames : List Frame) (told : Bool) (event : Event) → Fits facts o s looked frames told → IsCommit facts (end_by facts o s) → FollowsGone facts.last event
-none_gone facts o s looked frames told event fits commit = by_last facts.last refl
-  where
-    by_last : (last : Option Event) → facts.last ≡ last → FollowsGone last event
-    by_last (Some (events.Gone from)) is = absurd (untaken facts o s looked frames told fits commit from is)
-    by_last last is = tt
+none_gone : (facts : Facts) (o : Option Command) (s : Session) (looked : Bool) (frames : List Frame) (told : Bool) (last : Option Event) (event : Event) → Fits facts o s looked frames told → IsCommit facts (end_by facts o s) → facts.due ≡ due_last last → FollowsGone last event
+none_gone facts o s looked frames told (Some (events.Gone from)) event fits commit is = absurd (untaken facts o s looked frames told fits commit from is)
+none_gone facts o s looked frames told last event fits commit is = tt
 
 module _ (facts : Facts) (o : Option Command) (s : Session) (looked : Bool) (frames : List Frame) (told : Bool) (next : ℕ) (event : Event) (ends : ends_command event ≡ true) (fits : Fits facts o s looked frames told) (plays : MayPlayIn next facts o s event) (commit : IsCommit facts (end_by facts o s)) where
   -- its command owes no scan
@@ -67,12 +67,12 @@ module _ (facts : Facts) (o : Option Command) (s : Session) (looked : Bool) (fra
           all_back : (r : Option Running) → option_map_or (λ t. TakesBack t.first) r Ends ≡ Commits own.first → ⊥
           all_back None is = cc is
           all_back (Some t) is = cc is
-      by_command (Some command) may own = owes_no_scan facts command s well (sym (ap (λ e. elim e as (λ x. List Owes) [ TakesBack from ↦ owed_after facts.last | end ↦ owed_of facts command s ]) own.is) ∙ (is_end next facts command s event ends may).0)
+      by_command (Some command) may own = owes_no_scan facts command s well (sym (ap (λ e. elim e as (λ x. List Owes) [ TakesBack from ↦ owed_after facts.due | end ↦ owed_of facts command s ]) own.is) ∙ (is_end next facts command s event ends may).0)
 
 -- it may be entered
 pub commit_call : (scenario : Scenario) (seen : List Entry) (s : Backend) (xid : Xid) → AwaitsEntry scenario seen s → EndsNext s (events.Visible xid) → MayCall scenario seen (entry_of s.progress.id (s.progress.finished + 1) (events.Visible xid))
 commit_call scenario seen s xid waits next = end_call scenario seen s waits (events.Visible xid) refl next (subst (λ v. FollowsVisible v (events.Visible xid)) (sym now.hidden) tt)
-    (none_gone facts (command_at s) (waiting waits) s.looked s.frames s.told (events.Visible xid) waits.fits now.commit)
+    (none_gone facts (command_at s) (waiting waits) s.looked s.frames s.told (last_event_of seen s.progress.id) (events.Visible xid) waits.fits now.commit refl)
     (xid_own facts.running xid.0 (waits.fits.written (write_from_first now.commit.first facts.lists now.commit.written)) now.xid_is, write_from_first now.commit.first facts.lists now.commit.written)
   where
     facts : Facts
@@ -82,13 +82,9 @@ commit_call scenario seen s xid waits next = end_call scenario seen s waits (eve
     now = comes_now facts (end_by facts (command_at s) (waiting waits)) (events.Visible xid) (end_now scenario seen s waits (events.Visible xid) refl next).comes
 
 -- what is published next
-unsent_own : (lists : List Written) (own : Option RunningTransaction) → is_some own ≡ true → unsent_in lists (running_of own) ≡ unsent_after (option_map_or (λ t. t.published) own 0) lists
+unsent_own : (lists : List Written) (own : Option RunningTransaction) → is_some own ≡ true → unsent_in lists own ≡ unsent_after (option_map_or (λ t. t.published) own 0) lists
 unsent_own lists None some = absurd (cc some)
 unsent_own lists (Some t) some = refl
-
-runs_own : (own : Option RunningTransaction) → is_some (running_of own) ≡ true → is_some own ≡ true
-runs_own None some = absurd (cc some)
-runs_own (Some t) some = refl
 
 visible_runs : (own : Option Running) → is_visible own ≡ true → is_some own ≡ true
 visible_runs None is = absurd (cc is)
@@ -110,13 +106,13 @@ module _ (scenario : Scenario) (seen : List Entry) (s : Backend) (messages : Lis
   publish_now = comes_now facts (end_by facts (command_at s) (waiting waits)) (events.Publish (length messages)) (end_now scenario seen s waits (events.Publish (length messages)) refl publish_next).comes
 
   unsent_same : unsent_of seen s.progress.id ≡ unsent_at s.progress
-  unsent_same = ap (unsent_in facts.lists) waits.rests.holds.facts.running ∙ ap (λ l. unsent_in l (running_of s.progress.running)) waits.rests.holds.facts.lists
-      ∙ unsent_own (lists_at s.progress) s.progress.running (runs_own s.progress.running (ap (λ r. is_some r) (sym waits.rests.holds.facts.running) ∙ visible_runs facts.running publish_now.visible))
+  unsent_same = ap (unsent_in facts.lists) (ap (λ f. f.running) waits.rests.holds.facts) ∙ ap (λ l. unsent_in l s.progress.running) (ap (λ f. f.lists) waits.rests.holds.facts)
+      ∙ unsent_own (lists_at s.progress) s.progress.running (ap (λ r. is_some r) (sym (ap (λ f. f.running) waits.rests.holds.facts)) ∙ visible_runs facts.running publish_now.visible)
 
   -- it may be entered
   pub publish_call : MayCall scenario seen (entry_of s.progress.id (s.progress.finished + 1) (events.Publish (length messages)))
   publish_call = end_call scenario seen s waits (events.Publish (length messages)) refl publish_next (shown (is_visible facts.running) (length messages))
-      (none_gone facts (command_at s) (waiting waits) s.looked s.frames s.told (events.Publish (length messages)) waits.fits publish_now.commit) (publish_now.visible, publish_now.some, publish_now.most)
+      (none_gone facts (command_at s) (waiting waits) s.looked s.frames s.told (last_event_of seen s.progress.id) (events.Publish (length messages)) waits.fits publish_now.commit refl) (publish_now.visible, publish_now.some, publish_now.most)
 
   -- and these are the next
   pub publish_these : ArePublishedNext seen s.progress.id messages
@@ -130,11 +126,11 @@ module _ (scenario : Scenario) (old : List Entry) (was : Backend) (event : Event
 
   -- the facts after it
   abbrev after_commit : Facts
-  after_commit = record before { last = Some event; running = Some (record { first = (begun (was.progress.finished + 1) before.running).first; xid = (begun (was.progress.finished + 1) before.running).xid; published = published; visible = visible }) }
+  after_commit = record before { due = due_after event; running = Some (record { first = (begun (was.progress.finished + 1) before.running).first; xid = (begun (was.progress.finished + 1) before.running).xid; published = published; visible = visible }) }
 
-  commit_fits : (locks : List OwnLock) (at : ℕ) → owed_after (Some event) ≡ [] → ((from : ℕ) → Some event ≡ Some (events.Gone from) → ⊥) → Fits after_commit (command_at was) (later_at (waiting waits) locks at) was.looked was.frames was.told
+  commit_fits : (locks : List OwnLock) (at : ℕ) → owed_after (due_after event) ≡ [] → ((from : ℕ) → due_after event ≡ dues.Gone from → ⊥) → Fits after_commit (command_at was) (later_at (waiting waits) locks at) was.looked was.frames was.told
   commit_fits locks at free standing = fits_ending before after_commit (command_at was) (waiting waits) was.looked was.frames was.told event locks at waits.fits now goes
-      (same_fits before after_commit (command_at was) (waiting waits) (later_at (waiting waits) locks at) was.frames refl refl refl refl (not_back (Some event) standing ∙ sym (not_back before.last (untaken before (command_at was) (waiting waits) was.looked was.frames was.told waits.fits commit))) waits.fits.rebuilds) (λ scan none. none)
+      (same_fits before after_commit (command_at was) (waiting waits) (later_at (waiting waits) locks at) was.frames refl refl refl refl (not_back (due_after event) standing ∙ sym (not_back before.due (untaken before (command_at was) (waiting waits) was.looked was.frames was.told waits.fits commit))) waits.fits.rebuilds) (λ scan none. none)
       (λ is. begun_xid (was.progress.finished + 1) before.running (waits.fits.written is))
       (λ is. commits_on before after_commit (command_at was) (waiting waits) was.looked was.frames was.told event locks at waits.fits now goes commit refl
       (commit_free before (command_at was) (waiting waits) was.looked was.frames was.told (next_oid old) event ends waits.fits (end_plays scenario old was waits event ends next) commit))

@@ -1,6 +1,7 @@
 -- The entries of an end of a backend that waits.
 use Rattle.std.proofs.Common.{◌≡◌, ◌≢◌, ◌≤◌, ◌+◌, ◌∙◌, ◌&&◌, inl, inr, ℕ, Bool, true, false, Option, Some, None, List, [], refl, sym, ap, subst, length, drop, arith}
 use Rattle.std.specs.Option.{option_map_or}
+use Rattle.std.proofs.lemmas.Bool.{both_ways}
 use Rattle.event_kinds.specs.declared.entry.Event.TheVariants as events
 use Rattle.history_model.specs.Drawn.{next_oid}
 use Rattle.history_model.specs.Lapped.{FetchesFrom}
@@ -14,12 +15,13 @@ use Rattle.seg_calls.specs.Calls.{entry_of, MayCall, Appends}
 use Rattle.txn_blocks.specs.declared.transaction.RunningTransaction.{RunningTransaction}
 use Rattle.cacheless.specs.Facts.{facts_of, facts_by}
 use Rattle.cacheless.specs.Holds.{HasEntered, with_own}
-use Rattle.cacheless.specs.May.{is_next_of_back, is_next_of_end, may_end_at, may_play_at, may_last_at, may_play_now}
+use Rattle.cacheless.specs.Rule.{same_end, may_come}
+use Rattle.cacheless.specs.May.{is_next_of_end, may_end_at, may_play_at, may_last_at, may_play_now}
 use Rattle.cacheless.specs.OnCourse.{AllOnCourse}
 use Rattle.cacheless.specs.Plays.{MayPlayIn}
 use Rattle.cacheless.specs.Schedule.{LooksTruly}
 use Rattle.cacheless.specs.Sessions.{ends_command, entered}
-use Rattle.cacheless.specs.State.{owed_at, has_write_since, end_of_running}
+use Rattle.cacheless.specs.State.{facts_at, work_at, owed_after, has_write_since, end_of_running}
 use Rattle.cacheless.proofs.Deciding.{holds_decides}
 use Rattle.cacheless.proofs.Tests.{both_true}
 use Rattle.cacheless.specs.Awaiting.{KeepsScans, answer_after}
@@ -42,27 +44,21 @@ may_end next command p (events.Gone from) ends may = may
 may_end next command p (events.Release from) ends may = may
 may_end next command p event ends may = absurd (cc ends)
 
-may_last : (p : Progress) (event : Event) → ends_command event ≡ true → owed_at p.due ≡ [] → is_next_of_end p event (end_of_running p.running) ≡ true → may_last_at p event ≡ true
-may_last p event ends free next = by_event event ends next
+-- what still runs after the last command is taken back
+no_back : (p : Progress) (event : Event) → ((n : ℕ) → same_end (events.Gone n) event ≡ false) → ((n : ℕ) → same_end (events.Release n) event ≡ false) → (own : Option RunningTransaction) → is_next_of_end p event (end_of_running own) ≡ true → ⊥
+no_back p event gone release None is = cc is
+no_back p event gone release (Some t) is = by_write (has_write_since t.first p) is
   where
-    by_own : (e : Event) (own : Option RunningTransaction) → is_next_of_end p e (end_of_running own) ≡ true → option_map_or (λ (t : RunningTransaction). is_empty (owed_at p.due) && is_next_of_back t.first p e) own false ≡ true
-    by_own e None is = absurd (cc is)
-    by_own e (Some t) is = both_true (is_empty (owed_at p.due)) (is_next_of_back t.first p e) (ap (λ l. is_empty l) free) is
+    by_write : (w : Bool) → same_end (elim w as (λ x. Event) [ true ↦ events.Gone t.first | false ↦ events.Release t.first ]) event ≡ true → ⊥
+    by_write true same = both_ways _ (gone t.first) same
+    by_write false same = both_ways _ (release t.first) same
 
-    never : (e : Event) (own : Option RunningTransaction) → ((from : ℕ) → is_next_of_back from p e ≡ true → ⊥) → is_next_of_end p e (end_of_running own) ≡ true → ⊥
-    never e None none is = cc is
-    never e (Some t) none is = none t.first is
-
-    no_back : (t : Bool) → elim t as (λ x. Bool) [ true ↦ false | false ↦ false ] ≡ true → ⊥
-    no_back true is = cc is
-    no_back false is = cc is
-
-    by_event : (e : Event) → ends_command e ≡ true → is_next_of_end p e (end_of_running p.running) ≡ true → may_last_at p e ≡ true
-    by_event (events.Gone from) last is = by_own (events.Gone from) p.running is
-    by_event (events.Release from) last is = by_own (events.Release from) p.running is
-    by_event (events.Visible xid) last is = absurd (never (events.Visible xid) p.running (λ from. no_back (has_write_since from p)) is)
-    by_event (events.Publish count) last is = absurd (never (events.Publish count) p.running (λ from. no_back (has_write_since from p)) is)
-    by_event e last is = absurd (cc last)
+may_last : (p : Progress) (event : Event) → ends_command event ≡ true → owed_after p.due ≡ [] → is_next_of_end p event (end_of_running p.running) ≡ true → may_last_at p event ≡ true
+may_last p (events.Gone from) ends free next = both_true (is_empty (owed_after p.due)) (is_next_of_end p (events.Gone from) (end_of_running p.running)) (ap (λ l. is_empty l) free) next
+may_last p (events.Release from) ends free next = both_true (is_empty (owed_after p.due)) (is_next_of_end p (events.Release from) (end_of_running p.running)) (ap (λ l. is_empty l) free) next
+may_last p (events.Visible xid) ends free next = absurd (no_back p (events.Visible xid) (λ n. refl) (λ n. refl) p.running next)
+may_last p (events.Publish count) ends free next = absurd (no_back p (events.Publish count) (λ n. refl) (λ n. refl) p.running next)
+may_last p event ends free next = absurd (cc ends)
 
 -- what is so of each event of an end
 record IsPlain (scenario : Scenario) (old : List Entry) (b c : ℕ) (event : Event) : Type 0 where
@@ -85,9 +81,9 @@ module _ (scenario : Scenario) (seen : List Entry) (s : Backend) (waits : Awaits
   may_now = by_case next
     where
       by_case : EndsNext s event → may_play_now (next_oid seen) s.progress event ≡ true
-      by_case (InCommand command free out owes accepted may) = ap (λ o. elim o as (λ x. Bool) [ Some c ↦ may_play_at (next_oid seen) c s.progress event | None ↦ may_last_at s.progress event ]) free.at ∙ may_end (next_oid seen) command s.progress event ends may
-      by_case (AfterAll past comes) = ap (λ o. elim o as (λ x. Bool) [ Some c ↦ may_play_at (next_oid seen) c s.progress event | None ↦ may_last_at s.progress event ]) past
-          ∙ may_last s.progress event ends (sym waits.rests.holds.facts.owed ∙ (waits.fits.past past).free) comes
+      by_case (InCommand command free out owes accepted may) = ap (λ o. may_come (next_oid seen) (facts_at s.progress) o (work_at s.progress) event) free.at ∙ may_end (next_oid seen) command s.progress event ends may
+      by_case (AfterAll past comes) = ap (λ o. may_come (next_oid seen) (facts_at s.progress) o (work_at s.progress) event) past
+          ∙ may_last s.progress event ends (sym (ap (λ f. owed_after f.due) waits.rests.holds.facts) ∙ (waits.fits.past past).free) comes
 
   -- nothing is rebuilt
   pub end_bare : s.frames ≡ []

@@ -12,8 +12,9 @@ use Rattle.history_model.specs.Lapped.{FetchesFrom}
 use Rattle.history_model.specs.Lives.{life_by}
 use Rattle.history_model.specs.declared.life.Life.TheVariants.{Alive}
 use Rattle.history_model.specs.Transactions.{begun}
-use Rattle.seg_calls.specs.Calls.{entry_of, Appends, took_back}
-use Rattle.cacheless.specs.Facts.{Facts, facts_of, facts_by}
+use Rattle.seg_calls.specs.Calls.{entry_of, Appends}
+use Rattle.cacheless.specs.Facts.{Facts, due_after, facts_of, facts_by}
+use Rattle.cacheless.specs.declared.progress.Due.TheVariants as dues
 use Rattle.cacheless.specs.Holds.{HasEntered, with_own}
 use Rattle.cacheless.specs.OnCourse.{AllOnCourse}
 use Rattle.cacheless.specs.Owed.{owed_after, started_in}
@@ -25,7 +26,7 @@ use Rattle.cacheless.specs.State.{kept_at, clash_event, error_of, one_if}
 use Rattle.cacheless.specs.Awaiting.{KeepsScans, answer_after}
 use Rattle.backend_core.specs.Types.{Oid, Mode, Command, CommandError, Scenario, Entry, Event, Progress, Backend}
 use Rattle.backend_core.specs.Agrees.{IsPlayed, command_at, AwaitsEntry}
-use Rattle.backend_core.specs.Fits.{looks_due, LooksFit, TakesFit, FramesFit, is_lost}
+use Rattle.backend_core.specs.Fits.{looks_due, LooksFit, TakesFit, FramesFit, is_lost, is_gone_due}
 use Rattle.backend_core.specs.Steps.{Enters}
 use Rattle.backend_core.proofs.Choosing.Chosen.{Acts}
 use Rattle.backend_core.proofs.Fitting.Entered.{fits_at}
@@ -54,8 +55,8 @@ pub record ShowsError (scenario : Scenario) (old : List Entry) (was : Backend) (
   unanswered : (answer : Option (List ℕ)) → answer_after event answer ≡ None
   running : (later_of old was event).running ≡ Some (begun (was.progress.finished + 1) (facts_of old was.progress.id).running)
   lists : (later_of old was event).lists ≡ (facts_of old was.progress.id).lists
-  last : (from : ℕ) → Some event ≡ Some (events.Gone from) → ⊥
-  owes : owed_after (Some event) ≡ []
+  last : (from : ℕ) → due_after event ≡ dues.Gone from → ⊥
+  owes : owed_after (due_after event) ≡ []
   blocks : (now_of old was event s).blocks ≡ s.blocks
   opened : (now_of old was event s).opened ≡ s.opened
   opens : (now_of old was event s).opens ≡ s.opens
@@ -77,7 +78,7 @@ pub record IsActing (scenario : Scenario) (old : List Entry) (was : Backend) (co
   pub at : command_at was ≡ Some command
   pub unsettled : is_settled (outcome_of (plan_at was.progress.opens was.progress.exec)) ≡ false
   pub runs : is_some (facts_of old was.progress.id).running ≡ true
-  pub owed : owed_after (facts_of old was.progress.id).last ≡ []
+  pub owed : owed_after (facts_of old was.progress.id).due ≡ []
   pub bare : was.frames ≡ []
 
 -- after it the backend agrees
@@ -106,7 +107,7 @@ failed_enters scenario old new had has was p event error command waits played co
     same = shows.running ∙ runs_on (was.progress.finished + 1) (facts_of old was.progress.id).running acting.runs
 
     rebuilds : FramesFit later (command_at was) now was.frames
-    rebuilds = subst (FramesFit later (command_at was) now) (sym acting.bare) (bare_fits later (command_at was) now (λ keeps. absurd (both_ways _ (ap (λ p. not (took_back later.last) && not (is_lost now) && not (has_error p)) shows.left ∙ and-false (not (took_back later.last) && not (is_lost now))) keeps)))
+    rebuilds = subst (FramesFit later (command_at was) now) (sym acting.bare) (bare_fits later (command_at was) now (λ keeps. absurd (both_ways _ (ap (λ p. not (is_gone_due later.due) && not (is_lost now) && not (has_error p)) shows.left ∙ and-false (not (is_gone_due later.due) && not (is_lost now))) keeps)))
 
     before : LooksFit (facts_of old was.progress.id) (waiting waits) was.looked was.frames was.told
     before = waits.fits.looks

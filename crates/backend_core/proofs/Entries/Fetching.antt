@@ -17,22 +17,25 @@ use Rattle.history_model.specs.declared.life.Life.TheVariants.{Alive}
 use Rattle.history_model.specs.Log.{log_of, position_of, fetched_by}
 use Rattle.history_model.specs.Transactions.{begun, is_visible}
 use Rattle.history_model.specs.Changing.{is_empty}
-use Rattle.seg_calls.specs.Calls.{entry_of, due_to, MayCall, Appends, Fetches, took_back}
+use Rattle.seg_calls.specs.Calls.{entry_of, due_to, MayCall, Appends, Fetches}
+use Rattle.cacheless.specs.declared.progress.Due.{Due as DueNext}
 use Rattle.cacheless.specs.declared.progress.Due.TheVariants as dues
-use Rattle.cacheless.specs.Facts.{Facts, facts_of, facts_by}
+use Rattle.cacheless.specs.Facts.{Facts, due_after, due_fetched, facts_of, facts_by}
 use Rattle.cacheless.specs.Holds.{HasEntered, with_own}
 use Rattle.cacheless.specs.OnCourse.{is_absent, AllOnCourse}
-use Rattle.cacheless.specs.Owed.{Owes, OwesFetch, OwesLook, owed_after, owes_build_scan, started_in, unusable, builds_owed, act_owed}
+use Rattle.cacheless.specs.Owed.{Owes, OwesFetch, OwesLook, owed_after, owed_last, counts_full, scans_owed, started_in, unusable, builds_owed, act_owed}
 use Rattle.cacheless.specs.Plays.{MayPlayIn}
 use Rattle.cacheless.specs.Session.{Session, Tally, number_of, Outcome, Well, Badly, Unsettled, outcome_of}
 use Rattle.cacheless.specs.Sessions.{resumed, placed_at, entered}
-use Rattle.cacheless.specs.State.{owed_at, one_if, kept_at, nothing_kept, kept_spared, is_kept}
+use Rattle.cacheless.specs.State.{one_if, kept_at, nothing_kept, kept_spared, is_kept}
 use Rattle.cacheless.specs.Suspects.{lacks}
+use Rattle.cacheless.specs.Work.{work_of}
+use Rattle.cacheless.proofs.Entries.EnteredFetches.{is_kept-spared}
 use Rattle.cacheless.proofs.Lacking.{lacks_more}
 use Rattle.cacheless.specs.Awaiting.{KeepsScans, answer_after}
 use Rattle.backend_core.specs.Types.{Oid, Purpose, Command, Scenario, Entry, Event, Message, OwnLock, Progress, Backend, Opening, Frame}
 use Rattle.backend_core.specs.Agrees.{IsPlayed, command_at, AwaitsEntry}
-use Rattle.backend_core.specs.Fits.{looks_due, LooksFit, came_well, TakesFit, IsLookedFor, Lacks, Unfound, Said, lacks_scan, finds_no_name, Fits, FramesFit, IsUnheld, keeps_whole, looked_in, looked_on_top, told_owed, is_lost}
+use Rattle.backend_core.specs.Fits.{looks_due, LooksFit, came_well, TakesFit, IsLookedFor, Lacks, Unfound, Said, lacks_scan, finds_no_name, Fits, FramesFit, IsUnheld, keeps_whole, looked_in, looked_on_top, told_owed, is_lost, is_gone_due}
 use Rattle.backend_core.specs.Steps.{Enters, MakesEntry}
 use Rattle.backend_core.specs.Noted.{noted_of, noted_given, noted_reset, IsNoted}
 use Rattle.backend_core.specs.declared.next.Next.TheVariants as nexts
@@ -64,26 +67,30 @@ use Rattle.backend_core.proofs.Fitting.Over.{IsWellOnceOver, well_lost}
 record IsDue (seen : List Entry) (s : Backend) : Type 0 where
   command : Command
   at : command_at s ≡ Some command
-  owed : owed_after (facts_of seen s.progress.id).last ≡ OwesFetch ∷ []
+  owed : owed_after (facts_of seen s.progress.id).due ≡ OwesFetch ∷ []
   runs : is_some (facts_of seen s.progress.id).running ≡ true
-  busy : Busy (facts_of seen s.progress.id).last s.progress command
+  busy : Busy (facts_of seen s.progress.id).due s.progress command
 
 is_due : (scenario : Scenario) (seen : List Entry) (s : Backend) → AwaitsEntry scenario seen s → s.progress.due ≡ dues.Fetch → IsDue seen s
 is_due scenario seen s waits due = by_command (command_at s) refl
   where
-    owed : owed_after (facts_of seen s.progress.id).last ≡ OwesFetch ∷ []
-    owed = waits.rests.holds.facts.owed ∙ ap owed_at due
+    owed : owed_after (facts_of seen s.progress.id).due ≡ OwesFetch ∷ []
+    owed = (ap (λ f. owed_after f.due) waits.rests.holds.facts) ∙ ap owed_after due
 
     by_command : (o : Option Command) → command_at s ≡ o → IsDue seen s
-    by_command (Some command) is = record { command = command; at = is; owed = owed; runs = waits.fits.accepts (ap is_empty owed); busy = Due (ap (λ d. is_empty (owed_at d)) due) }
+    by_command (Some command) is = record { command = command; at = is; owed = owed; runs = waits.fits.accepts (ap is_empty owed); busy = Due (ap (λ d. is_empty (owed_after d)) due) }
     by_command None is = absurd (let none : OwesFetch ∷ [] ≡ [] = sym owed ∙ (waits.fits.past is).free in cc none)
 
 -- a fetch is owed after a look that said yes alone
-fetch_owed : (last : Option Event) → owed_after last ≡ OwesFetch ∷ [] → last ≡ Some (events.Look true)
+fetch_due : (due : DueNext) → owed_after due ≡ OwesFetch ∷ [] → due ≡ dues.Fetch
+fetch_due dues.Fetch is = refl
+fetch_due due is = absurd (cc is)
+
+fetch_owed : (last : Option Event) → owed_last last ≡ OwesFetch ∷ [] → last ≡ Some (events.Look true)
 fetch_owed (Some (events.Look true)) is = refl
 fetch_owed (Some (events.Fetch count)) is = by_test (count == 32) is
   where
-    by_test : (t : Bool) → elim t as (λ x. List Owes) [ true ↦ OwesLook ∷ [] | false ↦ [] ] ≡ OwesFetch ∷ [] → Some (events.Fetch count) ≡ Some (events.Look true)
+    by_test : (t : Bool) → owed_after (elim t as (λ x. DueNext) [ true ↦ dues.Look | false ↦ dues.Nothing ]) ≡ OwesFetch ∷ [] → Some (events.Fetch count) ≡ Some (events.Look true)
     by_test true same = absurd (cc)
     by_test false same = absurd (cc)
 fetch_owed last is = absurd (cc)
@@ -124,15 +131,15 @@ record IsFetched (s now : Session) (event : Event) : Type 0 where
   scans : now.tally.scans ≡ s.tally.scans
   grants : now.tally.grants ≡ s.tally.grants
   fetches : now.tally.fetches ≡ s.tally.fetches + 1
-  due : looks_due (owed_after (Some event)) ≤ 1
-  last : (from : ℕ) → Some event ≡ Some (events.Gone from) → ⊥
+  due : looks_due (owed_after (due_after event)) ≤ 1
+  last : (from : ℕ) → due_after event ≡ dues.Gone from → ⊥
   left : is_absent s.left ≡ false → now.left ≡ s.left
   taken : now.taken ≡ s.taken
   opened : now.opened ≡ s.opened
   takes : TakesFit (number_of s) s.locks s.taken s.left → TakesFit (number_of now) now.locks now.taken now.left
 
-abbrev fetched_facts : Facts → Session → Event → (Purpose → Bool) → Facts
-fetched_facts facts s event usable = record facts { last = Some event; running = Some (begun (number_of s) facts.running); usable = usable }
+abbrev fetched_facts : Facts → Session → Event → Kept → Facts
+fetched_facts facts s event kept = record facts { due = due_after event; running = Some (begun (number_of s) facts.running); kept = kept }
 
 -- the look of the act may not count any more; or messages came since a lookup began
 alone : (unfound marked looked told : Bool) (due : ℕ) → due ≤ 1 → due + one_if ((told || (looked && not marked)) && not unfound) + one_if looked ≤ 2 + one_if (looked && not unfound && not marked) + one_if told
@@ -149,18 +156,18 @@ alone false false true told due most = omega (arith, most, ap one_if (and-true (
 record IsToldOf (facts later : Facts) (o : Option Command) (s now : Session) (event : Event) (looked : Bool) (frames : List Frame) (told looked_now : Bool) (frames_now : List Frame) (told_now : Bool) : Type 0 where
   gained : ℕ
   less : one_if looked_now + looked_in frames_now ≤ one_if looked + looked_in frames + gained
-  full : now.tally.full + gained ≤ s.tally.full + looks_due (owed_after (Some event))
-  most : looks_due (owed_after (Some event)) + told_owed told_now frames_now + looked_on_top looked frames ≤ 2 + looked_on_top looked_now frames_now + told_owed told frames
+  full : now.tally.full + gained ≤ s.tally.full + looks_due (owed_after (due_after event))
+  most : looks_due (owed_after (due_after event)) + told_owed told_now frames_now + looked_on_top looked frames ≤ 2 + looked_on_top looked_now frames_now + told_owed told frames
   rebuilds : FramesFit later o now frames_now
 
 -- what the choice keeps after it
-fetch_fits : (facts : Facts) (o : Option Command) (s now : Session) (event : Event) (usable : Purpose → Bool) (command : Command) (looked : Bool) (frames : List Frame) (told unfound marked : Bool) (frames_now : List Frame) (told_now : Bool) → ((scan : Purpose) → facts.usable scan ≡ false → usable scan ≡ false) → (is_absent s.left ≡ true → unfound ≡ true) → (finds_no_name facts s.taken s.left ≡ true → unfound ≡ true) → o ≡ Some command → Fits facts o s looked frames told → IsFetched s now event → is_some facts.running ≡ true → is_visible facts.running ≡ false
-    → IsWellOnceOver s → owed_after facts.last ≡ OwesFetch ∷ [] → IsToldOf facts (fetched_facts facts s event usable) o s now event looked frames told (looked && not unfound && not marked) frames_now told_now → Fits (fetched_facts facts s event usable) o now (looked && not unfound && not marked) frames_now told_now
-fetch_fits facts o s now event usable command looked frames told unfound marked frames_now told_now spares says finds at fits fetched runs hides goes owed tells = fits_inside facts later o s now looked frames told (looked && not unfound && not marked) frames_now told_now command at fits
+fetch_fits : (facts : Facts) (o : Option Command) (s now : Session) (event : Event) (kept : Kept) (command : Command) (looked : Bool) (frames : List Frame) (told unfound marked : Bool) (frames_now : List Frame) (told_now : Bool) → ((scan : Purpose) → is_kept facts.kept scan ≡ false → is_kept kept scan ≡ false) → (is_absent s.left ≡ true → unfound ≡ true) → (finds_no_name facts s.taken s.left ≡ true → unfound ≡ true) → o ≡ Some command → Fits facts o s looked frames told → IsFetched s now event → is_some facts.running ≡ true → is_visible facts.running ≡ false
+    → IsWellOnceOver s → owed_after facts.due ≡ OwesFetch ∷ [] → IsToldOf facts (fetched_facts facts s event kept) o s now event looked frames told (looked && not unfound && not marked) frames_now told_now → Fits (fetched_facts facts s event kept) o now (looked && not unfound && not marked) frames_now told_now
+fetch_fits facts o s now event kept command looked frames told unfound marked frames_now told_now spares says finds at fits fetched runs hides goes owed tells = fits_inside facts later o s now looked frames told (looked && not unfound && not marked) frames_now told_now command at fits
     (record { runs = refl; written = λ is. begun_written (number_of s) facts.running (fits.written is); last = fetched.last }) fetched.stays (Goes runs) hides goes looks tells.rebuilds sought (fetched.takes fits.takes)
   where
     later : Facts
-    later = fetched_facts facts s event usable
+    later = fetched_facts facts s event kept
 
     before : LooksFit facts s looked frames told
     before = fits.looks
@@ -187,14 +194,14 @@ fetch_fits facts o s now event usable command looked frames told unfound marked 
     sought made = let parts = and_parts looked (not unfound) (and_parts (looked && not unfound) (not marked) made).0 in by_case parts.0 (not_true unfound parts.1) (fits.sought parts.0)
       where
         by_plan : (p : Plan) → lacks_scan facts p ≡ true → lacks_scan later p ≡ true
-        by_plan (Do (Lookup name mode) rest) is = ap not (spares (scans.RelName name) (not_true (facts.usable (scans.RelName name)) is))
-        by_plan (Do (Search scan) rest) is = ap not (spares scan (not_true (facts.usable scan) is))
-        by_plan (Do (Open rel kind) rest) is = lacks_more facts.usable usable (record { rel = rel; kind = kind }) spares is
+        by_plan (Do (Lookup name mode) rest) is = ap not (spares (scans.RelName name) (not_true (is_kept facts.kept (scans.RelName name)) is))
+        by_plan (Do (Search scan) rest) is = ap not (spares scan (not_true (is_kept facts.kept scan) is))
+        by_plan (Do (Open rel kind) rest) is = lacks_more (is_kept facts.kept) (is_kept kept) (record { rel = rel; kind = kind }) spares is
         by_plan (Done told) is = by_scan (told_rests_on told) is
           where
-            by_scan : (o : Option Purpose) → option_map_or (λ scan. not (facts.usable scan)) o false ≡ true → option_map_or (λ scan. not (later.usable scan)) o false ≡ true
+            by_scan : (o : Option Purpose) → option_map_or (λ scan. not (is_kept facts.kept scan)) o false ≡ true → option_map_or (λ scan. not (is_kept later.kept scan)) o false ≡ true
             by_scan None lacking = lacking
-            by_scan (Some scan) lacking = ap not (spares scan (not_true (facts.usable scan) lacking))
+            by_scan (Some scan) lacking = ap not (spares scan (not_true (is_kept facts.kept scan) lacking))
         by_plan p is = absurd (cc is)
 
         there : (p : Plan) → lacks_scan facts p ≡ true → is_absent p ≡ false
@@ -215,21 +222,21 @@ record BringsBack (scenario : Scenario) (old : List Entry) (was : Backend) (even
   lives : life_by (was.progress.finished + 1) event ≡ Alive (was.progress.finished + 1)
   on : event ≢ events.Stop
   unanswered : (answer : Option (List ℕ)) → answer_after event answer ≡ None
-  usable : Purpose → Bool
-  spares : (scan : Purpose) → (facts_of old was.progress.id).usable scan ≡ false → usable scan ≡ false
-  facts : facts_by old was.progress.id (was.progress.finished + 1) event (facts_of old was.progress.id) ≡ fetched_facts (facts_of old was.progress.id) (waiting waits) event usable
+  kept : Kept
+  spares : (scan : Purpose) → is_kept (facts_of old was.progress.id).kept scan ≡ false → is_kept kept scan ≡ false
+  facts : facts_by old was.progress.id (was.progress.finished + 1) event (facts_of old was.progress.id) ≡ fetched_facts (facts_of old was.progress.id) (waiting waits) event kept
   fetched : IsFetched (waiting waits) (entered (facts_of (with_own old was.progress event) was.progress.id) (drop was.progress.finished was.progress.commands) (length old + 1) (was.progress.finished + 1) event (waiting waits)) event
 
 -- after either the backend agrees
 fetch_agrees : (scenario : Scenario) (old new : List Entry) (had has : ℕ → ℕ) (was : Backend) (p : Progress) (event : Event) (unfound marked : Bool) (frames : List Frame) (waits : AwaitsEntry scenario old was) → unfound ≡ finds_none was.progress → IsPlayed scenario old → AllOnCourse scenario old → was.progress.due ≡ dues.Fetch → (brings : BringsBack scenario old was event waits)
-    → IsToldOf (facts_of old was.progress.id) (fetched_facts (facts_of old was.progress.id) (waiting waits) event brings.usable) (command_at was) (waiting waits) (entered (facts_of (with_own old was.progress event) was.progress.id) (drop was.progress.finished was.progress.commands) (length old + 1) (was.progress.finished + 1) event (waiting waits)) event was.looked was.frames was.told (looked_after was unfound marked) frames (told_after was unfound marked)
+    → IsToldOf (facts_of old was.progress.id) (fetched_facts (facts_of old was.progress.id) (waiting waits) event brings.kept) (command_at was) (waiting waits) (entered (facts_of (with_own old was.progress event) was.progress.id) (drop was.progress.finished was.progress.commands) (length old + 1) (was.progress.finished + 1) event (waiting waits)) event was.looked was.frames was.told (looked_after was unfound marked) frames (told_after was unfound marked)
     → HasEntered scenario old was.progress event waits.rests p → KeepsScans old was.progress event p → p.answer ≡ None → Appends old new had has (entry_of was.progress.id (was.progress.finished + 1) event)
     → Enters scenario old new had has was (record was { progress = p; looked = looked_after was unfound marked; frames = frames; told = told_after was unfound marked })
 fetch_agrees scenario old new had has was p event unfound marked frames waits unfound_is played courses is_fetch brings tells goes kept none appends =
     own_enters scenario old new had has was (record was { progress = p; looked = looked_after was unfound marked; frames = frames; told = told_after was unfound marked }) event waits played courses brings.own goes
     kept
     (fits_at scenario old was event waits p goes (looked_after was unfound marked) frames (told_after was unfound marked) (subst (λ f. Fits f (command_at was) (entered (facts_of (with_own old was.progress event) b) (drop was.progress.finished was.progress.commands) (length old + 1) (was.progress.finished + 1) event s) (looked_after was unfound marked) frames (told_after was unfound marked)) (sym brings.facts)
-    (fetch_fits (facts_of old b) (command_at was) s _ event brings.usable due.command was.looked was.frames was.told unfound marked frames (told_after was unfound marked) brings.spares (λ absent. unfound_is ∙ ap (λ t. t || is_unfound was.progress (plan_at was.progress.opens was.progress.exec)) absent) (λ finds. unfound_is ∙ ap (λ t. is_absent (plan_at was.progress.opens was.progress.exec) || t) (unfound_held (facts_of old b) was.progress (plan_at was.progress.opens was.progress.exec) waits.rests.holds.facts finds) ∙ or-true (is_absent (plan_at was.progress.opens was.progress.exec))) due.at waits.fits brings.fetched due.runs (hidden scenario old was waits due.command due.at due.busy) (over scenario old was waits courses due.command due.at) due.owed tells)))
+    (fetch_fits (facts_of old b) (command_at was) s _ event brings.kept due.command was.looked was.frames was.told unfound marked frames (told_after was unfound marked) brings.spares (λ absent. unfound_is ∙ ap (λ t. t || is_unfound was.progress (plan_at was.progress.opens was.progress.exec)) absent) (λ finds. unfound_is ∙ ap (λ t. is_absent (plan_at was.progress.opens was.progress.exec) || t) (unfound_held (facts_of old b) was.progress (plan_at was.progress.opens was.progress.exec) waits.rests.holds.facts finds) ∙ or-true (is_absent (plan_at was.progress.opens was.progress.exec))) due.at waits.fits brings.fetched due.runs (hidden scenario old was waits due.command due.at due.busy) (over scenario old was waits courses due.command due.at) due.owed tells)))
     refl brings.lives refl brings.on (none ∙ sym (brings.unanswered was.progress.answer)) appends
   where
     b : ℕ
@@ -241,8 +248,15 @@ fetch_agrees scenario old new had has was p event unfound marked frames waits un
     due : IsDue old was
     due = is_due scenario old was waits is_fetch
 
-due_fetched : (count : ℕ) → looks_due (owed_after (Some (events.Fetch count))) ≡ one_if (count == 32)
-due_fetched count = elim (count == 32) as (λ t. looks_due (elim t as (λ x. List Owes) [ true ↦ OwesLook ∷ [] | false ↦ [] ]) ≡ one_if t) [ true ↦ refl | false ↦ refl ]
+looks_fetched : (count : ℕ) → looks_due (owed_after (due_fetched count)) ≡ one_if (count == 32)
+looks_fetched count = elim (count == 32) as (λ t. looks_due (owed_after (elim t as (λ x. DueNext) [ true ↦ dues.Look | false ↦ dues.Nothing ])) ≡ one_if t) [ true ↦ refl | false ↦ refl ]
+
+fetched_stands : (count : ℕ) → is_gone_due (due_fetched count) ≡ false
+fetched_stands count = elim (count == 32) as (λ t. is_gone_due (elim t as (λ x. DueNext) [ true ↦ dues.Look | false ↦ dues.Nothing ]) ≡ false) [ true ↦ refl | false ↦ refl ]
+
+-- a scan for a descriptor is owed
+abbrev owes_build_scan : Facts → Session → Bool
+owes_build_scan facts s = list_any is_build_scan (scans_owed facts s)
 
 full_most : (t counts : Bool) (tally : Tally) → (elim (t && counts) as (λ x. Tally) [ true ↦ record tally { full = tally.full + 1 } | false ↦ tally ]).full ≤ tally.full + one_if t
 full_most true true tally = omega arith
@@ -264,8 +278,8 @@ messages_bring scenario old was count waits due served = record {
   lives = refl;
   on = λ stop. cc stop;
   unanswered = λ answer. refl;
-  usable = (facts_by old was.progress.id (was.progress.finished + 1) (events.Fetch count) (facts_of old was.progress.id)).usable;
-  spares = λ scan none. ap (λ t. is_spared scan (fetched_by old was.progress.id count) && t) none ∙ and-false (is_spared scan (fetched_by old was.progress.id count));
+  kept = (facts_by old was.progress.id (was.progress.finished + 1) (events.Fetch count) (facts_of old was.progress.id)).kept;
+  spares = λ scan none. is_kept-spared (fetched_by old was.progress.id count) (facts_of old was.progress.id).kept scan ∙ ap (λ t. is_spared scan (fetched_by old was.progress.id count) && t) none ∙ and-false (is_spared scan (fetched_by old was.progress.id count));
   facts = λ i. record (facts_by old was.progress.id (was.progress.finished + 1) (events.Fetch count) (facts_of old was.progress.id)) { running = Some (begun (sym waits.rests.holds.count i + 1) (facts_of old was.progress.id).running) };
   fetched = record {
     stays = let r = is_resumed s.left s in record { blocks = r.blocks; opens = r.opens; held = inl r.opened; finished = ap length r.finished; blocked = r.blocked; ended = r.ended; left = λ out present. r.left present };
@@ -273,8 +287,8 @@ messages_bring scenario old was count waits due served = record {
     scans = full_same full more (λ t. t.scans) (λ n. refl);
     grants = full_same full more (λ t. t.grants) (λ n. refl);
     fetches = full_same full more (λ t. t.fetches) (λ n. refl);
-    due = omega (arith, due_fetched count, one_at_most (count == 32));
-    last = λ from is. cc is;
+    due = omega (arith, looks_fetched count, one_at_most (count == 32));
+    last = λ from is. both_ways _ (fetched_stands count) (ap is_gone_due is);
     left = (is_resumed s.left s).left;
     taken = (is_resumed s.left s).taken;
     opened = (is_resumed s.left s).opened;
@@ -292,7 +306,7 @@ messages_bring scenario old was count waits due served = record {
     more = record s.tally { fetches = s.tally.fetches + 1 }
 
     full : Bool
-    full = (count == 32) && not (owes_build_scan (facts_of (with_own old was.progress (events.Fetch count)) was.progress.id) placed)
+    full = counts_full count (facts_of (with_own old was.progress (events.Fetch count)) was.progress.id) (work_of placed)
 
 reset_brings : (scenario : Scenario) (old : List Entry) (was : Backend) (waits : AwaitsEntry scenario old was) → was.progress.due ≡ dues.Fetch → is_lapped scenario.size old was.progress.id ≡ true → BringsBack scenario old was events.FetchReset waits
 reset_brings scenario old was waits due lapped = record {
@@ -300,7 +314,7 @@ reset_brings scenario old was waits due lapped = record {
   lives = refl;
   on = λ stop. cc stop;
   unanswered = λ answer. refl;
-  usable = (facts_by old was.progress.id (was.progress.finished + 1) events.FetchReset (facts_of old was.progress.id)).usable;
+  kept = (facts_by old was.progress.id (was.progress.finished + 1) events.FetchReset (facts_of old was.progress.id)).kept;
   spares = λ scan none. refl;
   facts = λ i. record (facts_by old was.progress.id (was.progress.finished + 1) events.FetchReset (facts_of old was.progress.id)) { running = Some (begun (sym waits.rests.holds.count i + 1) (facts_of old was.progress.id).running) };
   fetched = record {
@@ -351,8 +365,8 @@ module _ (scenario : Scenario) (old : List Entry) (was : Backend) (waits : Await
   going_on : is_lost s ≡ false
   going_on = unlost scenario old was waits courses command (is_due scenario old was waits due).at
 
-  stays_on : took_back facts.last ≡ false
-  stays_on = ap took_back (fetch_owed facts.last (is_due scenario old was waits due).owed)
+  stays_on : is_gone_due facts.due ≡ false
+  stays_on = ap is_gone_due (fetch_due facts.due (is_due scenario old was waits due).owed)
 
   again : (name : List ℕ) → s.left ≡ Absent name → IsGoing s.sought
   again name is = let sought = (follows scenario old was waits courses command (is_due scenario old was waits due).at).sought name is in
@@ -363,12 +377,12 @@ module _ (scenario : Scenario) (old : List Entry) (was : Backend) (waits : Await
   erred_bare errs = waits.fits.rebuilds.over (λ i. (not (stays_on i) && not (going_on i) && not (errs i)))
 
   -- and of one that hasn't
-  erred_not : has_error s.left ≡ false → IsStack facts.usable was.progress.opened was.frames
+  erred_not : has_error s.left ≡ false → IsStack (is_kept facts.kept) was.progress.opened was.frames
   erred_not errs = waits.fits.rebuilds.stack (λ i. (not (stays_on i) && not (going_on i) && not (errs i)))
 
   -- after a fetch, by what it leaves
-  fetched_rebuilds : (later : Facts) (now : Session) (frames : List Frame) → took_back later.last ≡ false → now.ended ≡ s.ended → now.opened ≡ s.opened → now.left ≡ (resumed s.left s).left
-      → (has_error s.left ≡ true → frames ≡ []) → (has_error s.left ≡ false → IsStack later.usable s.opened frames) → FramesFit later (command_at was) now frames
+  fetched_rebuilds : (later : Facts) (now : Session) (frames : List Frame) → is_gone_due later.due ≡ false → now.ended ≡ s.ended → now.opened ≡ s.opened → now.left ≡ (resumed s.left s).left
+      → (has_error s.left ≡ true → frames ≡ []) → (has_error s.left ≡ false → IsStack (is_kept later.kept) s.opened frames) → FramesFit later (command_at was) now frames
   fetched_rebuilds later now frames last ended opened left bare stack = by_error (has_error s.left) refl
     where
       past : command_at was ≡ None → frames ≡ []
@@ -376,13 +390,13 @@ module _ (scenario : Scenario) (old : List Entry) (was : Backend) (waits : Await
 
       by_error : (t : Bool) → has_error s.left ≡ t → FramesFit later (command_at was) now frames
       by_error true errs = record {
-        stack = λ keeps. absurd (both_ways _ (ap (λ t. not (took_back later.last) && not (is_lost now) && not t) (ap has_error left ∙ resumed_errs s.left s refl errs) ∙ and-false (not (took_back later.last) && not (is_lost now))) keeps);
+        stack = λ keeps. absurd (both_ways _ (ap (λ t. not (is_gone_due later.due) && not (is_lost now) && not t) (ap has_error left ∙ resumed_errs s.left s refl errs) ∙ and-false (not (is_gone_due later.due) && not (is_lost now))) keeps);
         over = λ over. bare errs;
         badly = λ is. bare errs;
         past = past;
       }
       by_error false errs = let goes = resumed_goes s.left s refl errs again in record {
-        stack = λ keeps. subst (λ held. IsStack later.usable held frames) (sym opened) (stack errs);
+        stack = λ keeps. subst (λ held. IsStack (is_kept later.kept) held frames) (sym opened) (stack errs);
         over = λ over. absurd (both_ways _ over (λ i. not (last i) && not (well_lost now (λ badly. goes.goes (sym (ap outcome_of left) ∙ badly)) i) && not ((ap has_error left ∙ goes.errs) i)));
         badly = λ is. absurd (goes.goes (sym (ap outcome_of left) ∙ is));
         past = past;
@@ -397,22 +411,22 @@ some_builds f (x ∷ xs) all is = by_test (f x) is (some_builds f xs all.1)
     by_test true here more = ap (λ t. t || list_any is_build_scan (filter f xs)) all.0
     by_test false later more = more later
 
-held_builds : (facts : Facts) (held : List Opening) → list_any (lacks facts.usable) held ≡ true → list_any is_build_scan (builds_owed facts held) ≡ true
+held_builds : (facts : Facts) (held : List Opening) → list_any (lacks (is_kept facts.kept)) held ≡ true → list_any is_build_scan (builds_owed facts held) ≡ true
 held_builds facts [] some = absurd (cc some)
-held_builds facts (o ∷ held) some = by_side (or_cases (lacks facts.usable o) (list_any (lacks facts.usable) held) some) (held_builds facts held)
+held_builds facts (o ∷ held) some = by_side (or_cases (lacks (is_kept facts.kept) o) (list_any (lacks (is_kept facts.kept)) held) some) (held_builds facts held)
   where
-    by_side : (lacks facts.usable o ≡ true) ⊎ (list_any (lacks facts.usable) held ≡ true) → (list_any (lacks facts.usable) held ≡ true → list_any is_build_scan (builds_owed facts held) ≡ true) → list_any is_build_scan (builds_owed facts (o ∷ held)) ≡ true
-    by_side (inl here) more = any-left is_build_scan (unusable facts (build_scans o.kind o.rel)) (builds_owed facts held) (some_builds (λ scan. not (facts.usable scan)) (build_scans o.kind o.rel) (builds_of o.kind o.rel) here)
+    by_side : (lacks (is_kept facts.kept) o ≡ true) ⊎ (list_any (lacks (is_kept facts.kept)) held ≡ true) → (list_any (lacks (is_kept facts.kept)) held ≡ true → list_any is_build_scan (builds_owed facts held) ≡ true) → list_any is_build_scan (builds_owed facts (o ∷ held)) ≡ true
+    by_side (inl here) more = any-left is_build_scan (unusable facts (build_scans o.kind o.rel)) (builds_owed facts held) (some_builds (λ scan. not (is_kept facts.kept scan)) (build_scans o.kind o.rel) (builds_of o.kind o.rel) here)
     by_side (inr later) more = any-right is_build_scan (unusable facts (build_scans o.kind o.rel)) (builds_owed facts held) (more later)
 
 rebuilt_owes : (facts : Facts) (o : Option Command) (s : Session) (f : Frame) (frames : List Frame) → FramesFit facts o s (f ∷ frames) → owes_build_scan facts s ≡ true
 rebuilt_owes facts o s f frames fits = by_outcome (outcome_of s.left) refl
   where
-    lacking : list_any (lacks facts.usable) s.opened ≡ true
+    lacking : list_any (lacks (is_kept facts.kept)) s.opened ≡ true
     lacking = by_keeps (keeps_whole facts s) refl
       where
-        by_keeps : (t : Bool) → keeps_whole facts s ≡ t → list_any (lacks facts.usable) s.opened ≡ true
-        by_keeps true keeps = (fits.stack keeps).each.0.among (lacks facts.usable) (fits.stack keeps).each.0.lacking
+        by_keeps : (t : Bool) → keeps_whole facts s ≡ t → list_any (lacks (is_kept facts.kept)) s.opened ≡ true
+        by_keeps true keeps = (fits.stack keeps).each.0.among (lacks (is_kept facts.kept)) (fits.stack keeps).each.0.lacking
         by_keeps false over = absurd (let none : f ∷ frames ≡ [] = fits.over over in cc none)
 
     by_outcome : (x : Outcome) → outcome_of s.left ≡ x → list_any is_build_scan (elim x as (λ y. List Purpose) [ Badly ↦ [] | other ↦ builds_owed facts s.opened ++ act_owed facts s.left ]) ≡ true
@@ -448,7 +462,7 @@ told_looks looked looked_now told told_now full (g ∷ frames) after due is plai
 
 -- what a fetch of messages makes of the looks and of the rebuilds
 messages_tell : (scenario : Scenario) (old : List Entry) (was : Backend) (messages : List Message) (unfound marked : Bool) (waits : AwaitsEntry scenario old was) → AllOnCourse scenario old → (due : was.progress.due ≡ dues.Fetch) (served : is_lapped scenario.size old was.progress.id ≡ false) → messages ≡ fetched_by old was.progress.id (length messages)
-    → IsToldOf (facts_of old was.progress.id) (fetched_facts (facts_of old was.progress.id) (waiting waits) (events.Fetch (length messages)) (messages_bring scenario old was (length messages) waits due served).usable) (command_at was) (waiting waits) (entered (facts_of (with_own old was.progress (events.Fetch (length messages))) was.progress.id) (drop was.progress.finished was.progress.commands) (length old + 1) (was.progress.finished + 1) (events.Fetch (length messages)) (waiting waits)) (events.Fetch (length messages)) was.looked was.frames was.told (looked_after was unfound marked) (frames_given was messages) (told_after was unfound marked)
+    → IsToldOf (facts_of old was.progress.id) (fetched_facts (facts_of old was.progress.id) (waiting waits) (events.Fetch (length messages)) (messages_bring scenario old was (length messages) waits due served).kept) (command_at was) (waiting waits) (entered (facts_of (with_own old was.progress (events.Fetch (length messages))) was.progress.id) (drop was.progress.finished was.progress.commands) (length old + 1) (was.progress.finished + 1) (events.Fetch (length messages)) (waiting waits)) (events.Fetch (length messages)) was.looked was.frames was.told (looked_after was unfound marked) (frames_given was messages) (told_after was unfound marked)
 unfolding messages_bring
 messages_tell scenario old was messages unfound marked waits courses due served are = by_error (has_error s.left) refl
   where
@@ -462,7 +476,7 @@ messages_tell scenario old was messages unfound marked waits courses due served 
     event = events.Fetch (length messages)
 
     later : Facts
-    later = fetched_facts facts s event (messages_bring scenario old was (length messages) waits due served).usable
+    later = fetched_facts facts s event (messages_bring scenario old was (length messages) waits due served).kept
 
     entered_facts : Facts
     entered_facts = facts_of (with_own old was.progress event) was.progress.id
@@ -492,8 +506,8 @@ messages_tell scenario old was messages unfound marked waits courses due served 
         less_and true b c = one_at_most (b && c)
         less_and false b c = omega arith
 
-    rebuilds_of : (frames : List Frame) → (has_error s.left ≡ true → frames ≡ []) → (has_error s.left ≡ false → IsStack later.usable s.opened frames) → FramesFit later (command_at was) now frames
-    rebuilds_of frames = fetched_rebuilds scenario old was waits courses due later now frames refl (is_resumed s.left s).ended (is_resumed s.left s).opened refl
+    rebuilds_of : (frames : List Frame) → (has_error s.left ≡ true → frames ≡ []) → (has_error s.left ≡ false → IsStack (is_kept later.kept) s.opened frames) → FramesFit later (command_at was) now frames
+    rebuilds_of frames = fetched_rebuilds scenario old was waits courses due later now frames (fetched_stands (length messages)) (is_resumed s.left s).ended (is_resumed s.left s).opened refl
 
     tally_full : now.tally.full ≤ s.tally.full + one_if (length messages == 32)
     tally_full = full_most (length messages == 32) (not (owes_build_scan entered_facts placed)) more
@@ -502,25 +516,25 @@ messages_tell scenario old was messages unfound marked waits courses due served 
     by_error true errs = let bare = erred_bare scenario old was waits courses due errs in record {
       gained = 0;
       less = omega (arith, looked_less);
-      full = omega (arith, tally_full, due_fetched (length messages));
-      most = subst (λ l. looks_due (owed_after (Some event)) + told_owed (told_after was unfound marked) l + looked_on_top was.looked l ≤ 2 + looked_on_top (looked_after was unfound marked) l + told_owed was.told l) (sym bare)
-          (alone unfound marked was.looked was.told (looks_due (owed_after (Some event))) (omega (arith, due_fetched (length messages), one_at_most (length messages == 32))));
+      full = omega (arith, tally_full, looks_fetched (length messages));
+      most = subst (λ l. looks_due (owed_after (due_after event)) + told_owed (told_after was unfound marked) l + looked_on_top was.looked l ≤ 2 + looked_on_top (looked_after was unfound marked) l + told_owed was.told l) (sym bare)
+          (alone unfound marked was.looked was.told (looks_due (owed_after (due_after event))) (omega (arith, looks_fetched (length messages), one_at_most (length messages == 32))));
       rebuilds = rebuilds_of was.frames (λ is. bare) (λ is. absurd (both_ways _ is errs));
     }
     by_error false errs = record {
       gained = one_if ((length messages == 32) && pushes);
       less = omega (arith, looked_less, look_more ((length messages == 32) && pushes) after, after_less kept was.progress.opened messages was.frames);
       full = full_now;
-      most = told_looks was.looked (looked_after was unfound marked) was.told (told_after was unfound marked) (length messages == 32) was.frames after (looks_due (owed_after (Some event))) (due_fetched (length messages))
-          (alone unfound marked was.looked was.told (looks_due (owed_after (Some event))) (omega (arith, due_fetched (length messages), one_at_most (length messages == 32))));
+      most = told_looks was.looked (looked_after was unfound marked) was.told (told_after was unfound marked) (length messages == 32) was.frames after (looks_due (owed_after (due_after event))) (looks_fetched (length messages))
+          (alone unfound marked was.looked was.told (looks_due (owed_after (due_after event))) (omega (arith, looks_fetched (length messages), one_at_most (length messages == 32))));
       rebuilds = fits_now;
     }
       where
-        stack_now : IsStack later.usable s.opened after
-        stack_now = subst (λ l. IsStack (λ d. is_spared d l && facts.usable d) s.opened after) are (stack_after kept facts.usable was.progress.opened messages was.frames (erred_not scenario old was waits courses due errs))
+        stack_now : IsStack (is_kept later.kept) s.opened after
+        stack_now = subst (λ has. IsStack has s.opened after) (λ i d. sym (is_kept-spared (fetched_by old was.progress.id (length messages)) facts.kept d) i) (subst (λ l. IsStack (λ d. is_spared d l && is_kept facts.kept d) s.opened after) are (stack_after kept (is_kept facts.kept) was.progress.opened messages was.frames (erred_not scenario old was waits courses due errs)))
 
-        stack_fetched : (t : Bool) → IsStack later.usable s.opened (looked_if t after)
-        stack_fetched true = stack_look later.usable s.opened after stack_now
+        stack_fetched : (t : Bool) → IsStack (is_kept later.kept) s.opened (looked_if t after)
+        stack_fetched true = stack_look (is_kept later.kept) s.opened after stack_now
         stack_fetched false = stack_now
 
         fits_now : FramesFit later (command_at was) now (frames_fetched kept was.progress.opened messages was.frames)
@@ -537,16 +551,16 @@ messages_tell scenario old was messages unfound marked waits courses due served 
             by_after [] none fits = absurd (omega (arith, ltb-true (length was.frames) 0 none))
             by_after (f ∷ l) grown fits = subst (λ h. owes_build_scan h placed ≡ true) (sym (own_facts scenario old was event waits ∙ (messages_bring scenario old was (length messages) waits due served).facts)) (rebuilt_owes later (command_at was) now f l fits)
 
-        full_now : now.tally.full + one_if ((length messages == 32) && pushes) ≤ s.tally.full + looks_due (owed_after (Some event))
+        full_now : now.tally.full + one_if ((length messages == 32) && pushes) ≤ s.tally.full + looks_due (owed_after (due_after event))
         full_now = by_pushes pushes refl
           where
-            by_pushes : (t : Bool) → pushes ≡ t → now.tally.full + one_if ((length messages == 32) && t) ≤ s.tally.full + looks_due (owed_after (Some event))
-            by_pushes true some = omega (arith, due_fetched (length messages), ap one_if (and-true (length messages == 32)), none_full (length messages == 32) (owes_build_scan entered_facts placed) (owes some) more)
-            by_pushes false none = omega (arith, tally_full, due_fetched (length messages), ap one_if (and-false (length messages == 32)))
+            by_pushes : (t : Bool) → pushes ≡ t → now.tally.full + one_if ((length messages == 32) && t) ≤ s.tally.full + looks_due (owed_after (due_after event))
+            by_pushes true some = omega (arith, looks_fetched (length messages), ap one_if (and-true (length messages == 32)), none_full (length messages == 32) (owes_build_scan entered_facts placed) (owes some) more)
+            by_pushes false none = omega (arith, tally_full, looks_fetched (length messages), ap one_if (and-false (length messages == 32)))
 
 -- and one of a reset
 reset_tells : (scenario : Scenario) (old : List Entry) (was : Backend) (unfound marked : Bool) (waits : AwaitsEntry scenario old was) → AllOnCourse scenario old → (due : was.progress.due ≡ dues.Fetch) (lapped : is_lapped scenario.size old was.progress.id ≡ true)
-    → IsToldOf (facts_of old was.progress.id) (fetched_facts (facts_of old was.progress.id) (waiting waits) events.FetchReset (reset_brings scenario old was waits due lapped).usable) (command_at was) (waiting waits) (entered (facts_of (with_own old was.progress events.FetchReset) was.progress.id) (drop was.progress.finished was.progress.commands) (length old + 1) (was.progress.finished + 1) events.FetchReset (waiting waits)) events.FetchReset was.looked was.frames was.told (looked_after was unfound marked) (frames_reset_of was was.progress.opened) (told_after was unfound marked)
+    → IsToldOf (facts_of old was.progress.id) (fetched_facts (facts_of old was.progress.id) (waiting waits) events.FetchReset (reset_brings scenario old was waits due lapped).kept) (command_at was) (waiting waits) (entered (facts_of (with_own old was.progress events.FetchReset) was.progress.id) (drop was.progress.finished was.progress.commands) (length old + 1) (was.progress.finished + 1) events.FetchReset (waiting waits)) events.FetchReset was.looked was.frames was.told (looked_after was unfound marked) (frames_reset_of was was.progress.opened) (told_after was unfound marked)
 unfolding reset_brings
 reset_tells scenario old was unfound marked waits courses due lapped = record {
   gained = 0;
@@ -555,7 +569,7 @@ reset_tells scenario old was unfound marked waits courses due lapped = record {
   most = omega (arith, told_most (told_after was unfound marked) (frames_reset_of was was.progress.opened), top_most was.looked was.frames);
   rebuilds = fetched_rebuilds scenario old was waits courses due later now (frames_reset_of was was.progress.opened) refl (is_resumed s.left s).ended (is_resumed s.left s).opened refl
       (λ errs. ap (λ t. elim t as (λ x. List Frame) [ true ↦ was.frames | false ↦ frames_reset kept was.progress.opened was.frames ]) errs ∙ erred_bare scenario old was waits courses due errs)
-      (λ errs. subst (IsStack later.usable s.opened) (sym (ap (λ t. elim t as (λ x. List Frame) [ true ↦ was.frames | false ↦ frames_reset kept was.progress.opened was.frames ]) errs)) (stack_reset kept facts.usable was.progress.opened was.frames (erred_not scenario old was waits courses due errs)));
+      (λ errs. subst (IsStack (is_kept later.kept) s.opened) (sym (ap (λ t. elim t as (λ x. List Frame) [ true ↦ was.frames | false ↦ frames_reset kept was.progress.opened was.frames ]) errs)) (stack_reset kept (is_kept facts.kept) was.progress.opened was.frames (erred_not scenario old was waits courses due errs)));
 }
   where
     s : Session
@@ -565,7 +579,7 @@ reset_tells scenario old was unfound marked waits courses due lapped = record {
     facts = facts_of old was.progress.id
 
     later : Facts
-    later = fetched_facts facts s events.FetchReset (reset_brings scenario old was waits due lapped).usable
+    later = fetched_facts facts s events.FetchReset (reset_brings scenario old was waits due lapped).kept
 
     now : Session
     now = entered (facts_of (with_own old was.progress events.FetchReset) was.progress.id) (drop was.progress.finished was.progress.commands) (length old + 1) (was.progress.finished + 1) events.FetchReset s

@@ -15,6 +15,7 @@ use Rattle.backend_core.specs.Steps.{MakesEntry, IsRefused, After}
 use Rattle.backend_core.proofs.Choosing.Chosen.{Busy, hidden}
 use Rattle.backend_core.proofs.Fitting.FitsEntries.{StaysInside, StaysAt, Goes, fits_inside}
 use Rattle.backend_core.proofs.Own.{waiting, over}
+use Rattle.cacheless.specs.declared.progress.Due.TheVariants as dues
 
 -- an entry that is made, after which memory is refused
 pub made_refused : {E : Type 0} (scenario : Scenario) (old new : List Entry) (had has : ℕ → ℕ) (b : ℕ) (result : Result (Unit {0}) E) → MakesEntry scenario old new had has b → OnErr result (IsRefused scenario old new had has b)
@@ -32,7 +33,7 @@ stays_begun number (Some t) later runs same = same ∙ (λ i. Some (record t { x
 
 module _ (scenario : Scenario) (old : List Entry) (was : Backend) (waits : AwaitsEntry scenario old was) (courses : AllOnCourse scenario old) (command : Command) (at : command_at was ≡ Some command) where
   -- where the entry's facts and session are known
-  pub entry_fits : (later : Facts) (now : Session) (looked : Bool) (frames : List Frame) (told : Bool) → StaysInside (facts_of old was.progress.id) later (number_of (waiting waits)) → StaysAt (waiting waits) now → is_some (facts_of old was.progress.id).running ≡ true → Busy (facts_of old was.progress.id).last was.progress command
+  pub entry_fits : (later : Facts) (now : Session) (looked : Bool) (frames : List Frame) (told : Bool) → StaysInside (facts_of old was.progress.id) later (number_of (waiting waits)) → StaysAt (waiting waits) now → is_some (facts_of old was.progress.id).running ≡ true → Busy (facts_of old was.progress.id).due was.progress command
       → LooksFit later now looked frames told → FramesFit later (command_at was) now frames → (looked ≡ true → IsLookedFor later frames now.taken now.left × IsUnheld now.opened now.left) → TakesFit (number_of now) now.locks now.taken now.left → Fits later (command_at was) now looked frames told
   entry_fits later now looked frames told inside stays runs busy looks rebuilds sought takes = subst (λ o. Fits later o now looked frames told) (sym at)
       (fits_inside (facts_of old was.progress.id) later (Some command) (waiting waits) now was.looked was.frames was.told looked frames told command refl
@@ -40,8 +41,8 @@ module _ (scenario : Scenario) (old : List Entry) (was : Backend) (waits : Await
       inside stays (Goes runs) (hidden scenario old was waits command at busy) (over scenario old was waits courses command at) looks (subst (λ o. FramesFit later o now frames) at rebuilds) sought takes)
 
   -- an entry that leaves the transaction and its lists
-  pub inside_fits : (later : Facts) (now : Session) (looked : Bool) (frames : List Frame) (told : Bool) → later.running ≡ (facts_of old was.progress.id).running → later.lists ≡ (facts_of old was.progress.id).lists → ((from : ℕ) → later.last ≡ Some (events.Gone from) → ⊥) → StaysAt (waiting waits) now
-      → is_some (facts_of old was.progress.id).running ≡ true → Busy (facts_of old was.progress.id).last was.progress command → LooksFit later now looked frames told → FramesFit later (command_at was) now frames → (looked ≡ true → IsLookedFor later frames now.taken now.left × IsUnheld now.opened now.left) → TakesFit (number_of now) now.locks now.taken now.left → Fits later (command_at was) now looked frames told
+  pub inside_fits : (later : Facts) (now : Session) (looked : Bool) (frames : List Frame) (told : Bool) → later.running ≡ (facts_of old was.progress.id).running → later.lists ≡ (facts_of old was.progress.id).lists → ((from : ℕ) → later.due ≡ dues.Gone from → ⊥) → StaysAt (waiting waits) now
+      → is_some (facts_of old was.progress.id).running ≡ true → Busy (facts_of old was.progress.id).due was.progress command → LooksFit later now looked frames told → FramesFit later (command_at was) now frames → (looked ≡ true → IsLookedFor later frames now.taken now.left × IsUnheld now.opened now.left) → TakesFit (number_of now) now.locks now.taken now.left → Fits later (command_at was) now looked frames told
   inside_fits later now looked frames told same lists last stays runs busy looks rebuilds sought takes = entry_fits later now looked frames told (record {
     runs = stays_begun (number_of (waiting waits)) (facts_of old was.progress.id).running later.running runs same;
     written = λ is. ap (λ o. option_map_or (λ (t : Running). is_some t.xid) o false) same ∙ waits.fits.written (ap (has_write_from 0) (sym lists) ∙ is);

@@ -5,9 +5,9 @@ use Rattle.event_kinds.specs.declared.entry.Event.TheVariants as events
 use Rattle.txn_blocks.specs.Blocks.{no_block}
 use Rattle.inval_messages.specs.Lists.{has_write_from}
 use Rattle.std.specs.Option.{option_map_or}
-use Rattle.history_model.specs.MayFollow.{MayFollow, FollowsVisible, FollowsGone}
+use Rattle.history_model.specs.MayFollow.{MayFollow, FollowsVisible}
 use Rattle.history_model.specs.MayFollow.{FollowsLife}
-use Rattle.history_model.specs.Lives.{life_of}
+use Rattle.history_model.specs.Lives.{life_of, last_event_of}
 use Rattle.history_model.specs.Transactions.{is_visible}
 use Rattle.txn_blocks.specs.declared.transaction.RunningTransaction.{RunningTransaction as Running}
 use Rattle.history_model.specs.Changing.{is_empty}
@@ -26,12 +26,14 @@ use Rattle.cacheless.proofs.OwnAnswers.{start_answers}
 use Rattle.backend_core.specs.Types.{Command, Scenario, Entry, Progress, Backend}
 use Rattle.backend_core.specs.declared.life.Life.TheVariants as lives
 use Rattle.backend_core.specs.Agrees.{IsPlayed, AgreesNow, HasNotJoined}
-use Rattle.backend_core.specs.Fits.{looks_due, IsPast, Fits}
+use Rattle.backend_core.specs.Fits.{looks_due, is_gone_due, IsPast, Fits}
+use Rattle.backend_core.proofs.Choosing.Chosen.{follows_stand}
 use Rattle.backend_core.specs.Halts.{AwaitsCommand, begins_at}
 use Rattle.backend_core.specs.Steps.{Enters}
 use Rattle.backend_core.proofs.Cutting.Before.{before_start, ends_start}
 use Rattle.backend_core.proofs.Own.{no_entry, appended_makes}
 use Rattle.backend_core.proofs.Fitting.Rebuilding.{bare_fits}
+use Rattle.cacheless.specs.declared.progress.Due.TheVariants as dues
 
 -- it may be entered
 pub join_call : (scenario : Scenario) (seen : List Entry) (s : Backend) → HasNotJoined scenario seen s → MayCall scenario seen (entry_of s.progress.id 0 events.Start)
@@ -41,13 +43,13 @@ join_call scenario seen s before = record {
   follows = record {
     life = subst (λ l. FollowsLife l 0 events.Start) (sym before.life) refl;
     visible = subst (λ o. FollowsVisible (is_visible o) events.Start) (sym (ap (λ f. f.running) before.facts)) tt;
-    gone = subst (λ o. FollowsGone o events.Start) (sym (ap (λ f. f.last) before.facts)) tt;
+    gone = follows_stand (last_event_of seen s.progress.id) events.Start (ap (λ f. is_gone_due f.due) before.facts);
     event = tt;
   };
 }
 
 -- what its choice keeps from then on
-fits_first : (facts : Facts) (o : Option Command) (at : ℕ) → facts.running ≡ None → facts.lists ≡ [] → facts.last ≡ Some events.Start → Fits facts o (at_command no_block none_open [] [] at o) false [] false
+fits_first : (facts : Facts) (o : Option Command) (at : ℕ) → facts.running ≡ None → facts.lists ≡ [] → facts.due ≡ dues.Nothing → Fits facts o (at_command no_block none_open [] [] at o) false [] false
 fits_first facts o at runs lists last = record {
   rebuilds = bare_fits facts o (at_command no_block none_open [] [] at o) (λ keeps. refl);
   looks = record { once = omega (arith, none); enough = omega (arith, none, ap (λ l. looks_due (owed_after l)) last); within = omega (arith, none, ap (λ l. looks_due (owed_after l)) last) };
@@ -63,7 +65,7 @@ fits_first facts o at runs lists last = record {
   relations = record { inside = refl; held = λ going p none. none; over = λ over. absurd (cc over) };
   written = λ is. absurd (both_ways _ (ap (has_write_from 0) lists) is);
   visible = λ is. absurd (both_ways _ (ap (λ r. is_visible r) runs) is);
-  taken = λ from is. absurd (let both : Some events.Start ≡ Some (events.Gone from) = sym last ∙ is in cc both);
+  taken = λ from is. absurd (let both : dues.Nothing ≡ dues.Gone from = sym last ∙ is in cc both);
   accepts = λ owes. absurd (both_ways _ owes (ap (λ l. is_empty (owed_after l)) last));
   past = λ none. subst (λ x. IsPast facts (at_command no_block none_open [] [] at x)) (sym none) (record { out = refl; free = ap owed_after last });
   sought = λ is. absurd (cc is);

@@ -11,11 +11,11 @@ use Rattle.history_model.specs.Transactions.{is_visible}
 use Rattle.history_model.proofs.Prefixes.{EachEntry-more}
 use Rattle.history_model.proofs.Reading.{life_of-own}
 use Rattle.seg_calls.specs.Calls.{entry_of, MayCall, Appends}
-use Rattle.cacheless.specs.Facts.{facts_of}
+use Rattle.cacheless.specs.Facts.{due_last, facts_of}
 use Rattle.cacheless.specs.Holds.{HasEntered}
 use Rattle.cacheless.specs.OnCourse.{AllOnCourse}
 use Rattle.cacheless.specs.Plays.{MayPlayIn}
-use Rattle.cacheless.specs.State.{running_of, kept_at}
+use Rattle.cacheless.specs.State.{kept_at}
 use Rattle.cacheless.proofs.OwnAnswers.{stop_lines}
 use Rattle.cacheless.proofs.OwnPlaces.{kept_stays}
 use Rattle.backend_core.specs.Types.{Event, Scenario, Entry, Progress, Backend}
@@ -28,7 +28,7 @@ use Rattle.backend_core.proofs.Own.{waiting, session_waits, own_makes}
 
 -- it runs no transaction then
 none_runs : (scenario : Scenario) (seen : List Entry) (s : Backend) → AwaitsEntry scenario seen s → s.progress.running ≡ None → (facts_of seen s.progress.id).running ≡ None
-none_runs scenario seen s waits none = waits.rests.holds.facts.running ∙ ap running_of none
+none_runs scenario seen s waits none = ap (λ f. f.running) waits.rests.holds.facts ∙ none
 
 -- it may be entered
 pub leave_call : (scenario : Scenario) (seen : List Entry) (s : Backend) → AwaitsEntry scenario seen s → s.progress.running ≡ None → MayCall scenario seen (entry_of s.progress.id (s.progress.finished + 1) events.Stop)
@@ -47,7 +47,7 @@ leave_call scenario seen s waits none = record {
     runs_none = none_runs scenario seen s waits none
 
     by_last : (last : Option Event) → last_event_of seen s.progress.id ≡ last → FollowsGone last events.Stop
-    by_last (Some (events.Gone from)) is = absurd (both_ways _ (ap (λ r. is_some r) runs_none) (waits.fits.taken from is).runs)
+    by_last (Some (events.Gone from)) is = absurd (both_ways _ (ap (λ r. is_some r) runs_none) (waits.fits.taken from (ap due_last is)).runs)
     by_last last is = tt
 
 -- the state after it

@@ -16,7 +16,8 @@ use Rattle.history_model.specs.Transactions.{begun}
 use Rattle.seg_calls.specs.Calls.{entry_of, MayRequest, Appends, Locks}
 use Rattle.cacheless.specs.Facts.{Facts, facts_of, facts_by}
 use Rattle.cacheless.specs.Holds.{HasEntered, with_own}
-use Rattle.cacheless.specs.May.{owes_nothing, names_relation, is_lock_at, may_play_at, may_last_at}
+use Rattle.cacheless.specs.May.{owes_nothing, names_relation, is_lock_at}
+use Rattle.cacheless.specs.Rule.{may_come}
 use Rattle.cacheless.specs.OnCourse.{AllOnCourse}
 use Rattle.cacheless.specs.Owed.{owed_of, started_in}
 use Rattle.cacheless.specs.Plays.{IsLock, MayPlayIn}
@@ -24,7 +25,8 @@ use Rattle.cacheless.specs.Session.{Session, number_of, outcome_of, is_settled}
 use Rattle.cacheless.specs.Sessions.{entered}
 use Rattle.cacheless.specs.Settled.{if_locked, has_taken_no_other}
 use Rattle.cacheless.specs.Silently.{gives_next, looks_up_at}
-use Rattle.cacheless.specs.State.{kept_at, row_sought, is_absent}
+use Rattle.cacheless.specs.State.{facts_at, work_at, kept_at, rows_kept, row_sought, is_absent}
+use Rattle.cacheless.proofs.WantedPlans.{first_up}
 use Rattle.cacheless.proofs.Plans.ClearLocks.{session_holds}
 use Rattle.cacheless.proofs.Allowed.NextKeeps as keeping
 use Rattle.cacheless.proofs.SameRows.{oid_decides}
@@ -58,7 +60,7 @@ unlocked s mode given rel free names none = absurd (cc names)
 
 -- the lock that comes next isn't held
 not_held : (facts : Facts) (s : Progress) (p : Plan) (rel : Oid) (mode : Mode) → s.taken ≡ None → is_lock_at s p rel mode ≡ true → IsLock facts p rel mode → gives_next s p ≡ false → has_lock s.locks.items rel mode ≡ false
-not_held facts s (Do (Lookup name wanted) rest) rel mode free is asks none = subst (λ m. has_lock s.locks.items rel m ≡ false) (sym asks.1) (unlocked s wanted (row_sought s name) rel free (and_parts (names_relation rel (row_sought s name)) _ is).0 none)
+not_held facts s (Do (Lookup name wanted) rest) rel mode free is asks none = subst (λ m. has_lock s.locks.items rel m ≡ false) (sym asks.1) (unlocked s wanted (row_sought s name) rel free (and_parts (names_relation rel (row_sought s name)) _ is).0 (sym (first_up (facts_at s) (work_at s) wanted (rows_kept (kept_at s) (scans.RelName name))) ∙ none))
 not_held facts s (Do (Lock other wanted) rest) rel mode free is asks none = (λ i. has_lock s.locks.items (asks.0 i) (asks.1 i)) ∙ unlocked_still (has_lock s.locks.items other wanted) [] none
 not_held facts s (Do (Open of kind) rest) rel mode free is asks none = absurd asks
 not_held facts s (Do (Search scan) rest) rel mode free is asks none = absurd asks
@@ -99,7 +101,7 @@ module _ (scenario : Scenario) (old : List Entry) (was : Backend) (waits : Await
   may = ((and_parts (owes_nothing next.command was.progress) _ parts.0).0, parts.1)
 
   plays : (event : Event) → may_play_at (next_oid old) next.command was.progress event ≡ true → MayPlayIn (next_oid old) facts (command_at was) s event
-  plays event is = now_plays scenario old was waits next.command next.free.at event (ap (λ o. elim o as (λ x. Bool) [ Some command ↦ may_play_at (next_oid old) command was.progress event | None ↦ may_last_at was.progress event ]) next.free.at ∙ is)
+  plays event is = now_plays scenario old was waits next.command next.free.at event (ap (λ o. may_come (next_oid old) (facts_at was.progress) o (work_at was.progress) event) next.free.at ∙ is)
 
   asks : (owed_of facts next.command s ≡ []) × (was.progress.taken ≡ None) × IsLock facts (plan_at was.progress.opens was.progress.exec) rel mode
   asks = subst (λ o. MayPlayIn (next_oid old) facts o s (events.LockOk rel mode)) next.free.at (plays (events.LockOk rel mode) next.may)
@@ -112,7 +114,7 @@ module _ (scenario : Scenario) (old : List Entry) (was : Backend) (waits : Await
     at = next.free.at;
     unsettled = ap (λ p. is_settled (outcome_of p)) is_act.is;
     runs = act_runs scenario old was waits courses next.command next.free.at is_act.act is_act.rest is_act.is next.free.first;
-    owed = waits.rests.holds.facts.owed ∙ next.free.due;
+    owed = (ap (λ f. owed_after f.due) waits.rests.holds.facts) ∙ next.free.due;
     bare = owed_bare facts (command_at was) s was.frames next.command waits.fits.rebuilds asks.0;
   }
 

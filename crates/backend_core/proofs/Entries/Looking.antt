@@ -13,9 +13,10 @@ use Rattle.history_model.specs.Transactions.{begun, is_visible}
 use Rattle.txn_blocks.specs.declared.transaction.RunningTransaction.{RunningTransaction as Running}
 use Rattle.history_model.specs.Changing.{is_empty}
 use Rattle.history_model.proofs.Waiting.{not_waited}
-use Rattle.seg_calls.specs.Calls.{took_back, MayCall, Appends}
+use Rattle.seg_calls.specs.Calls.{MayCall, Appends}
+use Rattle.cacheless.specs.declared.progress.Due.{Due as DueNext}
 use Rattle.cacheless.specs.declared.progress.Due.TheVariants as dues
-use Rattle.cacheless.specs.Facts.{Facts, facts_of, facts_by}
+use Rattle.cacheless.specs.Facts.{Facts, due_looked, facts_of, facts_by}
 use Rattle.cacheless.specs.Holds.{HasEntered, with_own}
 use Rattle.cacheless.specs.May.{is_missing, is_next_of_act}
 use Rattle.cacheless.specs.Ends.{TakesBack, end_of_all}
@@ -25,10 +26,10 @@ use Rattle.cacheless.specs.Plays.{MayPlayIn}
 use Rattle.cacheless.specs.Schedule.{LooksTruly}
 use Rattle.cacheless.specs.Session.{Session, number_of, is_settled, outcome_of, Badly}
 use Rattle.cacheless.specs.Sessions.{entered}
-use Rattle.cacheless.specs.State.{kept_at, owed_at, owed_first, one_if, running_of, is_kept, is_absent}
+use Rattle.cacheless.specs.State.{kept_at, owed_first, one_if, is_kept, is_absent}
 use Rattle.backend_core.specs.Types.{Command, Scenario, Entry, Event, Progress, Backend, Frame, Purpose, Opening}
 use Rattle.backend_core.specs.Agrees.{IsPlayed, command_at, AgreesNow, AwaitsEntry, IsReady}
-use Rattle.backend_core.specs.Fits.{looks_due, LooksFit, Fits, IsLookedFor, Lacks, Unfound, Said, FramesFit, IsTakenBack, IsUnheld, looked_in, looked_on_top, told_owed, lacks_scan, is_lost}
+use Rattle.backend_core.specs.Fits.{looks_due, LooksFit, Fits, IsLookedFor, Lacks, Unfound, Said, FramesFit, IsTakenBack, IsUnheld, looked_in, looked_on_top, told_owed, lacks_scan, is_lost, is_look, is_gone_due}
 use Rattle.backend_core.specs.Looks.{next_of_look, look_of, LooksWell}
 use Rattle.backend_core.specs.Noted.{ComesAs}
 use Rattle.backend_core.specs.declared.look_for.LookFor.{LookFor}
@@ -54,12 +55,12 @@ use Rattle.cacheless.proofs.Plans.SilentActs.{empty_list}
 use Rattle.cacheless.proofs.Same.{owes_nothing_is}
 
 -- where a look is owed something is
-look_busy : (last : Option Event) (p : Progress) (next : OwesLookNow p) → Busy last p next.command
-look_busy last p next = by_side next.owes
+look_busy : (due : DueNext) (p : Progress) (next : OwesLookNow p) → Busy due p next.command
+look_busy due p next = by_side next.owes
   where
-    by_side : (p.due ≡ dues.Look) ⊎ ((owed_at p.due ≡ []) × (owed_first p next.command ≢ [])) → Busy last p next.command
-    by_side (inl due) = Due (ap (λ d. is_empty (owed_at d)) due)
-    by_side (inr (due, owes)) = Begins owes
+    by_side : (p.due ≡ dues.Look) ⊎ ((owed_after p.due ≡ []) × (owed_first p next.command ≢ [])) → Busy due p next.command
+    by_side (inl looks) = Due (ap (λ d. is_empty (owed_after d)) looks)
+    by_side (inr (free, owes)) = Begins owes
 
 -- a look that says what is so is allowed
 pub look_allowed : (seen : List Entry) (b : ℕ) (some_wait : Bool) → IsLegal seen → is_waiting seen b ≡ some_wait → AllowsLook seen b some_wait
@@ -71,7 +72,7 @@ look_true seen b true is = tt
 look_true seen b false is = is
 
 -- a look asks for a fetch, or for nothing
-looked_due : (some_wait : Bool) → looks_due (owed_after (Some (events.Look some_wait))) ≡ 0
+looked_due : (some_wait : Bool) → looks_due (owed_after (due_looked some_wait)) ≡ 0
 looked_due true = refl
 looked_due false = refl
 
@@ -97,31 +98,40 @@ begins_going command s is = by_ended s.ended refl
     by_ended true ended = absurd (both_ways _ (ap (λ b. elim b as (λ x. Bool) [ Outside ↦ not (ends_block command) && not s.ended && is_none (refused_by no_block command) | block ↦ false ]) (begins_outside command s is)
         ∙ ap (λ t. not (ends_block command) && not t && is_none (refused_by no_block command)) ended ∙ ap (λ t. t && is_none (refused_by no_block command)) (and-false (not (ends_block command)))) is)
 
+-- and has taken nothing back
+looked_stands : (some_wait : Bool) (from : ℕ) → due_looked some_wait ≡ dues.Gone from → ⊥
+looked_stands true from is = cc is
+looked_stands false from is = cc is
+
+looked_last : (some_wait : Bool) → is_look (due_looked some_wait) ≡ true
+looked_last true = refl
+looked_last false = refl
+
 -- the facts after a look of a command of this number
 abbrev looked_facts : Facts → Session → Bool → Facts
-looked_facts facts s some_wait = record facts { last = Some (events.Look some_wait); running = Some (begun (number_of s) facts.running) }
+looked_facts facts s some_wait = record facts { due = due_looked some_wait; running = Some (begun (number_of s) facts.running) }
 
 -- a look that the choice makes: its transaction runs, or begins with it, and it is counted once at most; where it isn't, messages had come since a lookup began
 pub record LookCounts (facts : Facts) (s : Session) (command : Command) (looked : Bool) (frames : List Frame) (told looked_now : Bool) (frames_now : List Frame) (told_now : Bool) : Type 0 where
   pub goes : RunsHere facts (Some command) s
-  pub owes : (owed_after facts.last ≡ []) ⊎ (owed_after facts.last ≡ OwesLook ∷ [])
-  pub most : looks_due (owed_after facts.last) + (started_by (number_of s) (Some (begun (number_of s) facts.running)) + one_if looked_now + looked_in frames_now) ≤ started_in (number_of s) facts + one_if looked + looked_in frames + 1
+  pub owes : (owed_after facts.due ≡ []) ⊎ (owed_after facts.due ≡ OwesLook ∷ [])
+  pub most : looks_due (owed_after facts.due) + (started_by (number_of s) (Some (begun (number_of s) facts.running)) + one_if looked_now + looked_in frames_now) ≤ started_in (number_of s) facts + one_if looked + looked_in frames + 1
   pub once : started_in (number_of s) facts + one_if s.ended ≤ 1 → started_by (number_of s) (Some (begun (number_of s) facts.running)) + one_if s.ended ≤ 1
-  pub least : started_in (number_of s) facts + looked_on_top looked frames + 1 + told_owed told_now frames_now ≤ looks_due (owed_after facts.last) + (started_by (number_of s) (Some (begun (number_of s) facts.running)) + looked_on_top looked_now frames_now) + told_owed told frames
+  pub least : started_in (number_of s) facts + looked_on_top looked frames + 1 + told_owed told_now frames_now ≤ looks_due (owed_after facts.due) + (started_by (number_of s) (Some (begun (number_of s) facts.running)) + looked_on_top looked_now frames_now) + told_owed told frames
 
 -- in an accept
-counts_due : (facts : Facts) (s : Session) (command : Command) (looked : Bool) (frames : List Frame) (told : Bool) → owed_after facts.last ≡ OwesLook ∷ [] → is_some facts.running ≡ true → LookCounts facts s command looked frames told looked frames told
+counts_due : (facts : Facts) (s : Session) (command : Command) (looked : Bool) (frames : List Frame) (told : Bool) → owed_after facts.due ≡ OwesLook ∷ [] → is_some facts.running ≡ true → LookCounts facts s command looked frames told looked frames told
 counts_due facts s command looked frames told owed runs = record { goes = Goes runs; owes = inr owed; once = λ one. omega (arith, one, started_still (number_of s) (number_of s) facts.running runs); most = omega (arith, ap looks_due owed, started_still (number_of s) (number_of s) facts.running runs); least = omega (arith, ap looks_due owed, started_still (number_of s) (number_of s) facts.running runs) }
 
 -- at the transaction's start
-counts_start : (facts : Facts) (s : Session) (command : Command) (looked : Bool) (frames : List Frame) (told : Bool) → owed_after facts.last ≡ [] → begins command s ≡ true → facts.running ≡ None → LookCounts facts s command looked frames told looked frames told
+counts_start : (facts : Facts) (s : Session) (command : Command) (looked : Bool) (frames : List Frame) (told : Bool) → owed_after facts.due ≡ [] → begins command s ≡ true → facts.running ≡ None → LookCounts facts s command looked frames told looked frames told
 counts_start facts s command looked frames told owed starts none = record { goes = Starts command refl starts (begins_outside command s starts) none; owes = inl owed; once = λ one. omega (arith, started_now (number_of s) facts.running none, ap one_if (begins_going command s starts)); most = omega (arith, ap looks_due owed, started_now (number_of s) facts.running none, none_before); least = omega (arith, ap looks_due owed, started_now (number_of s) facts.running none, none_before) }
   where
     none_before : started_in (number_of s) facts ≡ 0
     none_before = ap (λ o. started_by (number_of s) o) none
 
 -- before a scan of the next act, where nothing is rebuilt
-counts_act : (facts : Facts) (s : Session) (command : Command) (looked told : Bool) → owed_after facts.last ≡ [] → is_some facts.running ≡ true → looked ≡ false → LookCounts facts s command looked [] told true [] told
+counts_act : (facts : Facts) (s : Session) (command : Command) (looked told : Bool) → owed_after facts.due ≡ [] → is_some facts.running ≡ true → looked ≡ false → LookCounts facts s command looked [] told true [] told
 counts_act facts s command looked told owed runs unlooked = record {
   goes = Goes runs;
   owes = inl owed;
@@ -131,7 +141,7 @@ counts_act facts s command looked told owed runs unlooked = record {
 }
 
 -- before one of the rebuild on top
-counts_rebuild : (facts : Facts) (s : Session) (command : Command) (looked told : Bool) (under : List Frame) (f : Frame) → owed_after facts.last ≡ [] → is_some facts.running ≡ true → f.looked ≡ false → LookCounts facts s command looked (under ++ f ∷ []) told looked (under ++ with_look f ∷ []) told
+counts_rebuild : (facts : Facts) (s : Session) (command : Command) (looked told : Bool) (under : List Frame) (f : Frame) → owed_after facts.due ≡ [] → is_some facts.running ≡ true → f.looked ≡ false → LookCounts facts s command looked (under ++ f ∷ []) told looked (under ++ with_look f ∷ []) told
 counts_rebuild facts s command looked told under f owed runs unlooked = record {
   goes = Goes runs;
   owes = inl owed;
@@ -148,7 +158,7 @@ told_less false true side = omega arith
 told_less false false side = omega arith
 
 -- before a lookup says that there is no relation
-counts_accept : (facts : Facts) (s : Session) (command : Command) (looked told : Bool) → owed_after facts.last ≡ [] → is_some facts.running ≡ true → (looked ≡ false) ⊎ (told ≡ true) → LookCounts facts s command looked [] told true [] (told && not looked)
+counts_accept : (facts : Facts) (s : Session) (command : Command) (looked told : Bool) → owed_after facts.due ≡ [] → is_some facts.running ≡ true → (looked ≡ false) ⊎ (told ≡ true) → LookCounts facts s command looked [] told true [] (told && not looked)
 counts_accept facts s command looked told owed runs side = record {
   goes = Goes runs;
   owes = inl owed;
@@ -172,7 +182,7 @@ module _ (scenario : Scenario) (old : List Entry) (was : Backend) (waits : Await
   now = entered (facts_of (with_own old was.progress event) was.progress.id) (drop was.progress.finished was.progress.commands) (length old + 1) (was.progress.finished + 1) event s
 
   later_is : facts_by old was.progress.id (was.progress.finished + 1) event facts ≡ looked_facts facts s some_wait
-  later_is = λ i. record facts { last = Some event; running = Some (begun (sym waits.rests.holds.count i + 1) facts.running) }
+  later_is = λ i. record facts { due = due_looked some_wait; running = Some (begun (sym waits.rests.holds.count i + 1) facts.running) }
 
   module _ (looked : Bool) (frames : List Frame) (told : Bool) (counts : LookCounts facts s command was.looked was.frames was.told looked frames told) where
     before : LooksFit facts s was.looked was.frames was.told
@@ -190,18 +200,18 @@ module _ (scenario : Scenario) (old : List Entry) (was : Backend) (waits : Await
     MadeFor = looked ≡ true → IsLookedFor (looked_facts facts s some_wait) frames s.taken s.left × IsUnheld s.opened s.left
 
     -- the rebuilds see to what they saw to
-    look_rebuilds : Busy (facts_of old was.progress.id).last was.progress command → FramesFit facts (command_at was) s frames → FramesFit (looked_facts facts s some_wait) (Some command) now frames
+    look_rebuilds : Busy (facts_of old was.progress.id).due was.progress command → FramesFit facts (command_at was) s frames → FramesFit (looked_facts facts s some_wait) (Some command) now frames
     look_rebuilds busy rebuilds = subst (λ o. FramesFit (looked_facts facts s some_wait) o now frames) at
         (same_fits facts (looked_facts facts s some_wait) (command_at was) s now frames refl refl refl refl (sym (standing scenario old was waits command at busy)) rebuilds)
 
     look_fits : is_visible facts.running ≡ false → FramesFit (looked_facts facts s some_wait) (Some command) now frames → MadeFor → Fits (facts_by old was.progress.id (was.progress.finished + 1) event facts) (command_at was) now looked frames told
     look_fits hides rebuilds sought = subst (λ f. Fits f (command_at was) now looked frames told) (sym later_is) (subst (λ o. Fits (looked_facts facts s some_wait) o now looked frames told) (sym at)
         (fits_inside facts (looked_facts facts s some_wait) (Some command) s now was.looked was.frames was.told looked frames told command refl (subst (λ o. Fits facts o s was.looked was.frames was.told) at waits.fits)
-        (record { runs = refl; written = λ is. begun_written (number_of s) facts.running (waits.fits.written is); last = λ from is. cc is })
+        (record { runs = refl; written = λ is. begun_written (number_of s) facts.running (waits.fits.written is); last = looked_stands some_wait })
         (record { blocks = refl; opens = refl; held = inl refl; finished = refl; blocked = refl; ended = refl; left = λ is there. refl }) counts.goes hides (over scenario old was waits courses command at) looks_more rebuilds sought (takes_cleared _ (number_of s) s.locks s.taken s.left waits.fits.takes)))
 
     -- so after it the backend agrees
-    pub look_agrees : (p : Progress) → IsPlayed scenario old → MayFollow old (look_of was some_wait) → Busy (facts_of old was.progress.id).last was.progress command → FramesFit facts (command_at was) s frames → MadeFor → HasEntered scenario old was.progress event waits.rests p → kept_at p ≡ kept_at was.progress → p.answer ≡ None
+    pub look_agrees : (p : Progress) → IsPlayed scenario old → MayFollow old (look_of was some_wait) → Busy (facts_of old was.progress.id).due was.progress command → FramesFit facts (command_at was) s frames → MadeFor → HasEntered scenario old was.progress event waits.rests p → kept_at p ≡ kept_at was.progress → p.answer ≡ None
         → LooksWell scenario old was some_wait (record was { progress = p; looked = looked; frames = frames; told = told })
     look_agrees p played follows busy rebuilds sought goes kept none = record {
       next = plays_next scenario old was event waits plays;
@@ -221,26 +231,26 @@ pub look_well : (scenario : Scenario) (old : List Entry) (was : Backend) (p : Pr
     → HasEntered scenario old was.progress (events.Look some_wait) waits.rests p → kept_at p ≡ kept_at was.progress → p.answer ≡ None
     → LooksWell scenario old was some_wait (record was { progress = p })
 look_well scenario old was p some_wait waits played courses next follows goes kept none =
-    look_agrees scenario old was waits courses next.command next.at some_wait was.looked was.frames was.told (by_side next.owes) p played follows (look_busy facts.last was.progress next) waits.fits.rebuilds
-    (λ made. (sought_looked facts (looked_facts facts (waiting waits) some_wait) was.frames (waiting waits).taken (waiting waits).left refl refl refl (waits.fits.sought made), waits.fits.unheld made)) goes kept none
+    look_agrees scenario old was waits courses next.command next.at some_wait was.looked was.frames was.told (by_side next.owes) p played follows (look_busy facts.due was.progress next) waits.fits.rebuilds
+    (λ made. (sought_looked facts (looked_facts facts (waiting waits) some_wait) was.frames (waiting waits).taken (waiting waits).left refl (looked_last some_wait) (waits.fits.sought made), waits.fits.unheld made)) goes kept none
   where
     facts : Facts
     facts = facts_of old was.progress.id
 
-    by_side : (was.progress.due ≡ dues.Look) ⊎ ((owed_at was.progress.due ≡ []) × (owed_first was.progress next.command ≢ [])) → LookCounts facts (waiting waits) next.command was.looked was.frames was.told was.looked was.frames was.told
-    by_side (inl due) = let owed : owed_after facts.last ≡ OwesLook ∷ [] = waits.rests.holds.facts.owed ∙ ap owed_at due in
+    by_side : (was.progress.due ≡ dues.Look) ⊎ ((owed_after was.progress.due ≡ []) × (owed_first was.progress next.command ≢ [])) → LookCounts facts (waiting waits) next.command was.looked was.frames was.told was.looked was.frames was.told
+    by_side (inl due) = let owed : owed_after facts.due ≡ OwesLook ∷ [] = (ap (λ f. owed_after f.due) waits.rests.holds.facts) ∙ ap owed_after due in
         counts_due facts (waiting waits) next.command was.looked was.frames was.told owed (waits.fits.accepts (ap is_empty owed))
     by_side (inr (due, owes)) = let starts : StartsNow was.progress next.command = starts_now was.progress next.command owes in
-        counts_start facts (waiting waits) next.command was.looked was.frames was.told (waits.rests.holds.facts.owed ∙ due) starts.begins (waits.rests.holds.facts.running ∙ ap running_of starts.none)
+        counts_start facts (waiting waits) next.command was.looked was.frames was.told ((ap (λ f. owed_after f.due) waits.rests.holds.facts) ∙ due) starts.begins ((ap (λ f. f.running) waits.rests.holds.facts) ∙ starts.none)
 
 -- where a scan comes next nothing was taken back
-scan_stands : (scenario : Scenario) (seen : List Entry) (s : Backend) (scan : Purpose) (rebuilds : Bool) (waits : AwaitsEntry scenario seen s) → IsScanNext s scan rebuilds → took_back (facts_of seen s.progress.id).last ≡ false
-scan_stands scenario seen s scan rebuilds waits next = by_last (facts_of seen s.progress.id).last refl
+scan_stands : (scenario : Scenario) (seen : List Entry) (s : Backend) (scan : Purpose) (rebuilds : Bool) (waits : AwaitsEntry scenario seen s) → IsScanNext s scan rebuilds → is_gone_due (facts_of seen s.progress.id).due ≡ false
+scan_stands scenario seen s scan rebuilds waits next = by_due (facts_of seen s.progress.id).due refl
   where
     facts : Facts
     facts = facts_of seen s.progress.id
 
-    rests_on : (p : Plan) → plan_at s.progress.opens s.progress.exec ≡ p → is_settled (outcome_of p) ≡ true → left_rests_on p ≡ [] → is_next_of_act scan s.progress p ≡ false
+    rests_on : (p : Plan) → plan_at s.progress.opens s.progress.exec ≡ p → is_settled (outcome_of p) ≡ true → left_rests_on p ≡ [] → is_next_of_act scan (kept_at s.progress) p ≡ false
     rests_on (Done told) at out plain = by_rests (told_rests_on told) plain
       where
         by_rests : (o : Option Purpose) → cons_option o [] ≡ [] → option_map_or (is_missing scan (kept_at s.progress)) o false ≡ false
@@ -249,17 +259,17 @@ scan_stands scenario seen s scan rebuilds waits next = by_last (facts_of seen s.
     rests_on (Do act rest) at out plain = absurd (cc out)
     rests_on p at out plain = refl
 
-    none_gone : (t : Bool) (from : ℕ) → facts.last ≡ Some (events.Gone from) → IsTakenBack facts next.command (waiting waits) from → IsInTurn t s scan → ⊥
-    none_gone true from is back turn = let none : s.frames ≡ [] = waits.fits.rebuilds.over (λ i. not (took_back (is i)) && not (is_lost (waiting waits)) && not (has_error (plan_at s.progress.opens s.progress.exec))) in
+    none_gone : (t : Bool) (from : ℕ) → facts.due ≡ dues.Gone from → IsTakenBack facts next.command (waiting waits) from → IsInTurn t s scan → ⊥
+    none_gone true from is back turn = let none : s.frames ≡ [] = waits.fits.rebuilds.over (λ i. not (is_gone_due (is i)) && not (is_lost (waiting waits)) && not (has_error (plan_at s.progress.opens s.progress.exec))) in
         let no : None ≡ Some scan = sym (ap (λ l. elim (top l) as (λ x. Option Purpose) [ Some f ↦ find (λ d. not (is_kept (kept_at s.progress) d)) (build_scans f.opening.kind f.opening.rel) | None ↦ None ]) none) ∙ turn in cc no
     none_gone false from is back turn = both_ways _ (rests_on (plan_at s.progress.opens s.progress.exec) refl (waits.fits.taken from is).out back.plain) turn.1
 
-    by_last : (last : Option Event) → facts.last ≡ last → took_back last ≡ false
-    by_last (Some (events.Gone from)) is = absurd (none_gone rebuilds from is
+    by_due : (due : DueNext) → facts.due ≡ due → is_gone_due due ≡ false
+    by_due (dues.Gone from) is = absurd (none_gone rebuilds from is
         (subst (λ o. elim o as (λ x. Type 0) [ Some c ↦ IsTakenBack facts c (waiting waits) from | None ↦ end_of_all facts ≡ TakesBack from ]) next.free.at (waits.fits.taken from is).end) next.turn)
-    by_last last is = refl
+    by_due due is = refl
 
-pub scan_busy : (scenario : Scenario) (seen : List Entry) (s : Backend) (scan : Purpose) (rebuilds : Bool) (waits : AwaitsEntry scenario seen s) (next : IsScanNext s scan rebuilds) → Busy (facts_of seen s.progress.id).last s.progress next.command
+pub scan_busy : (scenario : Scenario) (seen : List Entry) (s : Backend) (scan : Purpose) (rebuilds : Bool) (waits : AwaitsEntry scenario seen s) (next : IsScanNext s scan rebuilds) → Busy (facts_of seen s.progress.id).due s.progress next.command
 scan_busy scenario seen s scan rebuilds waits next = Scans next.lacks (scan_stands scenario seen s scan rebuilds waits next)
 
 -- the scan is that of the rebuild on top
@@ -284,7 +294,7 @@ pub on_some : (s : Backend) (scan : Purpose) → IsOnTop s scan → s.frames ≡
 on_some s scan on none = let no_top : None ≡ Some on.parts.one = sym (ap top none) ∙ ap top on.parts.is ∙ top_push on.parts.under on.parts.one in cc no_top
 
 -- a descriptor that lacks a scan isn't held, where nothing is rebuilt
-pub opens_unheld : (scenario : Scenario) (seen : List Entry) (s : Backend) (waits : AwaitsEntry scenario seen s) → AllOnCourse scenario seen → (command : Command) → command_at s ≡ Some command → Busy (facts_of seen s.progress.id).last s.progress command → s.frames ≡ []
+pub opens_unheld : (scenario : Scenario) (seen : List Entry) (s : Backend) (waits : AwaitsEntry scenario seen s) → AllOnCourse scenario seen → (command : Command) → command_at s ≡ Some command → Busy (facts_of seen s.progress.id).due s.progress command → s.frames ≡ []
     → lacks_scan (facts_of seen s.progress.id) (waiting waits).left ≡ true → IsUnheld (waiting waits).opened (waiting waits).left
 opens_unheld scenario seen s waits courses command at busy bare lacking = by_plan (waiting waits).left refl lacking
   where
@@ -292,8 +302,8 @@ opens_unheld scenario seen s waits courses command at busy bare lacking = by_pla
     facts = facts_of seen s.progress.id
 
     by_plan : (p : Plan) → (waiting waits).left ≡ p → lacks_scan facts p ≡ true → IsUnheld (waiting waits).opened p
-    by_plan (Do (Open rel kind) rest) is lacks_it = unheld_lacking facts.usable (waiting waits).opened rel kind
-        (none_lacks facts.usable (waiting waits).opened (subst (IsStack facts.usable (waiting waits).opened) bare (waits.fits.rebuilds.stack (λ i. not (standing scenario seen s waits command at busy i) && not (unlost scenario seen s waits courses command at i) && not (has_error (is i)))))) lacks_it
+    by_plan (Do (Open rel kind) rest) is lacks_it = unheld_lacking (is_kept facts.kept) (waiting waits).opened rel kind
+        (none_lacks (is_kept facts.kept) (waiting waits).opened (subst (IsStack (is_kept facts.kept) (waiting waits).opened) bare (waits.fits.rebuilds.stack (λ i. not (standing scenario seen s waits command at busy i) && not (unlost scenario seen s waits courses command at i) && not (has_error (is i)))))) lacks_it
     by_plan (Do (Lookup name mode) rest) is lacks_it = tt
     by_plan (Do (Search scan) rest) is lacks_it = tt
     by_plan (Do (Read scan) rest) is lacks_it = tt
@@ -313,8 +323,8 @@ look_before_well scenario old was p some_wait rebuilds waits played courses next
     later : Facts
     later = looked_facts facts (waiting waits) some_wait
 
-    owed : owed_after facts.last ≡ []
-    owed = waits.rests.holds.facts.owed ∙ next.next.free.due
+    owed : owed_after facts.due ≡ []
+    owed = (ap (λ f. owed_after f.due) waits.rests.holds.facts) ∙ next.next.free.due
 
     runs : is_some facts.running ≡ true
     runs = scan_runs scenario old was waits courses next.next.command next.next.free.at next.scan next.next.next next.next.free.first
@@ -350,13 +360,13 @@ look_before_well scenario old was p some_wait rebuilds waits played courses next
     by_kind false scan unlooked = of_act scan unlooked
 
 -- where a lookup has found no relation, something is to be done still
-find_busy : (last : Option Event) (p : Progress) (command : Command) → FindsNone p command → Busy last p command
-find_busy last p command (Looks unfound owes) = Acts (by_plan (plan_at p.opens p.exec) unfound)
+find_busy : (due : DueNext) (p : Progress) (command : Command) → FindsNone p command → Busy due p command
+find_busy due p command (Looks unfound owes) = Acts (by_plan (plan_at p.opens p.exec) unfound)
   where
     by_plan : (q : Plan) → is_unfound p q ≡ true → is_settled (outcome_of q) ≡ false
     by_plan (Do act rest) is = refl
     by_plan q is = absurd (cc is)
-find_busy last p command (Says absent quiet) = Sought absent quiet
+find_busy due p command (Says absent quiet) = Sought absent quiet
 
 -- the look of a lookup that has found no relation
 pub accept_well : (scenario : Scenario) (old : List Entry) (was : Backend) (p : Progress) (some_wait told : Bool) (waits : AwaitsEntry scenario old was) → IsPlayed scenario old → AllOnCourse scenario old → IsAcceptNext was → MayFollow old (look_of was some_wait) → told ≡ (was.told && not was.looked)
@@ -366,8 +376,8 @@ accept_well scenario old was p some_wait told waits played courses next follows 
     look_agrees scenario old was waits courses next.command next.free.at some_wait true was.frames told
     (subst (LookCounts facts (waiting waits) next.command was.looked was.frames was.told true was.frames) (sym told_is)
     (subst (λ l. LookCounts facts (waiting waits) next.command was.looked l was.told true l (was.told && not was.looked)) (sym (bare next.finds))
-    (counts_accept facts (waiting waits) next.command was.looked was.told (waits.rests.holds.facts.owed ∙ next.free.due) runs next.unlooked)))
-    p played follows (find_busy (facts_of old was.progress.id).last was.progress next.command next.finds) waits.fits.rebuilds (λ made. by_side next.finds) goes kept none
+    (counts_accept facts (waiting waits) next.command was.looked was.told ((ap (λ f. owed_after f.due) waits.rests.holds.facts) ∙ next.free.due) runs next.unlooked)))
+    p played follows (find_busy (facts_of old was.progress.id).due was.progress next.command next.finds) waits.fits.rebuilds (λ made. by_side next.finds) goes kept none
   where
     facts : Facts
     facts = facts_of old was.progress.id
@@ -400,7 +410,7 @@ accept_well scenario old was p some_wait told waits played courses next follows 
     absent_unheld held q absent = absurd (cc absent)
 
     by_side : FindsNone was.progress next.command → IsLookedFor later was.frames (waiting waits).taken (waiting waits).left × IsUnheld (waiting waits).opened (waiting waits).left
-    by_side (Looks unfound owes) = (Unfound (unfound_facts facts was.progress (plan_at was.progress.opens was.progress.exec) waits.rests.holds.facts unfound) refl (bare (Looks unfound owes)), lookup_unheld was.progress.opened (plan_at was.progress.opens was.progress.exec) unfound)
+    by_side (Looks unfound owes) = (Unfound (unfound_facts facts was.progress (plan_at was.progress.opens was.progress.exec) waits.rests.holds.facts unfound) (looked_last some_wait) (bare (Looks unfound owes)), lookup_unheld was.progress.opened (plan_at was.progress.opens was.progress.exec) unfound)
     by_side (Says absent quiet) = (Said absent, absent_unheld was.progress.opened (plan_at was.progress.opens was.progress.exec) absent)
 
     runs : is_some facts.running ≡ true
@@ -414,9 +424,9 @@ look_comes looks.Absent some_wait = tt
 
 -- a look that comes next may be called for, where the history allows it
 pub looks_call : (scenario : Scenario) (seen : List Entry) (s : Backend) (look : LookFor) (some_wait : Bool) → AwaitsEntry scenario seen s → IsNextOf s (next_of_look look) → AllowsLook seen s.progress.id some_wait → MayCall scenario seen (look_of s some_wait)
-looks_call scenario seen s looks.Accept some_wait waits next allows = may_call scenario seen s waits next.command next.at (events.Look some_wait) (look_busy (facts_of seen s.progress.id).last s.progress next) refl allows
+looks_call scenario seen s looks.Accept some_wait waits next allows = may_call scenario seen s waits next.command next.at (events.Look some_wait) (look_busy (facts_of seen s.progress.id).due s.progress next) refl allows
 looks_call scenario seen s (looks.Scan rebuilds) some_wait waits next allows = may_call scenario seen s waits next.next.command next.next.free.at (events.Look some_wait) (scan_busy scenario seen s next.scan rebuilds waits next.next) refl allows
-looks_call scenario seen s looks.Absent some_wait waits next allows = may_call scenario seen s waits next.command next.free.at (events.Look some_wait) (find_busy (facts_of seen s.progress.id).last s.progress next.command next.finds) refl allows
+looks_call scenario seen s looks.Absent some_wait waits next allows = may_call scenario seen s waits next.command next.free.at (events.Look some_wait) (find_busy (facts_of seen s.progress.id).due s.progress next.command next.finds) refl allows
 
 -- where a segment has made it, it is an entry of the backend
 pub looks_enter : (scenario : Scenario) (old new : List Entry) (had has : ℕ → ℕ) (was now : Backend) (some_wait : Bool) → IsReady scenario old was → some_wait ≡ is_waiting old was.progress.id → LooksWell scenario old was some_wait now → Appends old new had has (look_of was some_wait) → Enters scenario old new had has was now

@@ -12,7 +12,8 @@ use Rattle.history_model.specs.Transactions.{is_visible}
 use Rattle.txn_blocks.specs.declared.transaction.RunningTransaction.{RunningTransaction as Running}
 use Rattle.seg_calls.specs.Calls.{entry_of, MayCall, Appends}
 use Rattle.cacheless.specs.Ends.{Commits, TakesBack}
-use Rattle.cacheless.specs.Facts.{Facts, facts_of, facts_by}
+use Rattle.cacheless.specs.Facts.{Facts, due_last, facts_of, facts_by}
+use Rattle.history_model.specs.Lives.{last_event_of}
 use Rattle.cacheless.specs.Holds.{Rests, HasEntered}
 use Rattle.cacheless.specs.May.{has_failed}
 use Rattle.cacheless.specs.Owed.{started_in}
@@ -76,15 +77,15 @@ bare_hidden facts o s looked frames told from fits end bare = false_from_ne_true
     by_end is (inr back) = let no : Commits (first_at facts) ≡ TakesBack from = sym (commit_end facts o s looked frames told fits is) ∙ back in cc no
 
 -- what was taken back is what is released
-release_gone : (facts : Facts) (o : Option Command) (s : Session) (looked : Bool) (frames : List Frame) (told : Bool) (from : ℕ) → Fits facts o s looked frames told → LetsGo facts (end_by facts o s) from → FollowsGone facts.last (events.Release from)
-release_gone facts o s looked frames told from fits lets = by_last facts.last refl
+release_gone : (facts : Facts) (o : Option Command) (s : Session) (looked : Bool) (frames : List Frame) (told : Bool) (from : ℕ) → Fits facts o s looked frames told → LetsGo facts (end_by facts o s) from → (last : Option Event) → facts.due ≡ due_last last → FollowsGone last (events.Release from)
+release_gone facts o s looked frames told from fits lets = by_last
   where
     by_case : (n : ℕ) → end_by facts o s ≡ TakesBack n → LetsGo facts (end_by facts o s) from → from ≡ n
     by_case n back (AllSent commits visible sent) = absurd (let no : Commits from ≡ TakesBack n = sym commits ∙ back in cc no)
     by_case n back (NoWrite (inl commits) bare) = absurd (let no : Commits from ≡ TakesBack n = sym commits ∙ back in cc no)
     by_case n back (NoWrite (inr takes) bare) = let both : TakesBack from ≡ TakesBack n = sym takes ∙ back in cc both
 
-    by_last : (last : Option Event) → facts.last ≡ last → FollowsGone last (events.Release from)
+    by_last : (last : Option Event) → facts.due ≡ due_last last → FollowsGone last (events.Release from)
     by_last (Some (events.Gone n)) is = by_case n (back_end facts o s looked frames told n fits is) lets
     by_last last is = tt
 
@@ -128,7 +129,7 @@ module _ (scenario : Scenario) (old : List Entry) (was : Backend) (from : ℕ) (
 
   -- it may be entered
   pub release_call : MayCall scenario old (entry_of was.progress.id (was.progress.finished + 1) (events.Release from))
-  release_call = end_call scenario old was waits (events.Release from) refl next (released (is_visible facts.running) from) (release_gone facts (command_at was) s was.looked was.frames was.told from waits.fits lets)
+  release_call = end_call scenario old was waits (events.Release from) refl next (released (is_visible facts.running) from) (release_gone facts (command_at was) s was.looked was.frames was.told from waits.fits lets (last_event_of old was.progress.id) refl)
       (from_low part, may_release lets)
 
   abbrev pub later : Facts
@@ -140,7 +141,7 @@ module _ (scenario : Scenario) (old : List Entry) (was : Backend) (from : ℕ) (
 
   -- and rebuilt
   abbrev pub frames_now : List Frame
-  frames_now = frames_left facts.usable (plan_at was.progress.opens was.progress.exec) held_now
+  frames_now = frames_left (is_kept facts.kept) (plan_at was.progress.opens was.progress.exec) held_now
 
   release_fits : (locks : List OwnLock) (at : ℕ) → Fits later (command_at was) (released_at facts later (command_at was) s was.looked was.frames was.told (events.Release from) locks at waits.fits now from) was.looked frames_now was.told
   release_fits locks at = by_part part
@@ -156,7 +157,7 @@ module _ (scenario : Scenario) (old : List Entry) (was : Backend) (from : ℕ) (
           → told_owed was.told frames_now + one_if was.looked + started_in (number_of s) facts ≤ one_if was.told + looked_on_top was.looked frames_now + 1 → Fits later (command_at was) then was.looked frames_now was.told
       fits_here low written hidden runs since free past started top = fits_released facts later (command_at was) s was.looked was.frames was.told (events.Release from) locks at waits.fits now from frames_now refl
           (from_of facts (end_by facts (command_at was) s) from lets) (λ scan none. none) low written hidden runs since free
-          (left_looks facts later s held_now locks at was.looked frames_now was.told before now.going now.after refl started (left_unlooked facts.usable s.left held_now) top)
+          (left_looks facts later s held_now locks at was.looked frames_now was.told before now.going now.after refl started (left_unlooked (is_kept facts.kept) s.left held_now) top)
           (left_fits later (command_at was) then now.out refl refl past)
 
       -- a level that is released alone isn't that of a commit
@@ -188,7 +189,7 @@ module _ (scenario : Scenario) (old : List Entry) (was : Backend) (from : ℕ) (
           ended = ended_running facts.running (was.progress.finished + 1) from (first_here is)
 
           bare_left : opens_before from s.opens ≡ [] → frames_now ≡ []
-          bare_left without = ap (λ l. frames_left facts.usable s.left (map opening_of l)) without ∙ by_fails (fails_at s.left)
+          bare_left without = ap (λ l. frames_left (is_kept facts.kept) s.left (map opening_of l)) without ∙ by_fails (fails_at s.left)
             where
               by_fails : (t : Bool) → unless t [] [] ≡ []
               by_fails true = refl
@@ -197,7 +198,7 @@ module _ (scenario : Scenario) (old : List Entry) (was : Backend) (from : ℕ) (
           (λ some. ap (λ r. option_map_or (λ (t : Running). is_some t.xid) r false) same ∙ waits.fits.written (ap (has_write_from 0) (sym (kept_lists facts.running facts.lists from inner.runs inner.above)) ∙ some))
           (ap (λ r. is_visible r) same ∙ inner_hidden inner lets) (inner.on later same)
           (ap (λ r. opens_before (option_map_or (λ (t : Running). t.first) r 0) s.opens) same ∙ waits.fits.since) (λ over. absurd (both_ways _ (ap (λ r. is_some r) (sym same ∙ over)) inner.runs)) (λ none. absurd (inner.command none)) (ap (λ r. option_map_or (λ (t : Running). elim (t.first == number_of s) as (λ x. ℕ) [ true ↦ 1 | false ↦ 0 ]) r 0) same ∙ started_before)
-          (omega (arith, started_before, left_top facts.usable s.left held_now was.looked was.told (inner_unlooked inner)))
+          (omega (arith, started_before, left_top (is_kept facts.kept) s.left held_now was.looked was.told (inner_unlooked inner)))
         where
           same : later.running ≡ facts.running
           same = kept_running facts.running (was.progress.finished + 1) from inner.runs inner.above
@@ -220,7 +221,7 @@ release_enters scenario old new had has was from p frames waits played courses n
     bare : was.frames ≡ []
     bare = end_bare scenario old was waits (events.Release from) refl next
 
-    usable : is_kept (kept_at p) ≡ (facts_of old was.progress.id).usable
+    usable : is_kept (kept_at p) ≡ is_kept (facts_of old was.progress.id).kept
     usable = ap is_kept kept ∙ sym (usable_is (facts_of old was.progress.id) was.progress waits.rests.holds.facts)
 
     frames_are : unless (has_failed p) was.frames (with_rest (is_kept (kept_at p)) p.opened was.frames) ≡ frames_now scenario old was from waits next

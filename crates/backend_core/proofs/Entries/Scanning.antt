@@ -19,7 +19,7 @@ use Rattle.cacheless.specs.Session.{Session, Badly, number_of, outcome_of}
 use Rattle.cacheless.specs.Sessions.{entered}
 use Rattle.cacheless.specs.State.{kept_at, kept_with, is_absent, one_if, is_kept}
 use Rattle.cacheless.proofs.OneOfKey.{one_of_key}
-use Rattle.cacheless.proofs.Same.{next_same}
+use Rattle.cacheless.proofs.Same.{next_is, next_same}
 use Rattle.cacheless.proofs.Tests.{and_true, not_true}
 use Rattle.backend_core.specs.Types.{Row, Purpose, Scenario, Entry, Event, Progress, Backend, Opening, Frame}
 use Rattle.backend_core.specs.Agrees.{IsPlayed, command_at, AwaitsEntry}
@@ -48,7 +48,7 @@ use Rattle.std.proofs.Math.Bool.{and-true, and-false}
 pub scan_request : (scenario : Scenario) (seen : List Entry) (s : Backend) (scan : Purpose) (rebuilds : Bool) → AwaitsEntry scenario seen s → IsScanNext s scan rebuilds → MayRequest scenario seen s.progress.id (s.progress.finished + 1)
 scan_request scenario seen s scan rebuilds waits next = may_request scenario seen s waits next.command next.free.at (scan_busy scenario seen s scan rebuilds waits next)
 
-looked_enough : (facts : Facts) (s : Session) (looked : Bool) (frames : List Frame) (told : Bool) → LooksFit facts s looked frames told → owed_after facts.last ≡ [] → 1 ≤ one_if looked + looked_in frames → has_looked facts s ≡ true
+looked_enough : (facts : Facts) (s : Session) (looked : Bool) (frames : List Frame) (told : Bool) → LooksFit facts s looked frames told → owed_after facts.due ≡ [] → 1 ≤ one_if looked + looked_in frames → has_looked facts s ≡ true
 looked_enough facts s looked frames told fits none some = lt-ltb (s.tally.scans + s.tally.grants + started_in (number_of s) facts + s.tally.full) s.tally.looks (omega (arith, fits.enough, ap looks_due none, some))
 
 -- with the scan more is kept
@@ -94,24 +94,24 @@ module _ (scenario : Scenario) (old : List Entry) (was : Backend) (waits : Await
   abbrev now : Session
   now = entered (facts_of (with_own old was.progress event) was.progress.id) (drop was.progress.finished was.progress.commands) (length old + 1) (was.progress.finished + 1) event s
 
-  owed : owed_after facts.last ≡ []
-  owed = waits.rests.holds.facts.owed ∙ next.free.due
+  owed : owed_after facts.due ≡ []
+  owed = (ap (λ f. owed_after f.due) waits.rests.holds.facts) ∙ next.free.due
 
   before : LooksFit facts s was.looked was.frames was.told
   before = waits.fits.looks
 
   -- the rebuilds after it
   abbrev frames_now : Bool → List Frame
-  frames_now t = frames_noted t (with_scan scan facts.usable) was.progress.opened was.frames
+  frames_now t = frames_noted t (with_scan scan (is_kept facts.kept)) was.progress.opened was.frames
 
   counts : ScanCounts was.looked was.frames was.told (was.looked && rebuilds) (frames_now rebuilds)
   counts = by_kind rebuilds next.turn looked_for
     where
       by_kind : (t : Bool) → IsInTurn t was scan → is_looked_for t was ≡ true → ScanCounts was.looked was.frames was.told (was.looked && t) (frames_now t)
       by_kind true turn made = let on = on_top_of was scan turn in
-          subst (λ l. ScanCounts was.looked l was.told (was.looked && true) (frames_scanned (with_scan scan facts.usable) was.progress.opened l)) (sym on.parts.is)
-          (subst (ScanCounts was.looked (on.parts.under ++ on.parts.one ∷ []) was.told (was.looked && true)) (sym (scanned_push (with_scan scan facts.usable) was.progress.opened on.parts.under on.parts.one))
-          (counts_top (with_scan scan facts.usable) was.progress.opened was.looked was.told on.parts.under on.parts.one (sym on.looked ∙ made)))
+          subst (λ l. ScanCounts was.looked l was.told (was.looked && true) (frames_scanned (with_scan scan (is_kept facts.kept)) was.progress.opened l)) (sym on.parts.is)
+          (subst (ScanCounts was.looked (on.parts.under ++ on.parts.one ∷ []) was.told (was.looked && true)) (sym (scanned_push (with_scan scan (is_kept facts.kept)) was.progress.opened on.parts.under on.parts.one))
+          (counts_top (with_scan scan (is_kept facts.kept)) was.progress.opened was.looked was.told on.parts.under on.parts.one (sym on.looked ∙ made)))
       by_kind false turn made = subst (λ l. ScanCounts was.looked l was.told (was.looked && false) l) (sym turn.0) (counts_act was.looked was.told made)
 
   scan_own : OwnEntry scenario old was event waits
@@ -144,7 +144,7 @@ module _ (scenario : Scenario) (old : List Entry) (was : Backend) (waits : Await
 
   -- it has no failure to tell
   goes : has_failed was.progress ≡ false
-  goes = not_true (has_failed was.progress) (and_true (not (has_failed was.progress)) _ next.next).0
+  goes = not_true (has_failed was.progress) (and_true (not (has_failed was.progress)) _ (next_is scan was.progress ∙ next.next)).0
 
   failed_by : (p : Plan) → plan_at was.progress.opens was.progress.exec ≡ p → outcome_of p ≡ Badly → ⊥
   failed_by p at badly = both_ways _ goes (ap (λ q. elim (outcome_of q) as (λ x. Bool) [ Badly ↦ true | other ↦ false ]) at ∙ ap (λ o. elim o as (λ x. Bool) [ Badly ↦ true | other ↦ false ]) badly)
@@ -164,32 +164,35 @@ module _ (scenario : Scenario) (old : List Entry) (was : Backend) (waits : Await
       by_plan p at = refl
 
   -- what the rebuilds see to
-  stack : IsStack facts.usable was.progress.opened was.frames
+  stack : IsStack (is_kept facts.kept) was.progress.opened was.frames
   stack = waits.fits.rebuilds.stack (λ i. not (standing scenario old was waits next.command next.free.at (scan_busy scenario old was scan rebuilds waits next) i) && not (unlost scenario old was waits courses next.command next.free.at i) && not (no_error i))
 
   -- its first missing scan, by the facts
-  first_of : (on : IsOnTop was scan) → find (λ d. not (facts.usable d)) (build_scans on.parts.one.opening.kind on.parts.one.opening.rel) ≡ Some scan
+  first_of : (on : IsOnTop was scan) → find (λ d. not (is_kept facts.kept d)) (build_scans on.parts.one.opening.kind on.parts.one.opening.rel) ≡ Some scan
   first_of on = ap (λ h. find (λ d. not (h d)) (build_scans on.parts.one.opening.kind on.parts.one.opening.rel)) (usable_is facts was.progress waits.rests.holds.facts) ∙ on.first
 
-  stack_now : IsStack (with_scan scan facts.usable) was.progress.opened (frames_now rebuilds)
+  stack_now : IsStack (with_scan scan (is_kept facts.kept)) was.progress.opened (frames_now rebuilds)
   stack_now = by_kind rebuilds next.turn
     where
-      by_kind : (t : Bool) → IsInTurn t was scan → IsStack (with_scan scan facts.usable) was.progress.opened (frames_now t)
+      by_kind : (t : Bool) → IsInTurn t was scan → IsStack (with_scan scan (is_kept facts.kept)) was.progress.opened (frames_now t)
       by_kind true turn = let on = on_top_of was scan turn in
-          subst (λ l. IsStack (with_scan scan facts.usable) was.progress.opened (frames_scanned (with_scan scan facts.usable) was.progress.opened l)) (sym on.parts.is)
-          (subst (IsStack (with_scan scan facts.usable) was.progress.opened) (sym (scanned_push (with_scan scan facts.usable) was.progress.opened on.parts.under on.parts.one))
-          (stack_scanned facts.usable was.progress.opened on.parts.under on.parts.one scan (first_of on) (subst (IsStack facts.usable was.progress.opened) on.parts.is stack)))
-      by_kind false turn = subst (IsStack (with_scan scan facts.usable) was.progress.opened) (sym turn.0) (stack_other facts.usable was.progress.opened scan (subst (IsStack facts.usable was.progress.opened) turn.0 stack))
+          subst (λ l. IsStack (with_scan scan (is_kept facts.kept)) was.progress.opened (frames_scanned (with_scan scan (is_kept facts.kept)) was.progress.opened l)) (sym on.parts.is)
+          (subst (IsStack (with_scan scan (is_kept facts.kept)) was.progress.opened) (sym (scanned_push (with_scan scan (is_kept facts.kept)) was.progress.opened on.parts.under on.parts.one))
+          (stack_scanned (is_kept facts.kept) was.progress.opened on.parts.under on.parts.one scan (first_of on) (subst (IsStack (is_kept facts.kept) was.progress.opened) on.parts.is stack)))
+      by_kind false turn = subst (IsStack (with_scan scan (is_kept facts.kept)) was.progress.opened) (sym turn.0) (stack_other (is_kept facts.kept) was.progress.opened scan (subst (IsStack (is_kept facts.kept) was.progress.opened) turn.0 stack))
+
+  kept_now : is_kept later.kept ≡ with_scan scan (is_kept facts.kept)
+  kept_now = kept_more scan (answer_of old was.progress.id scan) (length old + 1) facts.kept
 
   rebuilds_now : FramesFit later (command_at was) now (frames_now rebuilds)
   rebuilds_now = record {
-    stack = λ keeps. stack_now;
+    stack = λ keeps. subst (λ has. IsStack has was.progress.opened (frames_now rebuilds)) (sym kept_now) stack_now;
     over = λ over. absurd (both_ways _ over (λ i. not false && not (unlost scenario old was waits courses next.command next.free.at i) && not (no_error i)));
     badly = λ is. absurd (failed_by (plan_at was.progress.opens was.progress.exec) refl is);
     past = λ none. absurd (let both : Some next.command ≡ None = sym next.free.at ∙ none in cc both);
   }
 
-  scan_fits : AreBegun facts.usable → Fits later (command_at was) now (was.looked && rebuilds) (frames_now rebuilds) was.told
+  scan_fits : AreBegun (is_kept facts.kept) → Fits later (command_at was) now (was.looked && rebuilds) (frames_now rebuilds) was.told
   scan_fits begun = inside_fits scenario old was waits courses next.command next.free.at later now (was.looked && rebuilds) (frames_now rebuilds) was.told same refl (λ from is. cc is) (record { blocks = refl; opens = refl; held = inl refl; finished = refl; blocked = refl; ended = refl; left = λ is there. refl })
       (scan_runs scenario old was waits courses next.command next.free.at scan next.next next.free.first) (scan_busy scenario old was scan rebuilds waits next) looks_less rebuilds_now
       (λ made. sought rebuilds next.turn (and_parts was.looked rebuilds made)) (takes_cleared _ (number_of s) s.locks s.taken s.left waits.fits.takes)
@@ -202,11 +205,11 @@ module _ (scenario : Scenario) (old : List Entry) (was : Backend) (waits : Await
           on : IsOnTop was scan
           on = on_top_of was scan turn
 
-          built : IsRebuilt facts.usable was.progress.opened on.parts.one
+          built : IsRebuilt (is_kept facts.kept) was.progress.opened on.parts.one
           built = top_rebuilt facts (command_at was) s was.frames on.parts.one waits.fits.rebuilds (ap top on.parts.is ∙ top_push on.parts.under on.parts.one)
 
           by_case : IsLookedFor facts was.frames s.taken s.left → IsLookedFor later (frames_now true) s.taken s.left
-          by_case (Lacks lacks_it) = Lacks (built_leaves facts later scan was.progress.opened on.parts.one.opening s.left (stage_reads was.progress.opens was.progress.exec) begun (first_of on) built.among (waits.fits.unheld made.0) refl lacks_it)
+          by_case (Lacks lacks_it) = Lacks (built_leaves facts later scan was.progress.opened on.parts.one.opening s.left (stage_reads was.progress.opens was.progress.exec) begun (first_of on) built.among (waits.fits.unheld made.0) kept_now lacks_it)
           by_case (Unfound finds look bare) = absurd (on_some was scan on bare)
           by_case (Said absent) = absurd (both_ways _ present absent)
 

@@ -10,7 +10,11 @@ use Rattle.history_model.specs.Transactions.{is_visible}
 use Rattle.txn_blocks.specs.declared.transaction.RunningTransaction.{RunningTransaction as Running}
 use Rattle.seg_calls.specs.Calls.{entry_of, MayCall, Appends}
 use Rattle.cacheless.specs.Ends.{End, Ends, Commits, TakesBack, end_of, end_well, end_badly}
-use Rattle.cacheless.specs.Facts.{Facts, facts_of, facts_by}
+use Rattle.cacheless.specs.Facts.{Facts, due_last, facts_of, facts_by}
+use Rattle.history_model.specs.Lives.{last_event_of}
+use Rattle.cacheless.specs.declared.progress.Due.TheVariants as dues
+use Rattle.local_caches.specs.Kept.{nothing_kept}
+use Rattle.cacheless.proofs.Entries.EnteredFetches.{is_kept-spared}
 use Rattle.cacheless.specs.Holds.{HasEntered}
 use Rattle.cacheless.specs.OnCourse.{AllOnCourse}
 use Rattle.cacheless.specs.Owed.{Owes, owed_after, owed_of, unusable}
@@ -35,13 +39,10 @@ back_hidden : (facts : Facts) (o : Option Command) (s : Session) (looked : Bool)
 back_hidden facts o s looked frames told from fits back = false_from_ne_true (is_visible facts.running) (λ is. let no : Commits (first_at facts) ≡ TakesBack from = sym (commit_end facts o s looked frames told fits is) ∙ back in cc no)
 
 -- and what was taken back isn't there any more
-not_gone : (facts : Facts) (o : Option Command) (s : Session) (looked : Bool) (frames : List Frame) (told : Bool) (from : ℕ) → Fits facts o s looked frames told → end_by facts o s ≡ TakesBack from → has_write_from from facts.lists ≡ true → FollowsGone facts.last (events.Gone from)
-not_gone facts o s looked frames told from fits back written = by_last facts.last refl
-  where
-    by_last : (last : Option Event) → facts.last ≡ last → FollowsGone last (events.Gone from)
-    by_last (Some (events.Gone n)) is = absurd (let same : n ≡ from = (let both : TakesBack n ≡ TakesBack from = sym (back_end facts o s looked frames told n fits is) ∙ back in cc both) in
-        both_ways _ (subst (λ k. has_write_from k facts.lists ≡ false) same (fits.taken n is).none) written)
-    by_last last is = tt
+not_gone : (facts : Facts) (o : Option Command) (s : Session) (looked : Bool) (frames : List Frame) (told : Bool) (from : ℕ) → Fits facts o s looked frames told → end_by facts o s ≡ TakesBack from → has_write_from from facts.lists ≡ true → (last : Option Event) → facts.due ≡ due_last last → FollowsGone last (events.Gone from)
+not_gone facts o s looked frames told from fits back written (Some (events.Gone n)) is = absurd (let same : n ≡ from = (let both : TakesBack n ≡ TakesBack from = sym (back_end facts o s looked frames told n fits is) ∙ back in cc both) in
+    both_ways _ (subst (λ k. has_write_from k facts.lists ≡ false) same (fits.taken n is).none) written)
+not_gone facts o s looked frames told from fits back written last is = tt
 
 module _ (scenario : Scenario) (old : List Entry) (was : Backend) (from : ℕ) (waits : AwaitsEntry scenario old was) (next : EndsNext was (events.Gone from)) where
   abbrev facts : Facts
@@ -61,7 +62,7 @@ module _ (scenario : Scenario) (old : List Entry) (was : Backend) (from : ℕ) (
 
   -- it may be entered
   pub take_back_call : MayCall scenario old (entry_of was.progress.id (was.progress.finished + 1) (events.Gone from))
-  take_back_call = end_call scenario old was waits (events.Gone from) refl next (subst (λ v. FollowsVisible v (events.Gone from)) (sym hidden) tt) (not_gone facts (command_at was) s was.looked was.frames was.told from waits.fits takes.0 takes.1) takes.1
+  take_back_call = end_call scenario old was waits (events.Gone from) refl next (subst (λ v. FollowsVisible v (events.Gone from)) (sym hidden) tt) (not_gone facts (command_at was) s was.looked was.frames was.told from waits.fits takes.0 takes.1 (last_event_of old was.progress.id) refl) takes.1
 
   abbrev later : Facts
   later = facts_by old was.progress.id (was.progress.finished + 1) (events.Gone from) facts
@@ -74,7 +75,7 @@ module _ (scenario : Scenario) (old : List Entry) (was : Backend) (from : ℕ) (
 
   -- the facts as if no scan were usable
   abbrev unkept : Facts
-  unkept = record later { usable = λ scan. false }
+  unkept = record later { kept = nothing_kept }
 
   -- the answer of a command that is taken back rests on no scan
   takes_plain : AllOnCourse scenario old → (locks : List OwnLock) (at : ℕ) (command : Command) → command_at was ≡ Some command → left_rests_on s.left ≡ []
@@ -90,17 +91,17 @@ module _ (scenario : Scenario) (old : List Entry) (was : Backend) (from : ℕ) (
       by_plan : (p : Plan) → s.left ≡ p → end_of facts command s ≡ TakesBack from → left_rests_on p ≡ []
       by_plan (Done told) left back = by_rests (told_rests_on told)
           (ends_free unkept command (later_at s locks at) (λ given none. let alone = (follows scenario old was waits courses command is).plain given none in record { opened = alone.opened; left = alone.left }) (ap outcome_of left)
-          (ap (λ e. elim e as (λ x. List Owes) [ TakesBack n ↦ owed_after unkept.last | end ↦ owed_of unkept command (later_at s locks at) ]) (end_same facts unkept command s locks at goes ∙ back)) told left)
+          (ap (λ e. elim e as (λ x. List Owes) [ TakesBack n ↦ owed_after unkept.due | end ↦ owed_of unkept command (later_at s locks at) ]) (end_same facts unkept command s locks at goes ∙ back)) told left)
       by_plan (Do act rest) left back = absurd (let no : Ends ≡ TakesBack from = ap (λ q. elim (outcome_of q) as (λ x. End) [ Well ↦ end_well facts command s | Badly ↦ end_badly s | Unsettled ↦ Ends ]) (sym left) ∙ back in cc no)
       by_plan p left back = refl
 
   take_back_fits : AllOnCourse scenario old → (locks : List OwnLock) (at : ℕ) → Fits later (command_at was) (later_at s locks at) was.looked was.frames was.told
   take_back_fits courses locks at = fits_ending facts later (command_at was) s was.looked was.frames was.told (events.Gone from) locks at waits.fits now goes_on
       (subst (FramesFit later (command_at was) (later_at s locks at)) (sym (end_bare scenario old was waits (events.Gone from) refl next)) (bare_fits later (command_at was) (later_at s locks at) (λ keeps. absurd (cc keeps))))
-      (λ scan none. ap (λ t. is_spared scan (sent_in (lists_from from facts.lists)) && t) none ∙ and-false (is_spared scan (sent_in (lists_from from facts.lists))))
+      (λ scan none. is_kept-spared (sent_in (lists_from from facts.lists)) facts.kept scan ∙ ap (λ t. is_spared scan (sent_in (lists_from from facts.lists)) && t) none ∙ and-false (is_spared scan (sent_in (lists_from from facts.lists))))
       (λ is. begun_xid (was.progress.finished + 1) facts.running written)
       (λ is. absurd (both_ways _ hidden (sym (begun_visible (was.progress.finished + 1) facts.running) ∙ is)))
-      (λ n is. let same : from ≡ n = (let both : Some (events.Gone from) ≡ Some (events.Gone n) = is in cc both) in
+      (λ n is. let same : from ≡ n = (let both : dues.Gone from ≡ dues.Gone n = is in cc both) in
       takes_back_on facts later (command_at was) s was.looked was.frames was.told (events.Gone from) locks at waits.fits now n goes_on (takes.0 ∙ ap TakesBack same) (subst (λ k. has_write_from k later.lists ≡ false) same (none_from from facts.lists)) (takes_plain courses locks at))
 
 -- the state after it

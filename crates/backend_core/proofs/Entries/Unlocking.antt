@@ -11,7 +11,7 @@ use Rattle.history_model.specs.Held.{held_of}
 use Rattle.history_model.specs.MayFollow.{AllowsUnlock}
 use Rattle.history_model.specs.Transactions.{has_written}
 use Rattle.history_model.proofs.Every.{any-weaker}
-use Rattle.seg_calls.specs.Calls.{entry_of, MayCall, Appends, took_back}
+use Rattle.seg_calls.specs.Calls.{entry_of, MayCall, Appends}
 use Rattle.cacheless.specs.Facts.{Facts, facts_of, facts_by}
 use Rattle.cacheless.specs.Holds.{HasEntered, with_own}
 use Rattle.cacheless.specs.Locks.{grant_of}
@@ -27,7 +27,7 @@ use Rattle.cacheless.proofs.Written.Listed.{lists_before_it}
 use Rattle.backend_core.specs.Types.{Oid, Mode, Row, Scenario, Entry, Event, Progress, Backend}
 use Rattle.backend_core.specs.Agrees.{IsPlayed, command_at, AwaitsEntry}
 use Rattle.cacheless.specs.OnCourse.{OnItsWay, AllOnCourse}
-use Rattle.backend_core.specs.Fits.{looks_due, LooksFit, TakesFit, IsLookedFor, lacks_scan}
+use Rattle.backend_core.specs.Fits.{looks_due, LooksFit, TakesFit, IsLookedFor, lacks_scan, is_gone_due}
 use Rattle.backend_core.specs.Steps.{IsUnlockNext, Enters}
 use Rattle.backend_core.proofs.Choosing.ActsRun.{act_runs}
 use Rattle.backend_core.proofs.Choosing.Chosen.{Acts, may_call, now_plays, standing as not_gone}
@@ -38,7 +38,8 @@ use Rattle.backend_core.proofs.Fitting.Sought.{act_serves, no_look, unlock_found
 use Rattle.backend_core.proofs.Own.{waiting, waiting_is, follows, own_enters}
 use Rattle.history_model.specs.Drawn.{next_oid}
 use Rattle.history_model.specs.Transactions.{begun}
-use Rattle.cacheless.specs.May.{may_play_at, may_last_at}
+use Rattle.cacheless.specs.Rule.{may_come}
+use Rattle.cacheless.specs.State.{facts_at, work_at}
 use Rattle.history_model.proofs.Prefixes.{EachEntry-weaker}
 use Rattle.history_model.specs.Sound.{MayComeNext}
 use Rattle.std.specs.Prelude.{nat_le}
@@ -77,7 +78,7 @@ module _ (scenario : Scenario) (old : List Entry) (was : Backend) (waits : Await
   event = events.Unlock rel mode
 
   plays : MayPlayIn (next_oid old) facts (command_at was) s event
-  plays = now_plays scenario old was waits next.command next.free.at event (ap (λ o. elim o as (λ x. Bool) [ Some command ↦ may_play_at (next_oid old) command was.progress event | None ↦ may_last_at was.progress event ]) next.free.at ∙ next.may)
+  plays = now_plays scenario old was waits next.command next.free.at event (ap (λ o. may_come (next_oid old) (facts_at was.progress) o (work_at was.progress) event) next.free.at ∙ next.may)
 
   asks : (owed_of facts next.command s ≡ []) × IsUnlock facts was.progress.taken (plan_at was.progress.opens was.progress.exec) rel mode
   asks = subst (λ o. MayPlayIn (next_oid old) facts o s event) next.free.at plays
@@ -93,7 +94,7 @@ module _ (scenario : Scenario) (old : List Entry) (was : Backend) (waits : Await
     at = next.free.at;
     unsettled = ap (λ p. is_settled (outcome_of p)) lookup.is;
     runs = act_runs scenario old was waits courses next.command next.free.at act lookup.rest lookup.is next.free.first;
-    owed = waits.rests.holds.facts.owed ∙ next.free.due;
+    owed = (ap (λ f. owed_after f.due) waits.rests.holds.facts) ∙ next.free.due;
     bare = owed_bare facts (command_at was) s was.frames next.command waits.fits.rebuilds asks.0;
   }
 
@@ -113,7 +114,7 @@ module _ (scenario : Scenario) (old : List Entry) (was : Backend) (waits : Await
 
   standing : has_write_from (was.progress.finished + 1) facts.lists ≡ false
   standing = none_standing (was.progress.finished + 1) facts.lists
-      (lists_before_it was.progress.id old (was.progress.finished + 1) played.sound unwritten (subst (AllByRecursion (λ (list : Written). list.command ≤ was.progress.finished + 1)) (sym waits.rests.holds.facts.lists) waits.rests.holds.order))
+      (lists_before_it was.progress.id old (was.progress.finished + 1) played.sound unwritten (subst (AllByRecursion (λ (list : Written). list.command ≤ was.progress.finished + 1)) (sym (ap (λ f. f.lists) waits.rests.holds.facts)) waits.rests.holds.order))
 
   grants : filter (λ g. g.backend == was.progress.id) (held_of old) ≡ map (grant_of was.progress.id) was.progress.locks.items
   grants = locks_are_held scenario old was.progress.id (EachEntry-weaker MayComeNext Follows (λ before e comes. comes.follows.life) old played.sound) ∙ ap (λ o. map (grant_of was.progress.id) (locks_of o)) (waiting_is scenario old was waits)
@@ -125,7 +126,7 @@ module _ (scenario : Scenario) (old : List Entry) (was : Backend) (waits : Await
   pub unlock_call : MayCall scenario old (entry_of was.progress.id (was.progress.finished + 1) event)
   unlock_call = may_call scenario old was waits next.command next.free.at event (Acts acting.unsettled) refl allows
 
-  not_taken_back : took_back facts.last ≡ false
+  not_taken_back : is_gone_due facts.due ≡ false
   not_taken_back = not_gone scenario old was waits next.command next.free.at (Acts acting.unsettled)
 
   before : LooksFit facts s was.looked was.frames was.told

@@ -50,7 +50,7 @@ use Rattle.cacheless.proofs.Written.DraftFits.{WriteFits}
 use Rattle.cacheless.proofs.Written.WriteFits.{write_fits}
 use Rattle.backend_core.specs.Types.{Oid, Xid, Command, Draft, Item, Message, Opening, Purpose, Scenario, Entry, Event, Frame, Progress, Backend}
 use Rattle.backend_core.specs.Agrees.{IsPlayed, command_at, AwaitsEntry}
-use Rattle.backend_core.specs.Fits.{looks_due, looked_on_top, came_well, LooksFit, IsLookedFor, TakesFit, FramesFit, keeps_whole, is_lost}
+use Rattle.backend_core.specs.Fits.{looks_due, looked_on_top, came_well, LooksFit, IsLookedFor, TakesFit, FramesFit, keeps_whole, is_lost, is_gone_due}
 use Rattle.backend_core.specs.Steps.{IsWriteNext, MakesEntry, Enters, IsRefused}
 use Rattle.backend_core.specs.Noted.{noted_of, noted_by, ComesAs, IsNoted}
 use Rattle.backend_core.specs.declared.next.Next.TheVariants as nexts
@@ -68,7 +68,6 @@ use Rattle.backend_core.proofs.Stacking.Looked.{after_less, told_most}
 use Rattle.backend_core.proofs.Stacking.Messages.{stack_after}
 use Rattle.backend_core.specs.Frames.{frames_after, IsStack}
 use Rattle.backend_core.specs.Words.{has_error}
-use Rattle.seg_calls.specs.Calls.{took_back}
 use Rattle.inval_messages.specs.Messages.{is_spared}
 use Rattle.cacheless.proofs.Entries.EnteredWrites.{spared_alike}
 
@@ -115,7 +114,7 @@ module _ (scenario : Scenario) (old : List Entry) (was : Backend) (draft : Draft
     at = next.free.at;
     unsettled = ap (λ p. is_settled (outcome_of p)) at;
     runs = act_runs scenario old was waits courses next.command next.free.at (Write draft) (λ given. Done tells.Ok) at next.free.first;
-    owed = waits.rests.holds.facts.owed ∙ next.free.due;
+    owed = (ap (λ f. owed_after f.due) waits.rests.holds.facts) ∙ next.free.due;
     bare = owed_bare facts (command_at was) s was.frames next.command waits.fits.rebuilds owed_none;
   }
 
@@ -145,8 +144,8 @@ module _ (scenario : Scenario) (old : List Entry) (was : Backend) (draft : Draft
 
   -- its lists are of commands before
   pub lists_before : AllByRecursion (λ list. list.command < was.progress.finished + 1) (lists_at was.progress)
-  lists_before = subst (AllByRecursion (λ (list : Written). list.command < was.progress.finished + 1)) waits.rests.holds.facts.lists
-      (lists_before_it was.progress.id old (was.progress.finished + 1) played.sound unwritten (subst (AllByRecursion (λ (list : Written). list.command ≤ was.progress.finished + 1)) (sym waits.rests.holds.facts.lists) waits.rests.holds.order))
+  lists_before = subst (AllByRecursion (λ (list : Written). list.command < was.progress.finished + 1)) (ap (λ f. f.lists) waits.rests.holds.facts)
+      (lists_before_it was.progress.id old (was.progress.finished + 1) played.sound unwritten (subst (AllByRecursion (λ (list : Written). list.command ≤ was.progress.finished + 1)) (sym (ap (λ f. f.lists) waits.rests.holds.facts)) waits.rests.holds.order))
 
   -- and the relation that it makes isn't locked before
   new_free : (rel : Oid) → rel.0 ≡ next_oid old → has_lock was.progress.locks.items rel AccessExclusive ≡ false
@@ -180,8 +179,8 @@ module _ (scenario : Scenario) (old : List Entry) (was : Backend) (draft : Draft
   going_on = going scenario old was waits courses next.command next.free.at (λ well. let no : Unsettled ≡ Well = sym (ap outcome_of at) ∙ well in cc no)
 
   -- what was held before it lacked no scan, so nothing that is open does
-  open_whole : list_any (lacks facts.usable) (held_before s) ≡ false
-  open_whole = waits.fits.relations.held going_on (lacks facts.usable)
+  open_whole : list_any (lacks (is_kept facts.kept)) (held_before s) ≡ false
+  open_whole = waits.fits.relations.held going_on (lacks (is_kept facts.kept))
       (owed_whole facts s.opened (owed_builds facts s next.command (λ badly. let both : Unsettled ≡ Badly = sym (ap outcome_of at) ∙ badly in cc both) owed_none))
 
   -- the rebuilds that its messages put on
@@ -228,20 +227,20 @@ module _ (scenario : Scenario) (old : List Entry) (was : Backend) (draft : Draft
         once = omega (arith, before.once, started, ap (λ q. one_if (written q s).ended) at);
       }
 
-      usable_then : later.usable ≡ (λ scan. is_spared scan (messages_in old was.progress.id (items_drawn old draft)) && facts.usable scan)
-      usable_then = λ i scan. sym (spared_alike old was.progress.id (items_drawn old draft) scan) i && facts.usable scan
+      usable_then : is_kept later.kept ≡ (λ scan. is_spared scan (messages_in old was.progress.id (items_drawn old draft)) && is_kept facts.kept scan)
+      usable_then = λ i scan. (is_kept-spared (messages_written old was.progress.id (items_drawn old draft)) facts.kept scan ∙ ap (λ t. t && is_kept facts.kept scan) (sym (spared_alike old was.progress.id (items_drawn old draft) scan))) i
 
-      stack : IsStack later.usable (held_before s) (frames_wrote kept_then)
+      stack : IsStack (is_kept later.kept) (held_before s) (frames_wrote kept_then)
       stack = subst (λ h. IsStack h (held_before s) (frames_wrote kept_then)) (sym usable_then)
-          (stack_after kept_then facts.usable (held_before s) (messages_in old was.progress.id (items_drawn old draft)) []
-          (record { found = λ o among. inl (each_whole facts.usable (held_before s) o open_whole among); each = tt; once = tt }))
+          (stack_after kept_then (is_kept facts.kept) (held_before s) (messages_in old was.progress.id (items_drawn old draft)) []
+          (record { found = λ o among. inl (each_whole (is_kept facts.kept) (held_before s) o open_whole among); each = tt; once = tt }))
 
       keeps : keeps_whole later now ≡ true
-      keeps = ap (λ q. not (took_back later.last) && not (is_lost (written q s)) && not (has_error (written q s).left)) at ∙ ap (λ t. not false && not (t && false) && not false) going_on
+      keeps = ap (λ q. not (is_gone_due later.due) && not (is_lost (written q s)) && not (has_error (written q s).left)) at ∙ ap (λ t. not false && not (t && false) && not false) going_on
 
       rebuilds : FramesFit later (command_at was) now (frames_wrote kept_then)
       rebuilds = record {
-        stack = λ keeps_it. subst (λ held. IsStack later.usable held (frames_wrote kept_then)) (sym (ap (λ q. (written q s).opened) at)) stack;
+        stack = λ keeps_it. subst (λ held. IsStack (is_kept later.kept) held (frames_wrote kept_then)) (sym (ap (λ q. (written q s).opened) at)) stack;
         over = λ over. absurd (both_ways _ over keeps);
         badly = λ badly. absurd (let both : Well ≡ Badly = sym (ap (λ q. outcome_of (written q s).left) at) ∙ badly in cc both);
         past = λ none. absurd (let both : Some next.command ≡ None = sym next.free.at ∙ none in cc both);

@@ -27,6 +27,8 @@ use Rattle.cacheless.proofs.Tests.{not_true}
 use Rattle.backend_core.proofs.Fitting.Released.{unheld_out}
 use Rattle.ddl_effect.specs.Opens.{opens_before}
 use Rattle.backend_core.proofs.Fitting.OpenRelations.{opens_over}
+use Rattle.local_caches.specs.Kept.{is_kept}
+use Rattle.cacheless.specs.declared.progress.Due.TheVariants as dues
 
 -- the session after an entry of an end, with its locks
 abbrev pub later_at : Session → List OwnLock → ℕ → Session
@@ -37,7 +39,7 @@ pub record GoesOn (facts later : Facts) : Type 0 where
   pub runs : is_some facts.running ≡ true
   pub some : is_some later.running ≡ true
   pub same : option_map (λ t. t.first) later.running ≡ option_map (λ t. t.first) facts.running
-  pub free : owed_after later.last ≡ []
+  pub free : owed_after later.due ≡ []
 
 -- what rests on its first command alone
 of_first : {X : Type 0} (f : ℕ → X) (x : X) (a b : Option Running) → option_map (λ t. t.first) a ≡ option_map (λ t. t.first) b → option_map_or (λ t. f t.first) a x ≡ option_map_or (λ t. f t.first) b x
@@ -82,7 +84,7 @@ end_same facts later command s locks at goes = by_outcome (outcome_of s.left)
 -- nothing is owed before its next entry
 owed_later : (facts later : Facts) (command : Command) (s : Session) (locks : List OwnLock) (at : ℕ) → GoesOn facts later → is_settled (outcome_of s.left) ≡ true → (outcome_of s.left ≡ Well → OwesNoScan later s) → owed_of later command (later_at s locks at) ≡ []
 owed_later facts later command s locks at goes out built =
-    ap (λ l. l ++ owed_after later.last ++ map OwesScan (scans_owed later (later_at s locks at))) start ∙ ap (λ l. l ++ map OwesScan (scans_owed later (later_at s locks at))) goes.free ∙ ap (map OwesScan) (by_plan s.left refl out built)
+    ap (λ l. l ++ owed_after later.due ++ map OwesScan (scans_owed later (later_at s locks at))) start ∙ ap (λ l. l ++ map OwesScan (scans_owed later (later_at s locks at))) goes.free ∙ ap (map OwesScan) (by_plan s.left refl out built)
   where
     start : owed_at_start later command (later_at s locks at) ≡ []
     start = ap (λ t. elim (begins command s && t) as (λ x. List Owes) [ true ↦ OwesLook ∷ [] | false ↦ [] ]) (none_some later.running goes.some)
@@ -95,13 +97,13 @@ owed_later facts later command s locks at goes out built =
     by_plan (Do act rest) at is none = absurd (cc is)
 
 -- a look that was made for a command that has come out: for its answer, or to say that there is no relation of a name
-sought_out : (facts later : Facts) (frames now : List Frame) (taken : Option Oid) (p : Plan) → is_settled (outcome_of p) ≡ true → ((scan : Purpose) → facts.usable scan ≡ false → later.usable scan ≡ false) → IsLookedFor facts frames taken p → IsLookedFor later now taken p
+sought_out : (facts later : Facts) (frames now : List Frame) (taken : Option Oid) (p : Plan) → is_settled (outcome_of p) ≡ true → ((scan : Purpose) → is_kept facts.kept scan ≡ false → is_kept later.kept scan ≡ false) → IsLookedFor facts frames taken p → IsLookedFor later now taken p
 sought_out facts later frames now taken p out spares (Said is) = Said is
 sought_out facts later frames now taken (Done told) out spares (Lacks is) = Lacks (by_scan (told_rests_on told) is)
   where
-    by_scan : (o : Option Purpose) → option_map_or (λ scan. not (facts.usable scan)) o false ≡ true → option_map_or (λ scan. not (later.usable scan)) o false ≡ true
+    by_scan : (o : Option Purpose) → option_map_or (λ scan. not (is_kept facts.kept scan)) o false ≡ true → option_map_or (λ scan. not (is_kept later.kept scan)) o false ≡ true
     by_scan None lacks = lacks
-    by_scan (Some scan) lacks = ap not (spares scan (not_true (facts.usable scan) lacks))
+    by_scan (Some scan) lacks = ap not (spares scan (not_true (is_kept facts.kept scan) lacks))
 sought_out facts later frames now taken (Do act rest) out spares (Lacks is) = absurd (cc out)
 sought_out facts later frames now taken (Fails error) out spares (Lacks is) = absurd (cc is)
 sought_out facts later frames now taken (Absent name) out spares (Lacks is) = absurd (cc is)
@@ -136,8 +138,8 @@ module _ (facts later : Facts) (o : Option Command) (s : Session) (looked : Bool
       by_block Failed failed = failed_on facts later s.blocks.levels block_later (λ none. none_runs none) failed
 
   -- where the transaction goes on
-  pub fits_ending : GoesOn facts later → FramesFit later o (later_at s locks at) frames → ((scan : Purpose) → facts.usable scan ≡ false → later.usable scan ≡ false) → (has_write_from 0 later.lists ≡ true → option_map_or (λ t. is_some t.xid) later.running false ≡ true)
-      → (is_visible later.running ≡ true → OnCommit later o (later_at s locks at)) → ((from : ℕ) → later.last ≡ Some (events.Gone from) → OnTakingBack later o (later_at s locks at) from) → Fits later o (later_at s locks at) looked frames told
+  pub fits_ending : GoesOn facts later → FramesFit later o (later_at s locks at) frames → ((scan : Purpose) → is_kept facts.kept scan ≡ false → is_kept later.kept scan ≡ false) → (has_write_from 0 later.lists ≡ true → option_map_or (λ t. is_some t.xid) later.running false ≡ true)
+      → (is_visible later.running ≡ true → OnCommit later o (later_at s locks at)) → ((from : ℕ) → later.due ≡ dues.Gone from → OnTakingBack later o (later_at s locks at) from) → Fits later o (later_at s locks at) looked frames told
   fits_ending goes rebuilds spares written visible taken = record {
     rebuilds = rebuilds;
     looks = let l = fits.looks in record { enough = omega (arith, l.enough, started, due, due_now); within = omega (arith, l.within, started, due, due_now); once = omega (arith, l.once, started) };
@@ -164,10 +166,10 @@ module _ (facts later : Facts) (o : Option Command) (s : Session) (looked : Bool
       started : started_in (number_of s) later ≡ started_in (number_of s) facts
       started = of_first (λ n. elim (n == number_of s) as (λ x. ℕ) [ true ↦ 1 | false ↦ 0 ]) 0 later.running facts.running goes.same
 
-      due : looks_due (owed_after facts.last) ≡ 0
+      due : looks_due (owed_after facts.due) ≡ 0
       due = ap looks_due ends.after
 
-      due_now : looks_due (owed_after later.last) ≡ 0
+      due_now : looks_due (owed_after later.due) ≡ 0
       due_now = ap looks_due goes.free
 
   -- a commit goes on
@@ -210,7 +212,7 @@ module _ (facts later : Facts) (o : Option Command) (s : Session) (looked : Bool
   released_at from = record s { ended = true; opened = map opening_of (opens_before from s.opens); locks = locks; last = at }
 
   -- the release is made: what runs then fits the blocks after the command, and isn't visible
-  pub fits_released : (from : ℕ) (now : List Frame) → later.last ≡ Some (events.Release from) → end_from (end_by facts o s) ≡ Some from → ((scan : Purpose) → facts.usable scan ≡ false → later.usable scan ≡ false) → first_at later ≤ number_of s → (has_write_from 0 later.lists ≡ true → option_map_or (λ t. is_some t.xid) later.running false ≡ true) → is_visible later.running ≡ false → RunsAfter later o s
+  pub fits_released : (from : ℕ) (now : List Frame) → later.due ≡ dues.Nothing → end_from (end_by facts o s) ≡ Some from → ((scan : Purpose) → is_kept facts.kept scan ≡ false → is_kept later.kept scan ≡ false) → first_at later ≤ number_of s → (has_write_from 0 later.lists ≡ true → option_map_or (λ t. is_some t.xid) later.running false ≡ true) → is_visible later.running ≡ false → RunsAfter later o s
       → opens_before (first_at later) s.opens ≡ [] → (later.running ≡ None → opens_before from s.opens ≡ []) → LooksFit later (released_at from) looked now told → FramesFit later o (released_at from) now → Fits later o (released_at from) looked now told
   fits_released from now last comes spares low written hidden runs_on since free looks rebuilds = record {
     looks = looks;
@@ -226,7 +228,7 @@ module _ (facts later : Facts) (o : Option Command) (s : Session) (looked : Bool
     settled = fits.settled;
     written = written;
     visible = λ is. absurd (both_ways _ hidden is);
-    taken = λ n is. absurd (let no : Some (events.Release from) ≡ Some (events.Gone n) = sym last ∙ is in cc no);
+    taken = λ n is. absurd (let no : dues.Nothing ≡ dues.Gone n = sym last ∙ is in cc no);
     accepts = λ owes. absurd (both_ways _ owes (ap (λ l. is_empty (owed_after l)) last));
     past = λ past. let p = fits.past past in record { out = p.out; free = ap owed_after last };
     sought = λ is. sought_out facts later frames now s.taken s.left ends.out spares (fits.sought is);

@@ -20,12 +20,13 @@ use Rattle.backend_core.specs.Types.{Command, Frame}
 use Rattle.backend_core.specs.Fits.{LooksFit, FramesFit, IsUnheld, first_at, LevelsRise, IsOutermostPlain, RunsBlock, RunsFailed, RunsAt, RunsIn, RunsBy, RunsAfter, TransactionFits, Fits, IsLookedFor, TakesFit, OpensIn, AreHeld, OpensFit}
 use Rattle.backend_core.proofs.Fitting.Over.{IsWellOnceOver, well_present}
 use Rattle.backend_core.proofs.Fitting.NextTransaction.{some_first, failed_on}
+use Rattle.cacheless.specs.declared.progress.Due.TheVariants as dues
 
 -- what such an entry leaves of the facts: its transaction runs, with its first command, and isn't visible
 pub record StaysInside (facts later : Facts) (number : ℕ) : Type 0 where
   pub runs : later.running ≡ Some (record (begun number facts.running) { xid = option_map_or (λ t. t.xid) later.running None })
   pub written : has_write_from 0 later.lists ≡ true → option_map_or (λ t. is_some t.xid) later.running false ≡ true
-  pub last : (from : ℕ) → later.last ≡ Some (events.Gone from) → ⊥
+  pub last : (from : ℕ) → later.due ≡ dues.Gone from → ⊥
 
 -- and of the session
 pub record StaysAt (s later : Session) : Type 0 where

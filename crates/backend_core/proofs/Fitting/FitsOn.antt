@@ -29,6 +29,8 @@ use Rattle.cacheless.specs.Types.{OpenRelation}
 use Rattle.cacheless.specs.Suspects.{lacks}
 use Rattle.std.specs.List.{list_any}
 use Rattle.std.proofs.lemmas.List.Folds.{list_any-append}
+use Rattle.local_caches.specs.Kept.{is_kept, rows_kept}
+use Rattle.cacheless.specs.declared.progress.Due.TheVariants as dues
 
 -- a look that was made for an act is used, where that is done: then its lookup has found no relation, and the command says so
 absent_after : (facts : Facts) (s : Session) (frames : List Frame) (act : Act) (further : List Row → Plan) (given : List Row) → IsDoneHere facts s act further given → ((name : List ℕ) (mode : Mode) → act ≡ Lookup name mode → class_oid given ≡ None → is_absent (further given) ≡ true)
@@ -36,7 +38,7 @@ absent_after : (facts : Facts) (s : Session) (frames : List Frame) (act : Act) (
 absent_after facts s frames act further given done says (Said is) = absurd (cc is)
 absent_after facts s frames act further given done says (Lacks is) = absurd (both_ways _ (act_serves facts act further done.owed) is)
 absent_after facts s frames (Lookup name mode) further given done says (Unfound is look bare) =
-    says name mode refl (sym (gives_class facts s mode (facts.rows (scans.RelName name)) given done.gave) ∙ no_class (facts.rows (scans.RelName name)) (and_parts (is_none s.taken && facts.usable (scans.RelName name)) _ is).1)
+    says name mode refl (sym (gives_class facts s mode (rows_kept facts.kept (scans.RelName name)) given done.gave) ∙ no_class (rows_kept facts.kept (scans.RelName name)) (and_parts (is_none s.taken && is_kept facts.kept (scans.RelName name)) _ is).1)
 absent_after facts s frames act further given done says (Unfound is look bare) = absurd (cc is)
 
 -- such a command opens nothing
@@ -45,7 +47,7 @@ absent_unheld held (Absent name) is = tt
 absent_unheld held p is = absurd (cc is)
 
 -- what an act opens that is done lacks no scan
-opened_whole : (facts : Facts) (act : Act) (further : List Row → Plan) → act_owed facts (Do act further) ≡ [] → list_any (lacks facts.usable) (opened_by act) ≡ false
+opened_whole : (facts : Facts) (act : Act) (further : List Row → Plan) → act_owed facts (Do act further) ≡ [] → list_any (lacks (is_kept facts.kept)) (opened_by act) ≡ false
 opened_whole facts (Open rel kind) further owed = ap (λ t. t || false) (act_serves facts (Open rel kind) further owed)
 opened_whole facts act further owed = refl
 
@@ -84,7 +86,7 @@ fits_quieter facts o s looked frames told keeps quiet is fits = record {
 pub fits_act : (facts : Facts) (o : Option Command) (s : Session) (looked : Bool) (frames : List Frame) (told : Bool) (command : Command) (act : Act) (further : List Row → Plan) (given : List Row) → o ≡ Some command → s.left ≡ Do act further → s.ended ≡ false → IsDoneHere facts s act further given → ((name : List ℕ) (mode : Mode) → act ≡ Lookup name mode → class_oid given ≡ None → is_absent (further given) ≡ true) → Fits facts o s looked frames told → Fits facts o (act_done act given (further given) s) looked frames told
 fits_act facts o s looked frames told command act further given at left going done says fits = record {
   rebuilds = subst (FramesFit facts o (act_done act given (further given) s)) (sym (builds_bare facts o s frames fits.rebuilds done.builds)) (bare_fits facts o (act_done act given (further given) s)
-      (λ keeps. list_any-append (lacks facts.usable) s.opened (opened_by act) ∙ or_from (list_any (lacks facts.usable) s.opened) (list_any (lacks facts.usable) (opened_by act)) (owed_whole facts s.opened done.builds) (opened_whole facts act further done.owed)));
+      (λ keeps. list_any-append (lacks (is_kept facts.kept)) s.opened (opened_by act) ∙ or_from (list_any (lacks (is_kept facts.kept)) s.opened) (list_any (lacks (is_kept facts.kept)) (opened_by act)) (owed_whole facts s.opened done.builds) (opened_whole facts act further done.owed)));
   looks = let l = fits.looks in record { enough = l.enough; within = omega (arith, l.within, ap came_well left); once = l.once };
   transaction = subst (TransactionFits facts o (act_done act given (further given) s)) (sym going) (by_block s.blocks.block (subst (TransactionFits facts o s) going fits.transaction));
   first = fits.first;
@@ -123,11 +125,11 @@ record IsFinished (facts : Facts) (command : Command) (s : Session) : Type 0 whe
   out : is_settled (outcome_of s.left) ≡ true
   none : is_none (end_left facts command s) ≡ true
   first : owed_at_start facts command s ≡ []
-  after : owed_after facts.last ≡ []
+  after : owed_after facts.due ≡ []
   owed : owed_of facts command s ≡ []
 
 parts_of : (facts : Facts) (command : Command) (s : Session) → is_finished facts command s ≡ true → IsFinished facts command s
-parts_of facts command s is = record { out = front.0; none = front.1; first = (both_empty (owed_at_start facts command s) (owed_after facts.last) owed).0; after = (both_empty (owed_at_start facts command s) (owed_after facts.last) owed).1; owed = empty_list (owed_of facts command s) both.1 }
+parts_of facts command s is = record { out = front.0; none = front.1; first = (both_empty (owed_at_start facts command s) (owed_after facts.due) owed).0; after = (both_empty (owed_at_start facts command s) (owed_after facts.due) owed).1; owed = empty_list (owed_of facts command s) both.1 }
   where
     both : (is_settled (outcome_of s.left) && is_none (end_left facts command s) ≡ true) × (is_empty (owed_of facts command s) ≡ true)
     both = and_parts (is_settled (outcome_of s.left) && is_none (end_left facts command s)) (is_empty (owed_of facts command s)) is
@@ -135,8 +137,8 @@ parts_of facts command s is = record { out = front.0; none = front.1; first = (b
     front : (is_settled (outcome_of s.left) ≡ true) × (is_none (end_left facts command s) ≡ true)
     front = and_parts (is_settled (outcome_of s.left)) (is_none (end_left facts command s)) both.0
 
-    owed : owed_at_start facts command s ++ owed_after facts.last ≡ []
-    owed = (both_empty (owed_at_start facts command s ++ owed_after facts.last) (map OwesScan (scans_owed facts s)) (empty_list (owed_of facts command s) both.1)).0
+    owed : owed_at_start facts command s ++ owed_after facts.due ≡ []
+    owed = (both_empty (owed_at_start facts command s ++ owed_after facts.due) (map OwesScan (scans_owed facts s)) (empty_list (owed_of facts command s) both.1)).0
 
 -- an end without an entry
 none_ends : (facts : Facts) (end : End) → is_none (next_of_end facts end) ≡ true → end ≡ Ends
@@ -163,7 +165,7 @@ on_its_way : (facts : Facts) (command : Command) (s : Session) (event : Event) �
 on_its_way facts command s event done going comes = both_ways _ (ap (λ e. is_none e) comes) (subst (λ t. is_none (elim t as (λ x. Option Event) [ true ↦ None | false ↦ next_of_end facts (end_of facts command s) ]) ≡ true) going done.none)
 
 -- where the last entry took writes back the command isn't finished
-gone_unfinished : (facts : Facts) (o : Option Command) (s : Session) (looked : Bool) (frames : List Frame) (told : Bool) (command : Command) (from : ℕ) → o ≡ Some command → is_finished facts command s ≡ true → Fits facts o s looked frames told → facts.last ≡ Some (events.Gone from) → ⊥
+gone_unfinished : (facts : Facts) (o : Option Command) (s : Session) (looked : Bool) (frames : List Frame) (told : Bool) (command : Command) (from : ℕ) → o ≡ Some command → is_finished facts command s ≡ true → Fits facts o s looked frames told → facts.due ≡ dues.Gone from → ⊥
 gone_unfinished facts o s looked frames told command from at finished fits is = on_its_way facts command s _ (parts_of facts command s finished) (fits.taken from is).going
     (ap (next_of_end facts) (subst (λ x. elim x as (λ y. Type 0) [ Some c ↦ IsTakenBack facts c s from | None ↦ end_of_all facts ≡ TakesBack from ]) at (fits.taken from is).end).end)
 
@@ -208,51 +210,51 @@ fits_pass facts o s looked frames told command next at finished fits = record {
     done = parts_of facts command s finished
 
     -- none of the relations that are open then lacks a scan: their descriptors were held, and none of those did
-    open_whole : list_any (lacks facts.usable) now.opened ≡ false
+    open_whole : list_any (lacks (is_kept facts.kept)) now.opened ≡ false
     open_whole = by_outcome (outcome_of s.left) refl
       where
-        some_held : (block : Block) (opens : List OpenRelation) → list_any (lacks facts.usable) (map opening_of opens) ≡ false → list_any (lacks facts.usable) (held_in block opens) ≡ false
+        some_held : (block : Block) (opens : List OpenRelation) → list_any (lacks (is_kept facts.kept)) (map opening_of opens) ≡ false → list_any (lacks (is_kept facts.kept)) (held_in block opens) ≡ false
         some_held Outside opens none = none
         some_held Inside opens none = none
         some_held Failed opens none = refl
 
-        whole : outcome_of s.left ≡ Well → list_any (lacks facts.usable) s.opened ≡ false
+        whole : outcome_of s.left ≡ Well → list_any (lacks (is_kept facts.kept)) s.opened ≡ false
         whole well = owed_whole facts s.opened (owed_builds facts s command (λ badly. let both : Well ≡ Badly = sym well ∙ badly in cc both) done.owed)
 
-        going_well : s.ended ≡ false → outcome_of s.left ≡ Well → list_any (lacks facts.usable) (map opening_of (opens_well (number_of s) command s.blocks.levels s.opened s.opens)) ≡ false
+        going_well : s.ended ≡ false → outcome_of s.left ≡ Well → list_any (lacks (is_kept facts.kept)) (map opening_of (opens_well (number_of s) command s.blocks.levels s.opened s.opens)) ≡ false
         going_well going well = by_block s.blocks.block refl (fits.relations.held going)
           where
-            held_whole : AreHeld s.opened (map opening_of s.opens) → list_any (lacks facts.usable) (map opening_of (opens_well (number_of s) command s.blocks.levels s.opened s.opens)) ≡ false
-            held_whole are = well_none (lacks facts.usable) s.opened s.opens are (whole well) (number_of s) command s.blocks.levels
+            held_whole : AreHeld s.opened (map opening_of s.opens) → list_any (lacks (is_kept facts.kept)) (map opening_of (opens_well (number_of s) command s.blocks.levels s.opened s.opens)) ≡ false
+            held_whole are = well_none (lacks (is_kept facts.kept)) s.opened s.opens are (whole well) (number_of s) command s.blocks.levels
 
             silent : end_well facts command s ≡ Ends
             silent = sym (ap (λ x. elim x as (λ y. End) [ Well ↦ end_well facts command s | Badly ↦ end_badly s | Unsettled ↦ Ends ]) well) ∙ none_ends facts (end_of facts command s) (subst (λ t. is_none (elim t as (λ x. Option Event) [ true ↦ None | false ↦ next_of_end facts (end_of facts command s) ]) ≡ true) going done.none)
 
-            ends_none : (c : Command) → ends_failure c ≡ true → end_well facts c s ≡ Ends → list_any (lacks facts.usable) (map opening_of (opens_well (number_of s) c s.blocks.levels s.opened s.opens)) ≡ false
+            ends_none : (c : Command) → ends_failure c ≡ true → end_well facts c s ≡ Ends → list_any (lacks (is_kept facts.kept)) (map opening_of (opens_well (number_of s) c s.blocks.levels s.opened s.opens)) ≡ false
             ends_none commands.Commit mends end = refl
             ends_none commands.Rollback mends end = refl
             ends_none (commands.RollbackTo name) mends end = absurd (cc end)
             ends_none c mends end = absurd (cc mends)
 
-            by_block : (block : Block) → s.blocks.block ≡ block → AreHeld s.opened (held_in block s.opens) → list_any (lacks facts.usable) (map opening_of (opens_well (number_of s) command s.blocks.levels s.opened s.opens)) ≡ false
+            by_block : (block : Block) → s.blocks.block ≡ block → AreHeld s.opened (held_in block s.opens) → list_any (lacks (is_kept facts.kept)) (map opening_of (opens_well (number_of s) command s.blocks.levels s.opened s.opens)) ≡ false
             by_block Outside is are = held_whole are
             by_block Inside is are = held_whole are
             by_block Failed is are = ends_none command (failed_mends s.blocks command is (well_admitted o s command at fits.settled well)) silent
 
-        by_ended : (t : Bool) → s.ended ≡ t → outcome_of s.left ≡ Well → list_any (lacks facts.usable) (map opening_of (opens_well (number_of s) command s.blocks.levels s.opened s.opens)) ≡ false
+        by_ended : (t : Bool) → s.ended ≡ t → outcome_of s.left ≡ Well → list_any (lacks (is_kept facts.kept)) (map opening_of (opens_well (number_of s) command s.blocks.levels s.opened s.opens)) ≡ false
         by_ended false going well = going_well going well
-        by_ended true over well = ap (λ x. list_any (lacks facts.usable) (map opening_of (elim x as (λ y. List OpenRelation) [ Well ↦ opens_well (number_of s) command s.blocks.levels s.opened s.opens | outcome ↦ opens_badly (number_of s) s.blocked s.blocks.levels s.opens ]))) (sym well)
-            ∙ ap (list_any (lacks facts.usable)) (sym (fits.relations.over over command at)) ∙ whole well
+        by_ended true over well = ap (λ x. list_any (lacks (is_kept facts.kept)) (map opening_of (elim x as (λ y. List OpenRelation) [ Well ↦ opens_well (number_of s) command s.blocks.levels s.opened s.opens | outcome ↦ opens_badly (number_of s) s.blocked s.blocks.levels s.opens ]))) (sym well)
+            ∙ ap (list_any (lacks (is_kept facts.kept))) (sym (fits.relations.over over command at)) ∙ whole well
 
-        badly : list_any (lacks facts.usable) (held_in (blocks_badly s.blocks).block (opens_badly (number_of s) s.blocked s.blocks.levels s.opens)) ≡ false
-        badly = ap (list_any (lacks facts.usable)) (held_badly s (opens_badly (number_of s) s.blocked s.blocks.levels s.opens) fits.relations.inside (none_badly s.blocked))
+        badly : list_any (lacks (is_kept facts.kept)) (held_in (blocks_badly s.blocks).block (opens_badly (number_of s) s.blocked s.blocks.levels s.opens)) ≡ false
+        badly = ap (list_any (lacks (is_kept facts.kept))) (held_badly s (opens_badly (number_of s) s.blocked s.blocks.levels s.opens) fits.relations.inside (none_badly s.blocked))
           where
             none_badly : (t : Bool) → s.opens ≡ [] → opens_badly (number_of s) t s.blocks.levels s.opens ≡ []
             none_badly true none = none
             none_badly false none = ap (opens_before (innermost (number_of s) s.blocks.levels)) none
 
         by_outcome : (x : Outcome) → outcome_of s.left ≡ x
-            → list_any (lacks facts.usable) (held_in (elim x as (λ y. Blocks) [ Well ↦ blocks_well (number_of s) command s.blocks | outcome ↦ blocks_badly s.blocks ]).block (elim x as (λ y. List OpenRelation) [ Well ↦ opens_well (number_of s) command s.blocks.levels s.opened s.opens | outcome ↦ opens_badly (number_of s) s.blocked s.blocks.levels s.opens ])) ≡ false
+            → list_any (lacks (is_kept facts.kept)) (held_in (elim x as (λ y. Blocks) [ Well ↦ blocks_well (number_of s) command s.blocks | outcome ↦ blocks_badly s.blocks ]).block (elim x as (λ y. List OpenRelation) [ Well ↦ opens_well (number_of s) command s.blocks.levels s.opened s.opens | outcome ↦ opens_badly (number_of s) s.blocked s.blocks.levels s.opens ])) ≡ false
         by_outcome Well is = some_held (blocks_well (number_of s) command s.blocks).block (opens_well (number_of s) command s.blocks.levels s.opened s.opens) (by_ended s.ended refl is)
         by_outcome Badly is = badly
         by_outcome Unsettled is = badly

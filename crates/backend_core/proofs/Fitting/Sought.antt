@@ -22,7 +22,6 @@ use Rattle.cacheless.specs.Holds.{FactsFit}
 use Rattle.cacheless.specs.May.{is_missing, is_next_of_act}
 use Rattle.cacheless.specs.State.{is_absent, kept_at, is_kept, row_sought}
 use Rattle.cacheless.specs.Suspects.{lacks, same_kind}
-use Rattle.cacheless.proofs.Resting.{kept_rows}
 use Rattle.cacheless.proofs.Same.{builds_of}
 use Rattle.cacheless.proofs.Plans.SilentActs.{kept_already}
 use Rattle.cacheless.proofs.ReadsBuilds.{ReadsBuilds}
@@ -35,6 +34,7 @@ use Rattle.backend_core.proofs.Stacking.Lacking.{with_scan, scan_apart, lacks_sa
 use Rattle.backend_core.proofs.Stacking.Least.{kind_is}
 use Rattle.backend_core.proofs.BuildsBegin.{class_scan, AreBegun}
 use Rattle.backend_core.specs.Words.{relation_named, is_unfound}
+use Rattle.local_caches.specs.Kept.{rows_kept}
 
 -- the first row is no relation's
 pub no_class : (given : List Row) → is_none (relation_named (slice_get given 0)) ≡ true → class_oid given ≡ None
@@ -61,16 +61,16 @@ takes_cleared false number locks (Some rel) (Done told) takes = tt
 takes_cleared false number locks (Some rel) (Fails error) takes = tt
 
 -- a look more leaves what one was made for
-pub sought_looked : (facts later : Facts) (frames : List Frame) (taken : Option Oid) (p : Plan) → later.usable ≡ facts.usable → later.rows ≡ facts.rows → is_look later.last ≡ true → IsLookedFor facts frames taken p → IsLookedFor later frames taken p
-sought_looked facts later frames taken p usable rows look (Lacks is) = Lacks (ap (λ u. lacks_scan (record facts { usable = u }) p) usable ∙ is)
-sought_looked facts later frames taken p usable rows look (Unfound is last bare) = Unfound ((λ i. finds_no_name (record facts { usable = usable i; rows = rows i }) taken p) ∙ is) look bare
-sought_looked facts later frames taken p usable rows look (Said is) = Said is
+pub sought_looked : (facts later : Facts) (frames : List Frame) (taken : Option Oid) (p : Plan) → later.kept ≡ facts.kept → is_look later.due ≡ true → IsLookedFor facts frames taken p → IsLookedFor later frames taken p
+sought_looked facts later frames taken p kept look (Lacks is) = Lacks (ap (λ k. lacks_scan (record facts { kept = k }) p) kept ∙ is)
+sought_looked facts later frames taken p kept look (Unfound is last bare) = Unfound (ap (λ k. finds_no_name (record facts { kept = k }) taken p) kept ∙ is) look bare
+sought_looked facts later frames taken p kept look (Said is) = Said is
 
 -- so does one for a rebuild, before which something is rebuilt
-pub sought_rebuilt : (facts later : Facts) (frames now : List Frame) (taken : Option Oid) (p : Plan) → later.usable ≡ facts.usable → (frames ≡ [] → ⊥) → IsLookedFor facts frames taken p → IsLookedFor later now taken p
-sought_rebuilt facts later frames now taken p usable some (Lacks is) = Lacks (ap (λ u. lacks_scan (record facts { usable = u }) p) usable ∙ is)
-sought_rebuilt facts later frames now taken p usable some (Unfound is last bare) = absurd (some bare)
-sought_rebuilt facts later frames now taken p usable some (Said is) = Said is
+pub sought_rebuilt : (facts later : Facts) (frames now : List Frame) (taken : Option Oid) (p : Plan) → later.kept ≡ facts.kept → (frames ≡ [] → ⊥) → IsLookedFor facts frames taken p → IsLookedFor later now taken p
+sought_rebuilt facts later frames now taken p kept some (Lacks is) = Lacks (ap (λ k. lacks_scan (record facts { kept = k }) p) kept ∙ is)
+sought_rebuilt facts later frames now taken p kept some (Unfound is last bare) = absurd (some bare)
+sought_rebuilt facts later frames now taken p kept some (Said is) = Said is
 
 -- a command comes out once
 pub well_most : (p : Plan) → came_well p ≤ 1
@@ -94,7 +94,7 @@ pub unfound_facts : (facts : Facts) (s : Progress) (p : Plan) → FactsFit facts
 unfound_facts facts s (Do (Lookup name mode) rest) fits is =
     let first = and_parts (is_none s.taken && is_kept (kept_at s) (scans.RelName name)) (is_none (relation_named (row_sought s name))) is in
     let second = and_parts (is_none s.taken) (is_kept (kept_at s) (scans.RelName name)) first.0 in
-    (λ i. second.0 i && (fits.usable (scans.RelName name) ∙ second.1) i && is_none (relation_named (slice_get (kept_rows facts.rows (kept_at s) (scans.RelName name) fits.kept second.1 i) 0))) ∙ first.1
+    (λ i. second.0 i && ((ap (λ f. is_kept f.kept (scans.RelName name)) fits) ∙ second.1) i && is_none (relation_named (slice_get (ap (λ f. rows_kept f.kept (scans.RelName name)) fits i) 0))) ∙ first.1
 unfound_facts facts s (Do (Open of kind) rest) fits is = absurd (cc is)
 unfound_facts facts s (Do (Search scan) rest) fits is = absurd (cc is)
 unfound_facts facts s (Do (Read scan) rest) fits is = absurd (cc is)
@@ -105,10 +105,10 @@ unfound_facts facts s p fits is = absurd (cc is)
 -- and the other way
 pub unfound_held : (facts : Facts) (s : Progress) (p : Plan) → FactsFit facts s → finds_no_name facts s.taken p ≡ true → is_unfound s p ≡ true
 unfound_held facts s (Do (Lookup name mode) rest) fits is =
-    let first = and_parts (is_none s.taken && facts.usable (scans.RelName name)) (is_none (relation_named (slice_get (facts.rows (scans.RelName name)) 0))) is in
-    let second = and_parts (is_none s.taken) (facts.usable (scans.RelName name)) first.0 in
-    let kept = sym (fits.usable (scans.RelName name)) ∙ second.1 in
-    (λ i. second.0 i && kept i && is_none (relation_named (slice_get (sym (kept_rows facts.rows (kept_at s) (scans.RelName name) fits.kept kept) i) 0))) ∙ first.1
+    let first = and_parts (is_none s.taken && is_kept facts.kept (scans.RelName name)) (is_none (relation_named (slice_get (rows_kept facts.kept (scans.RelName name)) 0))) is in
+    let second = and_parts (is_none s.taken) (is_kept facts.kept (scans.RelName name)) first.0 in
+    let kept = sym ((ap (λ f. is_kept f.kept (scans.RelName name)) fits)) ∙ second.1 in
+    (λ i. second.0 i && kept i && is_none (relation_named (slice_get (sym (ap (λ f. rows_kept f.kept (scans.RelName name)) fits) i) 0))) ∙ first.1
 unfound_held facts s (Do (Open of kind) rest) fits is = absurd (cc is)
 unfound_held facts s (Do (Search scan) rest) fits is = absurd (cc is)
 unfound_held facts s (Do (Read scan) rest) fits is = absurd (cc is)
@@ -117,17 +117,17 @@ unfound_held facts s (Do (Write draft) rest) fits is = absurd (cc is)
 unfound_held facts s p fits is = absurd (cc is)
 
 -- a look before the scan of the next act is made for what comes next
-pub next_act : (facts : Facts) (s : Progress) (scan : Purpose) → FactsFit facts s → (p : Plan) → is_next_of_act scan s p ≡ true → lacks_scan facts p ≡ true
+pub next_act : (facts : Facts) (s : Progress) (scan : Purpose) → FactsFit facts s → (p : Plan) → is_next_of_act scan (kept_at s) p ≡ true → lacks_scan facts p ≡ true
 next_act facts s scan fits p lacking = by_act p lacking
   where
-    missing_is : (wanted : Purpose) → is_missing scan (kept_at s) wanted ≡ true → not (facts.usable wanted) ≡ true
-    missing_is wanted lacks_it = ap not (fits.usable wanted) ∙ (and_parts (not (is_kept (kept_at s) wanted)) (same_scan scan wanted) lacks_it).0
+    missing_is : (wanted : Purpose) → is_missing scan (kept_at s) wanted ≡ true → not (is_kept facts.kept wanted) ≡ true
+    missing_is wanted lacks_it = ap not ((ap (λ f. is_kept f.kept wanted) fits)) ∙ (and_parts (not (is_kept (kept_at s) wanted)) (same_scan scan wanted) lacks_it).0
 
     some_first : (o : Option Purpose) → option_map_or (same_scan scan) o false ≡ true → is_some o ≡ true
     some_first None is = absurd (cc is)
     some_first (Some first) is = refl
 
-    by_act : (q : Plan) → is_next_of_act scan s q ≡ true → lacks_scan facts q ≡ true
+    by_act : (q : Plan) → is_next_of_act scan (kept_at s) q ≡ true → lacks_scan facts q ≡ true
     by_act (Do (Lookup name mode) rest) is = missing_is (scans.RelName name) is
     by_act (Do (Search wanted) rest) is = missing_is wanted is
     by_act (Do (Open rel kind) rest) is = ap (λ u. lacks u (record { rel = rel; kind = kind })) (usable_is facts s fits) ∙ some_first (find (λ d. not (is_kept (kept_at s) d)) (build_scans kind rel)) is
@@ -170,27 +170,27 @@ other_kind has scan rel Index Table begun differ first lacking = by_class (has (
         (found_any (λ d. not (with_scan (scans.Class rel) has d)) (build_scans Index rel) ∙ or_right (not (with_scan (scans.Class rel) has (scans.Class rel))) _ (or_left (not (has (scans.IndexRow rel))) _ (ap not (unbegun has (scans.IndexRow rel) begun refl lacked))))
 
 -- a scan for a held descriptor leaves it lacking
-pub built_leaves : (facts later : Facts) (scan : Purpose) (held : List Opening) (built : Opening) (p : Plan) → ReadsBuilds p → AreBegun facts.usable → find (λ d. not (facts.usable d)) (build_scans built.kind built.rel) ≡ Some scan → IsAmong held built → IsUnheld held p → later.usable ≡ with_scan scan facts.usable → lacks_scan facts p ≡ true → lacks_scan later p ≡ true
+pub built_leaves : (facts later : Facts) (scan : Purpose) (held : List Opening) (built : Opening) (p : Plan) → ReadsBuilds p → AreBegun (is_kept facts.kept) → find (λ d. not (is_kept facts.kept d)) (build_scans built.kind built.rel) ≡ Some scan → IsAmong held built → IsUnheld held p → is_kept later.kept ≡ with_scan scan (is_kept facts.kept) → lacks_scan facts p ≡ true → lacks_scan later p ≡ true
 built_leaves facts later scan held built p reads begun first among unheld usable = by_plan p reads unheld
   where
     builds : is_build_scan scan ≡ true
-    builds = find_all (λ d. is_build_scan d ≡ true) (λ d. not (facts.usable d)) (build_scans built.kind built.rel) scan (builds_of built.kind built.rel) first
+    builds = find_all (λ d. is_build_scan d ≡ true) (λ d. not (is_kept facts.kept d)) (build_scans built.kind built.rel) scan (builds_of built.kind built.rel) first
 
-    other_stays : (other : Purpose) → is_build_scan other ≡ false → not (facts.usable other) ≡ true → not (later.usable other) ≡ true
+    other_stays : (other : Purpose) → is_build_scan other ≡ false → not (is_kept facts.kept other) ≡ true → not (is_kept later.kept other) ≡ true
     other_stays other named lacks_it = ap not (ap (λ u. u other) usable) ∙ by_same (same_scan scan other) refl
       where
-        by_same : (t : Bool) → same_scan scan other ≡ t → not (t || facts.usable other) ≡ true
+        by_same : (t : Bool) → same_scan scan other ≡ t → not (t || is_kept facts.kept other) ≡ true
         by_same true same = absurd (both_ways _ named (sym (ap is_build_scan (same_scan-true scan other same)) ∙ builds))
         by_same false differs = lacks_it
 
-    opening_stays : (rel : Oid) (kind : Kind) → list_any (λ o. same_oid rel o.rel && same_kind kind o.kind) held ≡ false → lacks facts.usable (record { rel = rel; kind = kind }) ≡ true → lacks (with_scan scan facts.usable) (record { rel = rel; kind = kind }) ≡ true
+    opening_stays : (rel : Oid) (kind : Kind) → list_any (λ o. same_oid rel o.rel && same_kind kind o.kind) held ≡ false → lacks (is_kept facts.kept) (record { rel = rel; kind = kind }) ≡ true → lacks (with_scan scan (is_kept facts.kept)) (record { rel = rel; kind = kind }) ≡ true
     opening_stays rel kind none lacks_it = by_same (same_oid rel built.rel) refl
       where
-        by_same : (t : Bool) → same_oid rel built.rel ≡ t → lacks (with_scan scan facts.usable) (record { rel = rel; kind = kind }) ≡ true
-        by_same false differ = scan_apart facts.usable scan built (record { rel = rel; kind = kind }) first (oid_apart rel built.rel differ) ∙ lacks_it
-        by_same true same = other_kind facts.usable scan rel kind built.kind begun
+        by_same : (t : Bool) → same_oid rel built.rel ≡ t → lacks (with_scan scan (is_kept facts.kept)) (record { rel = rel; kind = kind }) ≡ true
+        by_same false differ = scan_apart (is_kept facts.kept) scan built (record { rel = rel; kind = kind }) first (oid_apart rel built.rel differ) ∙ lacks_it
+        by_same true same = other_kind (is_kept facts.kept) scan rel kind built.kind begun
             (false_from_ne_true (same_kind kind built.kind) (λ alike. both_ways _ none (among (λ o. same_oid rel o.rel && same_kind kind o.kind) (and_from (same_oid rel built.rel) (same_kind kind built.kind) same alike))))
-            (ap (λ r. find (λ d. not (facts.usable d)) (build_scans built.kind r)) (oid_is rel built.rel same) ∙ first) lacks_it
+            (ap (λ r. find (λ d. not (is_kept facts.kept d)) (build_scans built.kind r)) (oid_is rel built.rel same) ∙ first) lacks_it
 
     by_plan : (q : Plan) → ReadsBuilds q → IsUnheld held q → lacks_scan facts q ≡ true → lacks_scan later q ≡ true
     by_plan (Do (Lookup name mode) rest) of none lacks_it = other_stays (scans.RelName name) refl lacks_it
@@ -201,9 +201,9 @@ built_leaves facts later scan held built p reads begun first among unheld usable
 
 -- a scan that isn't owed isn't lacked
 pub act_serves : (facts : Facts) (act : Act) (rest : List Row → Plan) → act_owed facts (Do act rest) ≡ [] → lacks_scan facts (Do act rest) ≡ false
-act_serves facts (Lookup name mode) rest none = ap not (kept_already (facts.usable (scans.RelName name)) (scans.RelName name) none)
-act_serves facts (Search scan) rest none = ap not (kept_already (facts.usable scan) scan none)
-act_serves facts (Open rel kind) rest none = found_none (λ scan. not (facts.usable scan)) (build_scans kind rel) none
+act_serves facts (Lookup name mode) rest none = ap not (kept_already (is_kept facts.kept (scans.RelName name)) (scans.RelName name) none)
+act_serves facts (Search scan) rest none = ap not (kept_already (is_kept facts.kept scan) scan none)
+act_serves facts (Open rel kind) rest none = found_none (λ scan. not (is_kept facts.kept scan)) (build_scans kind rel) none
 act_serves facts act rest none = refl
 
 -- no look was made where nothing is lacked, no lookup has failed, and none says so
@@ -216,8 +216,8 @@ no_look facts frames taken p serves found there (Said is) = absurd (both_ways _ 
 pub lock_found : (facts : Facts) (taken : Option Oid) (p : Plan) (rel : Oid) (mode : Mode) → IsLock facts p rel mode → finds_no_name facts taken p ≡ false
 lock_found facts taken (Do (Lookup name wanted) rest) rel mode asks = by_test _ refl
   where
-    by_test : (t : Bool) → (is_none taken && facts.usable (scans.RelName name) && is_none (relation_named (slice_get (facts.rows (scans.RelName name)) 0))) ≡ t → t ≡ false
-    by_test true is = absurd (let both : None ≡ Some rel = sym (no_class (facts.rows (scans.RelName name)) (and_parts (is_none taken && facts.usable (scans.RelName name)) _ is).1) ∙ asks.0 in cc both)
+    by_test : (t : Bool) → (is_none taken && is_kept facts.kept (scans.RelName name) && is_none (relation_named (slice_get (rows_kept facts.kept (scans.RelName name)) 0))) ≡ t → t ≡ false
+    by_test true is = absurd (let both : None ≡ Some rel = sym (no_class (rows_kept facts.kept (scans.RelName name)) (and_parts (is_none taken && is_kept facts.kept (scans.RelName name)) _ is).1) ∙ asks.0 in cc both)
     by_test false is = refl
 lock_found facts taken (Do (Lock of wanted) rest) rel mode asks = refl
 lock_found facts taken (Do (Open of kind) rest) rel mode asks = absurd asks
@@ -248,7 +248,7 @@ takes_granted facts number c locks (Absent name) rel mode same asks = absurd ask
 
 -- a lookup that took a lock has a relation to give back
 pub unlock_found : (facts : Facts) (taken : Option Oid) (p : Plan) (rel : Oid) → taken ≡ Some rel → finds_no_name facts taken p ≡ false
-unlock_found facts taken (Do (Lookup name wanted) rest) rel took = ap (λ o. is_none o && facts.usable (scans.RelName name) && is_none (relation_named (slice_get (facts.rows (scans.RelName name)) 0))) took
+unlock_found facts taken (Do (Lookup name wanted) rest) rel took = ap (λ o. is_none o && is_kept facts.kept (scans.RelName name) && is_none (relation_named (slice_get (rows_kept facts.kept (scans.RelName name)) 0))) took
 unlock_found facts taken (Do (Open of kind) rest) rel took = refl
 unlock_found facts taken (Do (Search scan) rest) rel took = refl
 unlock_found facts taken (Do (Read scan) rest) rel took = refl
@@ -258,7 +258,7 @@ unlock_found facts taken p rel took = refl
 
 -- where a lookup has found no relation its scan isn't lacked
 pub finds_serves : (facts : Facts) (taken : Option Oid) (p : Plan) → finds_no_name facts taken p ≡ true → (lacks_scan facts p ≡ false) × (is_absent p ≡ false) × (is_settled (outcome_of p) ≡ false) × (taken ≡ None)
-finds_serves facts taken (Do (Lookup name mode) rest) is = let parts = and_parts (is_none taken) (facts.usable (scans.RelName name)) (and_parts (is_none taken && facts.usable (scans.RelName name)) _ is).0 in (ap not parts.1, refl, refl, none_of taken parts.0)
+finds_serves facts taken (Do (Lookup name mode) rest) is = let parts = and_parts (is_none taken) (is_kept facts.kept (scans.RelName name)) (and_parts (is_none taken && is_kept facts.kept (scans.RelName name)) _ is).0 in (ap not parts.1, refl, refl, none_of taken parts.0)
   where
     none_of : (o : Option Oid) → is_none o ≡ true → o ≡ None
     none_of None none = refl
