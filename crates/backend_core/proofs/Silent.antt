@@ -97,8 +97,10 @@ no_relation (rows.Class rel own kind fill ∷ more) none = absurd (cc none)
 no_relation (row ∷ more) none = refl
 
 -- so it has found none
-misses : (facts : Facts) (s : Session) (name : List ℕ) (mode : Mode) (rest : List Row → Plan) (given : List Row) → IsDoneHere facts s (Lookup name mode) rest given → class_oid (rows_kept facts.kept (scans.RelName name)) ≡ None → finds_no_name facts s.taken (Do (Lookup name mode) rest) ≡ true
-misses facts s name mode rest given done none = λ i. took_none facts s mode (rows_kept facts.kept (scans.RelName name)) given none done.gave i && kept_already (is_kept facts.kept (scans.RelName name)) (scans.RelName name) done.owed i && no_relation (rows_kept facts.kept (scans.RelName name)) none i
+misses : (facts : Facts) (s : Session) (name : List ℕ) (mode : Mode) (rest : List Row → Plan) (given : List Row) → IsDoneHere facts s (Lookup name mode) rest given → class_oid given ≡ None → finds_no_name facts s.taken (Do (Lookup name mode) rest) ≡ true
+misses facts s name mode rest given done lost =
+    let none = gives_class facts s mode (rows_kept facts.kept (scans.RelName name)) given done.gave ∙ lost in
+    λ i. took_none facts s mode (rows_kept facts.kept (scans.RelName name)) given none done.gave i && kept_already (is_kept facts.kept (scans.RelName name)) (scans.RelName name) done.owed i && no_relation (rows_kept facts.kept (scans.RelName name)) none i
 
 -- and one that has found none comes to where the command says so
 loses : (facts : Facts) (s : Session) (act : Act) (rest : List Row → Plan) (given : List Row) → IsDoneHere facts s act rest given → ((name : List ℕ) (mode : Mode) → act ≡ Lookup name mode → class_oid given ≡ None → is_absent (rest given) ≡ true) → finds_no_name facts s.taken (Do act rest) ≡ true → is_absent (rest given) ≡ true
@@ -140,7 +142,7 @@ act_finds scenario seen was p now acted = both_same (finds_none was.progress) (i
     missed : is_absent (acted.further acted.given) ≡ true → finds_none was.progress ≡ true
     missed absent = let fails = there_or_fails seen was.progress.id s acted.command acted.act acted.further acted.given (on_its_way seen was.progress.id s acted.command acted.act acted.further follows acted.left) acted.left done absent in
         of_act ∙ unfound_held facts was.progress (Do acted.act acted.further) now.holds.facts (ap (λ a. finds_no_name facts s.taken (Do a acted.further)) fails.lookup
-        ∙ misses facts s fails.name fails.mode acted.further acted.given (subst (λ a. IsDoneHere facts s a acted.further acted.given) fails.lookup done) fails.none)
+        ∙ misses facts s fails.name fails.mode acted.further acted.given (subst (λ a. IsDoneHere facts s a acted.further acted.given) fails.lookup done) fails.lost)
 
 -- it works out what its command answers
 answer_agrees : (scenario : Scenario) (seen : List Entry) (s : Backend) (command : Command) (text : List ℕ) → AgreesNow scenario seen s → command_at s ≡ Some command → is_to_answer command s.progress ≡ true → s.progress.answer ≡ None → IsToldText command s.progress text

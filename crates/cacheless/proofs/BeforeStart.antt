@@ -1,5 +1,5 @@
 -- A backend before it has started.
-use Rattle.std.proofs.Common.{◌≡◌, ◌≤◌, ◌∙◌, ℕ, Bool, false, None, List, [], refl, sym, ap, subst, length, slice_get}
+use Rattle.std.proofs.Common.{◌≡◌, ◌≤◌, ◌∙◌, ℕ, Bool, false, None, List, [], refl, sym, ap, length, slice_get}
 use Rattle.base_types.specs.Scenario.{IsBackend}
 use Rattle.command_lists.specs.Lists.{Held, no_lists, all_lists}
 use Rattle.ddl_effect.specs.Commands.{commands_of}
@@ -13,10 +13,9 @@ use Rattle.cacheless.specs.declared.progress.Counts.{Counts}
 use Rattle.cacheless.specs.declared.progress.Due.TheVariants as dues
 use Rattle.cacheless.specs.declared.progress.Progress.{Progress}
 use Rattle.cacheless.specs.declared.suspects.Suspects.{Suspects}
-use Rattle.cacheless.specs.Facts.{facts_of}
 use Rattle.cacheless.specs.Holds.{HasNotStarted}
 use Rattle.cacheless.specs.Session.{none_open, plan_first, is_blocked}
-use Rattle.cacheless.specs.State.{is_kept, nothing_kept, no_counts, owed_after, is_quiet, IsNew}
+use Rattle.cacheless.specs.State.{is_kept, nothing_kept, no_counts, IsNew}
 use Rattle.cacheless.specs.Suspects.{AreKnown}
 
 -- a Progress with these fields is new

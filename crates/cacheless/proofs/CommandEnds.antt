@@ -1,5 +1,5 @@
 -- The end of a command, as the code works it out, is the end that its facts and its session give.
-use Rattle.std.proofs.Common.{◌≡◌, ◌+◌, ◌∙◌, ℕ, Bool, true, false, Option, Some, None, List, [], ◌∷◌, refl, sym, ap, length, take, drop, min, slice_get, inl, inr, nat_le, arith, if◌then◌else◌}
+use Rattle.std.proofs.Common.{◌≡◌, ◌∙◌, ℕ, Bool, true, false, Option, Some, None, List, [], ◌∷◌, refl, sym, ap, length, take, drop, min, slice_get, inl, inr, nat_le, arith, if◌then◌else◌}
 use Rattle.std.specs.Option.{option_map_or}
 use Rattle.std.proofs.lemmas.Bool.{leb-true, leb-false}
 use Rattle.std.proofs.lemmas.Option.{slice_get_cases}
@@ -12,7 +12,7 @@ use Rattle.txn_blocks.specs.declared.transaction.RunningTransaction.{RunningTran
 use Rattle.cacheless.specs.Types.{Message, Command, Event}
 use Rattle.cacheless.specs.declared.progress.Progress.{Progress}
 use Rattle.cacheless.specs.Facts.{Facts}
-use Rattle.cacheless.specs.Ends.{End, xid_of, next_sent, next_of_commit, end_in, end_of}
+use Rattle.cacheless.specs.Ends.{xid_of, next_sent, next_of_commit, end_in, end_of}
 use Rattle.cacheless.specs.State.{facts_at, lists_at, unsent_at, end_at, Rest, session_at}
 use Rattle.cacheless.specs.Holds.{FactsFit}
 use Rattle.cacheless.proofs.Same.{work_same}

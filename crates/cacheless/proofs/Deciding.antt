@@ -1,10 +1,9 @@
 -- The rule decides what may come next: what the definitions' relation says, it answers.
-use Rattle.std.proofs.Common.{◌≡◌, ◌∙◌, ◌&&◌, ◌||◌, ℕ, Bool, true, false, not, Option, Some, None, List, [], ◌∷◌, ◌++◌, refl, sym, ap, subst, is_none, is_some, unwrap_or, slice_get, length, map, if◌then◌else◌, zero, suc, ◌==◌, nat_le}
+use Rattle.std.proofs.Common.{◌≡◌, ◌∙◌, ◌&&◌, ℕ, Bool, true, false, not, Option, Some, None, List, [], ◌∷◌, ◌++◌, refl, sym, ap, subst, is_none, is_some, unwrap_or, slice_get, length, map, if◌then◌else◌, zero, suc, ◌==◌, nat_le}
 use Rattle.std.specs.Bool.{Decides}
 use Rattle.std.specs.List.{list_any, flat_map, AllByRecursion}
 use Rattle.std.specs.Option.{option_map_or}
 use Rattle.std.specs.Prelude.{IfSome, ⊤}
-use Rattle.std.specs.Str.{bytes_eq}
 use Rattle.std.proofs.lemmas.Bool.{eq-eqb, eqb-true, leb-true}
 use Rattle.base_types.specs.Modes.{same_mode}
 use Rattle.base_types.specs.Scans.{same_oid}
@@ -15,7 +14,7 @@ use Rattle.base_types.specs.declared.scan.Purpose.TheVariants as scans
 use Rattle.event_kinds.specs.declared.entry.Event.TheVariants as events
 use Rattle.event_kinds.specs.declared.entry.Item.TheVariants as items
 use Rattle.inval_messages.specs.Lists.{has_write_from}
-use Rattle.local_caches.specs.Kept.{Kept, rows_kept}
+use Rattle.local_caches.specs.Kept.{rows_kept}
 use Rattle.ddl_effect.specs.Drawing.{drawn_change}
 use Rattle.ddl_effect.specs.Plans.{Plan, Do, Lookup, Lock, Write}
 use Rattle.history_model.specs.Changes.{item_of, items_of}
@@ -36,13 +35,12 @@ use Rattle.history_model.specs.Drawn.{next_oid}
 use Rattle.history_model.specs.Prefixes.{EachFrom}
 use Rattle.cacheless.specs.Work.{work_of}
 use Rattle.cacheless.specs.Owed.{Owes, owed_after, owed_of, is_free, is_next_scan, has_looked}
-use Rattle.cacheless.specs.Ends.{End, Ends, Commits, TakesBack, xid_of, next_sent, next_of_commit, next_of_taking_back, next_of_end, end_of, end_of_all}
+use Rattle.cacheless.specs.Ends.{End, Ends, Commits, TakesBack, xid_of, next_sent, next_of_end, end_of, end_of_all}
 use Rattle.cacheless.specs.Plays.{IsLock, IsUnlock, drafted, IsWrite, names_of, IsClash, IsEnd, IsLastEnd, IsStart, MayPlay, MayPlayLast, MayPlayIn, MayPlayAt, IsNext}
-use Rattle.cacheless.specs.Puts.{PutOpened, PutsOpened}
+use Rattle.cacheless.specs.Puts.{PutOpened}
 use Rattle.cacheless.specs.Settled.{class_oid, finds}
 use Rattle.cacheless.specs.State.{facts_at, work_at, session_at}
 use Rattle.cacheless.specs.Rule.{may_scan, names_relation, row_of_name, is_lock, is_unlock, is_write, names_by, is_clash, same_end, comes_next, is_free_to, may_end, may_play, may_end_last, may_last, may_come}
-use Rattle.cacheless.specs.SameItems.{same_items}
 use Rattle.cacheless.specs.Holds.{Holds}
 use Rattle.cacheless.proofs.Tests.{and_true, empty_is}
 use Rattle.cacheless.proofs.Same.{work_same}

@@ -31,7 +31,7 @@ use Rattle.history_model.proofs.Locked.{IsNoChange}
 use Rattle.history_model.proofs.Observed.{IsDirty}
 use Rattle.history_model.proofs.Ordered.{locks_exclude}
 use Rattle.history_model.proofs.Past.{IsPast, none_in_way}
-use Rattle.cacheless.specs.Owed.{owed_after, owed_last}
+use Rattle.cacheless.specs.Owed.{owed_last}
 use Rattle.cacheless.specs.Plays.{Plays}
 use Rattle.cacheless.proofs.Allowed.Patient.{IsPatient, patient}
 use Rattle.cacheless.proofs.Clear.{Known, KnowsOf, Comes, each_known}

@@ -34,7 +34,7 @@ pub mod Passing
 pub mod Matching
 pub mod SameRows
 pub mod Deciding
-mod WantedPlans
+pub mod WantedPlans
 pub mod Lacking
 mod Blocking
 mod BeforeStart

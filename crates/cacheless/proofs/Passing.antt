@@ -1,5 +1,5 @@
 -- What a backend does without an entry.
-use Rattle.std.proofs.Common.{◌≡◌, ◌≤◌, ◌<◌, ◌+◌, ◌∙◌, ◌&&◌, ◌||◌, ◌==◌, ℕ, Bool, true, false, Option, None, Some, List, [], ◌∷◌, ◌++◌, refl, sym, ap, subst, drop, is_some, unwrap_or, slice_get, arith, if◌then◌else◌, is_none}
+use Rattle.std.proofs.Common.{◌≡◌, ◌≤◌, ◌<◌, ◌+◌, ◌∙◌, ◌&&◌, ◌==◌, ℕ, Bool, true, false, Option, None, Some, List, [], ◌∷◌, ◌++◌, refl, sym, ap, subst, drop, is_some, unwrap_or, slice_get, arith, if◌then◌else◌, is_none}
 use Rattle.std.proofs.lemmas.List.{length_push, append-nil}
 use Rattle.std.proofs.lemmas.Option.{slice_get_within}
 use Rattle.std.specs.List.{cons_option}
@@ -31,8 +31,8 @@ use Rattle.cacheless.specs.Facts.{Facts, facts_of}
 use Rattle.cacheless.specs.Session.{Session, held_in, first_of, plan_first, is_blocked}
 use Rattle.cacheless.specs.Settled.{next_session, blocks_after, opens_passed, opens_after, finished_as, if_locked, has_taken_no_other, opened_by, sought_by, act_done, settled, has_accepted_in, looked_up_in, gives_in, gives_left}
 use Rattle.cacheless.specs.Puts.{AreGivenBy, PutsOpened}
-use Rattle.cacheless.specs.State.{blocks_passed, lists_at, no_counts, kept_at, is_kept, rows_kept, builds_missing, act_missing, row_sought, row_next, is_absent, is_out, end_at, rest_of, session_at, facts_at, work_at, owes_nothing}
-use Rattle.cacheless.specs.Silently.{is_ends, is_finished_at, rows_for, rows_given, opened_for, Acts, Finishes}
+use Rattle.cacheless.specs.State.{blocks_passed, lists_at, no_counts, kept_at, is_kept, rows_kept, builds_missing, act_missing, row_next, is_absent, is_out, rest_of, session_at, facts_at, work_at, owes_nothing}
+use Rattle.cacheless.specs.Silently.{is_finished_at, rows_for, rows_given, opened_for, Acts, Finishes}
 use Rattle.cacheless.specs.Holds.{FactsFit, Holds, HasActed, HasPassed}
 use Rattle.cacheless.proofs.Settling.{settled-act, settled-finish, acted-out}
 use Rattle.cacheless.proofs.Plans.SilentActs.{some_is}

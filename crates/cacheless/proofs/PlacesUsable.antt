@@ -1,14 +1,14 @@
 -- Each place that the lines of an allowed history name is that of a scan which serves still where the command is judged.
-use Rattle.std.proofs.Common.{◌≡◌, ◌≤◌, ◌+◌, ◌∙◌, ◌⊎◌, ◌==◌, ◌&&◌, inl, inr, ℕ, Bool, true, false, suc, Option, Some, None, List, [], ◌∷◌, ◌++◌, refl, sym, ap, subst, length, take, drop, slice_get, is_none, All, arith}
+use Rattle.std.proofs.Common.{◌≡◌, ◌≤◌, ◌+◌, ◌∙◌, ◌⊎◌, ◌==◌, ◌&&◌, inl, inr, ℕ, Bool, true, false, suc, Option, Some, None, List, [], ◌∷◌, ◌++◌, refl, sym, ap, subst, length, drop, slice_get, is_none, All, arith}
 use Rattle.std.specs.Prelude.{⊤}
 use Rattle.std.specs.Option.{option_map_or}
 use Rattle.std.proofs.lemmas.Bool.{and_parts, both_ways, eqb-true, eq-eqb}
 use Rattle.std.proofs.lemmas.List.{take-append-le, take_all, length_push}
 use Rattle.base_types.specs.declared.scan.Purpose.TheVariants as scans
 use Rattle.event_kinds.specs.declared.entry.Event.TheVariants as events
-use Rattle.txn_blocks.specs.Blocks.{Blocks, ends_failure, no_block}
+use Rattle.txn_blocks.specs.Blocks.{ends_failure, no_block}
 use Rattle.ddl_effect.specs.Commands.{commands_of}
-use Rattle.ddl_effect.specs.Plans.{Act, Lookup, Plan, Done, Fails, Absent, Do}
+use Rattle.ddl_effect.specs.Plans.{Act, Plan, Done, Fails, Absent, Do}
 use Rattle.ddl_effect.specs.Stages.{told_of}
 use Rattle.history_model.specs.Drawn.{next_oid}
 use Rattle.history_model.specs.MayFollow.{MayFollow, FollowsGone}
@@ -23,7 +23,7 @@ use Rattle.history_model.proofs.Reading.{last_event_of-own, last_event_of-other,
 use Rattle.history_model.proofs.Touched.{entry_of}
 use Rattle.cacheless.specs.Ends.{end_left}
 use Rattle.cacheless.specs.Facts.{Facts, facts_of}
-use Rattle.cacheless.specs.OnCourse.{is_absent, is_over, OnItsWay, FollowsPlan, TellsAlone, TellsStill, IsOnCourse, CourseOf, AllOnCourse, EntersCourse}
+use Rattle.cacheless.specs.OnCourse.{is_absent, is_over, FollowsPlan, TellsAlone, TellsStill, IsOnCourse, CourseOf, AllOnCourse, EntersCourse}
 use Rattle.cacheless.specs.Output.{IsAllowed}
 use Rattle.cacheless.specs.Judged.{ArePlaced}
 use Rattle.cacheless.specs.Owed.{owed_at_start, owed_after, act_owed, owed_of}
@@ -31,14 +31,14 @@ use Rattle.cacheless.specs.Places.{AnswersRightly, IsPlacedRightly, PlacedFrom, 
 use Rattle.cacheless.specs.Played.{AreSpelled, IsPlayed}
 use Rattle.cacheless.specs.Plays.{IsLock, IsUnlock, IsEnd, MayPlay, MayPlayIn, MayPlayAt, IsStart, IsNext}
 use Rattle.cacheless.specs.Session.{Session, Finished, Outcome, Unsettled, Well, Badly, number_of, first_of, none_open, at_command, outcome_of, is_settled}
-use Rattle.cacheless.specs.Sessions.{resumed, written, noted, ends_command, placed_at, commands_left, entered, session_of}
+use Rattle.cacheless.specs.Sessions.{resumed, noted, ends_command, commands_left, entered, session_of}
 use Rattle.cacheless.specs.Settled.{act_done, done_here, acted_on, acted, is_finished, blocks_after, opens_after, finished_as, next_session, settled}
 use Rattle.cacheless.specs.Told.{tells_of_scans}
 use Rattle.cacheless.specs.Telling.{IsOnItsEnd}
 use Rattle.cacheless.specs.Types.{Oid, Mode, Row, Command, Scenario, Entry, Event}
 use Rattle.cacheless.proofs.Allowed.AllowedHistories.{played_more, played_start}
 use Rattle.cacheless.proofs.Allowed.NextKeeps.{KeepsAllBy, next_keeps}
-use Rattle.cacheless.proofs.Allowed.NextOnCourse.{entered_noted, noted_finished, counted_tally, enters_on_course, alone_on_course, with_entry, session_then, session_is, no_start}
+use Rattle.cacheless.proofs.Allowed.NextOnCourse.{entered_noted, noted_finished, enters_on_course, alone_on_course, with_entry, session_then, session_is, no_start}
 use Rattle.cacheless.proofs.Allowed.OwnEntries.{IsNoted, scan_there, ends_out}
 use Rattle.cacheless.proofs.Allowed.SettledCourse.{HasSession, act_enters, finish_enters, begins_on_course, rest_left, first_left}
 use Rattle.cacheless.proofs.Allowed.StaysOnCourse.{MayCome, has_written-quiet, over_stays}

@@ -1,21 +1,15 @@
 -- Where the code finds nothing to do without an entry, its session is settled.
-use Rattle.std.proofs.Common.{◌≡◌, ◌≤◌, ◌<◌, ◌+◌, ◌∙◌, ◌&&◌, ◌||◌, ◌⊎◌, inl, inr, ℕ, Bool, true, false, not, Option, Some, None, List, [], ◌∷◌, ◌++◌, refl, sym, ap, length, drop, is_none, is_some, slice_get, cond, get_or, IfSome, map}
-use Rattle.std.specs.Option.{option_map_or}
+use Rattle.std.proofs.Common.{◌≡◌, ◌≤◌, ◌<◌, ◌+◌, ◌∙◌, ◌&&◌, ◌||◌, ◌⊎◌, inl, inr, ℕ, Bool, true, false, not, Option, Some, None, List, [], ◌∷◌, ◌++◌, refl, sym, ap, length, drop, is_none, is_some, slice_get, cond, get_or, map}
 use Rattle.std.proofs.lemmas.List.{drop_more, drop_all}
 use Rattle.std.proofs.lemmas.Option.{slice_get_cases, slice_get_within, get_or_from_slice_get}
-use Rattle.base_types.specs.declared.command.Command.TheVariants as commands
-use Rattle.base_types.specs.declared.row.Row.TheVariants as rows
-use Rattle.base_types.specs.declared.scan.Purpose.TheVariants as scans
-use Rattle.local_caches.specs.Kept.{Read as KeptRead}
-use Rattle.ddl_effect.specs.Plans.{Plan, Act, Done, Fails, Absent, Do, Lookup, Open, Search, Read, Lock, Write}
+use Rattle.ddl_effect.specs.Plans.{Plan, Act, Done, Fails, Absent, Do}
 use Rattle.ddl_effect.specs.Stages.{plan_at}
 use Rattle.history_model.specs.Changing.{is_empty}
-use Rattle.lock_modes.specs.Own.{has_lock}
 use Rattle.lock_modes.specs.Rooms.{Roomy}
-use Rattle.cacheless.specs.Types.{Mode, Row, Purpose, Command, Scenario, Entry, Event, OwnLock}
+use Rattle.cacheless.specs.Types.{Row, Purpose, Command, Scenario, Entry, Event, OwnLock}
 use Rattle.cacheless.specs.declared.progress.Progress.{Progress}
 use Rattle.cacheless.specs.Facts.{Facts, facts_of}
-use Rattle.cacheless.specs.Session.{Session, Badly, Well, Unsettled, outcome_of, is_settled, first_of}
+use Rattle.cacheless.specs.Session.{Session, Badly, outcome_of, first_of}
 use Rattle.cacheless.specs.Owed.{OwesScan, owed_at_start, owed_after, act_owed, is_free}
 use Rattle.cacheless.specs.Work.{Work}
 use Rattle.cacheless.specs.Ends.{End, Ends, Commits, TakesBack, next_of_end, end_in, end_left_in}
@@ -24,7 +18,7 @@ use Rattle.cacheless.specs.State.{facts_at, work_at, kept_at, builds_missing, ac
 use Rattle.cacheless.specs.Silently.{acts_on, is_ends, is_finished_at}
 use Rattle.cacheless.specs.Holds.{FactsFit, Holds, Rests}
 use Rattle.cacheless.proofs.Settling.{settled-waits}
-use Rattle.cacheless.proofs.Tests.{and_true, empty_is, right_none}
+use Rattle.cacheless.proofs.Tests.{and_true, empty_is}
 use Rattle.cacheless.proofs.Same.{work_same, empty_append, empty_map}
 use Rattle.cacheless.proofs.CommandEnds.{left_none}
 

@@ -1,5 +1,5 @@
 -- What the code works out of what it holds is what the definitions work out of the facts.
-use Rattle.std.proofs.Common.{◌≡◌, ◌+◌, ◌*◌, ◌∙◌, ◌==◌, ◌&&◌, ◌||◌, ℕ, Bool, true, false, not, Option, Some, None, List, [], ◌∷◌, ◌++◌, refl, sym, ap, map, filter, is_none, is_some, length, cond, nat_lt, nat_le}
+use Rattle.std.proofs.Common.{◌≡◌, ◌+◌, ◌*◌, ◌∙◌, ◌&&◌, ◌||◌, ℕ, Bool, true, false, not, Option, Some, None, List, [], ◌∷◌, ◌++◌, refl, sym, ap, map, filter, is_some, length, cond, nat_le}
 use Rattle.std.specs.Option.{option_map_or}
 use Rattle.std.specs.List.{find, list_any, flat_map, AllByRecursion}
 use Rattle.std.proofs.Common.{take}
@@ -9,19 +9,18 @@ use Rattle.base_types.specs.Scans.{same_scan, build_scans, is_build_scan}
 use Rattle.base_types.specs.declared.kind.Kind.TheVariants.{Table, Index}
 use Rattle.base_types.specs.declared.scan.Purpose.TheVariants as scans
 use Rattle.ddl_effect.specs.declared.told.Told.TheVariants as tells
-use Rattle.ddl_effect.specs.Plans.{Plan, Done, Do, Lookup, Open, Search, Read, Lock, Write, left_rests_on}
+use Rattle.ddl_effect.specs.Plans.{Plan, Done, Do, Lookup, Open, Search, Read, Lock, Write}
 use Rattle.ddl_effect.specs.Stages.{plan_at}
 use Rattle.history_model.specs.Changing.{is_empty}
 use Rattle.cacheless.specs.declared.progress.Due.{Due}
 use Rattle.cacheless.specs.declared.progress.Due.TheVariants as dues
 use Rattle.cacheless.specs.Facts.{Facts}
 use Rattle.cacheless.specs.Session.{Outcome, Unsettled, Well, Badly, outcome_of}
-use Rattle.cacheless.specs.Owed.{OwesLook, OwesScan, owed_at_start, owed_after, builds_owed, act_owed, scans_owed, owed_of, act_next, is_next_in, is_next_scan, counts_full, owes_accept}
+use Rattle.cacheless.specs.Owed.{OwesScan, owed_at_start, owed_after, builds_owed, scans_owed, owed_of, act_next, is_next_in, is_next_scan, counts_full, owes_accept}
 use Rattle.cacheless.specs.Work.{work_of}
 use Rattle.cacheless.specs.Rule.{may_look_in}
 use Rattle.cacheless.specs.Plays.{may_look}
 use Rattle.cacheless.specs.Types.{Kind, Oid, Command, Purpose, Opening}
-use Rattle.txn_blocks.specs.declared.transaction.RunningTransaction.{RunningTransaction}
 use Rattle.cacheless.specs.declared.progress.Progress.{Progress}
 use Rattle.cacheless.specs.State.{facts_at, work_at, Kept, kept_at, is_kept, missing, builds_missing, act_missing, scans_missing, lacks_builds, is_full, is_in_accept, owed_first, owes_nothing, Rest, session_at}
 use Rattle.cacheless.specs.May.{is_first_missing, is_missing, is_next_of_act, has_failed, lacks_opened, lacks_to_build, lacks_any}

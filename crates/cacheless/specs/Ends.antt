@@ -1,5 +1,5 @@
 -- How a command ends.
-use Rattle.std.specs.Prelude.{ℕ, Bool, true, false, Option, Some, None, zero, if◌then◌else◌, nat_le, unwrap_or, length}
+use Rattle.std.specs.Prelude.{ℕ, Bool, true, false, Option, Some, None, zero, if◌then◌else◌, nat_le, length}
 use Rattle.std.specs.Option.{option_map_or}
 use Rattle.base_types.specs.declared.command.Command.TheVariants as commands
 use Rattle.event_kinds.specs.declared.entry.Event.TheVariants as events

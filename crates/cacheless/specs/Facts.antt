@@ -10,7 +10,7 @@ use Rattle.history_model.specs.Sent.{messages_written, lists_by, lists_of}
 use Rattle.history_model.specs.Read.{is_usable, rows_read, place_read}
 use Rattle.history_model.specs.Log.{fetched_by}
 use Rattle.history_model.specs.Versions.{answer_of}
-use Rattle.cacheless.specs.Types.{Row, Purpose, Entry, Event}
+use Rattle.cacheless.specs.Types.{Row, Entry, Event}
 use Rattle.cacheless.specs.declared.progress.Due.{Due}
 use Rattle.cacheless.specs.declared.progress.Due.TheVariants as dues
 

@@ -1,5 +1,5 @@
 -- What the code holds is the session of its backend in a history.
-use Rattle.std.specs.Prelude.{◌≡◌, ◌≤◌, ◌+◌, ◌++◌, ◌∷◌, [], ℕ, true, List, length, drop, Some, IfSome, slice_get}
+use Rattle.std.specs.Prelude.{◌≡◌, ◌≤◌, ◌+◌, ◌++◌, ◌∷◌, [], ℕ, true, List, length, drop, Some, slice_get}
 use Rattle.std.specs.List.{AllByRecursion}
 use Rattle.base_types.specs.Scenario.{IsBackend}
 use Rattle.event_kinds.specs.declared.entry.Event.TheVariants as events
@@ -8,7 +8,7 @@ use Rattle.txn_blocks.specs.Blocks.{no_block}
 use Rattle.ddl_effect.specs.Commands.{commands_of}
 use Rattle.ddl_effect.specs.Stages.{plan_at, plan_again}
 use Rattle.history_model.specs.Changing.{is_empty}
-use Rattle.cacheless.specs.Types.{Row, Purpose, Command, Scenario, Entry, Event}
+use Rattle.cacheless.specs.Types.{Row, Command, Scenario, Entry, Event}
 use Rattle.cacheless.specs.declared.progress.Counts.{Counts}
 use Rattle.cacheless.specs.declared.progress.Progress.{Progress}
 use Rattle.cacheless.specs.Facts.{Facts, facts_of}

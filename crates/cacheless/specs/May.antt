@@ -1,7 +1,7 @@
 -- In which words the code searches for what is lacking.
-use Rattle.std.specs.Prelude.{◌≡◌, ℕ, Bool, true, false, not, Option, Some, List, [], ◌&&◌, ◌||◌, is_some, nat_lt, slice_get}
+use Rattle.std.specs.Prelude.{◌≡◌, ℕ, Bool, true, false, not, List, ◌&&◌, ◌||◌, is_some, nat_lt, slice_get}
 use Rattle.std.specs.Option.{option_map_or}
-use Rattle.std.specs.List.{find, list_any}
+use Rattle.std.specs.List.{find}
 use Rattle.base_types.specs.Scans.{same_scan, build_scans}
 use Rattle.base_types.specs.declared.scan.Purpose.TheVariants as scans
 use Rattle.ddl_effect.specs.Plans.{Plan, Done, Do, Lookup, Open, Search, Read, told_rests_on}
@@ -9,10 +9,8 @@ use Rattle.history_model.specs.Changing.{is_empty}
 use Rattle.local_caches.specs.Kept.{Kept, is_kept}
 use Rattle.cacheless.specs.Types.{Oid, Kind, Purpose, Command, Opening, Event, Mode}
 use Rattle.cacheless.specs.declared.progress.Progress.{Progress}
-use Rattle.cacheless.specs.Facts.{Facts}
-use Rattle.cacheless.specs.Work.{Work}
 use Rattle.cacheless.specs.Session.{Badly, outcome_of}
-use Rattle.cacheless.specs.Owed.{owed_after, owed_first_in, act_owed, is_next_in, has_looked_in, is_free}
+use Rattle.cacheless.specs.Owed.{act_owed, is_next_in, has_looked_in, is_free}
 pub use Rattle.cacheless.specs.Rule.{names_relation}
 use Rattle.cacheless.specs.Rule.{may_play, may_last, may_come, is_lock, is_unlock, may_lock, may_end, same_end, comes_next, is_free_to}
 use Rattle.cacheless.specs.Rule.{may_end_last as ends_last}

@@ -1,5 +1,5 @@
 -- The places that answers name: what was read there serves still where the command is judged.
-use Rattle.std.specs.Prelude.{ℕ, Bool, true, false, Option, Some, None, IfSome, List, [], ◌∷◌, ◌≡◌, ◌+◌, take, drop, ⊤}
+use Rattle.std.specs.Prelude.{ℕ, true, Option, Some, None, IfSome, List, [], ◌∷◌, ◌≡◌, ◌+◌, take, drop, ⊤}
 use Rattle.std.specs.List.{AllByRecursion}
 use Rattle.std.specs.Option.{option_map_or}
 use Rattle.base_types.specs.Fields.{fields_of, read_by}

@@ -1,5 +1,5 @@
 -- The rule: what may come next of a backend, by the facts of its entries and by its running command.
-use Rattle.std.specs.Prelude.{ℕ, Bool, true, false, not, Option, Some, None, List, [], ◌∷◌, ◌+◌, ◌*◌, ◌==◌, ◌&&◌, nat_le, is_none, is_some, slice_get, if◌then◌else◌}
+use Rattle.std.specs.Prelude.{ℕ, Bool, true, false, not, Option, Some, None, List, ◌∷◌, ◌+◌, ◌*◌, ◌==◌, ◌&&◌, nat_le, is_none, is_some, slice_get}
 use Rattle.std.specs.Option.{option_map_or}
 use Rattle.std.specs.List.{list_any, flat_map}
 use Rattle.std.specs.Str.{bytes_eq}

@@ -1,10 +1,8 @@
 -- What a backend does without an entry, by what the code holds.
-use Rattle.std.specs.Prelude.{◌≡◌, ℕ, Bool, true, false, not, Option, Some, None, List, [], ◌∷◌, ◌&&◌, ◌||◌, ◌+◌, ◌-◌, ◌*◌, is_none, is_some, slice_get, length}
+use Rattle.std.specs.Prelude.{◌≡◌, ℕ, Bool, true, false, not, Option, Some, None, List, [], ◌∷◌, ◌&&◌, ◌||◌, ◌+◌, ◌-◌, ◌*◌, is_some, slice_get, length}
 use Rattle.std.specs.List.{cons_option}
 use Rattle.std.specs.Option.{option_map, option_map_or}
-use Rattle.base_types.specs.declared.row.Row.TheVariants as rows
-use Rattle.lock_modes.specs.Own.{has_lock}
-use Rattle.ddl_effect.specs.Plans.{Plan, Act, Do, Lookup, Open, Search, Read, Lock, Write}
+use Rattle.ddl_effect.specs.Plans.{Plan, Act}
 use Rattle.ddl_effect.specs.Stages.{plan_at, told_of, acts_left, most_acts}
 use Rattle.ddl_effect.specs.declared.want.Want.{Want}
 use Rattle.ddl_effect.specs.declared.want.Want.TheVariants as wants

@@ -1,37 +1,32 @@
 -- What the code holds of a backend, in the words of the definitions.
-use Rattle.std.specs.Prelude.{◌≡◌, ℕ, Bool, true, false, not, Option, Some, None, List, [], ◌∷◌, ◌++◌, ◌+◌, ◌==◌, ◌&&◌, ◌||◌, map, filter, is_none, slice_get}
-use Rattle.std.specs.Option.{option_map, option_map_or}
-use Rattle.std.specs.List.{list_any, flat_map}
-use Rattle.base_types.specs.Scans.{is_build_scan, build_scans}
+use Rattle.std.specs.Prelude.{◌≡◌, ℕ, Bool, true, false, not, Option, Some, None, List, [], ◌∷◌, ◌++◌, ◌+◌, ◌&&◌, map, is_none, slice_get}
+use Rattle.std.specs.Option.{option_map_or}
+use Rattle.std.specs.List.{flat_map}
 use Rattle.base_types.specs.declared.change.Change.{Change}
 use Rattle.base_types.specs.declared.change.Change.TheVariants.{Insert}
 use Rattle.base_types.specs.declared.row.Row.TheVariants as rows
-use Rattle.base_types.specs.declared.scan.Purpose.TheVariants as scans
-use Rattle.base_types.specs.declared.command.Command.TheVariants as commands
 use Rattle.event_kinds.specs.declared.entry.Event.TheVariants as events
 use Rattle.command_answers.specs.declared.error.CommandError.TheVariants as errors
 use Rattle.row_visibility.specs.declared.clash.Clash.TheVariants as clashes
 use Rattle.lock_modes.specs.Own.{cleared, new_lock}
 use Rattle.inval_messages.specs.Lists.{Written, has_write_from, unsent_after}
 use Rattle.command_lists.specs.Lists.{all_lists, no_lists}
-use Rattle.ddl_effect.specs.Plans.{Plan, Do, Lookup, left_rests_on}
-use Rattle.txn_blocks.specs.Blocks.{Block, Outside, Inside, Failed, Blocks, no_block, ends_block, refused_by, innermost, levels_up_to, blocks_well, blocks_badly}
+use Rattle.ddl_effect.specs.Plans.{Plan, Do, Lookup}
+use Rattle.txn_blocks.specs.Blocks.{Outside, Blocks, no_block, ends_block, refused_by, blocks_well, blocks_badly}
 use Rattle.ddl_effect.specs.Stages.{plan_at, plan_again}
 use Rattle.ddl_effect.specs.declared.exec.Exec.TheVariants as stages
-use Rattle.history_model.specs.Changing.{is_empty}
 use Rattle.history_model.specs.Sent.{cats_by, rels_by}
-use Rattle.txn_blocks.specs.declared.transaction.RunningTransaction.{RunningTransaction as Running}
 pub use Rattle.cacheless.specs.OnCourse.{is_absent}
 use Rattle.txn_blocks.specs.Transactions.{begun_own}
-use Rattle.cacheless.specs.Types.{Oid, Message, Row, Purpose, Command, CommandError, Clash, Item, Entry, Event, Opening, OwnLock}
-use Rattle.cacheless.specs.Session.{Session, Finished, Tally, Badly, Well, Unsettled, outcome_of, is_settled, none_open, plan_first, is_blocked}
+use Rattle.cacheless.specs.Types.{Oid, Message, Row, Purpose, Command, CommandError, Clash, Item, Entry, Event, OwnLock}
+use Rattle.cacheless.specs.Session.{Session, Finished, Tally, Well, outcome_of, is_settled, none_open, plan_first, is_blocked}
 pub use Rattle.cacheless.specs.Owed.{owed_after, is_quiet, missing, builds_missing}
 use Rattle.cacheless.specs.Owed.{act_owed, scans_owed_in, owes_build_in, counts_full, owed_first_in, accepts_in, is_free}
 use Rattle.cacheless.specs.Work.{Work}
 use Rattle.cacheless.specs.Rule.{row_of_name}
 pub use Rattle.cacheless.specs.Facts.{due_looked, due_fetched}
 use Rattle.cacheless.specs.Facts.{Facts}
-use Rattle.cacheless.specs.Owed.{Owes, OwesLook}
+use Rattle.cacheless.specs.Owed.{Owes}
 use Rattle.cacheless.specs.Ends.{End, Ends, TakesBack, end_in}
 use Rattle.local_caches.specs.Caches.{kept_of}
 pub use Rattle.local_caches.specs.Kept.{Kept, nothing_kept, kept_with, kept_spared, is_kept, rows_kept, place_kept}

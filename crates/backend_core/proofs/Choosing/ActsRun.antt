@@ -22,7 +22,7 @@ use Rattle.cacheless.specs.Owed.{Owes, OwesLook, begins, owed_at_start}
 use Rattle.cacheless.specs.Session.{opening_of, held_in, held_before, Session, Unsettled, Well, Badly, outcome_of, is_settled, plan_admitted, plan_first, refused_first, is_blocked}
 use Rattle.cacheless.specs.State.{kept_at, owed_first, is_absent}
 use Rattle.cacheless.specs.Types.{Field, Draft, CommandError, Told, OpenRelation}
-use Rattle.cacheless.proofs.Same.{start_owed}
+use Rattle.cacheless.proofs.Same.{next_is, start_owed}
 use Rattle.cacheless.proofs.Entries.EnteredLooks.{not_absent}
 use Rattle.cacheless.proofs.Plans.SilentActs.{on_its_way}
 use Rattle.cacheless.proofs.Tests.{and_true, not_true, or_either}
@@ -189,7 +189,7 @@ module _ (scenario : Scenario) (seen : List Entry) (s : Backend) (waits : Awaits
   scan_runs scan next free = by_ended (waiting waits).ended refl
     where
       both : (not (has_failed s.progress) ≡ true) × ((list_any (λ o. is_first_missing scan (kept_at s.progress) o.kind o.rel) s.progress.opened || is_next_of_act scan (kept_at s.progress) (plan_at s.progress.opens s.progress.exec)) ≡ true)
-      both = and_true (not (has_failed s.progress)) _ next
+      both = and_true (not (has_failed s.progress)) _ (next_is scan s.progress ∙ next)
 
       by_plan : (p : Plan) → plan_at s.progress.opens s.progress.exec ≡ p → is_next_of_act scan (kept_at s.progress) p ≡ true → DoesSome (plan_of s.progress.opens command)
       by_plan (Do act rest) is of = acts_none act rest is

@@ -16,7 +16,7 @@ use Rattle.cacheless.specs.ActsDone.{reached, made_in, opening_by}
 use Rattle.cacheless.specs.Ends.{End, Commits, TakesBack, next_of_end, end_left_in}
 use Rattle.cacheless.specs.Rule.{comes_next}
 use Rattle.cacheless.proofs.Resting.{over_is}
-use Rattle.cacheless.proofs.Same.{free_is}
+use Rattle.cacheless.proofs.Same.{free_is, next_is}
 use Rattle.ddl_effect.specs.declared.want.Want.{Want}
 use Rattle.cacheless.specs.May.{owes_no_end, has_failed, is_first_missing, is_next_of_act, lacks_opened, lacks_any, owes_nothing, is_next_of_end, may_end_at}
 use Rattle.cacheless.specs.OnCourse.{Way, Begun, Wrote, Over, FollowsPlan, IsOnCourse, AllOnCourse}
@@ -188,7 +188,7 @@ module _ (s : Backend) (command : Command) (f : Frame) (sound : IsChoiceSound s)
     command = command;
     free = free;
     lacks = λ i. not (goes i) && (lacking i || not (is_empty (act_missing s.progress (plan_at s.progress.opens s.progress.exec))));
-    next = λ i. not (goes i) && (first i || is_next_of_act scan (kept_at s.progress) (plan_at s.progress.opens s.progress.exec));
+    next = sym (next_is scan s.progress) ∙ (λ i. not (goes i) && (first i || is_next_of_act scan (kept_at s.progress) (plan_at s.progress.opens s.progress.exec)));
     turn = ap (λ o. elim o as (λ x. Option Purpose) [ Some g ↦ find (λ d. not (is_kept (kept_at s.progress) d)) (build_scans g.opening.kind g.opening.rel) | None ↦ None ]) on ∙ is;
   }
     where

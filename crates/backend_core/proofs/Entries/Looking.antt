@@ -99,9 +99,9 @@ begins_going command s is = by_ended s.ended refl
         ∙ ap (λ t. not (ends_block command) && not t && is_none (refused_by no_block command)) ended ∙ ap (λ t. t && is_none (refused_by no_block command)) (and-false (not (ends_block command)))) is)
 
 -- and has taken nothing back
-looked_stands : (some_wait : Bool) (from : ℕ) → due_looked some_wait ≡ dues.Gone from → ⊥
-looked_stands true from is = cc is
-looked_stands false from is = cc is
+looked_stands : (some_wait : Bool) → is_gone_due (due_looked some_wait) ≡ false
+looked_stands true = refl
+looked_stands false = refl
 
 looked_last : (some_wait : Bool) → is_look (due_looked some_wait) ≡ true
 looked_last true = refl
@@ -202,12 +202,12 @@ module _ (scenario : Scenario) (old : List Entry) (was : Backend) (waits : Await
     -- the rebuilds see to what they saw to
     look_rebuilds : Busy (facts_of old was.progress.id).due was.progress command → FramesFit facts (command_at was) s frames → FramesFit (looked_facts facts s some_wait) (Some command) now frames
     look_rebuilds busy rebuilds = subst (λ o. FramesFit (looked_facts facts s some_wait) o now frames) at
-        (same_fits facts (looked_facts facts s some_wait) (command_at was) s now frames refl refl refl refl (sym (standing scenario old was waits command at busy)) rebuilds)
+        (same_fits facts (looked_facts facts s some_wait) (command_at was) s now frames refl refl refl refl (looked_stands some_wait ∙ sym (standing scenario old was waits command at busy)) rebuilds)
 
     look_fits : is_visible facts.running ≡ false → FramesFit (looked_facts facts s some_wait) (Some command) now frames → MadeFor → Fits (facts_by old was.progress.id (was.progress.finished + 1) event facts) (command_at was) now looked frames told
     look_fits hides rebuilds sought = subst (λ f. Fits f (command_at was) now looked frames told) (sym later_is) (subst (λ o. Fits (looked_facts facts s some_wait) o now looked frames told) (sym at)
         (fits_inside facts (looked_facts facts s some_wait) (Some command) s now was.looked was.frames was.told looked frames told command refl (subst (λ o. Fits facts o s was.looked was.frames was.told) at waits.fits)
-        (record { runs = refl; written = λ is. begun_written (number_of s) facts.running (waits.fits.written is); last = looked_stands some_wait })
+        (record { runs = refl; written = λ is. begun_written (number_of s) facts.running (waits.fits.written is); last = λ from is. both_ways _ (looked_stands some_wait) (ap is_gone_due is) })
         (record { blocks = refl; opens = refl; held = inl refl; finished = refl; blocked = refl; ended = refl; left = λ is there. refl }) counts.goes hides (over scenario old was waits courses command at) looks_more rebuilds sought (takes_cleared _ (number_of s) s.locks s.taken s.left waits.fits.takes)))
 
     -- so after it the backend agrees

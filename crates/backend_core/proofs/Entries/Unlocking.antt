@@ -19,7 +19,7 @@ use Rattle.cacheless.specs.Owed.{owed_of, started_in}
 use Rattle.cacheless.specs.Plays.{IsUnlock, MayPlayIn}
 use Rattle.cacheless.specs.Session.{Session, number_of, outcome_of, is_settled}
 use Rattle.cacheless.specs.Sessions.{entered}
-use Rattle.cacheless.specs.State.{kept_at, is_absent}
+use Rattle.cacheless.specs.State.{kept_at, owed_after, is_absent}
 use Rattle.cacheless.proofs.HeldLocks.{lock_of_command, locks_of, locks_are_held, Follows}
 use Rattle.cacheless.proofs.Allowed.NextKeeps.{nothing_owed}
 use Rattle.cacheless.proofs.Plans.SilentActs.{on_its_way}

@@ -267,7 +267,7 @@ module _ (scenario : Scenario) (old : List Entry) (was : Backend) (draft : Draft
       → Writes old new had has was.progress.id (was.progress.finished + 1) draft (Err (refusals.Clash name clash)) → Enters scenario old new had has first (record was { progress = p })
   clash_enters first id new had has p name clash goes kept none writes = let refused = clashes_as old new had has was.progress.id (was.progress.finished + 1) draft name clash writes in alike_enters scenario old new had has first was (record was { progress = p }) id (failed_enters scenario old new had has was p (clash_event name clash) (error_of name clash) next.command waits played courses acting unlooked (clash_shows scenario old was s name clash)
       (subst (λ o. MayPlayIn (next_oid old) facts o s (clash_event name clash)) (sym next.free.at)
-      (clash_plays (next_oid old) facts next.command s name clash owed_none (subst (λ p. IsClash facts (next_oid old) p name) (sym at) (suits.names read name refused.is_new)))) goes kept none refused.appends)
+      (clash_plays (next_oid old) facts next.command s name clash owed_none (subst (λ p. IsClash facts (next_oid old) p name) (sym at) (subst (λ l. list_any (bytes_eq name) l ≡ true) (all_names facts was.progress.opened (next_oid old) draft.new_oids draft.changes draft.forced (subst (PutsOpened was.progress.opened) at waits.rests.holds.puts).0) (suits.names read name refused.is_new))))) goes kept none refused.appends)
 
   -- what is noted with it
   pub wrote_noted : {D : Type 0} (new : List Entry) (had has : ℕ → ℕ) (p : Progress) (frames : List Frame) (result : Result (Unit {0}) D) (made : Made) (messages : List Message) (known : Option Oid) → known ≡ relation_made draft.changes made.first_oid → MakesWrite old new had has was.progress.id (was.progress.finished + 1) draft made → messages ≡ made.messages.items → kept_at p ≡ kept_spared messages (kept_at was.progress)

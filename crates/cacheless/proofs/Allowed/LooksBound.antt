@@ -1,6 +1,6 @@
 -- In an allowed history a look that is owed may be made, and so may the look for a scan, and that of a lookup that found no relation.
-use Rattle.std.proofs.Common.{◌≡◌, ◌≤◌, ◌+◌, ◌*◌, ◌∙◌, ◌⊎◌, inl, inr, ◌==◌, ◌&&◌, ℕ, Bool, true, false, not, Option, Some, None, List, [], ◌∷◌, ◌++◌, refl, sym, ap, subst, length, drop, slice_get, arith}
-use Rattle.std.specs.Prelude.{⊤, nat_le, nat_lt}
+use Rattle.std.proofs.Common.{◌≡◌, ◌≤◌, ◌+◌, ◌*◌, ◌∙◌, ◌⊎◌, inl, inr, ◌==◌, ℕ, Bool, true, false, Option, Some, None, List, [], ◌∷◌, ◌++◌, refl, sym, ap, subst, length, drop, slice_get, arith}
+use Rattle.std.specs.Prelude.{⊤, nat_le}
 use Rattle.std.specs.Option.{option_map_or}
 use Rattle.std.proofs.lemmas.Bool.{eqb-true, le-leb, leb-true, ltb-false, both_ways}
 use Rattle.std.proofs.lemmas.List.{length_push}

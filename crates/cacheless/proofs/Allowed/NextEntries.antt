@@ -11,7 +11,7 @@ use Rattle.event_kinds.specs.declared.entry.Event.TheVariants as events
 use Rattle.lock_modes.specs.declared.grant.Grant.{Grant}
 use Rattle.lock_modes.specs.Grants.{holds, first_conflict}
 use Rattle.lock_modes.specs.Own.{has_lock}
-use Rattle.ddl_effect.specs.Plans.{Act, Lookup, Open, Search, Read, Lock, Write, Plan, Do}
+use Rattle.ddl_effect.specs.Plans.{Act, Lookup, Lock, Plan, Do}
 use Rattle.ddl_effect.specs.Commands.{commands_of}
 use Rattle.txn_blocks.specs.declared.transaction.RunningTransaction.{RunningTransaction as Running}
 use Rattle.history_model.specs.declared.life.Life.{Life}
@@ -20,7 +20,7 @@ use Rattle.history_model.specs.Drawn.{next_oid}
 use Rattle.history_model.specs.Held.{held_of}
 use Rattle.history_model.specs.Lapped.{is_lapped, FetchesFrom}
 use Rattle.history_model.specs.MayFollow.{FollowsVisible, FollowsGone, AllowsLook, AllowsEvent, MayFollow}
-use Rattle.history_model.specs.Legal.{IsLegal, IsAllowed as Follows}
+use Rattle.history_model.specs.Legal.{IsAllowed as Follows}
 use Rattle.history_model.specs.MayFollow.{FollowsLife}
 use Rattle.history_model.specs.Lives.{life_by, life_of, last_event_of}
 use Rattle.history_model.specs.Log.{log_of, position_of, is_waiting}
@@ -35,7 +35,7 @@ use Rattle.cacheless.specs.Types.{Oid, Mode, Row, Purpose, Scenario, Command, En
 use Rattle.cacheless.specs.declared.progress.Due.{Due}
 use Rattle.cacheless.specs.declared.progress.Due.TheVariants as dues
 use Rattle.local_caches.specs.Kept.{rows_kept}
-use Rattle.cacheless.specs.Facts.{Facts, due_last, facts_of, facts_by}
+use Rattle.cacheless.specs.Facts.{Facts, facts_of, facts_by}
 use Rattle.cacheless.specs.Output.{IsAllowed}
 use Rattle.cacheless.specs.Owed.{OwesLook, owed_after, owed_last, is_quiet, owed_of, has_looked, is_next_scan}
 use Rattle.cacheless.specs.Played.{AreSpelled}

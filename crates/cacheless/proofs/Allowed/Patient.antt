@@ -1,6 +1,6 @@
 -- A backend does nothing else while it owes a look or a fetch.
-use Rattle.std.proofs.Common.{◌≡◌, ℕ, Bool, true, false, Option, Some, None, List, [], ◌∷◌, ◌++◌}
-use Rattle.std.specs.Prelude.{⊤, ◌==◌}
+use Rattle.std.proofs.Common.{◌≡◌, ℕ, true, Option, Some, None, List, [], ◌∷◌, ◌++◌}
+use Rattle.std.specs.Prelude.{⊤}
 use Rattle.base_types.specs.Scenario.{Scenario}
 use Rattle.base_types.specs.declared.command.Command.{Command}
 use Rattle.event_kinds.specs.declared.entry.Entry.{Entry}
@@ -12,7 +12,7 @@ use Rattle.cacheless.specs.declared.progress.Due.{Due}
 use Rattle.cacheless.specs.declared.progress.Due.TheVariants as dues
 use Rattle.cacheless.specs.Facts.{Facts, facts_of}
 use Rattle.cacheless.specs.Session.{Session}
-use Rattle.cacheless.specs.Owed.{Owes, OwesLook, OwesFetch, owed_after, owed_last, owed_of}
+use Rattle.cacheless.specs.Owed.{Owes, OwesFetch, owed_after, owed_last, owed_of}
 use Rattle.cacheless.specs.Ends.{End, Ends, Commits, TakesBack, end_of}
 use Rattle.cacheless.specs.Plays.{may_look, owed_at_end, MayPlay, MayPlayLast, MayPlayIn, IsStart, MayPlayAt, IsNext}
 use Rattle.cacheless.specs.Sessions.{session_of}

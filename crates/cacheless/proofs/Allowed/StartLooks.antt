@@ -2,7 +2,6 @@
 use Rattle.std.proofs.Common.{◌≡◌, ◌+◌, ◌∙◌, ◌⊎◌, inl, inr, ◌==◌, ◌&&◌, ℕ, Bool, true, false, not, Option, Some, None, List, [], ◌∷◌, ◌++◌, refl, sym, ap, subst, length, slice_get, is_none, is_some, arith}
 use Rattle.std.proofs.lemmas.Bool.{eqb-true, both_ways}
 use Rattle.event_kinds.specs.declared.entry.Event.TheVariants as events
-use Rattle.ddl_effect.specs.Plans.{Act, Plan}
 use Rattle.ddl_effect.specs.Commands.{commands_of}
 use Rattle.txn_blocks.specs.Blocks.{Block, Outside, Inside, Failed, no_block, ends_block, refused_by}
 use Rattle.txn_blocks.specs.declared.transaction.RunningTransaction.{RunningTransaction as Running}
@@ -12,16 +11,16 @@ use Rattle.history_model.specs.Transactions.{running_by, running_transaction_of}
 use Rattle.history_model.specs.Changing.{is_empty}
 use Rattle.history_model.proofs.Prefixes.{each-keeps}
 use Rattle.history_model.proofs.Reading.{running_transaction_of-own, running_transaction_of-other}
-use Rattle.cacheless.specs.Types.{Row, Scenario, Command, Entry, Event}
+use Rattle.cacheless.specs.Types.{Scenario, Command, Entry, Event}
 use Rattle.cacheless.specs.Facts.{Facts, facts_of, facts_by}
 use Rattle.cacheless.specs.Owed.{Owes, OwesLook, begins, owed_at_start, owed_last}
 use Rattle.cacheless.specs.Plays.{MayPlayIn, MayPlayAt, IsNext, Plays}
 use Rattle.cacheless.specs.Session.{Session, first_of}
-use Rattle.cacheless.specs.Sessions.{tally_by, noted, counted, placed_at, commands_left, entered, session_by, session_of}
+use Rattle.cacheless.specs.Sessions.{commands_left, entered, session_by, session_of}
 use Rattle.cacheless.specs.Settled.{acted, is_finished, next_session, settled}
 use Rattle.cacheless.proofs.Allowed.LooksBound.{acted-same, look_may}
 use Rattle.cacheless.proofs.Allowed.NextEntries.{HasNext, IsFree, look_next}
-use Rattle.cacheless.proofs.Allowed.NextOnCourse.{entered_noted, no_start}
+use Rattle.cacheless.proofs.Allowed.NextOnCourse.{no_start}
 use Rattle.cacheless.proofs.Allowed.Patient.{IsNoFetch}
 use Rattle.cacheless.proofs.Reading.{session_of-own, session_of-other}
 

@@ -1,5 +1,5 @@
 -- What a command that has come out answers as of a place serves since.
-use Rattle.std.proofs.Common.{◌≡◌, ◌∙◌, ℕ, Bool, true, false, Option, Some, None, List, [], ◌∷◌, Contains, refl, sym, ap, subst}
+use Rattle.std.proofs.Common.{◌≡◌, ◌∙◌, ℕ, Bool, true, false, Option, Some, None, List, [], Contains, refl, sym, ap, subst}
 use Rattle.base_types.specs.Fields.{fields_of, has_field, read_by}
 use Rattle.base_types.specs.Scans.{build_scans}
 use Rattle.base_types.specs.declared.scan.Purpose.TheVariants as scans
@@ -19,7 +19,7 @@ use Rattle.cacheless.specs.Protected.{is_protected}
 use Rattle.cacheless.specs.Session.{Session, number_of, outcome_of, is_settled}
 use Rattle.cacheless.specs.Settled.{finished_as}
 use Rattle.cacheless.specs.Told.{tells_of_scans}
-use Rattle.cacheless.specs.Types.{Oid, Kind, Field, Command, CommandError, Told, Opening, Shown, Scenario, Entry}
+use Rattle.cacheless.specs.Types.{Oid, Kind, Field, Command, CommandError, Told, Shown, Scenario, Entry}
 use Rattle.cacheless.proofs.Answers.ServingScans.{serves}
 use Rattle.cacheless.proofs.Answers.ToldAnswers.{HasComeOut, Stays, stays, stays_open, left_effect}
 use Rattle.cacheless.proofs.Answers.ToldFields.{field_among, none_usable, one_owes_none, each_has}

@@ -1,5 +1,5 @@
 -- What a backend read by a scan that is usable serves since the place of that scan.
-use Rattle.std.proofs.Common.{◌≡◌, ◌≤◌, ◌+◌, ◌∙◌, ℕ, Bool, true, false, Option, Some, None, List, [], ◌∷◌, ◌++◌, ◌==◌, ◌&&◌, ◌||◌, refl, sym, ap, subst, length, take, drop, append_assoc, append-nil, arith}
+use Rattle.std.proofs.Common.{◌≡◌, ◌≤◌, ◌+◌, ◌∙◌, ℕ, Bool, true, false, Some, List, [], ◌∷◌, ◌++◌, ◌==◌, ◌&&◌, ◌||◌, refl, sym, ap, subst, length, take, drop, append_assoc, append-nil, arith}
 use Rattle.std.proofs.lemmas.Bool.{and_parts, both_ways, eq-eqb}
 use Rattle.std.proofs.lemmas.List.{take-append-le, drop-append-le, take-append-drop, drop_all, length_push}
 use Rattle.history_model.specs.Prefixes.{EachFrom}

@@ -21,8 +21,8 @@ use Rattle.cacheless.specs.Session.{Session, number_of, first_of, outcome_of, is
 use Rattle.cacheless.specs.Owed.{act_owed}
 use Rattle.cacheless.specs.Settled.{act_done, blocks_after, opens_after, finished_as, next_session}
 use Rattle.cacheless.specs.May.{has_failed}
-use Rattle.cacheless.specs.Silently.{acts_on, is_ends, is_finished_at, is_to_answer, is_to_answer_at, Answers, Finishes, IsSettled, HasAnswered, IsLineOf}
-use Rattle.cacheless.specs.State.{kept_at, is_kept, is_out, end_at, Rest, session_at, owes_nothing, facts_at, work_at}
+use Rattle.cacheless.specs.Silently.{acts_on, is_finished_at, is_to_answer, is_to_answer_at, Answers, Finishes, IsSettled, HasAnswered, IsLineOf}
+use Rattle.cacheless.specs.State.{kept_at, is_kept, is_out, Rest, session_at, owes_nothing, facts_at, work_at}
 use Rattle.cacheless.specs.Telling.{AreLines, IsJudgedHere, TellsNow, HasGoneOn}
 use Rattle.cacheless.specs.Told.{tells_of_scans}
 use Rattle.cacheless.proofs.Plans.AfterActs.{IsUnfound, after_lookup, after_opening, after_lock, after_search, after_reading}

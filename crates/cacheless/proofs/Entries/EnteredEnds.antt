@@ -9,12 +9,11 @@ use Rattle.inval_messages.specs.Lists.{Written, lists_before, lists_from, cats_i
 use Rattle.command_lists.specs.Lists.{Held, all_lists}
 use Rattle.local_caches.specs.Caches.{kept_of}
 use Rattle.local_caches.specs.declared.local_caches.LocalCaches.{LocalCaches}
-use Rattle.history_model.specs.Transactions.{begun, after_release}
+use Rattle.history_model.specs.Transactions.{after_release}
 use Rattle.history_model.specs.Sent.{ends_transaction}
 use Rattle.history_model.proofs.Every.{every-weaker, every-filter}
 use Rattle.cacheless.specs.Types.{Xid, Message, Purpose, Scenario, Entry, Event, OwnLock}
 use Rattle.cacheless.specs.declared.progress.Due.TheVariants as dues
-use Rattle.txn_blocks.specs.declared.transaction.RunningTransaction.{RunningTransaction}
 use Rattle.cacheless.specs.Suspects.{AreKnown}
 use Rattle.cacheless.specs.declared.suspects.Suspects.{Suspects}
 use Rattle.cacheless.specs.declared.progress.Progress.{Progress}
@@ -24,9 +23,8 @@ use Rattle.ddl_effect.specs.Opens.{opens_before}
 use Rattle.ddl_effect.specs.Stages.{plan_at}
 use Rattle.cacheless.specs.Session.{opening_of}
 use Rattle.cacheless.specs.State.{lists_at, lists_left, is_out, Kept, kept_at, is_kept, kept_spared, is_in_accept, locks_accepted}
-use Rattle.cacheless.specs.Holds.{FactsFit, Rests, HasEntered}
+use Rattle.cacheless.specs.Holds.{Rests, HasEntered}
 use Rattle.cacheless.proofs.Written.Putting.{puts_out}
-use Rattle.cacheless.proofs.Entries.EnteredFetches.{is_kept-spared, all-spared}
 use Rattle.cacheless.proofs.Entries.Entering.{facts_after, noted_after, with_locks, own_entered, ends_same, runs_begun, counts_stay}
 use Rattle.local_caches.specs.Kept.{Read}
 

@@ -1,5 +1,5 @@
 -- What a fetch of messages and a reset make of what the code holds.
-use Rattle.std.proofs.Common.{◌≡◌, ◌≤◌, ◌+◌, ◌∙◌, ◌==◌, ◌&&◌, ℕ, Bool, true, false, Option, Some, None, IfSome, is_some, List, [], ◌∷◌, refl, sym, ap, subst, length, slice_get, arith, take, ◌-◌, if◌then◌else◌}
+use Rattle.std.proofs.Common.{◌≡◌, ◌≤◌, ◌+◌, ◌∙◌, ◌&&◌, ℕ, Bool, true, false, Option, Some, None, IfSome, is_some, List, refl, sym, ap, subst, length, slice_get, arith, take, ◌-◌, if◌then◌else◌}
 use Rattle.event_kinds.specs.declared.entry.Event.TheVariants as events
 use Rattle.inval_messages.specs.Messages.{is_spared}
 use Rattle.lock_modes.specs.Rooms.{Roomy}
@@ -12,20 +12,17 @@ use Rattle.ddl_effect.specs.declared.altering.Altering.{Altering}
 use Rattle.ddl_effect.specs.declared.altering.Altering.TheVariants as alters
 use Rattle.ddl_effect.specs.declared.exec.Exec.TheVariants as stages
 use Rattle.history_model.specs.Log.{fetched_by}
-use Rattle.history_model.specs.Transactions.{begun}
 use Rattle.cacheless.specs.Types.{Oid, Message, Purpose, Scenario, Entry, Event, OpenRelation, OwnLock, Exec}
-use Rattle.cacheless.specs.declared.progress.Due.{Due}
 use Rattle.cacheless.specs.declared.progress.Due.TheVariants as dues
 use Rattle.cacheless.specs.Suspects.{AreKnown}
 use Rattle.cacheless.specs.declared.suspects.Suspects.{Suspects}
 use Rattle.cacheless.specs.declared.progress.Progress.{Progress}
-use Rattle.cacheless.specs.Facts.{Facts, facts_of}
+use Rattle.cacheless.specs.Facts.{Facts}
 use Rattle.cacheless.specs.Session.{Session, Tally}
-use Rattle.cacheless.specs.Owed.{Owes, OwesLook, owed_after}
 use Rattle.cacheless.specs.Sessions.{resumed, placed_at, counted}
 use Rattle.cacheless.specs.Puts.{PutsOpened}
 use Rattle.txn_blocks.specs.Transactions.{begun_own}
-use Rattle.cacheless.specs.State.{owed_after, is_quiet, due_fetched, one_if, Kept, kept_at, nothing_kept, is_kept, kept_spared, is_absent, is_full, is_in_accept, locks_accepted, Rest, rest_of, tally_at, session_at}
+use Rattle.cacheless.specs.State.{due_fetched, one_if, Kept, kept_at, nothing_kept, is_kept, kept_spared, is_absent, is_full, is_in_accept, locks_accepted, Rest, rest_of, tally_at, session_at}
 use Rattle.cacheless.specs.Holds.{FactsFit, Rests, HasEntered}
 use Rattle.cacheless.proofs.ReadsBuilds.{opened_begins, begins_there}
 use Rattle.cacheless.proofs.Tests.{not_both}

@@ -1,26 +1,24 @@
 -- What a granted lock, a refused one and a refused write make of what the code holds.
-use Rattle.std.proofs.Common.{◌≡◌, ◌+◌, ◌∙◌, ◌||◌, ℕ, Bool, true, false, not, Option, Some, None, IfSome, List, [], ◌∷◌, ◌++◌, refl, sym, ap, map, filter, slice_get, length, arith}
-use Rattle.std.proofs.Math.Bool.{and-false, or-true}
+use Rattle.std.proofs.Common.{◌≡◌, ◌+◌, ◌∙◌, ◌||◌, ℕ, true, false, not, Option, Some, None, List, [], ◌∷◌, ◌++◌, refl, sym, ap, map, filter, slice_get, length, arith}
+use Rattle.std.proofs.Math.Bool.{and-false}
 use Rattle.event_kinds.specs.declared.entry.Event.TheVariants as events
 use Rattle.command_answers.specs.declared.error.CommandError.TheVariants as errors
 use Rattle.row_visibility.specs.declared.clash.Clash.TheVariants as clashes
 use Rattle.lock_modes.specs.Own.{is_own, cleared}
 use Rattle.lock_modes.specs.Rooms.{Roomy}
-use Rattle.local_caches.specs.Kept.{Read}
 use Rattle.inval_messages.specs.Lists.{Written}
-use Rattle.history_model.specs.Read.{usable_by, rows_by}
 use Rattle.history_model.specs.Sent.{lists_by}
 use Rattle.history_model.specs.Transactions.{begun, running_by}
 use Rattle.txn_blocks.specs.declared.transaction.RunningTransaction.{RunningTransaction as Running}
 use Rattle.history_model.specs.Changing.{is_empty}
-use Rattle.cacheless.specs.Types.{Oid, Mode, Row, Purpose, Command, CommandError, Clash, Scenario, Entry, Event, OwnLock}
+use Rattle.cacheless.specs.Types.{Oid, Mode, Command, CommandError, Clash, Scenario, Entry, Event, OwnLock}
 use Rattle.cacheless.specs.declared.progress.Due.TheVariants as dues
 use Rattle.cacheless.specs.declared.progress.Progress.{Progress}
 use Rattle.cacheless.specs.Facts.{facts_of, due_after, kept_by}
-use Rattle.cacheless.specs.Owed.{Owes, OwesLook, owed_after, begins_in}
+use Rattle.cacheless.specs.Owed.{Owes, OwesLook, begins_in}
 use Rattle.cacheless.specs.Sessions.{refused_with}
 use Rattle.txn_blocks.specs.Transactions.{begun_own}
-use Rattle.cacheless.specs.State.{Kept, kept_at, work_at, owed_first, lacks_builds, is_in_accept, locks_accepted, clash_event, error_of, failed_with, Rest, rest_of, session_at}
+use Rattle.cacheless.specs.State.{Kept, work_at, owed_first, lacks_builds, is_in_accept, locks_accepted, clash_event, error_of, failed_with, Rest, rest_of, session_at}
 use Rattle.cacheless.specs.Holds.{Rests, HasEntered}
 use Rattle.cacheless.proofs.Entries.Entering.{noted_after, with_locks, GoesOn, own_entered, runs_begun, counts_stay}
 use Rattle.cacheless.proofs.Settling.{is_empty-after}

@@ -1,5 +1,5 @@
 -- What a scan makes of what the code holds.
-use Rattle.std.proofs.Common.{◌≡◌, ◌+◌, ◌∙◌, ◌||◌, ℕ, Bool, true, false, not, Option, Some, None, IfSome, is_some, List, [], ◌∷◌, refl, sym, ap, subst, slice_get, arith, cond, if◌then◌else◌, length}
+use Rattle.std.proofs.Common.{◌≡◌, ◌+◌, ◌∙◌, ℕ, Bool, true, false, not, Option, Some, None, is_some, List, [], ◌∷◌, refl, sym, ap, subst, slice_get, arith, cond, length}
 use Rattle.std.specs.List.{find, list_any, AllByRecursion}
 use Rattle.std.specs.Option.{option_map_or}
 use Rattle.base_types.specs.Scans.{same_scan, build_scans, is_build_scan}
@@ -13,15 +13,13 @@ use Rattle.lock_modes.specs.Rooms.{Roomy}
 use Rattle.ddl_effect.specs.declared.told.Told.TheVariants as tells
 use Rattle.ddl_effect.specs.Plans.{Plan, Done, Do, Lookup, Open, Search}
 use Rattle.ddl_effect.specs.Stages.{plan_at}
-use Rattle.history_model.specs.Read.{rows_by}
-use Rattle.history_model.specs.Transactions.{begun}
 use Rattle.history_model.specs.Versions.{answer_of}
 use Rattle.cacheless.specs.Types.{Kind, Oid, Row, Purpose, Scenario, Entry, Event, Opening, OwnLock}
 use Rattle.cacheless.specs.declared.progress.Due.TheVariants as dues
 use Rattle.cacheless.specs.Suspects.{AreKnown}
 use Rattle.cacheless.specs.declared.suspects.Suspects.{Suspects}
 use Rattle.cacheless.specs.declared.progress.Progress.{Progress}
-use Rattle.cacheless.specs.Facts.{Facts, facts_of}
+use Rattle.cacheless.specs.Facts.{Facts}
 use Rattle.txn_blocks.specs.Transactions.{begun_own}
 use Rattle.cacheless.specs.State.{Kept, kept_at, kept_with, is_kept, is_in_accept, locks_accepted, facts_at, work_at}
 use Rattle.cacheless.specs.May.{is_first_missing, is_missing, is_next_of_act, has_failed}

@@ -1,5 +1,5 @@
 -- What a write makes of what the code holds.
-use Rattle.std.proofs.Common.{◌≡◌, ◌≤◌, ◌+◌, ◌∙◌, ◌&&◌, ◌||◌, ℕ, Bool, true, false, not, Option, Some, None, List, [], ◌∷◌, ◌++◌, refl, sym, ap, subst, length, slice_get, fold, arith, if◌then◌else◌}
+use Rattle.std.proofs.Common.{◌≡◌, ◌≤◌, ◌+◌, ◌∙◌, ◌||◌, ℕ, Bool, true, false, not, Option, Some, None, List, [], ◌∷◌, ◌++◌, refl, sym, ap, subst, length, slice_get, fold, arith, if◌then◌else◌}
 use Rattle.std.specs.List.{AllByRecursion, flat_map, list_any}
 use Rattle.std.proofs.lemmas.List.Folds.{list_any-append}
 use Rattle.event_kinds.specs.declared.entry.Event.TheVariants as events
@@ -21,16 +21,14 @@ use Rattle.ddl_effect.specs.declared.altering.Altering.TheVariants as alters
 use Rattle.ddl_effect.specs.declared.exec.Exec.TheVariants as stages
 use Rattle.ddl_effect.specs.declared.want.Want.TheVariants as wants
 use Rattle.history_model.specs.Sent.{cats_by, rels_by, written_by, messages_written}
-use Rattle.history_model.specs.Transactions.{begun}
 use Rattle.history_model.specs.Versions.{old_row, added_row}
 use Rattle.history_model.proofs.Every.{every-append}
 use Rattle.cacheless.specs.Types.{Oid, Xid, Message, Row, Purpose, Scenario, Entry, Event, Item, OpenRelation, OwnLock, Exec}
 use Rattle.cacheless.specs.declared.progress.Due.TheVariants as dues
-use Rattle.txn_blocks.specs.declared.transaction.RunningTransaction.{RunningTransaction}
 use Rattle.cacheless.specs.Suspects.{AreKnown}
 use Rattle.cacheless.specs.declared.suspects.Suspects.{Suspects}
 use Rattle.cacheless.specs.declared.progress.Progress.{Progress}
-use Rattle.cacheless.specs.Facts.{Facts, facts_of}
+use Rattle.cacheless.specs.Facts.{Facts}
 use Rattle.cacheless.specs.Locks.{locked_by}
 use Rattle.cacheless.specs.Session.{Session, held_in, held_before}
 use Rattle.cacheless.specs.Sessions.{written}
@@ -40,7 +38,6 @@ use Rattle.cacheless.specs.State.{lists_at, kept_at, kept_spared, is_kept, is_ab
 use Rattle.cacheless.specs.Holds.{Rests, HasEntered}
 use Rattle.cacheless.proofs.Tests.{not_both}
 use Rattle.cacheless.proofs.Written.WrittenMessages.{any_once}
-use Rattle.cacheless.proofs.Entries.EnteredFetches.{is_kept-spared, all-spared}
 use Rattle.cacheless.proofs.Entries.Entering.{facts_after, noted_after, with_locks, own_entered, runs_begun, counts_stay}
 use Rattle.local_caches.specs.Kept.{Kept}
 

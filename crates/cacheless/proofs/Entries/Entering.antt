@@ -1,9 +1,8 @@
 -- A backend's own entry, whichever it is: what the code holds is its session again.
-use Rattle.std.proofs.Common.{◌≡◌, ◌≤◌, ◌+◌, ◌∙◌, ◌==◌, ℕ, Bool, true, false, Option, Some, None, List, refl, sym, ap, subst, length, drop, map, slice_get, arith, if◌then◌else◌}
+use Rattle.std.proofs.Common.{◌≡◌, ◌≤◌, ◌+◌, ◌∙◌, ◌==◌, ℕ, Bool, true, false, Option, Some, None, List, refl, sym, ap, subst, length, drop, map, slice_get, arith}
 use Rattle.std.proofs.lemmas.Bool.{eq-eqb}
 use Rattle.std.proofs.lemmas.List.{length_push}
 use Rattle.std.specs.List.{AllByRecursion}
-use Rattle.std.specs.Option.{option_map}
 use Rattle.base_types.specs.Scenario.{IsBackend}
 use Rattle.event_kinds.specs.declared.entry.Event.TheVariants as events
 use Rattle.lock_modes.specs.Own.{cleared}
@@ -11,7 +10,6 @@ use Rattle.lock_modes.specs.Rooms.{Roomy}
 use Rattle.ddl_effect.specs.Commands.{commands_of}
 use Rattle.ddl_effect.specs.Stages.{plan_at, plan_again}
 use Rattle.history_model.specs.Transactions.{begun}
-use Rattle.txn_blocks.specs.declared.transaction.RunningTransaction.{RunningTransaction as Running}
 use Rattle.history_model.specs.Sent.{ends_transaction}
 use Rattle.cacheless.specs.Types.{Command, Scenario, Entry, Event, OwnLock}
 use Rattle.cacheless.specs.declared.progress.Counts.{Counts}

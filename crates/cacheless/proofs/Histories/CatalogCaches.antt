@@ -19,12 +19,6 @@ use Rattle.cacheless.specs.Output.{IsOutput}
 use Rattle.cacheless.proofs.Plans.Given.{oid, xid, entry, placed, turns, script, creating, new_table}
 use Rattle.cacheless.proofs.Deciding.{plays_by}
 
-at_least_1 : 1 ≤ 1
-at_least_1 = omega arith
-
-at_most_1 : 1 ≤ 2
-at_most_1 = omega arith
-
 at_least_2 : 1 ≤ 2
 at_least_2 = omega arith
 

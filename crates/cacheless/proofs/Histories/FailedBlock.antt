@@ -1,6 +1,6 @@
 -- A worked example: a command fails in a block, and the block does nothing more until its end.
 use Rattle.std.specs.Fmt.{digits}
-use Rattle.std.proofs.Common.{◌≡◌, ◌≤◌, ◌++◌, ℕ, false, None, List, [], ◌∷◌, codes, refl, sym, arith}
+use Rattle.std.proofs.Common.{◌≡◌, ◌++◌, ℕ, false, None, List, [], ◌∷◌, codes, refl, sym}
 use Rattle.base_types.specs.Scenario.{Scenario}
 use Rattle.base_types.specs.declared.scan.Purpose.TheVariants as scans
 use Rattle.base_types.specs.declared.command.Command.TheVariants as commands
@@ -10,18 +10,13 @@ use Rattle.event_kinds.specs.Texts.{text_of}
 use Rattle.history_model.specs.Lapped.{FollowsQueue}
 use Rattle.history_model.specs.Read.{IsEconomical}
 use Rattle.history_model.proofs.Allows.{legal_by}
-use Rattle.cacheless.specs.Plays.{IsNext, Plays}
+use Rattle.cacheless.proofs.Deciding.{plays_by}
+use Rattle.cacheless.specs.Plays.{Plays}
 use Rattle.cacheless.specs.Schedule.{FollowsSchedule, AreLooksTrue, IsComplete}
 use Rattle.cacheless.specs.Lines.{lines_of}
 use Rattle.cacheless.specs.declared.check_kind.CheckKind.TheVariants.{Walk}
 use Rattle.cacheless.specs.Output.{IsOutput}
 use Rattle.cacheless.proofs.Plans.Given.{xid, entry, placed, script, creating, new_table}
-
-at_least_1 : 1 ≤ 1
-at_least_1 = omega arith
-
-at_most_1 : 1 ≤ 1
-at_most_1 = omega arith
 
 abbrev pub failed_block : Scenario
 failed_block = script 1 (placed 1 commands.Begin ∷ placed 1 (creating (codes "t") (codes "a")) ∷ placed 1 (commands.Show (codes "nosuch") None) ∷ placed 1 (commands.Show (codes "t") None) ∷ placed 1 commands.Commit ∷ []) []
@@ -29,56 +24,29 @@ failed_block = script 1 (placed 1 commands.Begin ∷ placed 1 (creating (codes "
 abbrev pub begun : List Entry
 begun = entry 1 0 Start ∷ entry 1 1 (Look false) ∷ []
 
-begun_plays_1 : IsNext failed_block [] (entry 1 0 Start)
-begun_plays_1 = ((at_least_1, at_most_1), tt)
-
-begun_plays_2 : IsNext failed_block (entry 1 0 Start ∷ []) (entry 1 1 (Look false))
-begun_plays_2 = ((at_least_1, at_most_1), (refl, refl))
-
 abbrev pub written : List Entry
 written = begun ++ entry 1 2 (Write (xid 1) (new_table 16384 (codes "t") (codes "a"))) ∷ []
-
-written_plays : IsNext failed_block begun (entry 1 2 (Write (xid 1) (new_table 16384 (codes "t") (codes "a"))))
-written_plays = ((at_least_1, at_most_1), (refl, (refl, refl)))
 
 abbrev pub looked : List Entry
 looked = written ++ entry 1 3 (Look false) ∷ []
 
-looked_plays : IsNext failed_block written (entry 1 3 (Look false))
-looked_plays = ((at_least_1, at_most_1), (refl, refl))
-
 abbrev pub scanned : List Entry
 scanned = looked ++ entry 1 3 (Scan (scans.RelName (codes "nosuch")) 0) ∷ []
-
-scanned_plays : IsNext failed_block looked (entry 1 3 (Scan (scans.RelName (codes "nosuch")) 0))
-scanned_plays = ((at_least_1, at_most_1), (refl, (refl, refl, refl)))
 
 abbrev pub accepted : List Entry
 accepted = scanned ++ entry 1 3 (Look false) ∷ []
 
-accepted_plays : IsNext failed_block scanned (entry 1 3 (Look false))
-accepted_plays = ((at_least_1, at_most_1), (refl, refl))
-
 abbrev pub taken_back : List Entry
 taken_back = accepted ++ entry 1 3 (Gone 1) ∷ []
-
-taken_back_plays : IsNext failed_block accepted (entry 1 3 (Gone 1))
-taken_back_plays = ((at_least_1, at_most_1), (refl, (refl, refl)))
 
 abbrev pub released : List Entry
 released = taken_back ++ entry 1 3 (Release 1) ∷ []
 
-released_plays : IsNext failed_block taken_back (entry 1 3 (Release 1))
-released_plays = ((at_least_1, at_most_1), (refl, (refl, refl)))
-
 abbrev pub stopped : List Entry
 stopped = released ++ entry 1 6 Stop ∷ []
 
-stopped_plays : IsNext failed_block released (entry 1 6 Stop)
-stopped_plays = ((at_least_1, at_most_1), (refl, refl))
-
 pub failed_block_plays : Plays failed_block stopped
-failed_block_plays = (begun_plays_1, (begun_plays_2, (written_plays, (looked_plays, (scanned_plays, (accepted_plays, (taken_back_plays, (released_plays, (stopped_plays, tt)))))))))
+failed_block_plays = plays_by failed_block [] stopped refl
 
 pub failed_block_queue : FollowsQueue 4096 stopped
 failed_block_queue = (tt, (tt, (tt, (tt, (tt, (tt, (tt, (tt, (tt, tt)))))))))

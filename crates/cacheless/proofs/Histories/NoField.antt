@@ -1,6 +1,6 @@
 -- A worked example: a field is asked for that a table hasn't.
 use Rattle.std.specs.Fmt.{digits}
-use Rattle.std.proofs.Common.{◌≡◌, ◌≤◌, ◌++◌, ℕ, true, false, Some, List, [], ◌∷◌, codes, refl, sym, arith}
+use Rattle.std.proofs.Common.{◌≡◌, ◌++◌, ℕ, true, false, Some, List, [], ◌∷◌, codes, refl, sym}
 use Rattle.base_types.specs.Scenario.{Scenario}
 use Rattle.base_types.specs.declared.mode.Mode.TheVariants.{AccessShare}
 use Rattle.base_types.specs.declared.scan.Purpose.TheVariants as scans
@@ -12,18 +12,13 @@ use Rattle.event_kinds.specs.Texts.{text_of}
 use Rattle.history_model.specs.Lapped.{FollowsQueue}
 use Rattle.history_model.specs.Read.{IsEconomical}
 use Rattle.history_model.proofs.Allows.{legal_by}
-use Rattle.cacheless.specs.Plays.{IsNext, Plays}
+use Rattle.cacheless.proofs.Deciding.{plays_by}
+use Rattle.cacheless.specs.Plays.{Plays}
 use Rattle.cacheless.specs.Schedule.{FollowsSchedule, AreLooksTrue, IsComplete}
 use Rattle.cacheless.specs.Lines.{lines_of}
 use Rattle.cacheless.specs.declared.check_kind.CheckKind.TheVariants.{Walk}
 use Rattle.cacheless.specs.Output.{IsOutput}
 use Rattle.cacheless.proofs.Plans.Given.{oid, xid, entry, placed, script, creating, new_table}
-
-at_least_1 : 1 ≤ 1
-at_least_1 = omega arith
-
-at_most_1 : 1 ≤ 1
-at_most_1 = omega arith
 
 abbrev pub no_field : Scenario
 no_field = script 1 (placed 1 (creating (codes "t") (codes "a")) ∷ placed 1 (commands.Show (codes "t") (Some fields.Valid)) ∷ []) []
@@ -31,68 +26,23 @@ no_field = script 1 (placed 1 (creating (codes "t") (codes "a")) ∷ placed 1 (c
 abbrev pub looked : List Entry
 looked = entry 1 0 Start ∷ entry 1 1 (Look false) ∷ []
 
-looked_plays_1 : IsNext no_field [] (entry 1 0 Start)
-looked_plays_1 = ((at_least_1, at_most_1), tt)
-
-looked_plays_2 : IsNext no_field (entry 1 0 Start ∷ []) (entry 1 1 (Look false))
-looked_plays_2 = ((at_least_1, at_most_1), (refl, refl))
-
 abbrev pub created : List Entry
 created = looked ++ entry 1 1 (Write (xid 1) (new_table 16384 (codes "t") (codes "a"))) ∷ entry 1 1 (Visible (xid 1)) ∷ entry 1 1 (Publish 3) ∷ entry 1 1 (Publish 1) ∷ entry 1 1 (Release 1) ∷ []
-
-created_plays_1 : IsNext no_field looked (entry 1 1 (Write (xid 1) (new_table 16384 (codes "t") (codes "a"))))
-created_plays_1 = ((at_least_1, at_most_1), (refl, (refl, refl)))
-
-created_plays_2 : IsNext no_field (looked ++ entry 1 1 (Write (xid 1) (new_table 16384 (codes "t") (codes "a"))) ∷ []) (entry 1 1 (Visible (xid 1)))
-created_plays_2 = ((at_least_1, at_most_1), (refl, (refl, refl)))
-
-created_plays_3 : IsNext no_field (looked ++ entry 1 1 (Write (xid 1) (new_table 16384 (codes "t") (codes "a"))) ∷ entry 1 1 (Visible (xid 1)) ∷ []) (entry 1 1 (Publish 3))
-created_plays_3 = ((at_least_1, at_most_1), (refl, (refl, refl)))
-
-created_plays_4 : IsNext no_field (looked ++ entry 1 1 (Write (xid 1) (new_table 16384 (codes "t") (codes "a"))) ∷ entry 1 1 (Visible (xid 1)) ∷ entry 1 1 (Publish 3) ∷ []) (entry 1 1 (Publish 1))
-created_plays_4 = ((at_least_1, at_most_1), (refl, (refl, refl)))
-
-created_plays_5 : IsNext no_field (looked ++ entry 1 1 (Write (xid 1) (new_table 16384 (codes "t") (codes "a"))) ∷ entry 1 1 (Visible (xid 1)) ∷ entry 1 1 (Publish 3) ∷ entry 1 1 (Publish 1) ∷ []) (entry 1 1 (Release 1))
-created_plays_5 = ((at_least_1, at_most_1), (refl, (refl, refl)))
 
 abbrev pub scanned : List Entry
 scanned = created ++ entry 1 2 (Look true) ∷ entry 1 2 (Fetch 4) ∷ entry 1 2 (Look false) ∷ entry 1 2 (Scan (scans.RelName (codes "t")) 1) ∷ []
 
-scanned_plays_1 : IsNext no_field created (entry 1 2 (Look true))
-scanned_plays_1 = ((at_least_1, at_most_1), (refl, refl))
-
-scanned_plays_2 : IsNext no_field (created ++ entry 1 2 (Look true) ∷ []) (entry 1 2 (Fetch 4))
-scanned_plays_2 = ((at_least_1, at_most_1), (refl, tt))
-
-scanned_plays_3 : IsNext no_field (created ++ entry 1 2 (Look true) ∷ entry 1 2 (Fetch 4) ∷ []) (entry 1 2 (Look false))
-scanned_plays_3 = ((at_least_1, at_most_1), (refl, refl))
-
-scanned_plays_4 : IsNext no_field (created ++ entry 1 2 (Look true) ∷ entry 1 2 (Fetch 4) ∷ entry 1 2 (Look false) ∷ []) (entry 1 2 (Scan (scans.RelName (codes "t")) 1))
-scanned_plays_4 = ((at_least_1, at_most_1), (refl, (refl, refl, refl)))
-
 abbrev pub locked : List Entry
 locked = scanned ++ entry 1 2 (LockOk (oid 16384) AccessShare) ∷ entry 1 2 (Look false) ∷ []
-
-locked_plays_1 : IsNext no_field scanned (entry 1 2 (LockOk (oid 16384) AccessShare))
-locked_plays_1 = ((at_least_1, at_most_1), (refl, (refl, refl, (refl, refl))))
-
-locked_plays_2 : IsNext no_field (scanned ++ entry 1 2 (LockOk (oid 16384) AccessShare) ∷ []) (entry 1 2 (Look false))
-locked_plays_2 = ((at_least_1, at_most_1), (refl, refl))
 
 abbrev pub field_refused : List Entry
 field_refused = locked ++ entry 1 2 (Release 2) ∷ []
 
-field_refused_plays : IsNext no_field locked (entry 1 2 (Release 2))
-field_refused_plays = ((at_least_1, at_most_1), (refl, (refl, refl)))
-
 abbrev pub stopped : List Entry
 stopped = field_refused ++ entry 1 3 Stop ∷ []
 
-stopped_plays : IsNext no_field field_refused (entry 1 3 Stop)
-stopped_plays = ((at_least_1, at_most_1), (refl, refl))
-
 pub no_field_plays : Plays no_field stopped
-no_field_plays = (looked_plays_1, (looked_plays_2, (created_plays_1, (created_plays_2, (created_plays_3, (created_plays_4, (created_plays_5, (scanned_plays_1, (scanned_plays_2, (scanned_plays_3, (scanned_plays_4, (locked_plays_1, (locked_plays_2, (field_refused_plays, (stopped_plays, tt)))))))))))))))
+no_field_plays = plays_by no_field [] stopped refl
 
 pub no_field_queue : FollowsQueue 4096 stopped
 no_field_queue = (tt, (tt, (tt, (tt, (tt, (tt, (tt, (tt, (refl, (tt, (tt, (tt, (tt, (tt, (tt, tt)))))))))))))))

@@ -1,6 +1,6 @@
 -- A worked example: a table with one column twice is refused, and a table with its columns isn't.
 use Rattle.std.specs.Fmt.{digits}
-use Rattle.std.proofs.Common.{◌≡◌, ◌≤◌, ◌++◌, ℕ, false, List, [], ◌∷◌, codes, refl, sym, arith}
+use Rattle.std.proofs.Common.{◌≡◌, ◌++◌, ℕ, false, List, [], ◌∷◌, codes, refl, sym}
 use Rattle.base_types.specs.Scenario.{Scenario}
 use Rattle.base_types.specs.declared.col_type.ColType.TheVariants.{Int4}
 use Rattle.base_types.specs.declared.command.Command.TheVariants as commands
@@ -10,18 +10,13 @@ use Rattle.event_kinds.specs.Texts.{text_of}
 use Rattle.history_model.specs.Lapped.{FollowsQueue}
 use Rattle.history_model.specs.Read.{IsEconomical}
 use Rattle.history_model.proofs.Allows.{legal_by}
-use Rattle.cacheless.specs.Plays.{IsNext, Plays}
+use Rattle.cacheless.proofs.Deciding.{plays_by}
+use Rattle.cacheless.specs.Plays.{Plays}
 use Rattle.cacheless.specs.Schedule.{FollowsSchedule, AreLooksTrue, IsComplete}
 use Rattle.cacheless.specs.Lines.{lines_of}
 use Rattle.cacheless.specs.declared.check_kind.CheckKind.TheVariants.{Walk}
 use Rattle.cacheless.specs.Output.{IsOutput}
 use Rattle.cacheless.proofs.Plans.Given.{xid, entry, placed, script, creating, new_table}
-
-at_least_1 : 1 ≤ 1
-at_least_1 = omega arith
-
-at_most_1 : 1 ≤ 1
-at_most_1 = omega arith
 
 abbrev pub refused_commands : Scenario
 refused_commands = script 1 (placed 1 (commands.CreateTable (codes "t") (record { name = (codes "a"); col_type = Int4 } ∷ record { name = (codes "b"); col_type = Int4 } ∷ record { name = (codes "a"); col_type = Int4 } ∷ [])) ∷ placed 1 (creating (codes "t") (codes "a")) ∷ []) []
@@ -29,47 +24,17 @@ refused_commands = script 1 (placed 1 (commands.CreateTable (codes "t") (record 
 abbrev pub looked : List Entry
 looked = entry 1 0 Start ∷ entry 1 1 (Look false) ∷ []
 
-looked_plays_1 : IsNext refused_commands [] (entry 1 0 Start)
-looked_plays_1 = ((at_least_1, at_most_1), tt)
-
-looked_plays_2 : IsNext refused_commands (entry 1 0 Start ∷ []) (entry 1 1 (Look false))
-looked_plays_2 = ((at_least_1, at_most_1), (refl, refl))
-
 abbrev pub column_refused : List Entry
 column_refused = looked ++ entry 1 1 (Release 1) ∷ []
-
-column_refused_plays : IsNext refused_commands looked (entry 1 1 (Release 1))
-column_refused_plays = ((at_least_1, at_most_1), (refl, (refl, refl)))
 
 abbrev pub created : List Entry
 created = column_refused ++ entry 1 2 (Look false) ∷ entry 1 2 (Write (xid 1) (new_table 16384 (codes "t") (codes "a"))) ∷ entry 1 2 (Visible (xid 1)) ∷ entry 1 2 (Publish 3) ∷ entry 1 2 (Publish 1) ∷ entry 1 2 (Release 2) ∷ []
 
-created_plays_1 : IsNext refused_commands column_refused (entry 1 2 (Look false))
-created_plays_1 = ((at_least_1, at_most_1), (refl, refl))
-
-created_plays_2 : IsNext refused_commands (column_refused ++ entry 1 2 (Look false) ∷ []) (entry 1 2 (Write (xid 1) (new_table 16384 (codes "t") (codes "a"))))
-created_plays_2 = ((at_least_1, at_most_1), (refl, (refl, refl)))
-
-created_plays_3 : IsNext refused_commands (column_refused ++ entry 1 2 (Look false) ∷ entry 1 2 (Write (xid 1) (new_table 16384 (codes "t") (codes "a"))) ∷ []) (entry 1 2 (Visible (xid 1)))
-created_plays_3 = ((at_least_1, at_most_1), (refl, (refl, refl)))
-
-created_plays_4 : IsNext refused_commands (column_refused ++ entry 1 2 (Look false) ∷ entry 1 2 (Write (xid 1) (new_table 16384 (codes "t") (codes "a"))) ∷ entry 1 2 (Visible (xid 1)) ∷ []) (entry 1 2 (Publish 3))
-created_plays_4 = ((at_least_1, at_most_1), (refl, (refl, refl)))
-
-created_plays_5 : IsNext refused_commands (column_refused ++ entry 1 2 (Look false) ∷ entry 1 2 (Write (xid 1) (new_table 16384 (codes "t") (codes "a"))) ∷ entry 1 2 (Visible (xid 1)) ∷ entry 1 2 (Publish 3) ∷ []) (entry 1 2 (Publish 1))
-created_plays_5 = ((at_least_1, at_most_1), (refl, (refl, refl)))
-
-created_plays_6 : IsNext refused_commands (column_refused ++ entry 1 2 (Look false) ∷ entry 1 2 (Write (xid 1) (new_table 16384 (codes "t") (codes "a"))) ∷ entry 1 2 (Visible (xid 1)) ∷ entry 1 2 (Publish 3) ∷ entry 1 2 (Publish 1) ∷ []) (entry 1 2 (Release 2))
-created_plays_6 = ((at_least_1, at_most_1), (refl, (refl, refl)))
-
 abbrev pub stopped : List Entry
 stopped = created ++ entry 1 3 Stop ∷ []
 
-stopped_plays : IsNext refused_commands created (entry 1 3 Stop)
-stopped_plays = ((at_least_1, at_most_1), (refl, refl))
-
 pub refused_commands_plays : Plays refused_commands stopped
-refused_commands_plays = (looked_plays_1, (looked_plays_2, (column_refused_plays, (created_plays_1, (created_plays_2, (created_plays_3, (created_plays_4, (created_plays_5, (created_plays_6, (stopped_plays, tt))))))))))
+refused_commands_plays = plays_by refused_commands [] stopped refl
 
 pub refused_commands_queue : FollowsQueue 4096 stopped
 refused_commands_queue = (tt, (tt, (tt, (tt, (tt, (tt, (tt, (tt, (tt, (tt, tt))))))))))

@@ -11,18 +11,13 @@ use Rattle.event_kinds.specs.Texts.{text_of}
 use Rattle.history_model.specs.Lapped.{FollowsQueue}
 use Rattle.history_model.specs.Read.{IsEconomical}
 use Rattle.history_model.proofs.Allows.{legal_by}
-use Rattle.cacheless.specs.Plays.{IsNext, Plays}
+use Rattle.cacheless.proofs.Deciding.{plays_by}
+use Rattle.cacheless.specs.Plays.{Plays}
 use Rattle.cacheless.specs.Schedule.{FollowsSchedule, AreLooksTrue, IsComplete}
 use Rattle.cacheless.specs.Lines.{lines_of}
 use Rattle.cacheless.specs.declared.check_kind.CheckKind.TheVariants.{Walk}
 use Rattle.cacheless.specs.Output.{IsOutput}
 use Rattle.cacheless.proofs.Plans.Given.{oid, xid, entry, placed, turns, script, creating, new_table}
-
-at_least_1 : 1 ≤ 1
-at_least_1 = omega arith
-
-at_most_1 : 1 ≤ 2
-at_most_1 = omega arith
 
 at_least_2 : 1 ≤ 2
 at_least_2 = omega arith
@@ -36,77 +31,32 @@ refused_lock = script 2 (placed 1 (creating (codes "t") (codes "a")) ∷ placed 
 abbrev pub visible : List Entry
 visible = entry 1 0 Start ∷ entry 1 1 (Look false) ∷ entry 1 1 (Write (xid 1) (new_table 16384 (codes "t") (codes "a"))) ∷ entry 1 1 (Visible (xid 1)) ∷ []
 
-visible_plays_1 : IsNext refused_lock [] (entry 1 0 Start)
-visible_plays_1 = ((at_least_1, at_most_1), tt)
-
-visible_plays_2 : IsNext refused_lock (entry 1 0 Start ∷ []) (entry 1 1 (Look false))
-visible_plays_2 = ((at_least_1, at_most_1), (refl, refl))
-
-visible_plays_3 : IsNext refused_lock (entry 1 0 Start ∷ entry 1 1 (Look false) ∷ []) (entry 1 1 (Write (xid 1) (new_table 16384 (codes "t") (codes "a"))))
-visible_plays_3 = ((at_least_1, at_most_1), (refl, (refl, refl)))
-
-visible_plays_4 : IsNext refused_lock (entry 1 0 Start ∷ entry 1 1 (Look false) ∷ entry 1 1 (Write (xid 1) (new_table 16384 (codes "t") (codes "a"))) ∷ []) (entry 1 1 (Visible (xid 1)))
-visible_plays_4 = ((at_least_1, at_most_1), (refl, (refl, refl)))
-
 abbrev pub started : List Entry
 started = visible ++ entry 2 0 Start ∷ entry 2 1 (Look false) ∷ []
-
-started_plays_1 : IsNext refused_lock visible (entry 2 0 Start)
-started_plays_1 = ((at_least_2, at_most_2), tt)
-
-started_plays_2 : IsNext refused_lock (visible ++ entry 2 0 Start ∷ []) (entry 2 1 (Look false))
-started_plays_2 = ((at_least_2, at_most_2), (refl, refl))
 
 abbrev pub scanned : List Entry
 scanned = started ++ entry 2 1 (Look false) ∷ entry 2 1 (Scan (scans.RelName (codes "t")) 1) ∷ []
 
-scanned_plays_1 : IsNext refused_lock started (entry 2 1 (Look false))
-scanned_plays_1 = ((at_least_2, at_most_2), (refl, refl))
-
-scanned_plays_2 : IsNext refused_lock (started ++ entry 2 1 (Look false) ∷ []) (entry 2 1 (Scan (scans.RelName (codes "t")) 1))
-scanned_plays_2 = ((at_least_2, at_most_2), (refl, (refl, refl, refl)))
-
 abbrev pub refused : List Entry
 refused = scanned ++ entry 2 1 (LockHeld (oid 16384) AccessShare 1 AccessExclusive) ∷ []
-
-refused_plays : IsNext refused_lock scanned (entry 2 1 (LockHeld (oid 16384) AccessShare 1 AccessExclusive))
-refused_plays = ((at_least_2, at_most_2), (refl, (refl, refl, (refl, refl))))
 
 abbrev pub ended : List Entry
 ended = refused ++ entry 2 1 (Release 1) ∷ []
 
-ended_plays : IsNext refused_lock refused (entry 2 1 (Release 1))
-ended_plays = ((at_least_2, at_most_2), (refl, (refl, refl)))
-
 abbrev pub published : List Entry
 published = ended ++ entry 1 1 (Publish 3) ∷ entry 1 1 (Publish 1) ∷ []
-
-published_plays_1 : IsNext refused_lock ended (entry 1 1 (Publish 3))
-published_plays_1 = ((at_least_1, at_most_1), (refl, (refl, refl)))
-
-published_plays_2 : IsNext refused_lock (ended ++ entry 1 1 (Publish 3) ∷ []) (entry 1 1 (Publish 1))
-published_plays_2 = ((at_least_1, at_most_1), (refl, (refl, refl)))
 
 abbrev pub released : List Entry
 released = published ++ entry 1 1 (Release 1) ∷ []
 
-released_plays : IsNext refused_lock published (entry 1 1 (Release 1))
-released_plays = ((at_least_1, at_most_1), (refl, (refl, refl)))
-
 abbrev pub writer_stopped : List Entry
 writer_stopped = released ++ entry 1 2 Stop ∷ []
-
-writer_stopped_plays : IsNext refused_lock released (entry 1 2 Stop)
-writer_stopped_plays = ((at_least_1, at_most_1), (refl, refl))
 
 abbrev pub stopped : List Entry
 stopped = writer_stopped ++ entry 2 2 Stop ∷ []
 
-stopped_plays : IsNext refused_lock writer_stopped (entry 2 2 Stop)
-stopped_plays = ((at_least_2, at_most_2), (refl, refl))
-
 pub refused_lock_plays : Plays refused_lock stopped
-refused_lock_plays = (visible_plays_1, (visible_plays_2, (visible_plays_3, (visible_plays_4, (started_plays_1, (started_plays_2, (scanned_plays_1, (scanned_plays_2, (refused_plays, (ended_plays, (published_plays_1, (published_plays_2, (released_plays, (writer_stopped_plays, (stopped_plays, tt)))))))))))))))
+refused_lock_plays = plays_by refused_lock [] stopped refl
 
 pub refused_lock_queue : FollowsQueue 4096 stopped
 refused_lock_queue = (tt, (tt, (tt, (tt, (tt, (tt, (tt, (tt, (tt, (tt, (tt, (tt, (tt, (tt, (tt, tt)))))))))))))))

@@ -1,6 +1,6 @@
 -- A worked example: an error takes back a savepoint's level, `rollback to` mends the block, and what is written then draws new oids. After `release` the level is part of the one around it, and an error takes back that.
 use Rattle.std.specs.Fmt.{digits}
-use Rattle.std.proofs.Common.{◌≡◌, ◌≤◌, ◌++◌, ℕ, false, None, List, [], ◌∷◌, codes, refl, sym, arith}
+use Rattle.std.proofs.Common.{◌≡◌, ◌++◌, ℕ, false, None, List, [], ◌∷◌, codes, refl, sym, arith}
 use Rattle.base_types.specs.Scenario.{Scenario}
 use Rattle.base_types.specs.declared.scan.Purpose.TheVariants as scans
 use Rattle.base_types.specs.declared.command.Command.TheVariants as commands
@@ -10,18 +10,13 @@ use Rattle.event_kinds.specs.Texts.{text_of}
 use Rattle.history_model.specs.Lapped.{FollowsQueue}
 use Rattle.history_model.specs.Read.{IsEconomical}
 use Rattle.history_model.proofs.Allows.{legal_by}
+use Rattle.cacheless.proofs.Deciding.{plays_by}
 use Rattle.cacheless.specs.Plays.{IsNext, Plays}
 use Rattle.cacheless.specs.Schedule.{FollowsSchedule, AreLooksTrue, IsComplete}
 use Rattle.cacheless.specs.Lines.{lines_of}
 use Rattle.cacheless.specs.declared.check_kind.CheckKind.TheVariants.{Walk}
 use Rattle.cacheless.specs.Output.{IsOutput}
 use Rattle.cacheless.proofs.Plans.Given.{xid, entry, placed, script, creating, new_table}
-
-at_least_1 : 1 ≤ 1
-at_least_1 = omega arith
-
-at_most_1 : 1 ≤ 1
-at_most_1 = omega arith
 
 abbrev pub saved_block : Scenario
 saved_block = script 1 (placed 1 commands.Begin ∷ placed 1 (creating (codes "t") (codes "a")) ∷ placed 1 (commands.Savepoint (codes "s")) ∷ placed 1 (creating (codes "u") (codes "a")) ∷ placed 1 (commands.Show (codes "nosuch") None) ∷ placed 1 (commands.Show (codes "t") None) ∷ placed 1 (commands.RollbackTo (codes "s")) ∷ placed 1 (creating (codes "u") (codes "a")) ∷ placed 1 (commands.Release (codes "s")) ∷ placed 1 (commands.Release (codes "s")) ∷ placed 1 (commands.RollbackTo (codes "s")) ∷ placed 1 commands.Commit ∷ []) []
@@ -67,7 +62,7 @@ abbrev pub ended : List Entry
 ended = gone_whole ++ entry 1 10 (Release 1) ∷ entry 1 13 Stop ∷ []
 
 pub saved_block_plays : Plays saved_block ended
-saved_block_plays = (((at_least_1, at_most_1), tt), (((at_least_1, at_most_1), (refl, refl)), (((at_least_1, at_most_1), (refl, (refl, refl))), (((at_least_1, at_most_1), (refl, (refl, refl))), (((at_least_1, at_most_1), (refl, refl)), (((at_least_1, at_most_1), (refl, (refl, refl, refl))), (((at_least_1, at_most_1), (refl, refl)), (((at_least_1, at_most_1), (refl, (refl, refl))), (((at_least_1, at_most_1), (refl, (refl, refl))), (((at_least_1, at_most_1), (refl, (refl, refl))), (((at_least_1, at_most_1), (refl, (refl, refl))), (((at_least_1, at_most_1), (refl, (refl, refl))), (((at_least_1, at_most_1), (refl, (refl, refl))), (((at_least_1, at_most_1), (refl, refl)), tt))))))))))))))
+saved_block_plays = plays_by saved_block [] ended refl
 
 pub saved_block_queue : FollowsQueue 4096 ended
 saved_block_queue = (tt, (tt, (tt, (tt, (tt, (tt, (tt, (tt, (tt, (tt, (tt, (tt, (tt, (tt, tt))))))))))))))
