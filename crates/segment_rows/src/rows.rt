@@ -81,7 +81,8 @@ impl SegmentRows {
         self.last_xid
     }
 
-    /// The rows that a scan by the backend gives.
+    /// The rows that a scan by the backend gives (`systable_getnext` in
+    /// `src/backend/access/index/genam.c`).
     pub fn scan(&self, own: Option<Xid>, purpose: &Purpose) -> Result<Vec<Row>, NoMemory>
         ensures now { IfOk result (λ rows. rows.items ≡ rows_of_scan self.now.store purpose.now (reader_of own)) }
         ensures answer { (s : Segment) (b : ℕ) → KeepsRows s self.now → own ≡ xid_in (s.standing b).running → IfOk result (λ rows. rows.items ≡ answer_at s b purpose.now) }
@@ -174,8 +175,9 @@ impl SegmentRows {
         }
     }
 
-    /// A write of these items. Condition: the oids that they draw are the next ones, in order. Out of memory,
-    /// all is as it was.
+    /// A write of these items (`CatalogTupleInsert`, `CatalogTupleUpdate` and `CatalogTupleDelete` in
+    /// `src/backend/catalog/indexing.c`). Condition: the oids that they draw are the next ones, in order. Out
+    /// of memory, all is as it was.
     pub fn write(&mut self, xid: Xid, command: u32, items: &[Item]) -> Result<(), NoMemory>
         requires { DrawsNext self.old.next_oid (events.Write xid items.now) }
         ensures ok { OnOk result (self.new ≡ rows_after None command (events.Write xid items.now) self.old) }
@@ -197,7 +199,8 @@ impl SegmentRows {
         self.store.commit(xid);
     }
 
-    /// Takes back what the backend wrote in commands of this number and above, if it has written.
+    /// Takes back what the backend wrote in commands of this number and above, if it has written
+    /// (`AbortSubTransaction` in `src/backend/access/transam/xact.c`).
     pub fn undo(&mut self, own: Option<Xid>, from: u32)
         ensures { self.new ≡ rows_after own 0 (events.Gone from) self.old }
     {
