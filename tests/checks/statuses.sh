@@ -6,23 +6,7 @@ check() {
     local usage
     usage=$(usage_said)
     local script=examples/two_backends.script
-    local first="first comes walk, run, check or make"
-    local nothing="comes nothing, since the script is standard input"
-    local number="after make comes a number from 1 to 1000, without sign and zeros before it"
-    refuses "$first" &&
-        refuses "after run $nothing; found 'run'" run run &&
-        refuses "after walk $nothing; found 'walk'" walk walk &&
-        refuses "an argument isn't UTF-8" $'\xff' &&
-        refuses "after check comes walk or run" check &&
-        refuses "$first; found ''" "" &&
-        refuses "$first; found 'Walk'" Walk &&
-        refuses "after walk $nothing; found 'check'" walk check &&
-        refuses "after check walk comes nothing, since script and output are standard input; found 'walk'" check walk walk &&
-        refuses "after check comes walk or run; found 'make'" check make &&
-        refuses "$first; found 'check walk'" "check walk" &&
-        no_number "" 0 1001 07 +7 -7 7x 7.0 " 7" "7 " 4294967303 18446744073709551623 &&
-        refuses "$number" make &&
-        refuses "after make 7 comes nothing; found '7'" make 7 7 &&
+    wrong_arguments &&
         ends 3 "catsync: the input has more than 1048576 bytes, or 268435456 for check" check walk < <(head -c 268435457 /dev/zero) &&
         ends 4 "catsync: reading failed" check walk </ &&
         to=/dev/full ends 5 "catsync: writing failed" check walk < <(cat "$script" "${script%.script}.output") &&
@@ -37,7 +21,7 @@ check() {
     [ $? -eq 2 ] && [ ! -s "$temp/output" ] && cmp "$temp/said" <("$program" walk </dev/null 2>&1) && script_ends
 }
 
-# Arguments that the program doesn't take: the usage, and then which of them is wrong.
+# The usage, and then which argument is wrong.
 refuses() {
     local hint=$1
     shift
@@ -63,12 +47,4 @@ script_ends() {
 2|BACKENDS 1 -- one\nEND\r\nh 1 0 start\nh 1 1 stop\nend\n
 0|backends 1\n-- none\nEND\r\nh 1 0 start\nh 1 1 stop\nend\n
 CASES
-}
-
-# These are no numbers of scripts that can be made.
-no_number() {
-    local other
-    for other; do
-        refuses "$number; found '$other'" make "$other" || return 1
-    done
 }

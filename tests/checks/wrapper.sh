@@ -15,13 +15,7 @@ check() {
         ./catsync --help | grep -q '^       catsync check run < SCRIPT_AND_OUTPUT$' &&
         ./catsync --help | grep -q '^       catsync make N > SCRIPT$' &&
         ./catsync --version | grep -q '^catsync .* runs the program built without proof, .*; the first run builds it$' &&
-        ends 1 "$usage" <"$script" &&
-        ends 1 "$usage" check make <"$script" &&
-        ends 1 "$usage" walk walk walk <"$script" &&
-        ends 1 "$usage" "check walk" <"$script" &&
-        ends 1 "$usage" make <"$script" &&
-        ends 1 "$usage" make 1001 <"$script" &&
-        ends 1 "$usage"$'\n'"catsync: walk reads its script from standard input: ./catsync walk < a\\ b" walk "a b" &&
+        wrong_arguments &&
         PATH=$temp/bin:$PATH ./catsync make 1 2>/dev/null | cmp - "$temp/made_1" &&
         ./catsync --version | grep -q '^catsync .* runs the program built without proof, .*: crates/catsync/out/unproved-[0-9a-f]*$' &&
         ends 2 "$running"$'\n'"$(cat examples/bad_line.error)" walk <examples/bad_line.script &&
@@ -29,6 +23,15 @@ check() {
         ends 4 "$running"$'\n'"catsync: reading failed" walk <&- &&
         to=/dev/full ends 5 "$running"$'\n'"catsync: writing failed" walk <"$script" &&
         is_checked "$script" examples/two_backends.output && is_run "$script"
+}
+
+# The usage, which argument is wrong, and how a file is handed over where one is named.
+refuses() {
+    local said="$usage"$'\n'"catsync: $1"
+    shift
+    [ $# -ne 2 ] || [[ $1 != walk && $1 != run ]] ||
+        said+=$'\n'"catsync: $1 reads its script from standard input: ./catsync $1 < $(printf %q "$2")"
+    ends 1 "$said" "$@" <"$script"
 }
 
 # As in tests/lib.sh, of ./catsync, which says what it runs.
