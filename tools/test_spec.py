@@ -228,6 +228,16 @@ class Reports(unittest.TestCase):
         status, shown = self.run_spec(blocked)
         self.assertEqual((status, shown.split("\n")[-2]), (1, "# it ends here: step s2r waits for ever"))
 
+    def test_unprinted(self):
+        """The last line names the steps whose rows aren't printed, in the spec's order."""
+        text = ("setup { CREATE TABLE t (a int4); }\nsession s1 step w { INSERT INTO t VALUES (1); } step x { SELECT a FROM t; }\n"
+                "session s2 step s { SELECT a + 1 FROM t; } step r { SELECT a FROM t; }\npermutation %s\n")
+        for steps, expected in (("r w", "# not said: rows, and waits for them: step w"), ("r w x r s", "# not printed: rows of x, s and r"),
+                                ("s", "# not printed: rows of s")):
+            with self.subTest(steps):
+                status, shown = self.run_spec(text % steps)
+                self.assertEqual((status, shown.split("\n")[-2]), (0, expected))
+
     def test_inside(self):
         """Half of a commit is between the permutations, and no wait is told for an order of the steps."""
         path = os.path.join(TOP, "examples", "specs", "settings_of_one_commit.spec")

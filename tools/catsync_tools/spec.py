@@ -1,5 +1,5 @@
 """The command tools/spec."""
-from typing import Dict, List, NamedTuple, Optional
+from typing import Dict, List, NamedTuple, Optional, Set
 
 from .arguments import MOST_ORDERS, Arguments, count_of
 from .compared import LeftOut, differences, expected_in
@@ -14,6 +14,7 @@ from .statements import OF_ROWS, Sayer, is_silent
 from .waits import Walker
 
 DIFFERS = 1
+SET_UP = "the set-up"
 MOST_SESSIONS = 63      # beside the one that makes the set-up
 
 
@@ -80,12 +81,14 @@ def tell(whole: Whole, expected):
     progress, lines, differ, stuck, number = Progress(), [], 0, 0, 0
     left_out = LeftOut(set(), set())
     unclear: List[str] = []
+    unprinted: Set[str] = set()
     for number, placed in enumerate(permutations_of(whole.spec), 1):
         progress.show(0, 1, counted(number, "permutation"))
         played = Permutation(whole.spec, whole.sayer, whole.walker).run(placed)
         stuck += played.stuck is not None
         if expected is None:
             lines += report(played)
+            unprinted |= {item.step or SET_UP for item in played.items if item.kind == UNKNOWN}
             continue
         found = compared(whole, placed, played, expected[number - 1] if number <= len(expected) else [], left_out)
         if found and rows_meet(whole, placed):
@@ -99,7 +102,8 @@ def tell(whole: Whole, expected):
     else:
         differ += max(0, len(expected) - number)
         head = [summary(number, len(expected), differ, len(unclear))]
-    write_output("\n".join(head + lines + notes_of(whole, left_out if expected is not None else None)) + "\n")
+    notes = notes_of(whole, left_out if expected is not None else None) + rows_unprinted(whole, unprinted)
+    write_output("\n".join(head + lines + notes) + "\n")
     return DIFFERS if differ or stuck and expected is None else 0
 
 
@@ -142,7 +146,7 @@ def rows_meet(whole: Whole, placed: List[Placed]):
 def notes_of(whole: Whole, left_out: Optional[LeftOut]):
     """What isn't said, and what of an expected report wasn't compared."""
     spec, lines, unsaid = whole.spec, [], {}
-    parts = [("the set-up", sql) for sql in spec.setup]
+    parts = [(SET_UP, sql) for sql in spec.setup]
     for session in spec.sessions:
         parts += [("the set-up of %s" % session.name, sql) for sql in session.setup]
         parts += [("step " + step.name, step.sql) for step in session.steps]
@@ -156,6 +160,12 @@ def notes_of(whole: Whole, left_out: Optional[LeftOut]):
     if left_out is not None and left_out.results:
         lines.append("# not compared: results of %s" % listed(sorted(left_out.results)))
     return lines
+
+
+def rows_unprinted(whole: Whole, steps: Set[str]):
+    """Whose results aren't in a report, as the rows of their tables aren't known."""
+    places = [name for name in [SET_UP, *whole.spec.steps] if name in steps]
+    return ["# not printed: rows of %s" % listed(places, len(places))] if places else []
 
 
 def shortened(text):
