@@ -21,6 +21,7 @@ from catsync_tools.program import Program
 from catsync_tools.progress import Progress
 from catsync_tools.sources import read_source
 from catsync_tools.trial import UNDECIDED, results_of
+from catsync_tools.vacuous import doubt_of
 
 RACES = os.path.join(TOP, "examples", "races")
 SCRIPTS = sorted(glob.glob(os.path.join(RACES, "*.script")))
@@ -100,6 +101,31 @@ class Expectations(unittest.TestCase):
             with self.subTest(part):
                 self.assertEqual(self.ANSWERS.differences([part]), ["- %d.%d %s" % part, "+ %d.%d %s" % (part[:2] + (came,))])
         self.assertEqual(self.ANSWERS.differences([Part(2, 1, "ok")]), [])
+
+
+class Doubts(unittest.TestCase):
+    """Expectations that no answer can break."""
+
+    def test_never(self):
+        """What is said never to come, and why no answer can have it, where that can be seen."""
+        shown = "2.1, 'show t columns', "
+        for text, doubt in (
+                ("2.1 columns zz:int4", "no command names 'zz'"), ("2.2 columns a:int4 and 2.2 name zz", "no command names 'zz'"),
+                ("2.2 indexes i:v:1", "no command names 'i'"), ("2.1 error 42P99", "no command is refused with 42P99"),
+                ("2.1 ok", shown + "is never answered 'ok'"), ("2.1 indexes -", shown + "shows no field 'indexes'"),
+                ("1.1 columns ..", "1.1, 'create table t (a int4)', shows no field 'columns'"),
+                ("2.2 indexes 16385:v:1", None), ("2.1 columns b:text", None), ("2.1 no answer", None), ("1.2 ok", None),
+                ("1.2 error 55P03 relation 16384 is locked by backend 2 in as", None), ("2.2 fillfactor 70; constraints ..", None)):
+            with self.subTest(text):
+                source = read_source(ALTERED % b"expect never %s\n" % text.encode())
+                self.assertEqual(doubt_of(source.expected[0], source), doubt)
+                self.assertIsNone(doubt_of(source.expected[0]._replace(runs="some"), source))
+
+    def test_no_doubts(self):
+        """Of what the examples expect there are none, whichever runs are meant."""
+        for path in SCRIPTS:
+            source = read_source(content_of(path))
+            self.assertEqual([doubt_of(one._replace(runs="never"), source) for one in source.expected], [None] * len(source.expected), path)
 
 
 class Tool(unittest.TestCase):
@@ -235,6 +261,13 @@ $""")
     none of all [0-9]+ orders has it
 1 passed, 0 failed
 $""")
+
+    @unittest.skipUnless(HAS_PROGRAM, NO_PROGRAM)
+    def test_doubts(self):
+        """An expectation that no answer can break is told, and is met."""
+        status, printed, said = self.expect(given=ALTERED % b"expect 1.2 ok\nexpect never 2.1 columns zz:int4\n")
+        self.assertEqual((status, printed, said), (0, "passed: standard input\n  line 8: expect never 2.1 columns zz:int4\n"
+                                                   "    says nothing: no command names 'zz'\n1 passed, 0 failed\n", ""))
 
     @unittest.skipUnless(HAS_PROGRAM, NO_PROGRAM)
     def test_signals(self):

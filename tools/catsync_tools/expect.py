@@ -9,6 +9,7 @@ from .progress import Progress
 from .search import processors
 from .sources import Source, read_source
 from .trial import BROKEN, MET, UNDECIDED, results_of
+from .vacuous import doubt_of
 
 FAILED = 1
 NOT_DECIDED = 3
@@ -65,12 +66,14 @@ def head_of(name, results):
     return MET, "passed: %s" % name
 
 
-def lines_of(head, results, are_met_told):
-    """What is printed of a script: each expectation that isn't met, or all."""
+def lines_of(head, results, are_met_told, source):
+    """What is printed of a script: each expectation that isn't met, or all; and each that is met whatever the program does."""
     lines = [head]
     for one, result in sorted(results.items()):
-        if result.verdict != MET or are_met_told:
-            lines += ["  line %d: %s" % (one.line, one.text)] + ["    " + line for line in result.lines]
+        doubt = doubt_of(one, source) if result.verdict != BROKEN else None
+        said = result.lines if result.verdict != MET or are_met_told else []
+        said = said + ["says nothing: %s" % doubt] if doubt else said
+        lines += ["  line %d: %s" % (one.line, one.text)] + ["    " + line for line in said] if said else []
     return lines
 
 
@@ -93,7 +96,7 @@ def main(words):
             results = results_of(named.source, program, options.jobs or processors(), options.most, progress)
         verdict, head = head_of(named.name, results)
         verdicts.append(verdict)
-        lines += lines_of(head, results, options.passed)
+        lines += lines_of(head, results, options.passed, named.source)
     progress.clear()
     write_output("\n".join(lines + [summary(verdicts)]) + "\n")
     return FAILED if BROKEN in verdicts else NOT_DECIDED if UNDECIDED in verdicts else 0
