@@ -10,8 +10,9 @@ use walk_run::{World, walk};
 // The most bytes that a script is read of.
 const MOST_READ: usize = 4_294_967_294;
 
-// How many steps of a backend are walked on: a look, a fetch, a look and the scan after these.
-const MORE: usize = 4;
+// How many steps of a backend are walked on: a look, a fetch, a look and the scan after these; and more, where the entries before
+// have fewer than a walk.
+const MORE: usize = 16;
 
 // What a walk makes, from the first entry on that is another than the one given, or that comes after those given.
 #[derive(Drop)]
@@ -19,6 +20,8 @@ pub(crate) struct Coming {
     // The number of the first of these, from 1.
     pub(crate) number: usize,
     pub(crate) entries: Vec<Entry>,
+    // The lines of some entries that may come after those given, where a walk makes another one before.
+    pub(crate) few: Vec<Vec<u8>>,
 }
 
 impl Coming {
@@ -104,6 +107,7 @@ fn no_walk(alloc: Global) -> Coming {
     Coming {
         number: 0,
         entries: Vec::new(alloc),
+        few: Vec::new(alloc),
     }
 }
 
@@ -128,7 +132,11 @@ fn after_these(
         }
         entries.push(e)?;
     }
-    Ok(Coming { number, entries })
+    Ok(Coming {
+        number,
+        entries,
+        few: Vec::new(alloc),
+    })
 }
 
 // The line of an entry, with its end.

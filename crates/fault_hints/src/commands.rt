@@ -1,7 +1,7 @@
 use crate::following::{most_taken, wanted_after};
 use crate::lines::{command_of, push_ascii, push_quoted, token_of};
 use crate::near::is_near;
-use crate::server_words::of_server;
+use crate::server_words::{of_column_alone, of_server};
 use crate::symbols::{FIELDS, INDEX_FIELDS, Symbol, TABLE_FIELDS, TYPES, is_wanted};
 use crate::tokens::{Span, is, text_at, tokens_of};
 use base_types::{Name, NameFault, NoMemory};
@@ -39,7 +39,7 @@ fn without_semicolon<'a>(line: &[u8], spans: &'a [Span]) -> &'a [Span] {
 }
 
 // What the line has up to the fault; only the end of it where that is long.
-fn push_before(
+pub(crate) fn push_before(
     text: &mut String,
     command: &[u8],
     spans: &[Span],
@@ -114,13 +114,18 @@ fn push_help(
 ) -> Result<(), NoMemory> {
     let found = token_of(line, spans, count);
     let last = token_of(line, spans, count.saturating_sub(1));
-    if let Some(word) = near_word(found, wanted) {
+    let next = token_of(line, spans, count.saturating_add(1));
+    if let Some(why) = of_column_alone(last, next, wanted) {
+        text.push_str(why)?;
+    } else if let Some(word) = near_word(found, wanted) {
         text.push_str(" (near \"")?;
         text.push_str(word)?;
         text.push_str("\")")?;
     } else if found.starts_with(b"--") {
         text.push_str(" (a comment has a line of its own)")?;
-    } else if let Some(why) = of_server(found, last, wanted) {
+    } else if is(found, "/") && is(next, "*") {
+        text.push_str(" (a comment has a line of its own, which begins with --)")?;
+    } else if let Some(why) = of_server(found, last, next, wanted) {
         text.push_str(why)?;
     } else if is_wanted(wanted, Symbol::Type) {
         push_words(text, " (types:", &TYPES)?;

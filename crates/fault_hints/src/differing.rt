@@ -1,7 +1,8 @@
 use crate::answers::wrong_line;
-use crate::coming::entries_to_come;
+use crate::coming::{Coming, entries_to_come};
+use crate::few::{Place, few_that_may_come};
 use crate::nexts::push_next;
-use crate::reasons::{Case, reason};
+use crate::reasons::{Case, push_needless_too, reason};
 use base_types::NoMemory;
 use check_tool::{CheckKind, leading_entries, reached_prefix};
 use event_kinds::Entry;
@@ -91,23 +92,54 @@ fn wrong_entry(
     e: &Entry,
     due: Option<u32>,
 ) -> Result<(), NoMemory> {
+    let size = checked.script.size();
     let turn = match (checked.kind, due) {
-        (CheckKind::Walk, None) => return Ok(text.push_str("no turn is left")?),
+        (CheckKind::Walk, None) => {
+            text.push_str("no turn is left")?;
+            return push_needless_too(alloc, text, size, before, e);
+        }
         (CheckKind::Walk, Some(b)) => b,
         (CheckKind::Run, _) => e.backend,
     };
-    let next = entries_to_come(alloc, checked.text, before, checked.output, turn)?;
+    let next = next_of(alloc, checked, before, turn)?;
     if turn != e.backend {
         write!(text, "it is backend {turn}'s turn")?;
+        push_needless_too(alloc, text, size, before, e)?;
         return push_next(alloc, text, &next, before.len(), None, None);
     }
     let case = Case {
         kind: checked.kind,
-        size: checked.script.size(),
+        size,
         before,
         coming: &next,
     };
     reason(alloc, text, &case, e)
+}
+
+// What a walk makes after these entries, where this backend is next; and what may come there, where it makes another entry before.
+fn next_of(alloc: Global, checked: &Checked, before: &[Entry], b: u32) -> Result<Coming, NoMemory> {
+    let next = entries_to_come(alloc, checked.text, before, checked.output, b)?;
+    if next.number > before.len() {
+        return Ok(next);
+    }
+    let place = Place {
+        kind: checked.kind,
+        script: checked.script,
+        output: checked.output,
+        before,
+        backend: b,
+    };
+    let few = few_that_may_come(alloc, &place, next.entries.as_slice())?;
+    let Coming {
+        number,
+        entries,
+        few: _,
+    } = next;
+    Ok(Coming {
+        number,
+        entries,
+        few,
+    })
 }
 
 // No entry, where one of this backend should come.
@@ -133,7 +165,7 @@ fn missing_entry(
     } else {
         push_line(&mut text, rest)?;
     }
-    let next = entries_to_come(alloc, checked.text, before, checked.output, b)?;
+    let next = next_of(alloc, checked, before, b)?;
     push_next(alloc, &mut text, &next, before.len(), None, None)?;
     Ok(text)
 }

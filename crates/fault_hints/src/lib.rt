@@ -16,7 +16,7 @@
 //! let hint = hint(alloc, b"backends 1\n1: creat table t ()\n", 2, ScriptCause::BadCommand)?;
 //! // BadCommand: a command begins with "alter", "begin", ..; found "creat" (near "create")
 //! let why = difference(alloc, CheckKind::Walk, &input)?;
-//! // entry 22 differs: h 2 2 fetch 6: 7 messages wait
+//! // entry 22 differs: h 2 2 fetch 6: 7 messages wait; next comes h 2 2 fetch 7
 //! let calls = usage(alloc)?;
 //! ```
 #![tactic(auto)]
@@ -26,7 +26,9 @@ mod arguments;
 mod bytes;
 mod coming;
 mod commands;
+mod counts;
 mod differing;
+mod few;
 mod following;
 mod forms;
 mod hints;
@@ -35,6 +37,7 @@ mod kept;
 mod lines;
 mod near;
 mod nexts;
+mod numbers;
 mod reasons;
 mod rings;
 mod server_words;

@@ -6,8 +6,11 @@ use event_kinds::{Entry, Event, Item, changes_in, push_item};
 use std::alloc::Global;
 use std::fmt::Write;
 
+// How many of the entries that may come are said.
+const MOST_SAID: usize = 4;
+
 // Says what comes after so many entries in the place of one that may not: of a write for another one, where they differ. Where a
-// walk makes another entry before, it is that one.
+// walk makes another entry before, it is that one, and then what may come.
 pub(crate) fn push_next(
     alloc: Global,
     text: &mut String,
@@ -17,12 +20,13 @@ pub(crate) fn push_next(
     read: Option<Watched>,
 ) -> Result<(), NoMemory> {
     let Some(next) = coming.entries.first() else {
-        return Ok(());
+        return push_few(text, coming.few.as_slice());
     };
     let after = coming.after(before);
     if after.is_empty() {
         write!(text, "; a walk makes entry {} otherwise: ", coming.number)?;
-        return push_line(text, &entry_line(alloc, next)?);
+        push_line(text, &entry_line(alloc, next)?)?;
+        return push_few(text, coming.few.as_slice());
     }
     if let Some(e) = e {
         if is_write(next) && is_write(e) {
@@ -32,6 +36,25 @@ pub(crate) fn push_next(
     text.push_str("; next comes ")?;
     push_line(text, &entry_line(alloc, next)?)?;
     push_scan(alloc, text, after, read)
+}
+
+// Some entries of which one may come.
+fn push_few(text: &mut String, few: &[Vec<u8>]) -> Result<(), NoMemory> {
+    match few.len() {
+        0 => return Ok(()),
+        1 => text.push_str("; here may come ")?,
+        _ => text.push_str("; here may come one of: ")?,
+    }
+    for (i, line) in few.get(..MOST_SAID).unwrap_or(few).iter().enumerate() {
+        if i > 0 {
+            text.push_str(", ")?;
+        }
+        push_line(text, line)?;
+    }
+    if few.len() > MOST_SAID {
+        write!(text, ", or {} more", few.len().saturating_sub(MOST_SAID))?;
+    }
+    Ok(())
 }
 
 // The scan that comes after a look, and since when it is due.

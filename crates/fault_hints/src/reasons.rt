@@ -13,7 +13,7 @@ use std::fmt::Write;
 const ALL_MESSAGES: u32 = u32::MAX;
 
 // The most messages that one fetch takes.
-const MOST_FETCHED: usize = 32;
+pub(crate) const MOST_FETCHED: usize = 32;
 
 // An entry's place: what is before it over a queue of this size, and what a walk makes there.
 #[derive(Clone, Copy)]
@@ -36,17 +36,34 @@ pub(crate) fn reason(
     let Some(ledger) = held(alloc, case.size, case.before, &mut own, &mut next)? else {
         return Ok(text.push_str("it may not come here")?);
     };
-    if of_event(text, &ledger, case.kind, case.size, e)? {
-        return Ok(());
-    }
-    if ledger.may_follow(e, case.size)? {
-        other(text, e, own)?;
-    } else if let Some(why) = standing(case.before, e) {
-        text.push_str(why)?;
-    } else {
-        text.push_str(rule(&e.event))?;
+    if !of_event(text, &ledger, case.kind, case.size, e)? {
+        of_rule(text, &ledger, case, e, own)?;
     }
     push_next(alloc, text, case.coming, case.before.len(), Some(e), next)
+}
+
+// Says of an entry out of turn that it is a needless scan too, where it is one.
+pub(crate) fn push_needless_too(
+    alloc: Global,
+    text: &mut String,
+    size: u32,
+    before: &[Entry],
+    e: &Entry,
+) -> Result<(), NoMemory> {
+    let (mut own, mut next) = (watched(Some(e)), None);
+    if own.is_none() {
+        return Ok(());
+    }
+    let Some(ledger) = held(alloc, size, before, &mut own, &mut next)? else {
+        return Ok(());
+    };
+    if ledger.may_follow(e, size)? {
+        if let Some(read) = needless(own) {
+            text.push_str(", and ")?;
+            push_needless(text, read)?;
+        }
+    }
+    Ok(())
 }
 
 // What a scan's backend reads by it.
@@ -58,22 +75,48 @@ fn watched(e: Option<&Entry>) -> Option<Watched> {
     }
 }
 
+// Why an entry may not come whose numbers are right.
+fn of_rule(
+    text: &mut String,
+    ledger: &Ledger,
+    case: &Case,
+    e: &Entry,
+    own: Option<Watched>,
+) -> Result<(), NoMemory> {
+    if ledger.may_follow(e, case.size)? {
+        return other(text, e, own);
+    }
+    let why = standing(case.before, e).unwrap_or(rule(&e.event));
+    text.push_str(why)?;
+    Ok(())
+}
+
 // An entry that the history allows, and the command doesn't make.
 fn other(text: &mut String, e: &Entry, own: Option<Watched>) -> Result<(), NoMemory> {
-    match own {
-        Some(own) if own.read > 0 && own.stale == 0 => {
-            write!(
-                text,
-                "the scan is needless, as what entry {} read serves still",
-                own.read
-            )?
-        }
-        _ => write!(
+    match needless(own) {
+        Some(read) => push_needless(text, read)?,
+        None => write!(
             text,
             "command {} of backend {} does something else next",
             e.command, e.backend
         )?,
     }
+    Ok(())
+}
+
+// The entry that read what a scan would read again, where that serves still.
+fn needless(own: Option<Watched>) -> Option<usize> {
+    match own {
+        Some(own) if own.read > 0 && own.stale == 0 => Some(own.read),
+        _ => None,
+    }
+}
+
+fn push_needless(text: &mut String, read: usize) -> Result<(), NoMemory> {
+    write!(
+        text,
+        "the scan is needless, as what entry {read} read serves still"
+    )?;
     Ok(())
 }
 
@@ -121,7 +164,7 @@ fn of_event(
 }
 
 // How many messages wait for a backend.
-fn waiting(ledger: &Ledger, b: u32) -> usize {
+pub(crate) fn waiting(ledger: &Ledger, b: u32) -> usize {
     ledger.fetched(b, ALL_MESSAGES).len()
 }
 

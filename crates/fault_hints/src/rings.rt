@@ -1,4 +1,5 @@
-use crate::lines::{bare, push_ascii, push_quoted, token_of};
+use crate::lines::{bare, token_of};
+use crate::numbers::{number_of, push_found};
 use crate::tokens::{Span, is, text_at, tokens_of};
 use base_types::NoMemory;
 use std::alloc::Global;
@@ -9,9 +10,6 @@ const SIZES: [u64; 7] = [64, 128, 256, 512, 1024, 2048, 4096];
 
 // As many times its size the number of its first message stays below.
 const ROUNDS: u64 = 262_144;
-
-// How much of a token is shown.
-const MOST_SHOWN: usize = 60;
 
 // What is wrong in the `ring` line of this number, from 1: its place, its size, the number of its first message, or
 // its form.
@@ -61,7 +59,7 @@ fn is_late(alloc: Global, script: &[u8], number: u32) -> Result<bool, NoMemory> 
 
 // The size that a queue may have.
 fn size_of(token: &[u8]) -> Option<u64> {
-    let number = number_of(token)?;
+    let number = number_of(token, 10)?;
     SIZES.iter().copied().find(|size| *size == number)
 }
 
@@ -76,7 +74,7 @@ fn push_rest(text: &mut String, line: &[u8], spans: &[Span], size: u64) -> Resul
         )?;
         return push_found(text, token_of(line, spans, 2));
     }
-    match number_of(from) {
+    match number_of(from, 10) {
         None => {
             write!(
                 text,
@@ -99,28 +97,4 @@ fn push_rest(text: &mut String, line: &[u8], spans: &[Span], size: u64) -> Resul
             push_found(text, token_of(line, spans, 4))
         }
     }
-}
-
-fn push_found(text: &mut String, token: &[u8]) -> Result<(), NoMemory> {
-    text.push_str("; found ")?;
-    if token.is_empty() {
-        return push_ascii(text, b"the end of the line");
-    }
-    push_quoted(text, token.get(..MOST_SHOWN).unwrap_or(token))
-}
-
-// A number of at most ten digits.
-fn number_of(token: &[u8]) -> Option<u64> {
-    if token.is_empty() || token.len() > 10 {
-        return None;
-    }
-    let mut number: u64 = 0;
-    for byte in token {
-        if !byte.is_ascii_digit() {
-            return None;
-        }
-        let digit = u64::from(byte.wrapping_sub(b'0'));
-        number = number.saturating_mul(10).saturating_add(digit);
-    }
-    Some(number)
 }

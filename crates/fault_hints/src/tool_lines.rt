@@ -1,4 +1,6 @@
+use crate::counts::items_hint;
 use crate::lines::{bare, push_ascii, push_quoted, token_of};
+use crate::numbers::number_of;
 use crate::tokens::{Span, is, text_at, tokens_of};
 use base_types::NoMemory;
 use std::alloc::Global;
@@ -6,8 +8,12 @@ use std::alloc::Global;
 // How much of a token is shown.
 const MOST_SHOWN: usize = 60;
 
-// What is said of a line of steps that has a form which only the tools read; `None` of any other.
-pub(crate) fn steps_hint(alloc: Global, line: &[u8]) -> Result<Option<String>, NoMemory> {
+// What is said of a faulty line of steps: that only the tools read a line of its form, or where it goes wrong.
+pub(crate) fn steps_hint(
+    alloc: Global,
+    script: &[u8],
+    line: &[u8],
+) -> Result<Option<String>, NoMemory> {
     let mut small = line.to_vec(alloc)?;
     small.make_ascii_lowercase();
     for span in tokens_of(alloc, &small)? {
@@ -17,6 +23,19 @@ pub(crate) fn steps_hint(alloc: Global, line: &[u8]) -> Result<Option<String>, N
                 "BadSteps: 'B to ..' is read by the tools alone: tools/schedule < SCRIPT | ./catsync walk",
             );
         }
+    }
+    let count = backends_of(alloc, script)?;
+    items_hint(alloc, line, number_of(&count, 9).unwrap_or(0))
+}
+
+// What is said of a line in the place of the one of backends, where it is a comment that the tools read; `None` of any other.
+pub(crate) fn first_hint(alloc: Global, line: &[u8]) -> Result<Option<String>, NoMemory> {
+    let spans = tokens_of(alloc, line)?;
+    if is(token_of(line, &spans, 0), "/") && is(token_of(line, &spans, 1), "*") {
+        return said(
+            alloc,
+            "NoBackends: a comment is a line that begins with --; the tools alone read /* .. */: tools/schedule < SCRIPT | ./catsync walk",
+        );
     }
     Ok(None)
 }
@@ -31,7 +50,8 @@ pub(crate) fn backend_hint(
     small.make_ascii_lowercase();
     let spans = tokens_of(alloc, &small)?;
     let first = token_of(&small, &spans, 0);
-    match of_tools(first).or(of_words(first)) {
+    let second = token_of(&small, &spans, 1);
+    match of_tools(first).or(of_words(first, second)) {
         Some(text) => said(alloc, text),
         None => found_hint(alloc, script, line, &spans),
     }
@@ -53,12 +73,17 @@ fn of_tools(first: &[u8]) -> Option<&'static str> {
 }
 
 // A line of a form that comes elsewhere, or a comment of another language.
-fn of_words(first: &[u8]) -> Option<&'static str> {
+fn of_words(first: &[u8], second: &[u8]) -> Option<&'static str> {
     if is(first, "end") {
         return Some("UnknownBackend: the line 'end' has that word alone, without a semicolon");
     }
     if is(first, "backends") {
         return Some("UnknownBackend: a script has one 'backends' line");
+    }
+    if is(first, "/") && is(second, "*") {
+        return Some(
+            "UnknownBackend: a comment is a line that begins with --; the tools alone read /* .. */: tools/schedule < SCRIPT | ./catsync walk",
+        );
     }
     let is_comment = first.starts_with(b"#")
         || first.starts_with(b"//")
