@@ -2,7 +2,7 @@
 import re
 from typing import Optional
 
-from .expected import MORE, NEVER, NONE, Part
+from .expected import MORE, NEVER, Part
 from .matching import ANSWERED_BY_WORD, MODES, SHOWS_FIELDS
 from .spellings import respelled, tokens_of
 
@@ -59,10 +59,11 @@ def doubt_of_code(text):
 
 def doubt_of_fields(text, words, command):
     """A field that its command doesn't show, or an answer that it never has."""
-    shows = words[:1] and words[0] in SHOWS_FIELDS
-    if text.rstrip("; ") == "ok" and (shows or words[0] in ANSWERED_BY_WORD):
+    word = words[0] if words else ""
+    if text.rstrip("; ") == "ok" and word in SHOWS_FIELDS + ANSWERED_BY_WORD:
         return "%s is never answered 'ok'" % command
-    for field in (part.split()[0] for part in text.split(";") if part.split()):
-        if field in FIELDS and field not in (words[2:] or FIELDS if shows else words[:1]) and text != NONE:
+    shown = (words[2:] or FIELDS) if word in SHOWS_FIELDS else [word]
+    for field in (part.split()[0] for part in text.split(";") if part.strip()):
+        if field in FIELDS and field not in shown:
             return "%s shows no field '%s'" % (command, field)
     return None
