@@ -29,14 +29,14 @@ from catsync_tools.faults import Fault
 from catsync_tools.outcome import answers_text, outcome_of
 from catsync_tools.outputs import read_output
 from catsync_tools.picture import picture_of, span_of
-from catsync_tools.places import Place, Schedule
+from catsync_tools.places import EventPlace, Schedule
 from catsync_tools.play import Play, Sessions
 from catsync_tools.points import AFTER, BEFORE
 from catsync_tools.program import Program
 from catsync_tools.server_trace import Trace
 from catsync_tools.sources import read_source
 from catsync_tools.stage import Stage, check_stage
-from catsync_tools.tracing import Gone, Program as Executable, Traced, Unplayable, check_tracing
+from catsync_tools.tracing import Binary, Gone, Traced, Unplayable, check_tracing
 
 
 def why_not(check):
@@ -90,13 +90,13 @@ class Files(unittest.TestCase):
         with open("/proc/self/maps") as maps:
             spans = [(line.split()[0].split("-"), line.split()[-1]) for line in maps]
         path = next(path for (first, last), path in spans if int(first, 16) <= address < int(last, 16))
-        executable = Executable(path)
+        executable = Binary(path)
         self.assertEqual(executable.base(os.getpid()) + executable.symbols["PyLong_FromLong"][0], address)
 
     def test_other_files(self):
         """What is no program for this machine is said to be none."""
         with tempfile.NamedTemporaryFile() as file, self.assertRaisesRegex(Unplayable, "is no program for x86_64"):
-            Executable(file.name)
+            Binary(file.name)
 
     def test_reasons(self):
         """Why nothing can be played is said in one line."""
@@ -161,10 +161,10 @@ class Tracing(unittest.TestCase):
         while True:
             with open("/proc/%d/maps" % child.pid) as maps:
                 path = next((line.split()[-1] for line in maps if os.path.basename(line.split()[-1]).startswith("libc")), None)
-            if path and os.path.exists(path) and "labs" in Executable(path).symbols:
+            if path and os.path.exists(path) and "labs" in Binary(path).symbols:
                 break
             time.sleep(0.01)
-        executable = Executable(path)
+        executable = Binary(path)
         traced = Traced(child.pid, executable)
         traced.other = traced.base + executable.symbols["ldiv"][0]         # a function that isn't called
         return child, traced, traced.base + executable.symbols["labs"][0]
@@ -348,7 +348,7 @@ class Played(unittest.TestCase):
         try:
             for backend, number in source.commands:
                 own = sessions.backend(backend)
-                own.place = Place(2, lambda: ("publish",), 1, BEFORE) if (backend, number) == (2, 2) else None
+                own.place = EventPlace(2, lambda: ("publish",), 1, BEFORE) if (backend, number) == (2, 2) else None
                 sessions.send(own)
                 self.assertTrue(sessions.advance(own))
             self.assertEqual(sessions.backend(2).not_held, "in a critical section")

@@ -18,7 +18,7 @@ OVERTAKEN, FEWER_LOOKS, TORN = "an older rebuild may be put over a newer one", "
 TABLE_FIRST = "the table first"
 
 
-class Found(NamedTuple):
+class PartDiffering(NamedTuple):
     """A part in which two answers differ, the words in docs/PROFILE.md that name it, after which command it comes that was done in
     one of the two alone, and whether it is gone with the next accept."""
     part: str
@@ -44,7 +44,7 @@ class Outcome(NamedTuple):
     """What a play came to."""
     held: int
     compared: List[Compared]
-    found: List[List[Found]]
+    found: List[List[PartDiffering]]
     stale: List[Stale]
     served: List[Served]
 
@@ -91,11 +91,11 @@ def case_of(play: Play, command) -> Case:
     return Case(command[0], tokens_of(play.commands[command]), play.placed_here[command], play.answers[command].text, facts)
 
 
-def documented(_play: Play, all_compared: List[Compared], text) -> List[List[Found]]:
+def documented(_play: Play, all_compared: List[Compared], text) -> List[List[PartDiffering]]:
     """What docs/PROFILE.md says of differences, wherever they come; and what comes after a command that was done in one alone."""
     found, first = [], None
     for compared in all_compared:
-        found.append([Found(part, words if words and words.lower() in text else None, first)
+        found.append([PartDiffering(part, words if words and words.lower() in text else None, first)
                       for part, words in compared.differences.items()])
         refused = [answer.startswith("error ") for answer in (compared.here, compared.server.text)]
         if refused[0] != refused[1]:
@@ -111,7 +111,7 @@ def outcome_of(play: Play) -> Outcome:
     return Outcome(play.held, all_compared, found, play.stale, play.served)
 
 
-def named(play: Play, all_compared, compared: Compared, found: Found, text):
+def named(play: Play, all_compared, compared: Compared, found: PartDiffering, text):
     """A difference with the words that name it where commands overlap. A weak field is read from the descriptor, and not by a
     query."""
     words = tokens_of(compared.text).split()

@@ -30,7 +30,7 @@ def event_of(text, oids: Oids) -> Event:
     return ("look", words[1]) if words[0] == "look" else (words[0],)
 
 
-class Place:
+class EventPlace:
     """Where a backend is held in a command: before or after the nth event of a kind and key, or so many looks after it."""
 
     def __init__(self, command, key: Callable[[], Event], nth, phase, looks=0):
@@ -93,7 +93,7 @@ class Schedule:
         own, (command, text) = self.own[turn.backend], self.last(turn)
         return command - 1 if text == "stop" else own[turn.end][0] - 1 if turn.end < len(own) else command
 
-    def place(self, turn: Turn, oids: Oids) -> Optional[Place]:
+    def place(self, turn: Turn, oids: Oids) -> Optional[EventPlace]:
         """Where a turn ends; None where that is between two commands."""
         own = self.own[turn.backend]
         command, text = own[turn.end - 1]
@@ -104,7 +104,7 @@ class Schedule:
         if text.startswith("write"):
             following = next((each for each in rest if not _NOT_MADE.match(each) and each != "look no"), None)
             if following:
-                return Place(command, lambda: event_of(following, oids)[:1], 1, BEFORE)
+                return EventPlace(command, lambda: event_of(following, oids)[:1], 1, BEFORE)
         if text == "look no" and rest and not _NOT_MADE.match(rest[0]) and not rest[0].startswith(("look", "write", "clash")):
             return before(command, mine, rest[0], oids)
         return after(command, mine, rest[0] if rest else "", oids)
@@ -125,7 +125,7 @@ def before(command, mine, following, oids: Oids):
     """The place before the entry that follows these of a command."""
     def key():
         return key_of(following, oids)
-    return Place(command, key, 1 + times(mine, key(), oids), BEFORE)
+    return EventPlace(command, key, 1 + times(mine, key(), oids), BEFORE)
 
 
 def after(command, mine, following, oids: Oids):
@@ -141,4 +141,4 @@ def after(command, mine, following, oids: Oids):
 
     def key():
         return key_of(made[-1], oids) if made else ("look",)
-    return Place(command, key, times(mine, key(), oids) or 1, AFTER, looks)
+    return EventPlace(command, key, times(mine, key(), oids) or 1, AFTER, looks)

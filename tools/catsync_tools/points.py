@@ -7,7 +7,7 @@ out. docs/REPLAY.md says which function each is.
 from typing import Dict, NamedTuple
 
 from .descriptors import RELID
-from .tracing import Program, Traced
+from .tracing import Binary, Traced
 
 BEFORE, AFTER = "before", "after"
 FIRST_OID = 16384       # of relations that aren't the server's own
@@ -42,7 +42,7 @@ NEEDED = tuple(FUNCTIONS) + WRITES + ("LWLockAcquire", "CritSectionCount", "Inte
 IN_COMMIT = ("visible", "gone", "publish", "release")        # here interrupts are put off once, without a light-weight lock
 
 
-class Executable(Program):
+class Executable(Binary):
     """A server's program: what is needed of it and missing, and where its catalog caches' functions are."""
 
     def __init__(self, path):

@@ -10,9 +10,8 @@ from .caches import datum_of
 from .outputs import Output, entry_of
 from .play import Play
 from .story import Model
+from .waits import CONFLICTING
 
-CONFLICTS = {"as": "ax", "rs": "ex ax", "rx": "sh sr ex ax", "su": "su sh sr ex ax", "sh": "rx su sr ex ax", "sr": "rx su sh sr ex ax",
-             "ex": "rs rx su sh sr ex ax", "ax": "as rs rx su sh sr ex ax"}
 MOST_FETCHED, MOST_PUBLISHED = 32, 64
 
 Command = Tuple[int, int]
@@ -99,7 +98,7 @@ class Trace:
         """A lock that is new, or refused."""
         if rel and answer == "ok" and not self.model.locks.find(command[0], rel, mode):
             self.put(command, "lock %d %s ok" % (rel, mode))
-        held = next((lock for lock in self.model.locks.of_others(command[0], rel) if lock.mode in CONFLICTS[mode].split()), None)
+        held = next((lock for lock in self.model.locks.of_others(command[0], rel) if lock.mode in CONFLICTING[mode]), None)
         if rel and answer == "held" and held:
             self.put(command, "lock %d %s held %d %s" % (rel, mode, held.backend, held.mode))
 

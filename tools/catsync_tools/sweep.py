@@ -50,7 +50,7 @@ class Swept(NamedTuple):
     items: List[Item]
 
 
-class Found(NamedTuple):
+class AllSwept(NamedTuple):
     """What a sweep has found: its points, and scripts that show those which are stale for good, each with which points it shows."""
     points: List[Swept]
     scripts: List[Tuple[List[int], str]]
@@ -74,7 +74,7 @@ class Sweep:
         self.before = [each for at, each in enumerate(self.commands) if each[1] < own.get(each[0], 0) or at < first]
         self.after = [each for each in self.commands if each not in self.before + [held, made]]
 
-    def run(self, stage, program) -> Found:
+    def run(self, stage, program) -> AllSwept:
         """Sweeps all points."""
         run, points = program.run(self.source.script.without_steps()), []
         while True:
@@ -82,7 +82,7 @@ class Sweep:
             if point is None:
                 break
             points.append(point)
-        return Found(points, *Shortest(self, stage, program).of(points))
+        return AllSwept(points, *Shortest(self, stage, program).of(points))
 
     def at(self, stage, run, number):
         """What comes of a point; None where the command has fewer."""
@@ -183,7 +183,7 @@ class Shortest:
             return False
 
 
-def sweep_text(stage, sweep: Sweep, found: Found):
+def sweep_text(stage, sweep: Sweep, found: AllSwept):
     """The table of points, and the scripts."""
     stale = sum(bool(point.stale) for point in found.points)
     held, made = "%d.%d" % sweep.held, "%d.%d" % sweep.made

@@ -79,7 +79,7 @@ def scope():
         return ""
 
 
-class Program:
+class Binary:
     """A program's file: its global symbols, each with its address and size, from the table of the dynamic linker, which a
     stripped program keeps."""
 
@@ -209,7 +209,7 @@ class Traced(Memory):
     """A traced process. `points` has for each address what is called as it is stopped there; what that answers is whether it is
     to stay stopped."""
 
-    def __init__(self, pid, program: Program):
+    def __init__(self, pid, program: Binary):
         self.base = program.base(pid)
         ptrace(SEIZE, pid, 0, EXITKILL)
         super().__init__(pid)
