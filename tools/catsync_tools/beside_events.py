@@ -1,10 +1,10 @@
 """Each turn's entries here beside what the backend has made in the server."""
 from typing import List
 
+from .kinds import KINDS
 from .play import Play
 
 MOST = 58               # characters of an entry that others stand beside
-OF_RELATIONS = ("lock", "unlock", "scan", "told")
 
 
 def turns_text(play: Play, is_all) -> List[str]:
@@ -23,7 +23,7 @@ def is_shown(event, own):
     """Whether an event is shown where not all are: it is no look without a message, and of a relation of the script."""
     if event == ("look", "no") or event[0] == "error":
         return False
-    if event[0] in OF_RELATIONS:
+    if event[0] in KINDS and KINDS[event[0]].is_of_relation:
         return all(part in own for part in event[1:] if isinstance(part, int))
     return event[0] != "write" or event[1][1:] not in ("class", "att") or not isinstance(event[2], int) or event[2] in own
 

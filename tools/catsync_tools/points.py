@@ -4,52 +4,39 @@ An event is a tuple: its kind and its key, by the server's oids. Each is noted t
 about to make it, and AFTER where it has been made; either is a place to hold it. Events of the catalogs' own relations are left
 out. docs/REPLAY.md says which function each is.
 """
-from typing import Dict, NamedTuple
+import functools
+from typing import Dict
 
 from .descriptors import RELID
+from .kinds import CATALOGS, KINDS, SCANS
 from .tracing import Binary, Traced
 
 BEFORE, AFTER = "before", "after"
 FIRST_OID = 16384       # of relations that aren't the server's own
 MODES = (None, "as", "rs", "rx", "su", "sh", "sr", "ex", "ax")
-CATALOGS = {1259: "class", 1249: "att", 2604: "def", 2606: "con", 2610: "ind", 2620: "trg"}
 CATALOG_SCHEMA = 11     # where a name is looked for first
 ERROR = 21              # of errors and what is worse (14 and later)
 SCAN_KEY, SCAN_ARGUMENT = 72, 64        # of ScanKeyData: its size, and where its value is
-CACHE_FUNCTIONS = ("SearchCatCache", "SearchCatCache1", "SearchCatCacheList", "ReleaseCatCache", "PrepareToInvalidateCacheTuple",
-                   "InitCatCache", "ResetCatalogCaches", "PrintCatCacheLeakWarning")
-
-
-class Purposes(NamedTuple):
-    """What a scan by an index of a catalog is for: that of a catalog cache, and any other."""
-    cache: str
-    other: str
-
-
-SCANS = {2662: Purposes("reloid", "class"), 2663: Purposes("relname", "relname"), 2658: Purposes("attname", ""),
-         2659: Purposes("", "attribute"), 2656: Purposes("", "attrdef"), 2665: Purposes("", "constraint"),
-         2678: Purposes("index", "index"), 2679: Purposes("indexrow", "indexrow"), 2701: Purposes("", "trigger")}
-WRITES = ("CatalogTupleInsert", "CatalogTupleInsertWithInfo", "CatalogTuplesMultiInsertWithInfo", "CatalogTupleUpdate",
-          "CatalogTupleUpdateWithInfo", "CatalogTupleDelete")
-# Each function at which something is noted, with the method that does.
-FUNCTIONS = {
-    "SIGetDataEntries": "look", "LockAcquireExtended": "lock", "UnlockRelationOid": "unlock", "systable_beginscan": "scan",
-    "TransactionIdCommitTree": "commit", "TransactionIdAsyncCommitTree": "commit", "ProcArrayEndTransaction": "end",
-    "SIInsertDataEntries": "publish", "ProcReleaseLocks": "release", "LockReleaseCurrentOwner": "release",
-    "RelationCacheInvalidateEntry": "told", "RelationIdGetRelation": "open", "errstart": "error",
-}
-NEEDED = tuple(FUNCTIONS) + WRITES + ("LWLockAcquire", "CritSectionCount", "InterruptHoldoffCount")
-IN_COMMIT = ("visible", "gone", "publish", "release")        # here interrupts are put off once, without a light-weight lock
+CACHE_FUNCTIONS = ("CatCacheInvalidate", "CreateCacheMemoryContext", "SearchCatCache", "SearchCatCache1", "SearchCatCacheList",
+                   "ReleaseCatCache", "PrepareToInvalidateCacheTuple", "InitCatCache", "ResetCatalogCaches",
+                   "PrintCatCacheLeakWarning")
+# Each function at which something is noted, with the method that does: that of its kind, or one that notes what kinds need.
+FUNCTIONS = {function: name for name, kind in KINDS.items() for function in kind.functions}
+FUNCTIONS.update({"TransactionIdCommitTree": "commit", "TransactionIdAsyncCommitTree": "commit", "RelationIdGetRelation": "open",
+                  "errstart": "error"})
+NEEDED = tuple(FUNCTIONS) + ("LWLockAcquire", "CritSectionCount", "InterruptHoldoffCount")
 
 
 class Executable(Binary):
-    """A server's program: what is needed of it and missing, and where its catalog caches' functions are."""
+    """A server's program: what is needed of it and missing, and where its catalog caches' functions are: from the end of what it
+    exports before them, since those that it doesn't export may come first, to the end of the last one."""
 
     def __init__(self, path):
         super().__init__(path)
         self.missing = [name for name in NEEDED if name not in self.symbols]
         cache = [self.symbols[name] for name in CACHE_FUNCTIONS if name in self.symbols]
-        self.cache = (min(at for at, _ in cache), max(at + size for at, size in cache)) if cache else (0, 0)
+        first, end = (min(at for at, _ in cache), max(at + size for at, size in cache)) if cache else (0, 0)
+        self.cache = max([at + size for at, size in self.symbols.values() if at < first] + [0]), end
 
 
 class Watched(Traced):
@@ -64,9 +51,7 @@ class Watched(Traced):
         self.opened = None                          # the first that it has opened since this was emptied
         self.is_exact = False                       # whether it may be held between a look and the fetch after it
         for name, method in FUNCTIONS.items():
-            self.watch(name, getattr(self, method))
-        for name in WRITES:
-            self.watch(name, lambda name=name: self.write_row(name))
+            self.watch(name, functools.partial(self.write_row, name) if method == "write" else getattr(self, method))
         self.remove(self.place("RelationIdGetRelation"))
 
     def place(self, name):
@@ -177,8 +162,8 @@ class Watched(Traced):
         self.is_committing = True
         return False
 
-    def end(self):
-        """The transaction leaves the list of those that run."""
+    def visible(self):
+        """The transaction leaves the list of those that run: it is visible, or gone."""
         committing, self.is_committing = self.is_committing, False
         return self.both("visible" if committing else "gone") if self.number(1) else False
 
@@ -218,6 +203,6 @@ class Watched(Traced):
         """Why it mustn't be held at an event, or None: others would wait for it, and nothing would end that."""
         if self.u32(self.place("CritSectionCount")):
             return "in a critical section"
-        if self.u32(self.place("InterruptHoldoffCount")) > (event[0] in IN_COMMIT):
+        if self.u32(self.place("InterruptHoldoffCount")) > (event[0] in KINDS and KINDS[event[0]].is_in_commit):
             return "it holds a light-weight lock"
         return None

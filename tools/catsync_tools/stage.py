@@ -10,6 +10,7 @@ from .descriptors import offsets_of
 from .faults import Fault
 from .held import Backend
 from .interrupts import Interrupts
+from .kinds import TESTED
 from .points import Executable
 from .postgres import FOLDERS, Server, account, become, folder_of_programs
 from .sentences import listed
@@ -17,12 +18,11 @@ from .tracing import Gone, Unplayable, check_tracing
 
 PATIENCE = 20           # seconds for a backend to come to its place
 PAUSE = 0.25            # seconds, at most, between two looks at the processes
-TESTED = ("look no", "look yes", "fetch", "lock ok", "lock held", "unlock", "scan class", "scan attribute", "scan relname", "write +class",
-          "write +att", "write =att", "told", "visible", "gone", "publish", "release")
-# What tells them all: a table that is made and altered, and an alteration that is rolled back; what a lock refuses; and what
-# gives a lock back.
-TEST = ("create table t (a int4)", "alter table t alter column a set statistics 7", "analyze t", "begin",
-        "alter table t add column b int4", "rollback", "select from t", "select from u")
+# What gives each kind of event: a table with rows in each catalog, an alteration that is rolled back, and what a lock refuses; and
+# after a reset an alteration, what gives a lock back, and the end of the table.
+TEST = ("create table t (a int4 default 5 check (a > 0) primary key references t)", "begin", "alter table t add column b int4",
+        "rollback", "select from u")
+TEST_AFTER_RESET = ("alter table t alter column a set statistics 7", "analyze t", "drop table t")
 LAP_COLUMNS, LAPS = 100, 12         # of the table that overruns the queue, and how often that is made: some 440 messages each time
 
 
@@ -127,18 +127,18 @@ class Stage:
             self.clock.wait(min(left, PAUSE))
 
     def test(self):
-        """Tests that each kind of event is seen here, by TEST; an Unplayable names those that aren't."""
+        """Tests that each kind of event is seen here; an Unplayable names those that aren't."""
         holder = self.server.session("postgres")
         for statement in ("create table u (a int4)", "begin", "lock table u in access exclusive mode"):
             holder.ask(statement)
         backend = Backend(0, self.server.session("postgres"), {}, self.offsets, lambda *_: None, [])
         backend.trace(self.executable)
         try:
-            for statement in TEST:
-                backend.begin(lambda: backend.asked.session.ask(statement), self.clock.wake)
-                if not self.wait([backend], lambda: not backend.is_busy):
-                    raise Unplayable("no answer within %d s to: %s" % (self.patience, statement))
-                backend.take_answer()
+            self.ask_each(backend, TEST)
+            backend.watched.stop()
+            self.lap([])
+            backend.watched.go()
+            self.ask_each(backend, TEST_AFTER_RESET)
             lines = [said(made.event) for made in backend.made]
         finally:
             backend.let_go()
@@ -147,6 +147,14 @@ class Stage:
         missing = [kind for kind in TESTED if not any(is_of(kind, line) for line in lines)]
         if missing:
             raise Unplayable("in PostgreSQL %s these events aren't seen: %s" % (self.version, ", ".join(missing)))
+
+    def ask_each(self, backend, statements):
+        """Asks a backend one statement after the other."""
+        for statement in statements:
+            backend.begin(lambda: backend.asked.session.ask(statement), self.clock.wake)
+            if not self.wait([backend], lambda: not backend.is_busy):
+                raise Unplayable("no answer within %d s to: %s" % (self.patience, statement))
+            backend.take_answer()
 
     def lap(self, backends):
         """Overruns the queue of 4,096 messages: who is stopped loses what it has for them. That is done in small steps, so that those

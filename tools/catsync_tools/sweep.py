@@ -5,15 +5,14 @@ from typing import Dict, List, NamedTuple, Tuple
 from .audit import Stale, stale_of
 from .counting import counted_script
 from .faults import Fault
+from .kinds import KINDS
 from .play import Play, Sessions
-
 from .sentences import counted
 from .sources import read_source
 from .tracing import Unplayable
 
 Command = Tuple[int, int]
 Item = Tuple[str, ...]          # the words of an entry here, by which a line of steps names it
-WORDS = {"lock": 3, "fetch": 1, "unlock": 3, "scan": 4, "visible": 1, "gone": 1, "publish": 1, "release": 1}
 
 
 class Point:
@@ -126,7 +125,8 @@ class Sweep:
 
 def items_of(sessions, events) -> List[Item]:
     """The items of a schedule up to the last of these events that is an entry here; as many as come to it."""
-    names = [tuple(sessions.shown(event[:WORDS[event[0]]]).split()) for event in events if event[0] in WORDS and event[-1] != "again"]
+    words = {name: kind.words for name, kind in KINDS.items() if kind.words}
+    names = [tuple(sessions.shown(event[:words[event[0]]]).split()) for event in events if event[0] in words and event[-1] != "again"]
     return [name for name in names if name == names[-1]] if names and not any("~" in word for word in names[-1]) else []
 
 
