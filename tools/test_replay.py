@@ -22,7 +22,7 @@ from test_server import homes
 from testing import HAS_PROGRAM, NO_PROGRAM, PROGRAM, TOOLS, TOP, call, content_of
 
 from catsync_tools import stage as stages
-from catsync_tools.audit import stale_of
+from catsync_tools.audit import Audit, audit_of_all
 from catsync_tools.beside_events import turns_text
 from catsync_tools.counting import counted_script
 from catsync_tools.faults import Fault
@@ -399,7 +399,7 @@ class Played(unittest.TestCase):
                 sessions.advance(sessions.backend(backend))
             reader = sessions.backend(2)
             self.assertEqual(reader.descriptor(min(sessions.names))["statistics"], "1:-1")
-            self.assertEqual(stale_of(sessions, reader), [])
+            self.assertEqual(audit_of_all(sessions), Audit([], []))
             self.assertEqual(reader.descriptor(min(sessions.names)), {"statistics": "1:7", "fillfactor": "-"})
         finally:
             sessions.end()

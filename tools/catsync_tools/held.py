@@ -11,6 +11,7 @@ from .sql import Answer, Asked
 
 OPENS = 'select from "%s" where false'
 ACCEPTS = "select from pg_attrdef where false"        # makes a session accept what waits for it
+OPENS_AGAIN = "select pg_relation_size(%d::regclass)"
 
 
 class Made(NamedTuple):
@@ -18,6 +19,21 @@ class Made(NamedTuple):
     backend: int
     command: int
     event: Tuple
+
+
+class Kept(NamedTuple):
+    """A field as the descriptor has it by which a command is answered, as the catalogs have it then, and as the descriptor has it
+    once the backend has accepted what waits for it."""
+    value: str
+    catalogs: str
+    accepted: str
+
+
+class Seen(NamedTuple):
+    """What an answer was read from: which relation's descriptor, its fields, and how much of the log there was by then."""
+    rel: int
+    fields: Dict[str, Kept]
+    at: int
 
 
 class Reading(Asked):
@@ -36,11 +52,25 @@ class Reading(Asked):
 
     def fields(self, shown, oid=None):
         """The values of the fields. The descriptor is read before the queries for the others, which accept messages."""
-        said = self.backend.descriptor(oid)
+        said, rel = self.backend.descriptor(oid), oid or self.backend.opened
         text = super().fields(shown, oid)
+        catalogs: Dict[str, str] = {}
         for field, value in (said or {}).items() if text else ():
-            text = re.sub(r"(?<!\S)%s [^;]*" % field, "%s %s" % (field, value), text)
+            found = re.search(r"(?<!\S)%s ([^;]*)" % field, text)
+            if found:
+                catalogs[field] = found.group(1)
+                text = text[:found.start(1)] + value + text[found.end(1):]
+        if catalogs:
+            self.note(rel, said, catalogs)
         return text
+
+    def note(self, rel, said, catalogs):
+        """Notes what an answer was read from. The queries for it have accepted what waits; where the descriptor was old before it is
+        opened anew."""
+        backend, is_old = self.backend, any(said[field] != value for field, value in catalogs.items())
+        accepted = (backend.opened_again(rel) or {}) if is_old else said
+        backend.seen[backend.command] = Seen(rel, {field: Kept(said[field], value, accepted.get(field, value))
+                                                   for field, value in catalogs.items()}, len(backend.log))
 
 
 class Backend:
@@ -56,6 +86,7 @@ class Backend:
         self.command, self.is_busy, self.answer = 0, False, None
         self.place, self.not_held = None, None      # where it is to be held; why it wasn't
         self.made: List[Made] = []
+        self.seen: Dict[int, Seen] = {}             # by command
         self.is_noted, self.is_alone = True, False  # whether what it makes is noted, and is for the server alone
         self.say("start")
 
@@ -101,6 +132,11 @@ class Backend:
             self.made.append(Made(self.number, self.command, event))
             self.log += self.made[-1:] if not self.is_alone or event[0] in ("look", "fetch") else []
 
+    def leave(self):
+        """It stops; what it makes from then on isn't noted."""
+        self.say("stop")
+        self.is_noted = False
+
     def begin(self, ask, wake):
         """Lets a thread ask the session, which calls `wake` once it is answered."""
         self.is_busy = True
@@ -133,6 +169,20 @@ class Backend:
                 self.watched.watch_opens(False)
 
     @property
+    def opened(self):
+        """The relation that was opened first when that was watched last."""
+        return self.watched and self.watched.opened
+
+    def opened_again(self, rel):
+        """What its descriptor says of a relation that is opened once more, of which nothing is noted."""
+        before, self.is_alone, self.is_noted = (self.is_alone, self.is_noted), True, False
+        try:
+            self.opening(lambda: self.asked.session.ask(OPENS_AGAIN % rel))
+        finally:
+            self.is_alone, self.is_noted = before
+        return self.descriptor(rel)
+
+    @property
     def used(self):
         """The relations of which it has made events."""
         return {part for made in self.made for part in made.event if isinstance(part, int)}
@@ -141,7 +191,7 @@ class Backend:
         """What its descriptor says of a relation, of that which it has just opened where none is named; None where that can't be
         read."""
         watched = self.watched
-        rel = watched and (oid or watched.opened)
+        rel = watched and (oid or self.opened)
         at = watched and watched.descriptors.get(rel)
         return fields_at(watched, at, rel, self.offsets) if at and self.offsets else None
 

@@ -1,12 +1,12 @@
 """What a play came to: which answers differ, what docs/PROFILE.md says of that, and what is stale for good."""
 import re
-from typing import List, NamedTuple, Optional
+from typing import List, NamedTuple, Optional, Set
 
-from .audit import Stale
+from .audit import Stale, Unread
 from .beside import Compared, Pairs, differences, order_of
-from .descriptors import FIELDS
 from .differences import profile
-from .documented import Case, words_of
+from .documented import Case, code_of, words_of
+from .held import Made, Seen
 from .known import Facts
 from .play import Play, Served
 from .sentences import counted
@@ -16,15 +16,18 @@ from .sql import referred_in, tokens_of
 # Differences that come where commands overlap: the words of docs/PROFILE.md.
 OVERTAKEN, FEWER_LOOKS, TORN = "an older rebuild may be put over a newer one", "they aren't looked for", "half of one commit"
 TABLE_FIRST = "the table first"
+LOCKED = "55P03"
 
 
 class PartDiffering(NamedTuple):
     """A part in which two answers differ, the words in docs/PROFILE.md that name it, after which command it comes that was done in
-    one of the two alone, and whether it is gone with the next accept."""
+    one of the two alone, and whether it is old until the next accept; and what the catalogs have where it is old and no message is
+    left."""
     part: str
     words: Optional[str]
     after: Optional[str]
     is_mended: bool = False
+    catalogs: Optional[str] = None
 
     @property
     def is_new(self):
@@ -32,11 +35,17 @@ class PartDiffering(NamedTuple):
         return self.words is None and self.after is None
 
     @property
+    def is_stale(self):
+        """Whether the server's is old, and no message is left that would tell it."""
+        return self.catalogs is not None
+
+    @property
     def text(self):
         """What is said of it."""
         if self.words is not None:
+            more = "; the catalogs have %s, and no message is left" % self.catalogs if self.is_stale else ""
             return "differs in %s, as docs/PROFILE.md says: %s%s" % (
-                self.part, self.words, "; old until the next accept" if self.is_mended else "")
+                self.part, self.words, "; old until the next accept" if self.is_mended else more)
         return "differs in %s, %s" % (self.part, "after " + self.after if self.after else "and docs/PROFILE.md doesn't say so")
 
 
@@ -46,12 +55,13 @@ class Outcome(NamedTuple):
     compared: List[Compared]
     found: List[List[PartDiffering]]
     stale: List[Stale]
+    unread: List[Unread]
     served: List[Served]
 
     @property
     def differs(self):
-        """Whether something differs that docs/PROFILE.md doesn't name, or is stale for good."""
-        return bool(self.stale) or any(each.is_new for found in self.found for each in found)
+        """Whether something differs that docs/PROFILE.md doesn't name, or is stale with no message left, in the end or in an answer."""
+        return bool(self.stale) or any(each.is_new or each.is_stale for found in self.found for each in found)
 
     @property
     def text(self):
@@ -62,6 +72,9 @@ class Outcome(NamedTuple):
                  + (", %d in a way that docs/PROFILE.md doesn't name" % new if new else "")]
         if self.stale:
             parts.append("%s %s stale for good" % (counted(len(self.stale), "field"), "is" if len(self.stale) == 1 else "are"))
+        mended = 0 if self.stale else sum(any(each.is_stale for each in found) for found in self.found)
+        if mended:
+            parts.append("%s %s stale until a later message" % (counted(mended, "answer"), "is" if mended == 1 else "are"))
         return "; ".join(parts)
 
 
@@ -91,7 +104,7 @@ def case_of(play: Play, command) -> Case:
     return Case(command[0], tokens_of(play.commands[command]), play.placed_here[command], play.answers[command].text, facts)
 
 
-def documented(_play: Play, all_compared: List[Compared], text) -> List[List[PartDiffering]]:
+def documented(all_compared: List[Compared], text) -> List[List[PartDiffering]]:
     """What docs/PROFILE.md says of differences, wherever they come; and what comes after a command that was done in one alone."""
     found, first = [], None
     for compared in all_compared:
@@ -106,33 +119,88 @@ def documented(_play: Play, all_compared: List[Compared], text) -> List[List[Par
 def outcome_of(play: Play) -> Outcome:
     """The outcome of a play."""
     all_compared, text = compared_in(play), profile()
-    found = [[named(play, all_compared, compared, each, text) for each in differing]
-             for compared, differing in zip(all_compared, documented(play, all_compared, text))]
-    return Outcome(play.held, all_compared, found, play.stale, play.served)
+    found = [[named(play, compared, each, text) for each in differing]
+             for compared, differing in zip(all_compared, documented(all_compared, text))]
+    return Outcome(play.held, all_compared, found, play.stale, play.unread, play.served)
 
 
-def named(play: Play, all_compared, compared: Compared, found: PartDiffering, text):
-    """A difference with the words that name it where commands overlap. A weak field is read from the descriptor, and not by a
-    query."""
-    words = tokens_of(compared.text).split()
-    if found.part in FIELDS and words[0] in ("show", "peek"):
-        said = TORN if words[0] == "show" else OVERTAKEN if is_stale(play, all_compared, compared, found.part) else FEWER_LOOKS
-        return found._replace(words=said if said in text else None, is_mended=said == FEWER_LOOKS)
-    if found.is_new and found.part in ("answer", "error") and re.match("drop (?:index|table) ", " ".join(words)) and TABLE_FIRST in text:
+def named(play: Play, compared: Compared, found: PartDiffering, text):
+    """A difference with the words that name it where commands overlap."""
+    words = tokens_of(compared.text)
+    seen = play.backends[compared.command[0]].seen.get(compared.command[1])
+    if seen and found.part in seen.fields and words.startswith(("show ", "peek ")):
+        return of_descriptor(play, compared.command, seen, found, text)
+    if found.is_new and found.part in ("answer", "error") and TABLE_FIRST in text and is_table_first(play, compared, words):
         return found._replace(words=TABLE_FIRST)
     return found
 
 
-def is_stale(play: Play, all_compared, compared: Compared, part):
-    """Whether a field that differs is stale for good: by the audit, or as another command has shown it, with an accept between
-    the two."""
-    backend, number = compared.command
-    if any((each.backend, each.table, each.field) == (backend, tokens_of(compared.text).split()[1], part) for each in play.stale):
-        return True
-    others = [each.command[1] for each in all_compared if each.command[0] == backend and each.command[1] != number
-              and each.text == compared.text and each.server.text == compared.server.text and part in each.differences]
-    accepts = {made.command for made in play.backends[backend].made if made.event in (("look", "no"), ("lock", "ok"))}
-    return any(set(range(min(number, other) + 1, max(number, other) + 1)) & accepts for other in others)
+def of_descriptor(play: Play, command, seen: Seen, found: PartDiffering, text):
+    """A difference in a field that was read from the descriptor, and not by a query. What the descriptor has is as old as the
+    server's catalog snapshot where the message is still to come, and old until the next accept where it mends it; else nothing is
+    left that would."""
+    kept = seen.fields[found.part]
+    if kept.value == kept.catalogs:
+        return found._replace(words=TORN) if TORN in text and reads_across_a_commit(play, command) else found
+    if is_on_the_way(play, command[0], seen):
+        return found._replace(words=TORN if TORN in text else None)
+    if kept.accepted == kept.catalogs:
+        return found._replace(words=FEWER_LOOKS if FEWER_LOOKS in text else None, is_mended=True)
+    return found._replace(words=OVERTAKEN if OVERTAKEN in text else None, catalogs=kept.catalogs)
+
+
+def reads_across_a_commit(play: Play, command):
+    """Whether another's commit became visible here between two scans of the transaction of a command."""
+    backend, number = command
+    scans: List[int] = []
+    for at, (own, of, text) in enumerate(play.run.steps):
+        if own == backend and of <= number:
+            scans = [] if text.startswith("release ") and of < number else scans + [at] * text.startswith("scan ")
+    between = play.run.steps[scans[0]:scans[-1]] if scans else []
+    return any(text.startswith("visible ") for own, _, text in between if own != backend)
+
+
+def is_on_the_way(play: Play, backend, seen: Seen):
+    """Whether a commit of another's change of the relation was visible in the server by then, and its messages not all sent."""
+    return any(changes_unsent(play, other, seen) for other in play.backends if other != backend)
+
+
+def changes_unsent(play: Play, backend, seen: Seen):
+    """Whether a backend had changed the relation, and was between the two then."""
+    is_within = False
+    for event in reversed([made.event for made in play.log[:seen.at] if made.backend == backend]):
+        if event[0] in ("visible", "gone", "release") and is_within or event[0] == "release":
+            return False
+        is_within = is_within or event[0] == "visible"
+        if is_within and event[0] == "write" and event[2:3] == (seen.rel,):
+            return True
+    return False
+
+
+def is_table_first(play: Play, compared: Compared, text):
+    """Whether the server has refused a drop because another one holds a table there: that of the index which is dropped, or one that
+    a `drop index` has locked before its index."""
+    found, (backend, number) = re.match("drop (index|table) ", text), compared.command
+    refused = [made for made in play.backends[backend].made if made.command == number and made.event[0] == "lock"
+               and made.event[-1] == "held"]
+    if not found or not refused or code_of(compared.server.text) != LOCKED:
+        return False
+    case = case_of(play, compared.command)
+    of_index = found.group(1) == "index"
+    table = case.rel and (case.facts.table_of(backend, case.rel) if of_index else case.rel)
+    return table and play.oids.get(table) == refused[-1].event[1] and (of_index or is_held_by_drop_index(play, refused[-1]))
+
+
+def is_held_by_drop_index(play: Play, refused: Made):
+    """Whether another's `drop index` holds the table whose lock was refused."""
+    holders: Set[int] = set()
+    for made in play.log[:next(at for at, made in enumerate(play.log) if made is refused)]:
+        if made.event[0] == "release":
+            holders.discard(made.backend)
+        elif made.event[:2] == refused.event[:2] and made.event[-1] == "ok":
+            text = tokens_of(play.commands.get((made.backend, made.command), ""))
+            holders |= {made.backend} if text.startswith("drop index ") else set()
+    return bool(holders - {refused.backend})
 
 
 def answers_text(outcome: Outcome) -> List[str]:
@@ -142,7 +210,8 @@ def answers_text(outcome: Outcome) -> List[str]:
         lines += ["", "%d.%d %s" % (compared.command + (compared.text,))] + answers(compared)
         lines += ["    " + each.text for each in found]
         lines += served_after(outcome, compared.command[1], compared.command[0])
-    return lines + [""] * bool(outcome.stale) + [each.text for each in outcome.stale]
+    kept = [each.text for each in outcome.stale + outcome.unread]
+    return lines + [""] * bool(kept) + kept
 
 
 def served_after(outcome: Outcome, command, backend=None):

@@ -5,7 +5,7 @@ import re
 import time
 from typing import Dict, List, NamedTuple, Tuple
 
-from .audit import Stale, stale_of
+from .audit import Stale, Unread, audit_of, audit_of_all, take_back
 from .faults import Fault
 from .held import Backend, Made, answer_of_server
 from .outputs import PLACE
@@ -148,6 +148,7 @@ class Play(Sessions):
         self.schedule = Schedule(run.steps, self.answers_here)
         self.turns: List[PlayedTurn] = []
         self.stale: List[Stale] = []
+        self.unread: List[Unread] = []              # what couldn't be looked at
         self.shown_to: Dict[int, int] = {}          # of each backend: how much of what it has made was shown
         self.held, self.stops, self.seconds = 0, 0, 0.0
 
@@ -158,9 +159,7 @@ class Play(Sessions):
             for turn in self.schedule.turns:
                 self.make(turn)
                 self.show(turn)
-            for backend in self.backends.values():
-                if not backend.is_busy:
-                    self.look_at(backend)
+            self.look_at_rest()
         finally:
             self.end()
             self.seconds = time.monotonic() - began
@@ -212,24 +211,33 @@ class Play(Sessions):
                 backend.watched.go()
 
     def stop(self, backend: Backend):
-        """A backend stops. Where another one is in the midst of a command, which may have something to tell yet, what this one
-        keeps is looked at in the end."""
-        if not any(other.is_busy for other in self.backends.values()):
-            self.look_at(backend)
-        elif backend.asked.in_block:
-            self.ask(backend, "rollback")
-            backend.asked.in_block = False
-
-    def look_at(self, backend: Backend):
-        """Looks at what a backend keeps that is stale for good, and ends it."""
-        if backend.watched is None:
+        """A backend stops; a block that it is in is taken back first, by what counts as one more command. What it keeps is looked at
+        in the end where another one is in the midst of a command, which may have something to tell yet, and where another one has
+        a table of it locked."""
+        backend.command += 1
+        take_back(self, backend)
+        backend.leave()
+        if any(other.is_busy for other in self.backends.values()):
             return
-        backend.say("stop")
-        backend.is_noted = False
-        self.stale += stale_of(self, backend)
+        audit = audit_of(self, backend)
+        self.stale += audit.stale
+        if not audit.unread:
+            self.end_session(backend)
+
+    def end_session(self, backend: Backend):
+        """Ends a backend's session."""
         self.stops += backend.watched.stops
         backend.let_go()
         backend.asked.end()
+
+    def look_at_rest(self):
+        """Looks at what those keep that haven't been looked at, in the end."""
+        audit = audit_of_all(self)
+        self.stale += [each for each in audit.stale if each not in self.stale]
+        self.unread = audit.unread
+        for backend in self.backends.values():
+            if not backend.is_busy and backend.watched is not None:
+                self.end_session(backend)
 
     def show(self, turn: Turn):
         """Notes what a turn's backend has made since its turn before."""

@@ -70,12 +70,13 @@ def main(words):
                 raise Unplayable("a sweep reads descriptors: where they are in PostgreSQL %s isn't known" % stage.version)
             found = sweep.run(stage, program)
             write_output(sweep_text(stage, sweep, found))
-            return DIFFERS if any(point.stale for point in found.points) else 0
+            return Unplayable.status if any(point.fault for point in found.points) else DIFFERS if any(
+                point.stale for point in found.points) else 0
         plays = [Play(stage, source, run).play() for _ in range(options.times or 1)]
     if options.trace:
         write_file(options.trace, Trace(plays[0]).text())
     outcomes = [outcome_of(play) for play in plays]
-    head = "beside PostgreSQL %s" % stage.version + ("" if stage.offsets else ", whose descriptors can't be read")
+    head = "beside " + stage.name
     write_output("\n".join(times_text(head, outcomes) if options.times else once_text(head, plays[0], outcomes[0], options)) + "\n")
     return DIFFERS if any(outcome.differs for outcome in outcomes) else 0
 

@@ -75,7 +75,7 @@ class Trace:
 
     def take_stop(self, command):
         """A backend leaves."""
-        self.put((command[0], command[1] + 1), "stop")
+        self.put(command, "stop")
 
     def take_look(self, command, answer):
         """A look; where nothing of ours waits it finds nothing."""

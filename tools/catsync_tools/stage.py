@@ -72,6 +72,15 @@ def followed(backend: Backend):
             backend.number, "has ended" if has_ended else "can't be followed: %s" % error.strerror))
 
 
+@contextlib.contextmanager
+def ended():
+    """A Fault in place of what is raised where a session, a process or the server has ended."""
+    try:
+        yield
+    except (Gone, OSError) as error:
+        raise Fault("the server: %s" % (getattr(error, "strerror", None) or error))
+
+
 class Stage:
     """A server with its program, tested; `with Stage() as stage` stops it at the end. An Unplayable says what is missing."""
 
@@ -87,6 +96,11 @@ class Stage:
             self.end(error)
             raise
 
+    @property
+    def name(self):
+        """The server's name, and whether descriptors can be read in it."""
+        return "PostgreSQL %s" % self.version + ("" if self.offsets else ", whose descriptors can't be read")
+
     def __enter__(self):
         return self
 
@@ -99,7 +113,8 @@ class Stage:
             self.clock.end()
         self.server.stop()
         if isinstance(error, (Gone, OSError)):
-            raise Fault("the server: %s" % (getattr(error, "strerror", None) or error))
+            with ended():
+                raise error
 
     def handle(self, backends):
         """Handles what these backends' processes were stopped by: whether any was."""

@@ -2,14 +2,14 @@
 backends keep is looked at. It needs no schedule."""
 from typing import Dict, List, NamedTuple, Tuple
 
-from .audit import Stale, stale_of
+from .audit import Audit, Stale, audit_of_all
 from .counting import counted_script
 from .faults import Fault
 from .kinds import KINDS
 from .play import Play, Sessions
 from .sentences import counted
 from .sources import read_source
-from .tracing import Unplayable
+from .stage import ended
 
 Command = Tuple[int, int]
 Item = Tuple[str, ...]          # the words of an entry here, by which a line of steps names it
@@ -40,13 +40,21 @@ class Point:
 
 
 class Swept(NamedTuple):
-    """A point: where it is, why nothing was held there, what both commands were answered, what is stale for good afterwards, and by
-    which items of a schedule it comes right after an entry here."""
+    """A point: where it is, why nothing was held there, what both commands were answered, what was looked at afterwards, by which
+    items of a schedule it comes right after an entry here; and why it couldn't be played, if so, and whether the command had come
+    to it."""
     place: str
-    not_held: str
-    answers: Tuple[str, str]
-    stale: List[Stale]
-    items: List[Item]
+    not_held: str = ""
+    answers: Tuple[str, ...] = ()
+    audit: Audit = Audit([], [])
+    items: Tuple[Item, ...] = ()
+    fault: str = ""
+    is_met: bool = True
+
+    @property
+    def stale(self) -> List[Stale]:
+        """What is stale for good."""
+        return self.audit.stale
 
 
 class AllSwept(NamedTuple):
@@ -74,9 +82,9 @@ class Sweep:
         self.after = [each for each in self.commands if each not in self.before + [held, made]]
 
     def run(self, stage, program) -> AllSwept:
-        """Sweeps all points."""
+        """Sweeps all points. What comes before a point and can't be played keeps the sweep from those after it, too: it ends there."""
         run, points = program.run(self.source.script.without_steps()), []
-        while True:
+        while not points or points[-1].is_met:
             point = self.at(stage, run, len(points) + 1)
             if point is None:
                 break
@@ -84,15 +92,26 @@ class Sweep:
         return AllSwept(points, *Shortest(self, stage, program).of(points))
 
     def at(self, stage, run, number):
-        """What comes of a point; None where the command has fewer."""
-        sessions = Sessions(stage, self.source, run)
+        """What comes of a point; None where the command has fewer. A Fault where not even the first one can be come to."""
+        point, sessions = Point(self.held[1], number), None
+        try:
+            with ended():
+                sessions = Sessions(stage, self.source, run)
+                return self.played(sessions, point)
+        except Fault as fault:
+            if number == 1 and point.event is None:
+                raise
+            return Swept(point.text(sessions.shown if sessions else str), fault=str(fault), is_met=point.event is not None)
+
+    def played(self, sessions, point):
+        """What comes of a point in these sessions."""
         try:
             for backend in sorted({backend for backend, _ in self.commands}):
                 sessions.serve(sessions.backend(backend))
             for command in self.before:
                 self.make(sessions, command)
             backend = sessions.backend(self.held[0])
-            point = backend.place = Point(self.held[1], number)
+            backend.place = point
             is_answered = self.make(sessions, self.held)
             if point.event is None:
                 return None
@@ -104,8 +123,8 @@ class Sweep:
                 sessions.serve(backend)
             for command in self.after:
                 self.make(sessions, command)
-            stale = [each for backend in sessions.backends.values() for each in stale_of(sessions, backend)]
-            return Swept(point.text(sessions.shown), backend.not_held or "", self.answers(sessions), stale, items_of(sessions, events))
+            return Swept(point.text(sessions.shown), backend.not_held or "", self.answers(sessions), audit_of_all(sessions),
+                         items_of(sessions, events))
         finally:
             sessions.end()
 
@@ -123,11 +142,11 @@ class Sweep:
         return tuple(sessions.answers[command].text for command in (self.held, self.made))
 
 
-def items_of(sessions, events) -> List[Item]:
+def items_of(sessions, events) -> Tuple[Item, ...]:
     """The items of a schedule up to the last of these events that is an entry here; as many as come to it."""
     words = {name: kind.words for name, kind in KINDS.items() if kind.words}
     names = [tuple(sessions.shown(event[:words[event[0]]]).split()) for event in events if event[0] in words and event[-1] != "again"]
-    return [name for name in names if name == names[-1]] if names and not any("~" in word for word in names[-1]) else []
+    return tuple(name for name in names if name == names[-1]) if names and not any("~" in word for word in names[-1]) else ()
 
 
 class Shortest:
@@ -141,7 +160,7 @@ class Shortest:
         places: Dict[Tuple[Item, ...], List[int]] = {}
         for number, point in enumerate(points, 1):
             if point.stale:
-                places.setdefault(tuple(point.items), []).append(number)
+                places.setdefault(point.items, []).append(number)
         scripts, without = [], []
         for items, numbers in places.items():
             if items and self.is_stale(self.sweep.before, self.sweep.after, items):
@@ -178,22 +197,26 @@ class Shortest:
         try:
             source = read_source(self.script(before, after, items).encode("ascii"))
             run = self.program.run(counted_script(source, lambda: self.program))
-            return bool(Play(self.stage, source, run).play().stale)
-        except (Unplayable, Fault):
+            with ended():
+                return bool(Play(self.stage, source, run).play().stale)
+        except Fault:
             return False
 
 
 def sweep_text(stage, sweep: Sweep, found: AllSwept):
     """The table of points, and the scripts."""
-    stale = sum(bool(point.stale) for point in found.points)
+    stale, unplayed = sum(bool(point.stale) for point in found.points), sum(bool(point.fault) for point in found.points)
     held, made = "%d.%d" % sweep.held, "%d.%d" % sweep.made
-    lines = ["PostgreSQL %s: %s held at %s, and %s made there; stale for good at %s" % (
-        stage.version, held, counted(len(found.points), "point"), made, stale or "none")]
+    lines = ["PostgreSQL %s: %s held at %s, and %s made there; stale for good at %s%s" % (
+        stage.version, held, counted(len(found.points), "point"), made, stale or "none",
+        "; %d can't be played" % unplayed if unplayed else "")]
     width = max([len(point.place) for point in found.points] + [0])
     for number, point in enumerate(found.points, 1):
         said = ["%s: %s" % (name, text) for name, text in zip((held, made), point.answers) if text != "ok"]
         said += ["not held: " + point.not_held] if point.not_held else []
-        lines.append(("%4d  %-*s  %s" % (number, width, point.place, "; ".join(said + [each.text for each in point.stale]))).rstrip())
+        said += ["can't be played: " + point.fault] if point.fault else []
+        said += [each.text for each in point.audit.stale + point.audit.unread]
+        lines.append(("%4d  %-*s  %s" % (number, width, point.place, "; ".join(said))).rstrip())
     for numbers, script in found.scripts:
         lines += ["", "shown at %s:" % points_text(numbers), script.rstrip("\n")]
     if found.without:
