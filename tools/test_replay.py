@@ -25,6 +25,7 @@ from catsync_tools import stage as stages
 from catsync_tools.audit import Audit, audit_of_all
 from catsync_tools.beside_events import turns_text
 from catsync_tools.counting import counted_script
+from catsync_tools.explored import played_text
 from catsync_tools.faults import Fault
 from catsync_tools.outcome import answers_text, outcome_of
 from catsync_tools.outputs import read_output
@@ -36,6 +37,7 @@ from catsync_tools.program import Program
 from catsync_tools.server_trace import Trace
 from catsync_tools.sources import read_source
 from catsync_tools.stage import Stage, check_stage
+from catsync_tools.sweep import Sweep, sweep_text
 from catsync_tools.tracing import Binary, Gone, Traced, Unplayable, check_tracing
 
 
@@ -61,6 +63,20 @@ DROPPED = ("setup 1: create table t (a int4)", "1: drop table t", "1: create tab
 ROLLED_BACK = ("setup 1: create table t (a int4)", "1: begin", "1: alter table t add column b int4", "1: rollback",
                "1: alter table t rename to u", "2: show t columns", "3: show t columns", "3: show t columns",
                "steps 3 to 1, 1 to gone, 2 to 1, 3 to look, 1 to end, 3 to unlock, 2 to end, 3 to end")
+# A rebuild is overtaken, and a later message mends it; without a default the message isn't taken within the rebuild.
+OVERTAKEN = ("setup 1: create table t (a int4)", "setup 1: alter table t alter column a set default 5", "setup 2: begin",
+             "setup 2: open t", "setup 1: alter table t alter column a set statistics 100",
+             "1: alter table t alter column a set statistics 200", "1: alter table t set (fillfactor = 50)",
+             "2: lock table t in row share mode", "2: show t statistics", "2: lock table t in row exclusive mode",
+             "2: show t statistics", "2: commit", "steps 2 to scan attribute, 1 to 4, 2 to 4, 1 to end, 2 to end")
+NOT_TAKEN = tuple(line.replace("1 to 4", "1 to 3").replace("show t", "peek t") for line in OVERTAKEN if "default" not in line)
+TABLE_FIRST = ("setup 1: create table t (a int4)", "setup 1: create index i on t (a)", "setup 1: create index j on t (a)",
+               "1: drop index i", "2: drop index j", "steps 1 to lock, 2 to end, 1 to end")
+LOCKED_ALONE = ("setup 1: create table t (a int4)", "2: begin", "server 2.1: lock table t in access share mode", "1: drop table t",
+                "2: commit", "steps 2 to 1, 1 to end, 2 to end")
+VIEWED_ALONE = ("1: create table t (a int4)", "server 1.1: create view v as select * from t", "1: drop table t")
+# What is held in the end has the table locked that another one has a descriptor of.
+ENDS_LOCKED = ("setup 1: create table t (a int4)", "1: alter table t add column b int4", "2: show t", "steps 2 to 1, 1 to scan attribute, 2 to end")
 REFUSED = ("setup 1: create table t (a int4)", "1: alter table t add column b int4", "2: show t columns", "2: show t columns",
            "steps 2*20 1*22 2*3 1*4")
 
@@ -327,6 +343,38 @@ class Played(unittest.TestCase):
                          [((2, 1), [("statistics", "half of one commit")])])
         self.assertFalse(outcome.differs)
 
+    def test_old_answers(self):
+        """An old answer that no message tells of differs, though a later one mends it; one that the next accept mends doesn't."""
+        overtaken, not_taken = (outcome_of(self.play(script_of(*lines))) for lines in (OVERTAKEN, NOT_TAKEN))
+        found = [[(each.part, each.words, each.catalogs, each.is_mended) for found in outcome.found for each in found]
+                 for outcome in (overtaken, not_taken)]
+        self.assertEqual(found, [[("statistics", "an older rebuild may be put over a newer one", "1:200", False)],
+                                 [("statistics", "they aren't looked for", None, True)]])
+        self.assertEqual([(each.stale, each.differs) for each in (overtaken, not_taken)], [([], True), ([], False)])
+        self.assertRegex(overtaken.text, "; 1 answer is stale until a later message$")
+
+    def test_table_first(self):
+        """A drop is refused in the server alone where a `drop index` has the table locked; what else refuses it isn't named."""
+        for lines, words in ((TABLE_FIRST, "the table first"), (LOCKED_ALONE, None), (VIEWED_ALONE, None)):
+            outcome = outcome_of(self.play(script_of(*lines)))
+            self.assertEqual([(each.part, each.words) for found in outcome.found for each in found], [("answer", words)])
+            self.assertEqual(outcome.differs, words is None)
+
+    def test_what_is_not_looked_at(self):
+        """A backend inside a command, and a table that another one has locked, are said not to be looked at, and why."""
+        outcome = outcome_of(self.play(script_of(*ENDS_LOCKED)))
+        self.assertEqual([each.text for each in outcome.unread], [
+            "what backend 1 keeps isn't looked at: it is inside command 2",
+            "what backend 2 keeps of t isn't looked at: backend 1 has it locked"])
+        self.assertEqual(answers_text(outcome)[-3:], [""] + [each.text for each in outcome.unread])
+
+    def test_stop(self):
+        """A stop has the number that it has here; a block that is open before it is taken back by a command of that number."""
+        play = self.play(script_of("1: create table t (a int4)", "2: begin", "2: lock table t in share mode"))
+        self.assertEqual([[(made.command,) + made.event for made in turn.made][-1] for turn in play.turns],
+                         [(2, "stop"), (3, "stop"), (1, "stop")])
+        self.assertIn((3, ("release",)), [(made.command, made.event) for made in play.backends[2].made])
+
     def test_resets(self):
         """The queue is overrun where it is here: the backend resets in its turn."""
         for name, turn in (("lapped_reader", 2), ("reset_inside_build", 3)):
@@ -437,7 +485,8 @@ class Commands(unittest.TestCase):
         at = lines.index("2.4 peek t statistics")
         self.assertEqual(lines[at + 1:at + 4], [
             "    here    statistics 1:200", "    server  statistics 1:100",
-            "    differs in statistics, as docs/PROFILE.md says: an older rebuild may be put over a newer one"])
+            "    differs in statistics, as docs/PROFILE.md says: an older rebuild may be put over a newer one; the catalogs have 1:200, "
+            "and no message is left"])
         self.assertEqual(lines[-2:], ["backend 2 keeps statistics 1:100 of t; the catalogs have 1:200, and no message is left", ""])
 
     def test_process_that_ends(self):
@@ -495,6 +544,50 @@ class Commands(unittest.TestCase):
             self.assertEqual((len(verdicts), set(verdicts)), (sets.count("\nset "), {"came"}))
         for words in (["--replay", "--find", "ok"], ["--replay", "--part", "1/2"]):
             self.assertEqual(call("explore", *words)[0], 2)
+
+    def test_one_set_that_fails(self):
+        """What keeps one set of the explorer's from being played is told, and the others are played; so where offsets aren't known."""
+        sets = [unittest.mock.Mock(found=unittest.mock.Mock(turns=turns)) for turns in ((), (7,), ())]
+        program = Program(PROGRAM)
+        run = run_of(script_of("1: begin"), program)
+        program.close()
+        exploration = unittest.mock.Mock(source=script_of("1: begin"))
+        exploration.runner.setup = ()
+
+        def with_turns(turns):
+            if turns:
+                raise ConnectionError(104, "Connection reset by peer")
+            return run
+        exploration.runner.runs.with_turns = with_turns
+        with unittest.mock.patch("catsync_tools.stage.offsets_of", lambda _: None):
+            text, status = played_text(exploration, sets)
+        self.assertRegex(text, r"^\nin PostgreSQL [0-9.]+, whose descriptors can't be read:\nset 1: came\n"
+                         r"set 2: can't be played: the server: Connection reset by peer\nset 3: came\n$")
+        self.assertEqual(status, 3)
+
+    def test_one_point_that_fails(self):
+        """What keeps one point of a sweep from being played is told, and the others are swept; what comes before a point ends it."""
+        program, sweep = Program(PROGRAM), Sweep(script_of("1: create table t (a int4)", "2: show t", "1: commit"), (2, 1), (1, 2))
+        played = sweep.played
+
+        def fails(sessions, point):
+            number = point.left
+            if number == 4:
+                sessions.end()
+                raise Fault("before it")
+            found = played(sessions, point)
+            if number == 2:
+                raise ConnectionError(104, "Connection reset by peer")
+            return found
+        with Stage() as stage, unittest.mock.patch.object(sweep, "played", fails):
+            found = sweep.run(stage, program)
+            text = sweep_text(stage, sweep, found)
+        program.close()
+        self.assertEqual([(point.fault, point.is_met) for point in found.points], [
+            ("", True), ("the server: Connection reset by peer", True), ("", True), ("before it", False)])
+        self.assertRegex(text.split("\n")[0], "^PostgreSQL [0-9.]+: 2.1 held at 4 points, and 1.2 made there; stale for good at none; "
+                         "2 can't be played$")
+        self.assertRegex(text, "\n   2  .*  can't be played: the server: Connection reset by peer\n(.*\n)*   4  a point .*: before it\n$")
 
     def test_signals(self):
         """A signal at any time, and a second one after it, leaves no server and no folder."""

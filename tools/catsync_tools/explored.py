@@ -15,18 +15,13 @@ def played_text(exploration, sets):
         lines.append("in %s:" % stage.name)
         for number, shown in enumerate(sets, 1):
             try:
-                run = runner.runs.with_turns(runner.setup + shown.found.turns)
-                said = verdict(played(stage, exploration.source, run))
+                with ended():
+                    run = runner.runs.with_turns(runner.setup + shown.found.turns)
+                    said = verdict(outcome_of(Play(stage, exploration.source, run).play()))
             except Fault as fault:
                 said, status = "can't be played: %s" % fault, Unplayable.status
             lines.append("set %d: %s" % (number, said))
     return "\n".join([""] + lines + [""]), status
-
-
-def played(stage, source, run) -> Outcome:
-    """What comes of a schedule in a server."""
-    with ended():
-        return outcome_of(Play(stage, source, run).play())
 
 
 def verdict(outcome: Outcome):
