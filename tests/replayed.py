@@ -14,6 +14,7 @@ TOP = os.path.dirname(os.path.dirname(os.path.abspath(__file__)))
 sys.path.insert(0, os.path.join(TOP, "tools"))
 sys.dont_write_bytecode = sys.pycache_prefix is None
 
+from catsync_tools.beside_events import turns_text                                  # noqa: E402
 from catsync_tools.counting import counted_script                                   # noqa: E402
 from catsync_tools.faults import Fault, read_file                                   # noqa: E402
 from catsync_tools.outcome import outcome_of                                        # noqa: E402
@@ -22,7 +23,7 @@ from catsync_tools.play import Play                                             
 from catsync_tools.program import Program, own_program                              # noqa: E402
 from catsync_tools.server_trace import Trace                                        # noqa: E402
 from catsync_tools.sources import read_source                                       # noqa: E402
-from catsync_tools.stage import Stage, check_stage                                  # noqa: E402
+from catsync_tools.stage import Stage, check_stage, ended                            # noqa: E402
 from catsync_tools.start import INTERRUPTED, take_signals                           # noqa: E402
 from catsync_tools.story import story_of                                            # noqa: E402
 from catsync_tools.tracing import Unplayable                                        # noqa: E402
@@ -47,9 +48,10 @@ def scripts():
 
 
 def play(stage, program, path):
-    """The play of a script; and its trace can be drawn."""
+    """The play of a script; and it can be printed, and its trace drawn."""
     source = read_source(read_file(path))
     played = Play(stage, source, program.run(counted_script(source, lambda: program))).play()
+    turns_text(played, False)
     story_of(read_output(Trace(played).text().encode("ascii")))
     return played
 
@@ -58,13 +60,14 @@ def fault_of(stage, program, path):
     """How often backends were held in a play, and what is wrong with it, or nothing."""
     name, expected = name_of(path), NOT_MET.get(name_of(path))
     try:
-        outcome = outcome_of(play(stage, program, path))
-    except Unplayable as fault:
+        with ended():
+            outcome = outcome_of(play(stage, program, path))
+    except Fault as fault:
         return 0, "" if expected and str(fault).startswith(expected) else str(fault)
     if expected:
         return 0, "the server comes to each place"
     new = ["%d.%d in %s" % (compared.command + (each.part,)) for compared, found in zip(outcome.compared, outcome.found)
-           for each in found if each.is_new]
+           for each in found if each.is_new or each.is_stale and name not in STALE]
     if new or len(outcome.stale) != STALE.get(name, 0):
         return outcome.held, "; ".join(["differs: " + ", ".join(new)] * bool(new) + ["%d stale for good" % len(outcome.stale)])
     return outcome.held, ""

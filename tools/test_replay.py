@@ -27,12 +27,13 @@ from catsync_tools.beside_events import turns_text
 from catsync_tools.counting import counted_script
 from catsync_tools.explored import played_text
 from catsync_tools.faults import Fault
+from catsync_tools.kinds import KINDS
 from catsync_tools.outcome import answers_text, outcome_of
 from catsync_tools.outputs import read_output
 from catsync_tools.picture import picture_of, span_of
 from catsync_tools.places import EventPlace, Schedule
 from catsync_tools.play import Play, Sessions
-from catsync_tools.points import AFTER, BEFORE
+from catsync_tools.points import AFTER, BEFORE, FUNCTIONS, Watched
 from catsync_tools.program import Program
 from catsync_tools.server_trace import Trace
 from catsync_tools.sources import read_source
@@ -150,6 +151,16 @@ class Files(unittest.TestCase):
                 done, shown, said = call("replay", "--program", PROGRAM, *words)
                 self.assertEqual((done, shown, said.count("\n")), (status, b"", 1), said)
                 self.assertIn(expected, said)
+
+    def test_kinds(self):
+        """Each kind of event has its functions' methods, a place in a trace, and a row of docs/REPLAY.md."""
+        page = content_of(os.path.join(TOP, "docs", "REPLAY.md")).decode()
+        for name, kind in KINDS.items():
+            with self.subTest(name):
+                self.assertTrue(name == "told" or hasattr(Trace, "take_" + name))
+                self.assertRegex(page, "(?m)^[|] .*`%s`.* [|] .*" % name + "|".join(kind.functions[:1]))
+        for function, method in FUNCTIONS.items():
+            self.assertTrue(hasattr(Watched, "write_row" if method == "write" else method), function)
 
     def test_lines_for_the_server(self):
         """What the server alone is asked is a comment for all else, and has a form and a place."""
@@ -355,9 +366,11 @@ class Played(unittest.TestCase):
 
     def test_table_first(self):
         """A drop is refused in the server alone where a `drop index` has the table locked; what else refuses it isn't named."""
-        for lines, words in ((TABLE_FIRST, "the table first"), (LOCKED_ALONE, None), (VIEWED_ALONE, None)):
-            outcome = outcome_of(self.play(script_of(*lines)))
-            self.assertEqual([(each.part, each.words) for found in outcome.found for each in found], [("answer", words)])
+        for source, words in ((script_of(*TABLE_FIRST), "the table first"), (example("races/drops_that_cross"), "the table first"),
+                              (script_of(*LOCKED_ALONE), None), (script_of(*VIEWED_ALONE), None)):
+            outcome = outcome_of(self.play(source))
+            differ = [each for found in outcome.found for each in found]
+            self.assertEqual([(each.part, each.words) for each in differ if not each.after], [("answer", words)])
             self.assertEqual(outcome.differs, words is None)
 
     def test_what_is_not_looked_at(self):

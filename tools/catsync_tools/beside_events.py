@@ -25,7 +25,7 @@ def is_shown(event, own):
         return False
     if event[0] in KINDS and KINDS[event[0]].is_of_relation:
         return all(part in own for part in event[1:] if isinstance(part, int))
-    return event[0] != "write" or event[1][1:] not in ("class", "att") or not isinstance(event[2], int) or event[2] in own
+    return event[0] != "write" or event[1][1:] not in ("class", "att") or all(part in own for part in event[2:3] if isinstance(part, int))
 
 
 def event_text(play: Play, made):

@@ -36,7 +36,7 @@ def arguments_of(words):
     parser = Arguments("explore", "[OPTION].. < SCRIPT, or explore --merge FILE..", "Runs a script under many schedules, and "
                        "prints each set of answers with the shortest schedule that leads to it.",
                        ((0, "the search came to its end, or found the texts"), (NOT_FOUND, "no schedule has the texts"),
-                        (NOT_WHOLE, "of --merge: parts are missing, or were stopped; with --replay: nothing can be played here, or not each set")))
+                        (NOT_WHOLE, "of --merge: parts are missing, or were stopped; with --replay: nothing can be played here, or a set can't")))
     parser.option("--most", type=count_of, metavar="N",
                   help="all orders are run where there are at most N, else N random schedules (%d)" % MOST_ORDERS)
     parser.option("--random", type=count_of, metavar="N", help="N random schedules, without a search for all orders")

@@ -178,17 +178,28 @@ def changes_unsent(play: Play, backend, seen: Seen):
 
 
 def is_table_first(play: Play, compared: Compared, text):
-    """Whether the server has refused a drop because another one holds a table there: that of the index which is dropped, or one that
-    a `drop index` has locked before its index."""
-    found, (backend, number) = re.match("drop (index|table) ", text), compared.command
-    refused = [made for made in play.backends[backend].made if made.command == number and made.event[0] == "lock"
-               and made.event[-1] == "held"]
-    if not found or not refused or code_of(compared.server.text) != LOCKED:
+    """Whether a drop is refused in one of the two alone as the server's `drop index` locks the table before the index. In the server
+    another one holds a table then: that of the index, or one that a `drop index` has locked. Or here another one has locked the
+    table meanwhile, which the server refuses it."""
+    found, case = re.match("drop (index|table) ", text), case_of(play, compared.command)
+    if not found or not case.rel:
         return False
-    case = case_of(play, compared.command)
     of_index = found.group(1) == "index"
-    table = case.rel and (case.facts.table_of(backend, case.rel) if of_index else case.rel)
-    return table and play.oids.get(table) == refused[-1].event[1] and (of_index or is_held_by_drop_index(play, refused[-1]))
+    table = case.facts.table_of(case.backend, case.rel) if of_index else case.rel
+    locks = [made for made in play.log if made.event[:2] == ("lock", play.oids.get(table))]
+    own = [made for made in locks if (made.backend, made.command) == compared.command]
+    if not own:
+        return False
+    if code_of(compared.server.text) == LOCKED:
+        return own[-1].event[-1] == "held" and (of_index or is_held_by_drop_index(play, own[-1]))
+    return of_index and is_refused_here(play, compared, table) and any(
+        made.event[-1] == "held" and made.backend != case.backend for made in locks[locks.index(own[-1]):])
+
+
+def is_refused_here(play: Play, compared: Compared, rel):
+    """Whether a command is refused here as another one has a relation locked."""
+    return code_of(compared.here) == LOCKED and any(
+        (backend, command) == compared.command and re.match("lock %d .* held " % rel, text) for backend, command, text in play.run.steps)
 
 
 def is_held_by_drop_index(play: Play, refused: Made):

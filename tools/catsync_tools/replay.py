@@ -30,7 +30,7 @@ def arguments_of(words):
     parser = Arguments("replay", "[OPTION].. SCRIPT", "Plays a script's schedule in a PostgreSQL server of its own, whose backends "
                        "are held where their turns end, and prints what each does there beside what it does here.",
                        ((0, "played, and nothing differs but as docs/PROFILE.md says"), (1, "something differs, or is stale for good"),
-                        (Unplayable.status, "it can't be played: one line on standard error says why")))
+                        (Unplayable.status, "it can't be played: one line on standard error says why; or a point of a sweep can't")))
     parser.option("script", metavar="SCRIPT", help="a script's file")
     parser.option("--times", type=count_of, metavar="N", help="play it N times, and print how often which answers came")
     parser.option("--all", action="store_true", help="print looks without a message too, and what isn't of the script's tables")
