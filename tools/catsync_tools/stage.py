@@ -54,7 +54,7 @@ class Clock:
 
     def end(self):
         """Ends it."""
-        signal.set_wakeup_fd(self.waked)
+        signal.set_wakeup_fd(self.waked, warn_on_full_buffer=False)
         signal.signal(signal.SIGCHLD, self.before)
         self.inner.close()
         self.outer.close()
