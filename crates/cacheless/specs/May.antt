@@ -1,4 +1,4 @@
--- In which words the code searches for what is lacking.
+-- What is lacking, as the code searches for it.
 use Rattle.std.specs.Prelude.{◌≡◌, ℕ, Bool, true, false, not, List, ◌&&◌, ◌||◌, is_some, nat_lt, slice_get}
 use Rattle.std.specs.Option.{option_map_or}
 use Rattle.std.specs.List.{find}
@@ -13,7 +13,6 @@ use Rattle.cacheless.specs.Session.{Badly, outcome_of}
 use Rattle.cacheless.specs.Owed.{act_owed, is_next_in, has_looked_in, is_free}
 pub use Rattle.cacheless.specs.Rule.{names_relation}
 use Rattle.cacheless.specs.Rule.{may_play, may_last, may_come, is_lock, is_unlock, may_lock, may_end, same_end, comes_next, is_free_to}
-use Rattle.cacheless.specs.Rule.{may_end_last as ends_last}
 use Rattle.cacheless.specs.Ends.{End, next_of_commit, next_of_taking_back, next_of_end}
 use Rattle.event_kinds.specs.declared.entry.Event.TheVariants as events
 pub use Rattle.cacheless.specs.State.{owes_nothing}
@@ -87,21 +86,6 @@ may_unlock_at command rel mode s = is_free (facts_at s) command (work_at s) && i
 
 abbrev pub may_end_at : Command → Progress → Event → Bool
 may_end_at command s event = may_end (facts_at s) command (work_at s) event
-
-abbrev pub may_end_last : Progress → Event → Bool
-may_end_last s event = ends_last (facts_at s) event
-
-abbrev pub releases : ℕ → Event → Bool
-releases first event = same_end (events.Release first) event
-
-abbrev pub shows : ℕ → Event → Bool
-shows own event = same_end (events.Visible (record { 0 = own })) event
-
-abbrev pub publishes : ℕ → Event → Bool
-publishes most event = same_end (events.Publish most) event
-
-abbrev pub takes_back : ℕ → Event → Bool
-takes_back first event = same_end (events.Gone first) event
 
 abbrev pub is_next_of_commit : ℕ → Progress → Event → Bool
 is_next_of_commit first s event = same_end (next_of_commit (facts_at s) first) event

@@ -1,4 +1,4 @@
--- The order in which backends do what their commands say.
+-- The order in which backends do what their commands say, as a relation. Rule computes it.
 use Rattle.std.specs.Prelude.{ℕ, Bool, true, false, Option, Some, None, List, [], ◌∷◌, ◌≡◌, ◌+◌, ◌*◌, nat_le, ⊤, length, is_some, slice_get, if◌then◌else◌}
 use Rattle.std.specs.List.{list_any, flat_map}
 use Rattle.std.specs.Str.{bytes_eq}
@@ -35,7 +35,7 @@ IsLock facts (Do (Lookup name wanted) rest) rel mode = (class_oid (rows_kept fac
 IsLock facts (Do (Lock wanted_rel wanted) rest) rel mode = (rel ≡ wanted_rel) × (mode ≡ wanted)
 IsLock facts plan rel mode = ⊥
 
--- the next act gives this lock back: its lookup has newly taken it, and finds no relation or another one
+-- the next act releases this lock: its lookup has newly taken it, and finds no relation or another one
 abbrev pub IsUnlock : Facts → Option Oid → Plan → Oid → Mode → Type 0
 IsUnlock facts taken (Do (Lookup name wanted) rest) rel mode = (taken ≡ Some rel) × (mode ≡ wanted) × (finds rel (rows_kept facts.kept (scans.RelName name)) ≡ false)
 IsUnlock facts taken plan rel mode = ⊥

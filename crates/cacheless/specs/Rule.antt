@@ -1,4 +1,4 @@
--- The rule: what may come next of a backend, by the facts of its entries and by its running command.
+-- The rule: what may come next of a backend, by the facts of its entries and by its running command. It computes what Plays says as a relation (`come_decides`).
 use Rattle.std.specs.Prelude.{ℕ, Bool, true, false, not, Option, Some, None, List, ◌∷◌, ◌+◌, ◌*◌, ◌==◌, ◌&&◌, nat_le, is_none, is_some, slice_get}
 use Rattle.std.specs.Option.{option_map_or}
 use Rattle.std.specs.List.{list_any, flat_map}
@@ -43,7 +43,7 @@ is_lock facts (Do (Lookup name wanted) rest) rel mode = names_relation rel (row_
 is_lock facts (Do (Lock other wanted) rest) rel mode = same_oid rel other && same_mode mode wanted
 is_lock facts plan rel mode = false
 
--- the next act gives this lock back: its lookup has newly taken it, and finds no relation or another one
+-- the next act releases this lock: its lookup has newly taken it, and finds no relation or another one
 abbrev pub is_unlock : Facts → Option Oid → Plan → Oid → Mode → Bool
 is_unlock facts taken (Do (Lookup name wanted) rest) rel mode = option_map_or (same_oid rel) taken false && same_mode mode wanted && not (names_relation rel (row_of_name facts name))
 is_unlock facts taken plan rel mode = false

@@ -229,9 +229,3 @@ begins_in blocks ended command = elim blocks.block [ Outside ↦ not (ends_block
 
 abbrev pub has_write_since : ℕ → Progress → Bool
 has_write_since from s = has_write_from from (lists_at s)
-
-abbrev pub is_visible_at : Progress → Bool
-is_visible_at s = option_map_or (λ t. t.visible) s.running false
-
-abbrev pub xid_at : Progress → ℕ
-xid_at s = option_map_or (λ t. option_map_or (λ x. x.0) t.xid 0) s.running 0

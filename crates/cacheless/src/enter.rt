@@ -151,7 +151,7 @@ impl Progress {
         self.lets_accept(command)
     }
 
-    // The same, as it is tested.
+    // Split off for its proof: the clause as the code tests it.
     fn lets_accept(&self, command: &Command) -> bool
         ensures { result ≡ (not (none_in (owed_first_in (facts_at self.now) command.now (work_at self.now))) || not (none_in (owed_after self.now.due)) || owes_build_in (facts_at self.now) (work_at self.now)) }
     {

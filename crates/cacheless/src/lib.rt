@@ -8,8 +8,8 @@
 //! at once. What a command answers is read off the history alone, as a backend without any cache
 //! would answer.
 //!
-//! specs/ is to be read in this order: Facts, Locks, Session, Owed, Ends, Settled, Sessions, Plays,
-//! Protected, Lines, Schedule, Output. The worked examples hold of them by computation (proofs/).
+//! specs/ is to be read in this order: Facts, Locks, Session, Work, Owed, Ends, Settled, Sessions, Plays,
+//! Protected, Lines, Schedule, Output. Rule computes what Plays says as a relation. The worked examples hold of them by computation (proofs/).
 //! ActsDone, how far a command is by the rows that its acts gave, is for the proofs, here and above.
 //!
 //! A [`Progress`] is what these folds give of one backend, kept up to date entry by entry: its session,
@@ -33,8 +33,8 @@
 //!
 //! The promise is in specs/Holds.antt: before an entry the code `Rests` in a history, after it `Holds`
 //! the session of the longer one, after `settle` it rests again. The history stands in the contracts
-//! alone. specs/State has what the code holds in the definitions' words, May what may come next by
-//! these, Silently what is done without an entry, Answering what a command answers by them. The promise
+//! alone. specs/State has what the code holds in the definitions' words, May how it searches for what is
+//! lacking, Silently what is done without an entry, Answering what a command answers by them. The promise
 //! of what it answers is in Telling: that is the command's line.
 //!
 //! specs/Awaiting says where a session is between two entries of its backend, and right after one. The laws of it are in

@@ -162,7 +162,7 @@ impl Progress {
         self.is_first_lacked(scan)
     }
 
-    // The same, as it is tested.
+    // Split off for its proof: the clause as the code tests it.
     fn is_first_lacked(&self, scan: &Purpose) -> bool
         ensures { result ≡ (not (failed self.now) && (list_any (λ o. is_first scan.now (kept_at self.now) o.kind o.rel) self.now.opened || is_next_of_act scan.now (kept_at self.now) (plan_at self.now.opens self.now.exec))) }
     {
@@ -212,7 +212,7 @@ impl Progress {
         self.owes_nothing(command) && self.is_unlock(rel, mode)
     }
 
-    // Whether the next act gives this lock back.
+    // Whether the next act releases this lock.
     fn is_unlock(&self, rel: Oid, mode: Mode) -> bool
         ensures { result ≡ gives_back (facts_at self.now) self.now.taken (plan_at self.now.opens self.now.exec) rel mode }
     {
@@ -273,7 +273,7 @@ impl Progress {
         self.lacks_nothing(command)
     }
 
-    // The same, as it is tested.
+    // Split off for its proof: the clause as the code tests it.
     fn lacks_nothing(&self, command: &Command) -> bool
         ensures { result ≡ (none_in (owed_first_in (facts_at self.now) command.now (work_at self.now)) && none_in (owed_after self.now.due) && not (lacks_any self.now)) }
     {
@@ -306,7 +306,7 @@ impl Progress {
         self.lacks_a_build()
     }
 
-    // The same, as it is tested.
+    // Split off for its proof: the clause as the code tests it.
     fn lacks_a_build(&self) -> bool
         ensures { result ≡ (not (failed self.now) && (lacks_opened (kept_at self.now) self.now.opened || lacks_to_build (kept_at self.now) (plan_at self.now.opens self.now.exec))) }
     {
@@ -327,7 +327,7 @@ impl Progress {
         self.lacks_serving()
     }
 
-    // The same, as it is tested.
+    // Split off for its proof: the clause as the code tests it.
     fn lacks_serving(&self) -> bool
         ensures { result ≡ (not (failed self.now) && lacks_opened (kept_at self.now) self.now.opened) }
     {

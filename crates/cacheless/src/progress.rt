@@ -21,7 +21,7 @@ pub enum Due {
     Look,
     /// Its look said that messages wait.
     Fetch,
-    /// Nothing: it took back what was written from this command on.
+    /// Nothing first: it took back what was written from this command on, and the release of its end comes next.
     Gone { from: u32 },
 }
 

@@ -178,7 +178,7 @@ impl Progress {
         self.has_ended(command)
     }
 
-    // The same, as it is tested.
+    // Split off for its proof: the clause as the code tests it.
     fn has_ended(&self, command: &Command) -> bool
         requires few { self.now.finished ≤ 20000 }
         ensures { result ≡ (has_come_out self.now && (self.now.ended || ends_silently_by (end_in (facts_at self.now) command.now (work_at self.now))) && is_free (facts_at self.now) command.now (work_at self.now)) }

@@ -27,11 +27,10 @@
 //!
 //! The rows and the two numbers are kept by the crate below, a [`SegmentRows`](segment_rows::SegmentRows).
 //!
-//! How it is proved: what the code answers is a word over what it holds (`specs/Words.antt`), and these
-//! words decide the definitions (`proofs/MayFollow.antt`).
+//! How it is proved: what the code answers is a definition over what it holds (`specs/Words.antt`), and these
+//! decide the definitions (`proofs/MayFollow.antt`).
 //!
-//! Besides want of memory one thing alone is answered as out of memory: an entry whose command has no successor
-//! in 32 bits.
+//! An entry whose command has no successor in 32 bits is answered as out of memory too.
 #![tactic(auto)]
 
 mod backends;

@@ -23,8 +23,7 @@
 //!
 //! A lookup goes by the hash of its key or by its relation, and a message to what it takes out: neither
 //! passes over anything else, but for the lists of columns, all of which a message for a column takes out. For
-//! these it passes over their buckets, of which there stay as many as the most lists at one time had asked for,
-//! and over none where no list is there.
+//! these it passes over their buckets, which never get fewer, and over none where no list is there.
 //!
 //! Different from the server: a descriptor is kept scan by scan as it is built, and serves as soon as the
 //! scan is there that is asked for; one that is pinned and to be built anew keeps its place, and its rows,

@@ -1,4 +1,4 @@
--- What is asked of the scans that a write changes, by what is held and by the seg.
+-- What is asked of the scans that a write changes, by what is held and by the segment.
 use Rattle.std.proofs.Common.{◌≡◌, ◌∙◌, ◌||◌, ◌&&◌, ℕ, Bool, true, false, if◌then◌else◌, Option, Some, None, List, [], ◌∷◌, ◌++◌, map, filter, fold, refl, sym, ap, subst}
 use Rattle.std.specs.List.{AllByRecursion, flat_map, list_any, list_all}
 use Rattle.std.specs.Option.{option_map_or}

@@ -1,4 +1,4 @@
--- A name is free in the seg where no clash is found in the rows that are kept.
+-- A name is free in the segment where no clash is found in the rows that are kept.
 use Rattle.std.proofs.Common.{◌≡◌, ◌∙◌, ◌||◌, ◌&&◌, ◌==◌, ℕ, Bool, true, false, Option, Some, None, List, [], ◌∷◌, ◌++◌, map, filter, fold, cond, take, drop, is_none, refl, sym, ap, subst}
 use Rattle.std.specs.List.{AllByRecursion, list_any, position_or_len}
 use Rattle.std.specs.Option.{option_map}

@@ -1,4 +1,4 @@
--- The messages of a write, by the rows that are kept and by the seg.
+-- The messages of a write, by the rows that are kept and by the segment.
 use Rattle.std.proofs.Common.{◌≡◌, ℕ, None, Some, List, [], ◌∷◌, ◌++◌, refl, ap}
 use Rattle.std.specs.List.{flat_map}
 use Rattle.base_types.specs.RowKeys.{key_of}

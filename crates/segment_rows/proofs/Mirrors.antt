@@ -1,4 +1,4 @@
--- The rows that are kept are those of the seg, as a backend sees them.
+-- The rows that are kept are those of the segment, as a backend sees them.
 use Rattle.std.proofs.Common.{◌≡◌, ◌∙◌, ◌||◌, ◌&&◌, ◌==◌, ℕ, Bool, true, false, not, Option, Some, None, List, [], ◌∷◌, ◌++◌, map, filter, find, cond, is_some, if◌then◌else◌, refl, sym, ap, subst}
 use Rattle.std.specs.List.{AllByRecursion, list_any, flat_map}
 use Rattle.std.specs.Option.{option_map, option_map_or, IfSome}
@@ -42,7 +42,7 @@ version_same p q v same = λ i. same.0 i && not (ended v.ended same.1 i)
     ended None held = refl
     ended (Some s) held = held
 
--- the kept rows are those of the seg, as one backend sees them
+-- the kept rows are those of the segment, as one backend sees them
 pub record Mirrors (seg : Segment) (b : ℕ) (store : Store) (own : Option Xid) : Type 0 where
   pub versions : store.versions ≡ seg.versions
   pub committed : (x : ℕ) → has_committed store.committed x ≡ seg.committed x

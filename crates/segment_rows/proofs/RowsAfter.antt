@@ -1,4 +1,4 @@
--- The rows after an entry are those that the seg leaves.
+-- The rows after an entry are those that the segment leaves.
 use Rattle.std.proofs.Common.{◌≡◌, ◌≢◌, ◌≤◌, ◌<◌, ◌+◌, ◌-◌, ◌∙◌, ◌||◌, ◌&&◌, ◌==◌, ◌⊎◌, inl, inr, ℕ, Bool, true, false, not, Option, Some, None, List, [], ◌∷◌, ◌++◌, length, get_or, slice_set, slice_get, map, filter, fold, replicate, unwrap_or, append-nil, zero, suc, refl, sym, ap, subst, arith}
 use Rattle.std.specs.Prelude.{nat_le, nat_lt}
 use Rattle.std.specs.List.{AllByRecursion, list_any, flat_map}
@@ -77,7 +77,7 @@ change_key (Insert row) = key_of row
 change_key (Replace row) = key_of row
 change_key (Delete key) = key
 
--- a change ends a version in the store where its item ends it in the seg
+-- a change ends a version in the store where its item ends it in the segment
 abbrev Alike : Segment → ℕ → List Bool → Stamp → Version → Change → Type 0
 Alike seg b committed stamp v change = is_ended committed stamp change v ≡ ends_at seg b (item_of change) v
 

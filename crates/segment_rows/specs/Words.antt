@@ -91,15 +91,15 @@ keeps_given store reader items scan = same_rows (map (counted_for scan) (rows_of
 abbrev pub covers_scan : Store → Reader → List Message → List Item → Purpose → Bool
 covers_scan store reader messages items scan = is_covered messages scan || keeps_given store reader items scan
 
--- so it is with the scans that give a row
+-- each scan that gives a row is covered or keeps its answer
 abbrev pub covers_row : Store → Reader → List Message → List Item → Row → Bool
 covers_row store reader messages items row = list_all (covers_scan store reader messages items) (scans_of row)
 
--- with the rows that a change ends
+-- the rows that a change ends
 abbrev pub rows_ended : Store → Reader → Item → List Row
 rows_ended store reader item = option_map_or (λ key. rows_with_key store key reader) (ended_key item) []
 
--- and with the row that it adds
+-- each scan that gives a row which a change ends or adds is covered or keeps its answer
 abbrev pub covers_item : Store → Reader → List Message → List Item → Item → Bool
 covers_item store reader messages items item = list_all (covers_row store reader messages items) (rows_ended store reader item) && option_map_or (covers_row store reader messages items) (added_row item) true
 

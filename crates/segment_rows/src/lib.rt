@@ -19,8 +19,8 @@
 //! let given = rows.scan(None, &purpose)?;
 //! ```
 //!
-//! A scan that a write changes is first looked for among those that its messages cover; only where none does
-//! are the answers before and after it compared.
+//! A scan that a write changes is first looked for among those that its messages cover; only if no
+//! message covers it are the answers before and after compared.
 #![tactic(auto)]
 
 mod announcing;

@@ -98,7 +98,7 @@ impl SegmentRows {
     }
 
     /// The messages of the items of a write by the backend, those of each item for the catalog caches first
-    /// (`CacheInvalidateHeapTupleCommon` in `src/backend/utils/cache/inval.c`).
+    /// (`CacheInvalidateHeapTuple` in `src/backend/utils/cache/inval.c`).
     pub fn announced(&self, own: Option<Xid>, items: &[Item]) -> Result<Vec<Message>, NoMemory>
         ensures now { IfOk result (λ messages. messages.items ≡ flat_map (messages_at self.now.store (reader_of own)) items.now) }
         ensures written { (s : Segment) (b : ℕ) → KeepsRows s self.now → own ≡ xid_in (s.standing b).running → IfOk result (λ messages. messages.items ≡ flat_map (λ item. cats_at s b item ++ rels_at s b item) items.now) }
