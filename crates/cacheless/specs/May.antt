@@ -14,7 +14,6 @@ use Rattle.cacheless.specs.Owed.{act_owed, is_next_in, has_looked_in, is_free}
 pub use Rattle.cacheless.specs.Rule.{names_relation}
 use Rattle.cacheless.specs.Rule.{may_play, may_last, may_come, is_lock, is_unlock, may_lock, may_end, same_end, comes_next, is_free_to}
 use Rattle.cacheless.specs.Ends.{End, next_of_commit, next_of_taking_back, next_of_end}
-use Rattle.event_kinds.specs.declared.entry.Event.TheVariants as events
 pub use Rattle.cacheless.specs.State.{owes_nothing}
 use Rattle.cacheless.specs.State.{facts_at, work_at}
 
