@@ -1,6 +1,6 @@
 -- What comes next of a command's acts, and of its end.
 use Rattle.std.proofs.Common.{◌≡◌, ◌∙◌, inl, ℕ, Bool, true, false, not, ◌&&◌, ◌||◌, Option, Some, None, List, [], ◌∷◌, cond, refl, sym, ap, subst, filter, is_some, is_none, ◌==◌, ◌+◌}
-use Rattle.std.specs.List.{find, list_any}
+use Rattle.std.specs.List.{cons_option, find, list_any}
 use Rattle.std.specs.Option.{option_map_or}
 use Rattle.std.proofs.Math.Bool.{or-true}
 use Rattle.std.proofs.lemmas.Bool.{both_ways, eq-eqb, eqb-true, and_parts}
@@ -10,22 +10,22 @@ use Rattle.base_types.specs.declared.row.Row.TheVariants as rows
 use Rattle.base_types.specs.declared.scan.Purpose.TheVariants as scans
 use Rattle.base_types.proofs.SameScan.{same_scan-itself}
 use Rattle.lock_modes.specs.Own.{has_lock, is_own}
-use Rattle.ddl_effect.specs.Plans.{Plan, Act, Done, Fails, Absent, Do, Lookup, Open, Search, Read, Lock, Write}
+use Rattle.ddl_effect.specs.Plans.{Plan, Act, Done, Fails, Absent, Do, Lookup, Open, Search, Read, Lock, Write, told_rests_on}
 use Rattle.ddl_effect.specs.Stages.{plan_at, want_of_act, want_of}
 use Rattle.ddl_effect.specs.declared.want.Want.{Want}
 use Rattle.ddl_effect.specs.declared.want.Want.TheVariants as wants
 use Rattle.history_model.specs.Changing.{is_empty}
-use Rattle.cacheless.specs.May.{has_failed, names_relation, is_lock_at, is_first_missing, is_next_of_act, is_next_at, lacks_opened, lacks_any, owes_nothing, is_unlock_at}
+use Rattle.cacheless.specs.May.{has_failed, names_relation, is_lock_at, is_first_missing, is_missing, is_next_of_act, is_next_at, lacks_opened, lacks_any, owes_nothing, is_unlock_at}
 use Rattle.cacheless.specs.OpenedReads.{ReadsOpened}
 use Rattle.cacheless.specs.Session.{Badly, outcome_of}
 use Rattle.cacheless.specs.Silently.{gives_at, gives_next, IsAtRest, looks_up_at, has_accepted_at}
-use Rattle.cacheless.specs.State.{facts_at, work_at, kept_at, is_kept, rows_kept, row_sought, builds_missing, act_missing, owed_after, owed_first}
+use Rattle.cacheless.specs.State.{facts_at, work_at, kept_at, is_kept, rows_kept, row_sought, missing, builds_missing, act_missing, owed_after, owed_first}
 use Rattle.cacheless.proofs.Same.{free_is, next_is as next_as, lacks_opened_is}
 use Rattle.cacheless.proofs.WantedPlans.{first_up}
 use Rattle.cacheless.proofs.Plans.SilentActs.{empty_list}
 use Rattle.cacheless.proofs.Tests.{both_true, not_true}
 use Rattle.backend_core.specs.Types.{Oid, Mode, Kind, Row, Purpose, Command, Progress, Backend}
-use Rattle.backend_core.specs.Steps.{IsFree, IsScanNext, IsLockNext, IsUnlockNext, IsChoiceSound, Looks, IsAcceptNext}
+use Rattle.backend_core.specs.Steps.{IsFree, IsScanNext, IsLockNext, IsUnlockNext, IsWriteNext, IsChoiceSound, Looks, IsAcceptNext}
 use Rattle.backend_core.specs.Words.{relation_named, is_unfound}
 use Rattle.cacheless.proofs.Answers.KeptReads.{kept_opened}
 use Rattle.backend_core.proofs.Choosing.Nexting.{out_owes}
@@ -160,6 +160,63 @@ module _ (s : Backend) (command : Command) (still : IsAtRest s.progress) (free :
     where
       act : Wants (plan_at p.opens p.exec) (Open rel kind)
       act = plan_wanted (plan_at p.opens p.exec) (Open rel kind) (ap wanted_act want)
+
+  -- where it lacks none it would be opened without an entry
+  pub open_none : (rel : Oid) (kind : Kind) → want_of (plan_at p.opens p.exec) ≡ wants.Open rel kind → find (λ d. not (is_kept (kept_at p) d)) (build_scans kind rel) ≡ None → ⊥
+  open_none rel kind want none = not_at_rest p command (Open rel kind) still free act
+      (out_owes p command free (lacks_is p (Open rel kind) act whole ∙ ap not (found_lacks (λ d. not (is_kept (kept_at p) d)) (build_scans kind rel)) ∙ ap (λ f. not (not (is_some f))) none)) refl
+    where
+      act : Wants (plan_at p.opens p.exec) (Open rel kind)
+      act = plan_wanted (plan_at p.opens p.exec) (Open rel kind) (ap wanted_act want)
+
+  -- the scan on which the answer rests, where something is owed
+  pub rests_next : (scan : Purpose) → want_of (plan_at p.opens p.exec) ≡ wants.Done (Some scan) → owes_nothing command p ≡ false → IsScanNext s scan false
+  rests_next scan want owes = by_plan (plan_at p.opens p.exec) refl want
+    where
+      by_act : (act : Act) → want_of_act act ≡ wants.Done (Some scan) → ⊥
+      by_act (Lookup name mode) is = cc is
+      by_act act is = cc is
+
+      by_plan : (q : Plan) → plan_at p.opens p.exec ≡ q → want_of q ≡ wants.Done (Some scan) → IsScanNext s scan false
+      by_plan (Fails error) at is = absurd (cc is)
+      by_plan (Absent name) at is = absurd (cc is)
+      by_plan (Do act rest) at is = absurd (by_act act is)
+      by_plan (Done told) at is = by_kept (is_kept (kept_at p) scan) refl
+        where
+          rests : told_rests_on told ≡ Some scan
+          rests = cc is
+
+          goes : has_failed p ≡ false
+          goes = ap (λ q. elim (outcome_of q) as (λ x. Bool) [ Badly ↦ true | other ↦ false ]) at
+
+          lacks : (t : Bool) → is_kept (kept_at p) scan ≡ t → lacks_any p ≡ not t
+          lacks t kept = (λ i. not (goes i) && (whole i || not (is_empty (act_missing p (at i))))) ∙ ap (λ o. not (is_empty (missing (kept_at p) (cons_option o [])))) rests ∙ one_lacks (is_kept (kept_at p) scan) scan ∙ ap not kept
+
+          first : is_kept (kept_at p) scan ≡ false → is_next_of_act scan (kept_at p) (plan_at p.opens p.exec) ≡ true
+          first lacked = ap (is_next_of_act scan (kept_at p)) at ∙ ap (λ o. option_map_or (is_missing scan (kept_at p)) o false) rests ∙ ap (λ t. not t && same_scan scan scan) lacked ∙ same_scan-itself scan
+
+          by_kept : (t : Bool) → is_kept (kept_at p) scan ≡ t → IsScanNext s scan false
+          by_kept true kept = absurd (both_ways _ owes (out_owes p command free (lacks true kept)))
+          by_kept false lacked = record {
+            command = command;
+            free = free;
+            lacks = lacks false lacked;
+            next = sym (next_as scan p) ∙ (λ i. not (goes i) && (list_any (λ o. is_first_missing scan (kept_at p) o.kind o.rel) p.opened || first lacked i)) ∙ or-true (list_any (λ o. is_first_missing scan (kept_at p) o.kind o.rel) p.opened);
+            turn = (bare, first lacked);
+          }
+
+  -- a write
+  pub write_next : want_of (plan_at p.opens p.exec) ≡ wants.Write → IsWriteNext p
+  write_next want = record { command = command; free = free; owes = out_owes p command free (by_plan (plan_at p.opens p.exec) refl want); wants = want }
+    where
+      by_act : (act : Act) (rest : List Row → Plan) → plan_at p.opens p.exec ≡ Do act rest → want_of_act act ≡ wants.Write → lacks_any p ≡ false
+      by_act (Write draft) rest at is = lacks_is p (Write draft) (record { rest = rest; is = at }) whole
+      by_act (Lookup name mode) rest at is = absurd (cc is)
+      by_act act rest at is = absurd (cc is)
+
+      by_plan : (q : Plan) → plan_at p.opens p.exec ≡ q → want_of q ≡ wants.Write → lacks_any p ≡ false
+      by_plan (Do act rest) at is = by_act act rest at is
+      by_plan q at is = absurd (cc is)
 
   -- what is read of an opened descriptor is there
   pub read_none : (scan : Purpose) → want_of (plan_at p.opens p.exec) ≡ wants.Read scan → ReadsOpened p.opened (plan_at p.opens p.exec) → ⊥

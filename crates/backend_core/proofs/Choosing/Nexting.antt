@@ -1,8 +1,8 @@
 -- What a backend does next.
-use Rattle.std.proofs.Common.{◌≡◌, ◌∙◌, ◌⊎◌, inl, inr, ℕ, Bool, true, false, not, ◌&&◌, ◌||◌, Option, Some, None, List, [], ◌∷◌, ◌++◌, refl, sym, ap, subst, append_assoc, is_some, slice_get}
+use Rattle.std.proofs.Common.{◌≡◌, ◌∙◌, ◌⊎◌, inl, inr, ℕ, Bool, true, false, not, ◌&&◌, ◌||◌, Option, Some, None, List, [], ◌∷◌, ◌++◌, refl, sym, ap, subst, append_assoc, is_some, slice_get, length, take, ◌==◌}
 use Rattle.std.specs.List.{find, list_any}
 use Rattle.std.specs.Option.{IsSomeAnd, option_map_or}
-use Rattle.std.proofs.lemmas.Bool.{both_ways, and_parts}
+use Rattle.std.proofs.lemmas.Bool.{both_ways, and_parts, eq-eqb}
 use Rattle.std.proofs.lemmas.List.{append-nil}
 use Rattle.base_types.specs.Scans.{same_scan, build_scans}
 use Rattle.base_types.proofs.SameScan.{same_scan-itself}
@@ -11,24 +11,27 @@ use Rattle.ddl_effect.specs.Commands.{plan_of, commands_of}
 use Rattle.ddl_effect.specs.Plans.{Plan, Act, Done, Fails, Absent, Do, Lookup, Open, Search, Read, Lock, Write}
 use Rattle.ddl_effect.specs.Stages.{plan_at, want_of}
 use Rattle.ddl_effect.specs.declared.want.Want.TheVariants as wants
+use Rattle.event_kinds.specs.declared.entry.Event.TheVariants as events
+use Rattle.history_model.specs.Transactions.{is_visible}
 use Rattle.history_model.specs.Changing.{is_empty}
 use Rattle.cacheless.specs.ActsDone.{reached, made_in, opening_by}
-use Rattle.cacheless.specs.Ends.{End, Commits, TakesBack, next_of_end, end_left_in}
-use Rattle.cacheless.specs.Rule.{comes_next}
+use Rattle.cacheless.specs.Ends.{End, Ends, Commits, TakesBack, next_of_end, end_left_in}
+use Rattle.cacheless.specs.Rule.{same_end, comes_next}
+use Rattle.cacheless.proofs.CommandEnds.{publishes_next}
 use Rattle.cacheless.proofs.Resting.{over_is}
 use Rattle.cacheless.proofs.Same.{free_is, next_is}
 use Rattle.ddl_effect.specs.declared.want.Want.{Want}
-use Rattle.cacheless.specs.May.{owes_no_end, has_failed, is_first_missing, is_next_of_act, lacks_opened, lacks_any, owes_nothing, is_next_of_end, may_end_at}
+use Rattle.cacheless.specs.May.{owes_no_end, has_failed, is_first_missing, is_next_of_act, lacks_opened, lacks_any, owes_nothing, is_next_of_commit, is_next_of_end, may_end_at}
 use Rattle.cacheless.specs.OnCourse.{Way, Begun, Wrote, Over, FollowsPlan, IsOnCourse, AllOnCourse}
 use Rattle.cacheless.specs.OpenedReads.{ReadsOpened}
 use Rattle.cacheless.specs.Settled.{opened_by}
 use Rattle.cacheless.specs.Session.{held_before, plan_admitted}
 use Rattle.cacheless.specs.Silently.{is_ends, IsAtRest}
-use Rattle.cacheless.specs.State.{facts_at, work_at, kept_at, is_kept, is_absent, is_quiet, act_missing, is_out, end_at, owed_after, owed_first}
+use Rattle.cacheless.specs.State.{facts_at, work_at, has_write_since, unsent_at, kept_at, is_kept, is_absent, is_quiet, act_missing, is_out, end_at, owed_after, owed_first}
 use Rattle.cacheless.specs.Suspects.{lacks}
 use Rattle.cacheless.proofs.Answers.OpenedReads.{reads_out, reads_first, reads_after}
 use Rattle.cacheless.proofs.Tests.{both_true, not_both, empty_is}
-use Rattle.backend_core.specs.Types.{Event, Row, Purpose, Command, CommandError, Opening, Scenario, Entry, Next, Frame, Progress, Backend}
+use Rattle.backend_core.specs.Types.{Event, Message, Row, Purpose, Command, CommandError, Opening, Scenario, Entry, Next, Frame, Progress, Backend}
 use Rattle.backend_core.specs.declared.next.Next.TheVariants as nexts
 use Rattle.backend_core.specs.Agrees.{command_at, AwaitsEntry}
 use Rattle.backend_core.specs.Steps.{IsWhole, WaitsForNone, IsFree, IsScanNext, IsLookNext, IsChoiceSound, Says, IsAcceptNext, EndsNext, InCommand, end_event, IsNextOf, ComesOfCommit, ComesOfBack}
@@ -113,6 +116,17 @@ takes_back_next s command next from still free out ready accepted end comes = en
     by_ready : WaitsForNone s command → (s.progress.ended ≡ false) × ((owes_nothing command s.progress ≡ true) ⊎ (s.frames ≡ []))
     by_ready (inl lacks) = ((end_is s.progress command (TakesBack from) still free out lacks end).0, inl (out_owes s.progress command free lacks))
     by_ready (inr gone) = (gone.going, inr gone.bare)
+
+-- a publish comes next of a commit that is visible, where a message is unsent
+pub publish_comes : (p : Progress) (first : ℕ) (unsent : List Message) → has_write_since first p ≡ true → is_visible p.running ≡ true → unsent ≡ take 64 (unsent_at p) → (length unsent == 0) ≡ false → is_next_of_commit first p (events.Publish (length (take 64 (unsent_at p)))) ≡ true
+publish_comes p first unsent has shown are some = ap (λ l. is_next_of_commit first p (events.Publish (length l))) (sym are)
+    ∙ ap (λ e. same_end e (events.Publish (length unsent))) (sym (publishes_next p first unsent has shown are (λ none. both_ways _ some (eq-eqb (length unsent) 0 none))))
+    ∙ eq-eqb (length unsent) (length unsent) refl
+
+-- a backend at rest has not come to an end without an entry
+pub never_ends : (s : Backend) (command : Command) → IsAtRest s.progress → IsFree s.progress command → is_out s.progress ≡ true → WaitsForNone s command → end_at s.progress command ≡ Ends → ⊥
+never_ends s command still free out (inl lacks) end = both_ways _ (end_is s.progress command Ends still free out lacks end).1 refl
+never_ends s command still free out (inr gone) end = let no : Ends ≡ TakesBack gone.from = sym end ∙ gone.end in cc no
 
 -- a plan that wants something isn't that of a command whose writes were taken back
 abbrev pub wants_nothing : Want → Bool

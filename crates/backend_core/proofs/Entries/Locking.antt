@@ -2,6 +2,7 @@
 use Rattle.std.proofs.Common.{inl, ◌≡◌, ◌<◌, ◌+◌, ◌∙◌, ◌&&◌, ℕ, Bool, true, false, Option, Some, None, Err, List, [], ◌∷◌, refl, sym, ap, subst, length, drop, is_some, arith, is_none, ◌++◌}
 use Rattle.std.proofs.lemmas.Bool.{and_parts}
 use Rattle.base_types.specs.declared.row.Row.TheVariants as rows
+use Rattle.base_types.specs.declared.scan.Purpose.TheVariants as scans
 use Rattle.event_kinds.specs.declared.entry.Event.TheVariants as events
 use Rattle.command_answers.specs.declared.error.CommandError.TheVariants as errors
 use Rattle.lock_modes.specs.Grants.{holds}
@@ -16,7 +17,7 @@ use Rattle.history_model.specs.Transactions.{begun}
 use Rattle.seg_calls.specs.Calls.{entry_of, MayRequest, Appends, Locks}
 use Rattle.cacheless.specs.Facts.{Facts, facts_of, facts_by}
 use Rattle.cacheless.specs.Holds.{HasEntered, with_own}
-use Rattle.cacheless.specs.May.{owes_nothing, names_relation, is_lock_at}
+use Rattle.cacheless.specs.May.{owes_nothing, names_relation, is_lock_at, may_play_at}
 use Rattle.cacheless.specs.Rule.{may_come}
 use Rattle.cacheless.specs.OnCourse.{AllOnCourse}
 use Rattle.cacheless.specs.Owed.{owed_of, started_in}
@@ -25,7 +26,7 @@ use Rattle.cacheless.specs.Session.{Session, number_of, outcome_of, is_settled}
 use Rattle.cacheless.specs.Sessions.{entered}
 use Rattle.cacheless.specs.Settled.{if_locked, has_taken_no_other}
 use Rattle.cacheless.specs.Silently.{gives_next, looks_up_at}
-use Rattle.cacheless.specs.State.{facts_at, work_at, kept_at, rows_kept, row_sought, is_absent}
+use Rattle.cacheless.specs.State.{facts_at, work_at, owed_after, kept_at, rows_kept, row_sought, is_absent}
 use Rattle.cacheless.proofs.WantedPlans.{first_up}
 use Rattle.cacheless.proofs.Plans.ClearLocks.{session_holds}
 use Rattle.cacheless.proofs.Allowed.NextKeeps as keeping

@@ -33,7 +33,7 @@ use Rattle.cacheless.specs.Facts.{Facts, facts_of, facts_by}
 use Rattle.cacheless.specs.Holds.{Rests, HasEntered, with_own}
 use Rattle.cacheless.specs.Locks.{locked_by}
 use Rattle.cacheless.specs.OnCourse.{OnItsWay, AllOnCourse}
-use Rattle.cacheless.specs.Owed.{owed_of, started_in}
+use Rattle.cacheless.specs.Owed.{owed_after, owed_of, started_in}
 use Rattle.cacheless.specs.Plays.{IsWrite, IsClash, MayPlay, MayPlayIn}
 use Rattle.cacheless.specs.Session.{Session, Well, Badly, Unsettled, number_of, outcome_of, is_settled, held_before, held_in}
 use Rattle.cacheless.specs.Sessions.{written, entered}
@@ -69,7 +69,12 @@ use Rattle.backend_core.proofs.Stacking.Messages.{stack_after}
 use Rattle.backend_core.specs.Frames.{frames_after, IsStack}
 use Rattle.backend_core.specs.Words.{has_error}
 use Rattle.inval_messages.specs.Messages.{is_spared}
+use Rattle.cacheless.proofs.Entries.EnteredFetches.{is_kept-spared}
 use Rattle.cacheless.proofs.Entries.EnteredWrites.{spared_alike}
+use Rattle.cacheless.proofs.Deciding.{all_names}
+use Rattle.cacheless.specs.Puts.{PutsOpened}
+use Rattle.history_model.specs.Sent.{messages_written}
+use Rattle.std.specs.Str.{bytes_eq}
 
 -- on a relation that is still to be drawn there is no lock
 none_held : (b : ℕ) (rel : Oid) (next : ℕ) (held : List Grant) → rel.0 ≡ next → AllByRecursion (λ g. g.rel.0 < next) held → holds held b rel AccessExclusive ≡ false

@@ -1,6 +1,6 @@
 use Rattle.std.proofs.Common.{◌∙◌, sym, ap}
 use Rattle.cacheless.specs.Endings.{end_of_ending}
-use Rattle.backend_core.proofs.Choosing.Nexting.{commits_next, takes_back_next}
+use Rattle.backend_core.proofs.Choosing.Nexting.{never_ends, commits_next, takes_back_next}
 use Rattle.backend_core.proofs.backend.Backend.next_of_end.Goals as goal
 
 pub returns-in-Commits : goal.returns-in-Commits
@@ -8,3 +8,6 @@ returns-in-Commits c = commits_next c.args.self.now _ _ _ c.requires.still c.req
 
 pub returns-in-TakesBack : goal.returns-in-TakesBack
 returns-in-TakesBack c = takes_back_next c.args.self.now _ _ _ c.requires.still c.requires.free c.requires.out c.requires.whole c.requires.accepted (sym c.end.ensures ∙ ap end_of_ending c.in-TakesBack.is) c.next_of_back.ensures
+
+pub unreachable-requires : goal.unreachable-requires
+unreachable-requires c = never_ends c.args.self.now c.args.command.now c.requires.still c.requires.free c.requires.out c.requires.whole (sym c.end.ensures ∙ ap end_of_ending c.in-Ends.is)
