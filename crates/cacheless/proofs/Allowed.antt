@@ -14,3 +14,7 @@ pub mod AllowedHistories
 pub mod LooksBound
 pub mod NextEntries
 pub mod StartLooks
+pub mod AlongAllowed
+pub mod TakenLocks
+pub mod WriteNext
+pub mod AtRest

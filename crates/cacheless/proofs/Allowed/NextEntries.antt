@@ -268,21 +268,22 @@ lives last n event later low = low
 shown : (event : Event) → FollowsVisible false event
 shown event = tt
 
+-- its life goes on with its running command
+pub free_lives : (scenario : Scenario) (history : List Entry) (b : ℕ) (s : Session) (event : Event) → IsFree scenario history b s → IsLater event → FollowsLife (life_of history b) (number_of s) event
+free_lives scenario history b s event free later = goes (subst (LifeIn (life_of history b)) free.is (allowed_stands scenario history free.allowed b).life)
+  where
+    goes : (life_of history b ≡ Stopped) ⊎ LivesTo (life_of history b) (number_of s) → FollowsLife (life_of history b) (number_of s) event
+    goes (inl over) = absurd (both_ways _ free.stopped (ap is_stopped over))
+    goes (inr alive) = subst (λ x. FollowsLife x (number_of s) event) (sym alive.alive) (lives alive.last (number_of s) event later alive.most)
+
 -- it makes what the history allows and its script lets come next
 pub free_next : (scenario : Scenario) (history : List Entry) (b : ℕ) (s : Session) (event : Event) → IsFree scenario history b s → IsLater event → AllowsEvent history b (number_of s) event → FetchesFrom scenario.size history b event
     → MayPlayIn (next_oid history) (facts_of history b) (slice_get (commands_of scenario b) (length s.finished)) s event → HasNext scenario history b
 free_next scenario history b s event free later allows fetches may = next_allowed scenario history b (number_of s) event free.number free.allowed follows fetches
     (subst (λ o. MayPlayAt scenario history b o (number_of s) event) (sym free.is) (refl, may))
   where
-    life : (life_of history b ≡ Stopped) ⊎ LivesTo (life_of history b) (number_of s)
-    life = subst (LifeIn (life_of history b)) free.is (allowed_stands scenario history free.allowed b).life
-
-    goes : (life_of history b ≡ Stopped) ⊎ LivesTo (life_of history b) (number_of s) → FollowsLife (life_of history b) (number_of s) event
-    goes (inl over) = absurd (both_ways _ free.stopped (ap is_stopped over))
-    goes (inr alive) = subst (λ x. FollowsLife x (number_of s) event) (sym alive.alive) (lives alive.last (number_of s) event later alive.most)
-
     follows : MayFollow history (entry_of b (number_of s) event)
-    follows = record { life = goes life; visible = subst (λ t. FollowsVisible t event) (sym free.hidden) (shown event); gone = free.gone event; event = allows }
+    follows = record { life = free_lives scenario history b s event free later; visible = subst (λ t. FollowsVisible t event) (sym free.hidden) (shown event); gone = free.gone event; event = allows }
 
 -- its looks are within their bound
 bound_is : (scenario : Scenario) (history : List Entry) (b : ℕ) (s : Session) → IsFree scenario history b s → LooksBound (last_event_of history b) (slice_get (commands_of scenario b) (length s.finished)) s.left s.tally

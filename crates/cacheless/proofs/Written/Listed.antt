@@ -52,6 +52,11 @@ module _ (b : ℕ) where
   lists_have_come : (history : List Entry) → IsSound history → AllByRecursion (HasCome history) (lists_of history b)
   lists_have_come history sound = each-keeps MayComeNext (λ h. AllByRecursion (HasCome h) (lists_of h b)) tt come_more history sound
 
+  -- each is of a command that has written
+  pub all_written : (history : List Entry) → IsSound history → AllByRecursion (λ list. has_written history b list.command ≡ true) (lists_of history b)
+  unfolding HasCome
+  all_written history sound = lists_have_come history sound
+
   -- so where a command hasn't written and none is later, all are of commands before it
   pub lists_before_it : (history : List Entry) (c : ℕ) → IsSound history → has_written history b c ≡ false → AllByRecursion (λ list. list.command ≤ c) (lists_of history b) → AllByRecursion (λ list. list.command < c) (lists_of history b)
   unfolding HasCome
