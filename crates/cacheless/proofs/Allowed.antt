@@ -18,3 +18,8 @@ pub mod AlongAllowed
 pub mod TakenLocks
 pub mod WriteNext
 pub mod AtRest
+pub mod ActsNext
+pub mod BlockLevels
+pub mod NextTransaction
+pub mod OpenSince
+pub mod KeptAlong

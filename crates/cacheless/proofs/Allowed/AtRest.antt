@@ -93,7 +93,7 @@ goes-waits : (scenario : Scenario) (b at c : ℕ) (event : Event) (s : Session) 
 goes-waits scenario b at c event s later = settled-waits later (commands_of scenario b) (commands_left scenario b s) (entered later (commands_left scenario b s) at c event s)
     (ap (λ l. drop (length l) (commands_of scenario b)) (sym ((entered_noted later (commands_left scenario b s) at c event s).after.finished ∙ noted_finished event s)))
 
-own-waits : (scenario : Scenario) (history : List Entry) (b at c : ℕ) (event : Event) (o : Option Session) (later : Facts) → MayPlayAt scenario history b o c event → WaitsIn scenario b later (session_by scenario later b at c event o)
+pub own-waits : (scenario : Scenario) (history : List Entry) (b at c : ℕ) (event : Event) (o : Option Session) (later : Facts) → MayPlayAt scenario history b o c event → WaitsIn scenario b later (session_by scenario later b at c event o)
 own-waits scenario history b at c events.Start None later may = settled-waits later (commands_of scenario b) (commands_of scenario b) (at_command no_block none_open [] [] at (first_of (commands_of scenario b))) refl
 own-waits scenario history b at c event None later may = absurd may
 own-waits scenario history b at c events.Start (Some s) later may = absurd (no_start (next_oid history) (facts_of history b) _ s may.1)

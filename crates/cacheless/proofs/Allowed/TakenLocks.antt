@@ -32,7 +32,7 @@ use Rattle.cacheless.specs.Sessions.{written, resumed, noted, placed_at, counted
 use Rattle.cacheless.specs.Settled.{act_done}
 use Rattle.cacheless.proofs.HeldLocks.{lock_of_command, locks_of, locks_are_held, Follows}
 use Rattle.cacheless.proofs.Allowed.AllowedHistories.{allowed_sound, allowed_on_course}
-use Rattle.cacheless.proofs.Allowed.AlongAllowed.{IsKept, HoldsBy, kept_along}
+use Rattle.cacheless.proofs.Allowed.KeptAlong.{IsKept, HoldsBy, kept_along}
 use Rattle.cacheless.proofs.Allowed.NextEntries.{HasNext, IsFree, free_next}
 use Rattle.cacheless.proofs.Allowed.NextOnCourse.{entered_noted}
 use Rattle.cacheless.proofs.Allowed.OwnEntries.{ends_out}
