@@ -23,3 +23,10 @@ pub mod BlockLevels
 pub mod NextTransaction
 pub mod OpenSince
 pub mod KeptAlong
+pub mod EndsReleased
+pub mod TransactionGoesOn
+pub mod TransactionRuns
+pub mod TransactionEnds
+pub mod TransactionsKept
+pub mod EndsNext
+pub mod NeverStuck

@@ -268,13 +268,16 @@ lives last n event later low = low
 shown : (event : Event) → FollowsVisible false event
 shown event = tt
 
--- its life goes on with its running command
-pub free_lives : (scenario : Scenario) (history : List Entry) (b : ℕ) (s : Session) (event : Event) → IsFree scenario history b s → IsLater event → FollowsLife (life_of history b) (number_of s) event
-free_lives scenario history b s event free later = goes (subst (LifeIn (life_of history b)) free.is (allowed_stands scenario history free.allowed b).life)
+-- the life of a backend that hasn't stopped goes on with its running command
+pub lives_on : (scenario : Scenario) (history : List Entry) (b : ℕ) (s : Session) (event : Event) → IsAllowed scenario history → session_of scenario history b ≡ Some s → has_stopped history b ≡ false → IsLater event → FollowsLife (life_of history b) (number_of s) event
+lives_on scenario history b s event allowed is stopped later = goes (subst (LifeIn (life_of history b)) is (allowed_stands scenario history allowed b).life)
   where
     goes : (life_of history b ≡ Stopped) ⊎ LivesTo (life_of history b) (number_of s) → FollowsLife (life_of history b) (number_of s) event
-    goes (inl over) = absurd (both_ways _ free.stopped (ap is_stopped over))
+    goes (inl over) = absurd (both_ways _ stopped (ap is_stopped over))
     goes (inr alive) = subst (λ x. FollowsLife x (number_of s) event) (sym alive.alive) (lives alive.last (number_of s) event later alive.most)
+
+pub free_lives : (scenario : Scenario) (history : List Entry) (b : ℕ) (s : Session) (event : Event) → IsFree scenario history b s → IsLater event → FollowsLife (life_of history b) (number_of s) event
+free_lives scenario history b s event free later = lives_on scenario history b s event free.allowed free.is free.stopped later
 
 -- it makes what the history allows and its script lets come next
 pub free_next : (scenario : Scenario) (history : List Entry) (b : ℕ) (s : Session) (event : Event) → IsFree scenario history b s → IsLater event → AllowsEvent history b (number_of s) event → FetchesFrom scenario.size history b event
