@@ -1,9 +1,7 @@
 -- After an allowed history a backend that is in the midst of no commit and no rollback, and whose command owes something or has an act left, has an allowed next entry.
-use Rattle.std.proofs.Common.{◌≡◌, ◌+◌, ◌∙◌, ◌==◌, ◌&&◌, ◌||◌, ℕ, Bool, true, false, not, Option, Some, None, List, [], ◌∷◌, ◌++◌, cond, refl, sym, ap, subst, map, take, length, slice_get}
+use Rattle.std.proofs.Common.{◌≡◌, ◌∙◌, ◌==◌, ◌&&◌, ◌||◌, ℕ, Bool, true, false, not, Option, Some, None, List, [], ◌∷◌, ◌++◌, cond, refl, sym, ap, subst, map, take, length, slice_get}
 use Rattle.std.specs.List.{list_any, flat_map}
 use Rattle.std.proofs.lemmas.Bool.{and_parts, and_from, eq-eqb, eqb-true, both_ways}
-use Rattle.std.proofs.lemmas.List.Folds.{list_any-append}
-use Rattle.std.proofs.Math.Bool.{or-true}
 use Rattle.base_types.specs.Scans.{same_oid, same_scan, build_scans}
 use Rattle.base_types.specs.declared.row.Row.TheVariants as rows
 use Rattle.base_types.specs.declared.scan.Purpose.TheVariants as scans
@@ -12,21 +10,20 @@ use Rattle.lock_modes.specs.Own.{is_own, has_lock}
 use Rattle.ddl_effect.specs.Plans.{Act, Lookup, Open, Search, Read, Lock, Write, Plan, Done, Fails, Absent, Do}
 use Rattle.ddl_effect.specs.Commands.{plan_of, commands_of}
 use Rattle.history_model.specs.Changing.{is_empty}
-use Rattle.history_model.specs.Lives.{last_event_of}
 use Rattle.history_model.proofs.Every.{any-left, any-right, any-weaker}
 use Rattle.local_caches.specs.Kept.{Kept, is_kept, rows_kept}
-use Rattle.cacheless.specs.Types.{Oid, Mode, Row, Purpose, Opening, OwnLock, Scenario, Command, Entry}
+use Rattle.cacheless.specs.Types.{Oid, Mode, Row, Purpose, Opening, Scenario, Command, Entry}
 use Rattle.cacheless.specs.ActsDone.{made_in, opening_by}
 use Rattle.cacheless.specs.Facts.{Facts, facts_of}
 use Rattle.cacheless.specs.OnCourse.{OnItsWay, IsOnCourse, CourseOf}
 use Rattle.cacheless.specs.OpenedReads.{is_of_opened}
-use Rattle.cacheless.specs.Owed.{Owes, OwesScan, missing, builds_missing, owed_at_start, owed_after, owed_last, builds_owed, act_owed, act_next, scans_owed, owed_of, is_next_scan}
+use Rattle.cacheless.specs.Owed.{Owes, OwesScan, missing, builds_missing, owed_at_start, owed_after, builds_owed, act_owed, act_next, scans_owed, owed_of, is_next_scan}
 use Rattle.cacheless.specs.Plays.{IsUnlock}
 use Rattle.cacheless.specs.Session.{Session, Outcome, Unsettled, Well, Badly, held_before, number_of, outcome_of, is_settled}
-use Rattle.cacheless.specs.Settled.{class_oid, finds, if_locked, has_taken_no_other, looked_up, gives, done_here}
+use Rattle.cacheless.specs.Settled.{finds, if_locked, has_taken_no_other, looked_up, gives}
 use Rattle.cacheless.proofs.Allowed.AllowedHistories.{allowed_on_course}
 use Rattle.cacheless.proofs.Allowed.AtRest.{IsStuck, WaitsForEntry, WaitsIn, allowed_waits}
-use Rattle.cacheless.proofs.Allowed.NextEntries.{HasNext, IsFree, IsAsked, owed_next, lacking_next, asking_next}
+use Rattle.cacheless.proofs.Allowed.NextEntries.{HasNext, IsFree, owed_next, lacking_next, asking_next}
 use Rattle.cacheless.proofs.Allowed.StartLooks.{begin_next}
 use Rattle.cacheless.proofs.Allowed.TakenLocks.{TakesFit, allowed_takes, unlock_next}
 use Rattle.cacheless.proofs.Allowed.WriteNext.{write_next}

@@ -1,31 +1,19 @@
 -- What holds of the session of a backend holds along an allowed history, where each of its entries keeps it, and so does all that it does without one.
-use Rattle.std.proofs.Common.{◌≡◌, ◌+◌, ◌∙◌, ◌==◌, ℕ, Bool, true, false, Option, Some, None, List, [], ◌∷◌, ◌++◌, refl, sym, ap, subst, length, drop, slice_get}
+use Rattle.std.proofs.Common.{◌≡◌, ◌+◌, ◌==◌, ℕ, Bool, true, false, Option, None, List, [], ◌∷◌, ◌++◌, refl, sym, subst, length}
 use Rattle.std.proofs.lemmas.Bool.{eqb-true}
-use Rattle.std.proofs.lemmas.List.{length_push}
-use Rattle.event_kinds.specs.declared.entry.Event.TheVariants as events
-use Rattle.ddl_effect.specs.Plans.{Act, Plan, Done, Fails, Absent, Do}
-use Rattle.ddl_effect.specs.Commands.{commands_of}
-use Rattle.txn_blocks.specs.Blocks.{no_block}
-use Rattle.history_model.specs.Changing.{is_empty}
-use Rattle.history_model.specs.Drawn.{next_oid}
 use Rattle.history_model.specs.MayFollow.{MayFollow}
 use Rattle.history_model.proofs.Allows.{legal_follows}
 use Rattle.history_model.proofs.Prefixes.{EachFrom-both, each-keeps}
 use Rattle.history_model.proofs.Touched.{entry_of}
-use Rattle.cacheless.specs.Types.{Row, Scenario, Command, Entry, Event}
+use Rattle.cacheless.specs.Types.{Scenario, Entry, Event}
 use Rattle.cacheless.specs.Facts.{Facts, facts_of, facts_by}
-use Rattle.cacheless.specs.OnCourse.{IsOnCourse, AllOnCourse, CourseOf}
+use Rattle.cacheless.specs.OnCourse.{AllOnCourse, CourseOf}
 use Rattle.cacheless.specs.Output.{IsAllowed}
-use Rattle.cacheless.specs.Owed.{owed_at_start, owed_after}
 use Rattle.cacheless.specs.Played.{AreSpelled, IsPlayed}
-use Rattle.cacheless.specs.Plays.{MayPlayIn, MayPlayAt, IsNext}
-use Rattle.cacheless.specs.Session.{Session, number_of, first_of, none_open, at_command}
-use Rattle.cacheless.specs.Sessions.{noted, commands_left, entered, session_by, session_of}
-use Rattle.cacheless.specs.Settled.{act_done, done_here, acted_on, acted, is_finished, finished_as, next_session, settled}
+use Rattle.cacheless.specs.Plays.{MayPlayAt, IsNext}
+use Rattle.cacheless.specs.Session.{Session}
+use Rattle.cacheless.specs.Sessions.{session_by, session_of}
 use Rattle.cacheless.proofs.Allowed.AllowedHistories.{played_more, played_start}
-use Rattle.cacheless.proofs.Allowed.LooksBound.{acted-same}
-use Rattle.cacheless.proofs.Allowed.NextOnCourse.{entered_noted, noted_finished, no_start}
-use Rattle.cacheless.proofs.Allowed.SettledCourse.{first_left, rest_left}
 use Rattle.cacheless.proofs.Reading.{facts_of-own, facts_of-other, session_of-own, session_of-other}
 
 -- a fact of each backend, of its facts and its session

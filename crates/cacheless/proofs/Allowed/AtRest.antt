@@ -4,7 +4,7 @@ use Rattle.std.specs.Prelude.{⊤}
 use Rattle.std.proofs.lemmas.Bool.{both_ways}
 use Rattle.std.proofs.lemmas.List.{length_push}
 use Rattle.event_kinds.specs.declared.entry.Event.TheVariants as events
-use Rattle.ddl_effect.specs.Plans.{Act, Plan, Done, Fails, Absent, Do}
+use Rattle.ddl_effect.specs.Plans.{Plan, Done, Fails, Absent, Do}
 use Rattle.ddl_effect.specs.Commands.{commands_of}
 use Rattle.txn_blocks.specs.Blocks.{no_block}
 use Rattle.history_model.specs.Changing.{is_empty}
@@ -12,11 +12,11 @@ use Rattle.history_model.specs.Drawn.{next_oid}
 use Rattle.cacheless.specs.Types.{Row, Scenario, Command, Entry, Event}
 use Rattle.cacheless.specs.Facts.{Facts, facts_of}
 use Rattle.cacheless.specs.Output.{IsAllowed}
-use Rattle.cacheless.specs.Owed.{Owes, owed_at_start, owed_after}
+use Rattle.cacheless.specs.Owed.{owed_at_start, owed_after}
 use Rattle.cacheless.specs.Played.{AreSpelled}
 use Rattle.cacheless.specs.Plays.{MayPlayAt}
 use Rattle.cacheless.specs.Session.{Session, first_of, none_open, at_command}
-use Rattle.cacheless.specs.Sessions.{noted, commands_left, entered, session_by, session_of}
+use Rattle.cacheless.specs.Sessions.{commands_left, entered, session_by, session_of}
 use Rattle.cacheless.specs.Settled.{act_done, done_here, acted_on, acted, is_finished, finished_as, next_session, settled}
 use Rattle.cacheless.proofs.Allowed.AlongAllowed.{Fact, holds_along}
 use Rattle.cacheless.proofs.Allowed.LooksBound.{acted-same}

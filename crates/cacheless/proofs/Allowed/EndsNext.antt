@@ -1,5 +1,5 @@
 -- After an allowed history the next entry of an end is allowed.
-use Rattle.std.proofs.Common.{◌≡◌, ◌≤◌, ◌+◌, ◌∙◌, ◌==◌, ◌⊎◌, inl, inr, ℕ, Bool, true, false, Option, Some, None, List, [], ◌∷◌, cond, drop, refl, sym, ap, subst, length, is_some, slice_get, arith}
+use Rattle.std.proofs.Common.{◌≡◌, ◌≤◌, ◌∙◌, ◌==◌, ◌⊎◌, inl, inr, ℕ, Bool, true, false, Option, Some, None, List, [], ◌∷◌, cond, drop, refl, sym, ap, subst, length, is_some, slice_get, arith}
 use Rattle.std.specs.Prelude.{nat_lt}
 use Rattle.std.specs.Option.{option_map, option_map_or}
 use Rattle.std.proofs.lemmas.Bool.{both_ways, eq-eqb, false_from_ne_true, ltb-true}
@@ -17,7 +17,7 @@ use Rattle.history_model.specs.Sent.{left_in, unsent_in}
 use Rattle.history_model.specs.Transactions.{is_visible}
 use Rattle.history_model.proofs.Touched.{entry_of}
 use Rattle.cacheless.specs.Types.{Xid, Message, Scenario, Command, Entry, Event}
-use Rattle.cacheless.specs.Ends.{End, Ends, Commits, TakesBack, end_of_all}
+use Rattle.cacheless.specs.Ends.{Commits, TakesBack}
 use Rattle.cacheless.specs.Facts.{Facts, due_last, facts_of}
 use Rattle.cacheless.specs.Output.{IsAllowed}
 use Rattle.cacheless.specs.Played.{AreSpelled}
@@ -25,8 +25,7 @@ use Rattle.cacheless.specs.Plays.{MayPlayIn, MayPlayAt}
 use Rattle.cacheless.specs.Schedule.{has_stopped}
 use Rattle.cacheless.specs.Session.{Session, number_of}
 use Rattle.cacheless.specs.Sessions.{session_of}
-use Rattle.cacheless.specs.declared.progress.Due.TheVariants as dues
-use Rattle.cacheless.proofs.Allowed.EndsReleased.{Fits, end_by, EndsBy, IsCommit, LetsGo, AllSent, NoWrite, ComesNow, comes_now, from_of, first_begun, Releases, Whole, Inner, commit_first, end_releases, commit_end, back_end}
+use Rattle.cacheless.proofs.Allowed.EndsReleased.{Fits, end_by, EndsBy, IsCommit, LetsGo, AllSent, NoWrite, ComesNow, comes_now, from_of, Releases, Whole, Inner, commit_first, end_releases, commit_end, back_end}
 use Rattle.cacheless.proofs.Allowed.NextEntries.{HasNext, IsLater, next_allowed, lives_on}
 use Rattle.cacheless.proofs.Allowed.NextTransaction.{first_at}
 use Rattle.cacheless.proofs.Allowed.TransactionEnds.{write_from_first}

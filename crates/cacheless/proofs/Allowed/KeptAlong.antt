@@ -17,7 +17,7 @@ use Rattle.cacheless.specs.Owed.{owed_at_start, owed_after}
 use Rattle.cacheless.specs.Played.{AreSpelled, IsPlayed}
 use Rattle.cacheless.specs.Plays.{MayPlayIn, MayPlayAt}
 use Rattle.cacheless.specs.Session.{Session, number_of, first_of, none_open, at_command}
-use Rattle.cacheless.specs.Sessions.{noted, commands_left, entered, session_by, session_of}
+use Rattle.cacheless.specs.Sessions.{commands_left, entered, session_by, session_of}
 use Rattle.cacheless.specs.Settled.{act_done, done_here, acted_on, acted, is_finished, finished_as, next_session, settled}
 use Rattle.cacheless.proofs.Allowed.AlongAllowed.{Fact, holds_along}
 use Rattle.cacheless.proofs.Allowed.AtRest.{WaitsForEntry, WaitsAmong, WaitsIn, own-waits}

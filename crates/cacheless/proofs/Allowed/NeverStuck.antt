@@ -1,18 +1,16 @@
 -- After an allowed history each backend that hasn't stopped has an allowed next entry.
-use Rattle.std.proofs.Common.{◌≡◌, ◌+◌, ◌∙◌, ◌&&◌, ℕ, Bool, true, false, Option, Some, None, List, [], ◌∷◌, ◌++◌, refl, sym, ap, subst, length, is_none, is_some, slice_get}
-use Rattle.std.specs.Prelude.{⊤}
+use Rattle.std.proofs.Common.{◌≡◌, ◌∙◌, ◌&&◌, ℕ, Bool, true, false, Option, Some, None, List, [], ◌∷◌, refl, sym, ap, subst, length, is_none, slice_get}
 use Rattle.std.specs.Option.{option_map_or}
 use Rattle.std.proofs.lemmas.Bool.{both_ways}
 use Rattle.base_types.specs.Scenario.{IsBackend}
 use Rattle.event_kinds.specs.declared.entry.Event.TheVariants as events
 use Rattle.ddl_effect.specs.Commands.{commands_of}
-use Rattle.ddl_effect.specs.Plans.{Plan, Done, Fails, Absent, Do}
 use Rattle.txn_blocks.specs.declared.transaction.RunningTransaction.{RunningTransaction as Running}
 use Rattle.history_model.specs.Changing.{is_empty}
 use Rattle.history_model.specs.Drawn.{next_oid}
 use Rattle.history_model.specs.Lives.{last_event_of}
 use Rattle.history_model.specs.MayFollow.{FollowsGone}
-use Rattle.history_model.specs.Transactions.{is_visible, running_transaction_of}
+use Rattle.history_model.specs.Transactions.{is_visible}
 use Rattle.cacheless.specs.Types.{Scenario, Command, Entry, Event}
 use Rattle.cacheless.specs.Ends.{End, Ends, Commits, TakesBack, end_of_all, end_of, end_left, next_of_commit, next_of_taking_back, next_of_end}
 use Rattle.cacheless.specs.Facts.{Facts, due_last, facts_of}
@@ -21,7 +19,7 @@ use Rattle.cacheless.specs.Owed.{Owes, owed_after, owed_of}
 use Rattle.cacheless.specs.Played.{AreSpelled}
 use Rattle.cacheless.specs.Plays.{IsEnd, IsLastEnd, MayPlay, MayPlayLast, MayPlayIn, owed_at_end}
 use Rattle.cacheless.specs.Schedule.{has_stopped}
-use Rattle.cacheless.specs.Session.{Session, number_of, outcome_of, is_settled}
+use Rattle.cacheless.specs.Session.{Session, outcome_of, is_settled}
 use Rattle.cacheless.specs.Sessions.{ends_command, session_of}
 use Rattle.cacheless.specs.declared.progress.Due.TheVariants as dues
 use Rattle.cacheless.proofs.Allowed.ActsNext.{owing_next, unsettled_next, waits}

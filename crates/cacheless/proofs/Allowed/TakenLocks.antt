@@ -1,5 +1,5 @@
 -- In an allowed history the lock that a lookup has newly taken is held by a grant of its command, so it may be given back.
-use Rattle.std.proofs.Common.{◌≡◌, ◌≤◌, ◌<◌, ◌+◌, ◌∙◌, ◌==◌, ◌&&◌, ◌||◌, ℕ, Bool, true, false, not, Option, Some, None, List, [], ◌∷◌, ◌++◌, refl, sym, ap, subst, map, filter, length, slice_get, arith}
+use Rattle.std.proofs.Common.{◌≡◌, ◌≤◌, ◌<◌, ◌+◌, ◌∙◌, ◌==◌, ◌&&◌, ◌||◌, ℕ, Bool, true, false, Option, Some, None, List, [], ◌∷◌, ◌++◌, refl, sym, ap, subst, map, filter, length, slice_get, arith}
 use Rattle.std.specs.Prelude.{⊤, nat_le}
 use Rattle.std.specs.List.{AllByRecursion, list_any}
 use Rattle.std.proofs.lemmas.Bool.{eq-eqb, eqb-true, eqb-false, and_from, leb-true, leb-false, false_from_ne_true, both_ways}
@@ -8,11 +8,10 @@ use Rattle.event_kinds.specs.declared.entry.Event.TheVariants as events
 use Rattle.command_answers.specs.declared.error.CommandError.TheVariants as errors
 use Rattle.lock_modes.specs.Own.{is_own, cleared}
 use Rattle.inval_messages.specs.Lists.{Written, has_write_from}
-use Rattle.ddl_effect.specs.Plans.{Act, Plan, Done, Fails, Absent, Do, Lookup, Open, Search, Read, Lock, Write}
+use Rattle.ddl_effect.specs.Plans.{Plan, Done, Fails, Absent, Do, Lookup, Open, Search, Read, Lock, Write}
 use Rattle.ddl_effect.specs.Commands.{commands_of}
 use Rattle.history_model.specs.Drawn.{next_oid}
 use Rattle.history_model.specs.Held.{held_of}
-use Rattle.history_model.specs.MayFollow.{AllowsUnlock}
 use Rattle.history_model.specs.Sent.{lists_of}
 use Rattle.history_model.specs.Sound.{MayComeNext, IsSound}
 use Rattle.history_model.specs.Transactions.{has_written}
@@ -21,20 +20,17 @@ use Rattle.history_model.proofs.Prefixes.{EachEntry-weaker}
 use Rattle.cacheless.specs.Types.{Oid, Mode, Row, Item, OwnLock, Scenario, Command, CommandError, Entry, Event}
 use Rattle.cacheless.specs.Facts.{Facts, facts_of, facts_by}
 use Rattle.cacheless.specs.Locks.{grant_of, locks_by}
-use Rattle.cacheless.specs.OnCourse.{OnItsWay, IsOnCourse, CourseOf, AllOnCourse}
+use Rattle.cacheless.specs.OnCourse.{OnItsWay, IsOnCourse, CourseOf}
 use Rattle.cacheless.specs.Output.{IsAllowed}
 use Rattle.cacheless.specs.Owed.{owes_accept, owed_of}
 use Rattle.cacheless.specs.Played.{AreSpelled}
 use Rattle.cacheless.specs.Plays.{IsLock, IsUnlock, IsWrite, MayPlay, MayPlayLast, MayPlayIn}
-use Rattle.cacheless.specs.Ends.{end_of, next_of_end}
 use Rattle.cacheless.specs.Session.{Session, number_of, first_of, outcome_of, is_settled}
-use Rattle.cacheless.specs.Sessions.{written, resumed, noted, placed_at, counted, accepted, entered, session_of}
-use Rattle.cacheless.specs.Settled.{act_done}
+use Rattle.cacheless.specs.Sessions.{written, resumed, placed_at, counted, entered, session_of}
 use Rattle.cacheless.proofs.HeldLocks.{lock_of_command, locks_of, locks_are_held, Follows}
 use Rattle.cacheless.proofs.Allowed.AllowedHistories.{allowed_sound, allowed_on_course}
 use Rattle.cacheless.proofs.Allowed.KeptAlong.{IsKept, HoldsBy, kept_along}
 use Rattle.cacheless.proofs.Allowed.NextEntries.{HasNext, IsFree, free_next}
-use Rattle.cacheless.proofs.Allowed.NextOnCourse.{entered_noted}
 use Rattle.cacheless.proofs.Allowed.OwnEntries.{ends_out}
 use Rattle.cacheless.proofs.Plans.SilentActs.{on_its_way}
 use Rattle.cacheless.proofs.Written.Listed.{all_written}

@@ -1,11 +1,10 @@
 -- A transaction goes on with an entry of its end, or ends with the release.
-use Rattle.std.proofs.Common.{◌≡◌, ◌≤◌, ◌+◌, ◌∙◌, ◌==◌, ◌&&◌, ◌||◌, inl, inr, ℕ, Bool, true, false, Option, Some, None, List, [], ◌∷◌, ◌++◌, cond, refl, sym, ap, subst, map, is_none, is_some, if◌then◌else◌, arith, not}
+use Rattle.std.proofs.Common.{◌≡◌, ◌≤◌, ◌+◌, ◌∙◌, ◌&&◌, ◌||◌, inl, inr, ℕ, Bool, true, false, Option, Some, None, List, [], ◌∷◌, ◌++◌, cond, refl, sym, ap, subst, map, is_none, is_some, if◌then◌else◌, arith}
 use Rattle.std.specs.Option.{option_map, option_map_or}
 use Rattle.std.specs.Prelude.{nat_lt}
 use Rattle.std.proofs.Math.Bool.{and-false}
 use Rattle.std.proofs.lemmas.Bool.{both_ways, eq-eqb, ne_eqb, le-leb, lt-leb, ltb-true, false_from_ne_true}
 use Rattle.base_types.specs.declared.command.Command.TheVariants as commands
-use Rattle.event_kinds.specs.declared.entry.Event.TheVariants as events
 use Rattle.inval_messages.specs.Lists.{Written, has_write_from, lists_before}
 use Rattle.txn_blocks.specs.Blocks.{Block, Outside, Inside, Failed}
 use Rattle.ddl_effect.specs.Opens.{opens_before}
@@ -13,15 +12,14 @@ use Rattle.history_model.specs.Sent.{ends_transaction}
 use Rattle.history_model.specs.Transactions.{begun, after_release, is_visible}
 use Rattle.txn_blocks.specs.declared.transaction.RunningTransaction.{RunningTransaction as Running}
 use Rattle.history_model.specs.Changing.{is_empty}
-use Rattle.cacheless.specs.Types.{Purpose, Command, Event, OwnLock}
+use Rattle.cacheless.specs.Types.{Command, Event, OwnLock}
 use Rattle.cacheless.specs.Ends.{End, Ends, Commits, TakesBack, end_of_all, end_of_block, end_well, end_badly, end_of}
 use Rattle.cacheless.specs.Facts.{Facts}
 use Rattle.cacheless.specs.Owed.{Owes, OwesLook, OwesScan, owed_at_start, owed_after, begins, scans_owed, owed_of}
-use Rattle.cacheless.specs.Session.{Session, Outcome, Well, Badly, Unsettled, opening_of, number_of, outcome_of, is_settled}
+use Rattle.cacheless.specs.Session.{Session, Outcome, Well, Badly, Unsettled, opening_of, number_of, outcome_of}
 use Rattle.cacheless.specs.declared.progress.Due.TheVariants as dues
-use Rattle.cacheless.proofs.Allowed.EndsReleased.{RunsAfter, TransactionFits, OnCommit, OnTakingBack, Fits, end_by, end_from, EndsBy, IsCommit, commit_first}
+use Rattle.cacheless.proofs.Allowed.EndsReleased.{RunsAfter, TransactionFits, OnCommit, OnTakingBack, Fits, end_by, EndsBy, IsCommit, commit_first}
 use Rattle.cacheless.proofs.Allowed.NextTransaction.{first_at, RunsBlock, RunsBy, failed_on}
-use Rattle.cacheless.proofs.Plans.SilentActs.{both_empty}
 
 -- the session after an entry of an end, with its locks
 abbrev pub later_at : Session → List OwnLock → ℕ → Session

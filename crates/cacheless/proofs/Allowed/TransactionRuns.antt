@@ -1,28 +1,28 @@
 -- In a command that waits for an entry a transaction runs, or the command begins one: any other is finished at once.
-use Rattle.std.proofs.Common.{◌≡◌, ◌+◌, ◌∙◌, ◌&&◌, ◌⊎◌, inl, inr, ℕ, Bool, true, false, not, Option, Some, None, List, [], ◌∷◌, ◌++◌, refl, sym, ap, subst, map, is_none, is_some}
+use Rattle.std.proofs.Common.{◌≡◌, ◌∙◌, ◌&&◌, ◌⊎◌, inl, inr, Bool, true, false, not, Option, Some, None, List, [], ◌∷◌, ◌++◌, refl, sym, ap, subst, map, is_none, is_some}
 use Rattle.std.specs.List.{cons_option}
-use Rattle.std.specs.Option.{option_map_or, option_or}
+use Rattle.std.specs.Option.{option_map_or}
 use Rattle.std.proofs.lemmas.Bool.{both_ways}
 use Rattle.std.proofs.Math.Bool.{and-false}
 use Rattle.base_types.specs.declared.command.Command.TheVariants as commands
 use Rattle.event_kinds.specs.declared.entry.Event.{Event}
 use Rattle.ddl_effect.specs.declared.told.Told.TheVariants as tells
 use Rattle.ddl_effect.specs.Commands.{plan_of}
-use Rattle.ddl_effect.specs.Plans.{Plan, Done, Fails, Absent, Do, told_rests_on, left_rests_on}
-use Rattle.txn_blocks.specs.Blocks.{Block, Level, Blocks, Outside, Inside, Failed, no_block, ends_block, ends_failure, refused_by, innermost}
+use Rattle.ddl_effect.specs.Plans.{Done, told_rests_on}
+use Rattle.txn_blocks.specs.Blocks.{Block, Outside, Inside, Failed, no_block, ends_block, ends_failure, refused_by, innermost}
 use Rattle.txn_blocks.specs.declared.transaction.RunningTransaction.{RunningTransaction as Running}
 use Rattle.history_model.specs.Changing.{is_empty}
-use Rattle.cacheless.specs.Types.{Purpose, Command, CommandError, Told, Opening, OpenRelation, Entry}
+use Rattle.cacheless.specs.Types.{Purpose, Command, CommandError, Told}
 use Rattle.cacheless.specs.Ends.{End, Ends, TakesBack, end_of_all, end_of_block, end_well, end_badly, end_of, end_left, next_of_end}
 use Rattle.cacheless.specs.Facts.{Facts}
-use Rattle.cacheless.specs.OnCourse.{DoesNoAct, TellsAlone, FollowsPlan}
+use Rattle.cacheless.specs.OnCourse.{DoesNoAct}
 use Rattle.cacheless.specs.Owed.{Owes, OwesLook, OwesScan, missing, owed_at_start, owed_after, begins, builds_owed, act_owed, scans_owed, owed_of}
-use Rattle.cacheless.specs.Session.{Session, Outcome, Unsettled, Well, Badly, opening_of, held_in, held_before, number_of, outcome_of, is_settled, plan_admitted, plan_first, refused_first, is_blocked}
+use Rattle.cacheless.specs.Session.{Session, Outcome, Unsettled, Well, Badly, opening_of, held_in, number_of, outcome_of, is_settled, plan_admitted, plan_first, refused_first, is_blocked}
 use Rattle.cacheless.specs.Settled.{is_finished}
 use Rattle.cacheless.specs.Told.{tells_of_scans}
 use Rattle.cacheless.proofs.Allowed.BlockLevels.{IsWithin, within, outside_is}
 use Rattle.cacheless.proofs.Allowed.EndsReleased.{TransactionFits, Fits}
-use Rattle.cacheless.proofs.Allowed.NextTransaction.{RunsBlock, RunsFailed, RunsBy, some_first, place_there, failed_mends}
+use Rattle.cacheless.proofs.Allowed.NextTransaction.{RunsFailed, RunsBy, place_there, failed_mends}
 use Rattle.cacheless.proofs.Allowed.OpenSince.{OpensIn}
 use Rattle.cacheless.proofs.Allowed.TransactionGoesOn.{RunsHere, Goes, Starts}
 

@@ -1,39 +1,38 @@
 -- After an allowed history the transaction of each backend is that of its running command or of its block; one that is visible is on its commit, and one of which writes were just taken back on its taking back.
-use Rattle.std.proofs.Common.{◌≡◌, ◌≤◌, ◌+◌, ◌∙◌, ◌==◌, ◌&&◌, ◌⊎◌, inl, inr, ℕ, Bool, true, false, not, Option, Some, None, List, [], ◌∷◌, ◌++◌, refl, sym, ap, subst, map, length, take, is_none, is_some, slice_get, arith}
+use Rattle.std.proofs.Common.{◌≡◌, ◌≤◌, ◌+◌, ◌∙◌, ◌==◌, ◌&&◌, inl, inr, ℕ, Bool, true, false, Option, Some, None, List, [], ◌∷◌, ◌++◌, refl, sym, ap, subst, map, length, take, is_none, is_some, slice_get, arith}
 use Rattle.std.specs.Prelude.{⊤}
 use Rattle.std.specs.List.{list_any, flat_map}
 use Rattle.std.specs.Option.{option_map, option_map_or}
 use Rattle.std.proofs.lemmas.Bool.{and_parts, both_ways}
 use Rattle.std.proofs.lemmas.List.{length_push}
 use Rattle.event_kinds.specs.declared.entry.Event.TheVariants as events
-use Rattle.inval_messages.specs.Lists.{Written, has_write_from, lists_before}
+use Rattle.inval_messages.specs.Lists.{has_write_from}
 use Rattle.base_types.specs.Scans.{same_scan, build_scans}
-use Rattle.ddl_effect.specs.Commands.{plan_of, commands_of}
+use Rattle.ddl_effect.specs.Commands.{commands_of}
 use Rattle.ddl_effect.specs.Opens.{opens_before}
 use Rattle.ddl_effect.specs.Plans.{Act, Plan, Done, Fails, Absent, Do, Write, Lookup, Open, Search, Read, Lock}
-use Rattle.ddl_effect.specs.declared.told.Told.TheVariants as tells
-use Rattle.txn_blocks.specs.Blocks.{Block, Outside, Inside, Failed, Blocks, Level, no_block}
+use Rattle.txn_blocks.specs.Blocks.{Block, Outside, Inside, Failed, Level, no_block}
 use Rattle.txn_blocks.specs.declared.transaction.RunningTransaction.{RunningTransaction as Running}
 use Rattle.history_model.specs.Changing.{is_empty}
 use Rattle.history_model.specs.Drawn.{next_oid}
 use Rattle.history_model.specs.Lives.{last_event_of}
 use Rattle.history_model.specs.MayFollow.{FollowsVisible, MayRelease}
-use Rattle.history_model.specs.Transactions.{begun, is_visible, running_transaction_of}
+use Rattle.history_model.specs.Transactions.{begun, is_visible}
 use Rattle.cacheless.specs.Types.{Xid, Oid, Mode, Row, Purpose, Item, Scenario, Command, Event, Entry}
 use Rattle.cacheless.specs.declared.progress.Due.{Due}
 use Rattle.cacheless.specs.declared.progress.Due.TheVariants as dues
-use Rattle.cacheless.specs.Ends.{End, Ends, Commits, TakesBack, end_of, end_of_all, end_left, next_of_end}
-use Rattle.cacheless.specs.Facts.{Facts, due_after, due_last, facts_of, facts_by}
-use Rattle.cacheless.specs.OnCourse.{is_absent, TellsAlone, FollowsPlan, IsOnCourse}
+use Rattle.cacheless.specs.Ends.{End, Ends, Commits, TakesBack, end_of, end_left, next_of_end}
+use Rattle.cacheless.specs.Facts.{Facts, due_last, facts_of, facts_by}
+use Rattle.cacheless.specs.OnCourse.{is_absent}
 use Rattle.cacheless.specs.Output.{IsAllowed}
 use Rattle.cacheless.specs.Owed.{Owes, OwesScan, missing, act_next, owed_at_start, owed_after, scans_owed, owed_of, is_next_scan}
 use Rattle.cacheless.specs.Played.{AreSpelled}
-use Rattle.cacheless.specs.Plays.{IsLock, IsWrite, IsClash, IsEnd, MayPlay, MayPlayLast, MayPlayIn, owed_at_end}
-use Rattle.cacheless.specs.Session.{Session, Outcome, Well, Badly, Unsettled, opening_of, held_in, held_before, number_of, first_of, none_open, at_command, outcome_of, is_settled, plan_first}
+use Rattle.cacheless.specs.Plays.{IsLock, IsWrite, IsClash, MayPlayLast, MayPlayIn}
+use Rattle.cacheless.specs.Session.{Session, Badly, opening_of, held_in, number_of, none_open, at_command, outcome_of, is_settled, plan_first}
 use Rattle.cacheless.specs.Sessions.{ends_command, written, resumed, noted, placed_at, counted, entered, session_of}
-use Rattle.cacheless.specs.Settled.{act_done, done_here, is_finished, blocks_after, opens_after, finished_as, next_session}
+use Rattle.cacheless.specs.Settled.{act_done, is_finished, blocks_after, opens_after, finished_as, next_session}
 use Rattle.cacheless.proofs.Allowed.BlockLevels.{LevelsRise}
-use Rattle.cacheless.proofs.Allowed.EndsReleased.{RunsAfter, TransactionFits, OnCommit, OnTakingBack, Fits, end_by, EndsBy, ends_by, is_end, IsCommit, ComesNow, comes_now, from_of, first_begun, IsInner, Releases, Whole, Inner, end_releases}
+use Rattle.cacheless.proofs.Allowed.EndsReleased.{TransactionFits, Fits, end_by, EndsBy, ends_by, is_end, IsCommit, comes_now, from_of, IsInner, Releases, Whole, Inner, end_releases}
 use Rattle.cacheless.proofs.Allowed.KeptAlong.{Makes, IsKept, HoldsBy, kept_along}
 use Rattle.cacheless.proofs.Allowed.NextOnCourse.{entered_noted, no_start}
 use Rattle.cacheless.proofs.Allowed.NextTransaction.{LevelsFit, first_at, RunsFailed, RunsAt, RunsIn, RunsBy, levels_next, next_silent, well_admitted}
@@ -41,7 +40,7 @@ use Rattle.cacheless.proofs.Allowed.OpenSince.{OpensIn, inside_next, since_next,
 use Rattle.cacheless.proofs.Allowed.OwnEntries.{IsNoted}
 use Rattle.cacheless.proofs.Allowed.TransactionEnds.{GoesOn, fits_ending, commits_on, takes_back_on, fits_released, write_from_first, none_from, ended_running, ended_lists, kept_running, kept_lists, goes_first, begun_xid, begun_visible, written_runs}
 use Rattle.cacheless.proofs.Allowed.TransactionGoesOn.{StaysInside, StaysAt, IsWellOnceOver, RunsHere, Goes, fits_inside}
-use Rattle.cacheless.proofs.Allowed.TransactionRuns.{OverAlone, runs_here}
+use Rattle.cacheless.proofs.Allowed.TransactionRuns.{runs_here}
 use Rattle.cacheless.proofs.Plans.SilentActs.{both_empty, empty_list}
 
 -- the event is none of an end

@@ -1,12 +1,12 @@
 -- After an allowed history a backend whose next act is a write, and that owes nothing, has an allowed next entry: the write, or where a new name is in use, that clash.
-use Rattle.std.proofs.Common.{◌≡◌, ◌+◌, ◌∙◌, ◌==◌, ◌&&◌, ◌||◌, ℕ, Bool, true, false, Option, Some, None, List, [], ◌∷◌, ◌++◌, append-nil, refl, sym, ap, subst, length, slice_get}
-use Rattle.std.specs.List.{AllByRecursion, list_any, list_all, flat_map, range_with_len}
+use Rattle.std.proofs.Common.{◌≡◌, ◌∙◌, ◌==◌, ◌&&◌, ◌||◌, ℕ, Bool, true, false, Some, None, List, [], ◌∷◌, ◌++◌, append-nil, refl, sym, ap, subst, length, slice_get}
+use Rattle.std.specs.List.{list_any, list_all, flat_map, range_with_len}
 use Rattle.std.specs.Str.{bytes_eq}
 use Rattle.std.proofs.lemmas.Bool.{eq-eqb, both_ways}
 use Rattle.std.proofs.lemmas.List.{append_assoc}
 use Rattle.std.proofs.lemmas.List.FromFn.{length-range_with_len}
 use Rattle.std.proofs.lemmas.Slice.Eq.{bytes_eq-Decides}
-use Rattle.base_types.specs.Scans.{same_oid, selects}
+use Rattle.base_types.specs.Scans.{selects}
 use Rattle.base_types.specs.declared.ids.Xid.{Xid}
 use Rattle.base_types.specs.declared.row.Row.TheVariants as rows
 use Rattle.base_types.specs.declared.scan.Purpose.TheVariants as scans
@@ -17,23 +17,22 @@ use Rattle.txn_blocks.specs.Blocks.{refused_by}
 use Rattle.history_model.specs.Changing.{is_empty}
 use Rattle.history_model.specs.Drawn.{drawn_by, next_oid}
 use Rattle.history_model.specs.InUse.{is_row_of}
-use Rattle.history_model.specs.MayFollow.{AllowsEvent}
 use Rattle.history_model.specs.Names.{new_names, users_of}
-use Rattle.history_model.specs.Transactions.{has_written, xid_for}
+use Rattle.history_model.specs.Transactions.{xid_for}
 use Rattle.history_model.specs.Versions.{answer_of}
 use Rattle.history_model.specs.Writes.{is_free, IsWriteAllowed}
 use Rattle.history_model.proofs.Allows.{unwritten_last}
 use Rattle.history_model.proofs.Covering.{told_covers}
 use Rattle.history_model.proofs.Every.{every-weaker}
 use Rattle.history_model.proofs.GivenRows.{given_seen}
-use Rattle.cacheless.specs.Types.{Oid, Row, Purpose, Item, Opening, OpenRelation, Draft, Scenario, Command, CommandError, Entry, Event}
+use Rattle.cacheless.specs.Types.{Row, Purpose, Item, Opening, Draft, Scenario, Command, Entry, Event}
 use Rattle.cacheless.specs.ActsDone.{reached, made_in, opening_by, after_given, IsStill, AreStill}
 use Rattle.cacheless.specs.Facts.{Facts, facts_of}
-use Rattle.cacheless.specs.OnCourse.{OnItsWay, FollowsPlan, IsOnCourse, CourseOf}
+use Rattle.cacheless.specs.OnCourse.{OnItsWay, IsOnCourse, CourseOf}
 use Rattle.cacheless.specs.Owed.{owed_of}
 use Rattle.cacheless.specs.Played.{IsPlayed}
-use Rattle.cacheless.specs.Plays.{names_of, names_by, drafted, IsWrite, IsClash, MayPlayIn}
-use Rattle.cacheless.specs.Puts.{PutOpened, AreGivenBy, PutsOpened}
+use Rattle.cacheless.specs.Plays.{drafted, IsWrite, IsClash, MayPlayIn}
+use Rattle.cacheless.specs.Puts.{AreGivenBy, PutsOpened}
 use Rattle.cacheless.specs.Session.{Session, held_before, plan_admitted, number_of}
 use Rattle.cacheless.specs.Settled.{opened_by}
 use Rattle.cacheless.proofs.Deciding.{all_names}
