@@ -30,3 +30,11 @@ pub mod TransactionEnds
 pub mod TransactionsKept
 pub mod EndsNext
 pub mod NeverStuck
+pub mod OpensKept
+pub mod TypedParts
+pub mod TypedPlans
+pub mod TypedSessions
+pub mod TypedSegments
+pub mod CountedBytes
+pub mod TypedEvents
+pub mod TypedHistories

@@ -18,6 +18,7 @@ pub mod Schedule
 pub mod Output
 pub mod OnCourse
 pub mod Played
+pub mod Typed
 pub mod Told
 pub mod Judged
 pub mod OpenedReads
