@@ -117,6 +117,18 @@ fn absent_oids(alloc: Global, oids: u32) -> Result<CatCache, NoMemory> {
     Ok(cache)
 }
 
+// A cache in which so many oids have a row.
+fn present_oids(alloc: Global, oids: u32) -> Result<CatCache, NoMemory> {
+    let mut cache = CatCache::new(alloc, CacheId::RelOid)?;
+    for i in 0..oids {
+        let key = Key::new(&[KeyPart::Oid(Oid(16384u32.wrapping_add(i)))]);
+        if let Found::Unknown = cache.peek(key.as_slice()) {
+            let _ = cache.put_row(&key, row(numbered(i)), 1)?;
+        }
+    }
+    Ok(cache)
+}
+
 // A cache in which so many names have no row: `t00000`, `t00001` and so on.
 fn absent_names(alloc: Global, names: u32) -> Result<CatCache, NoMemory> {
     let mut cache = CatCache::new(alloc, CacheId::RelName)?;
@@ -156,18 +168,24 @@ fn chained(cache: &CatCache) -> (usize, usize) {
     (hashes, longest)
 }
 
-// How many buckets a cache has in which so many oids have no row, and in how many of them so many hashes stand together.
-fn buckets(alloc: Global, oids: u32) -> Result<(u32, usize), NoMemory> {
-    let cache = absent_oids(alloc, oids)?;
-    Ok((cache.buckets(), chained(&cache).0))
+// How many buckets a cache has, and how many hashes stand in them together.
+fn in_buckets(cache: &CatCache) -> (u32, usize) {
+    (cache.buckets(), chained(cache).0)
+}
+
+// The same of a cache in which so many oids have no row, and of one in which so many have one.
+fn buckets(alloc: Global, oids: u32) -> Result<((u32, usize), (u32, usize)), NoMemory> {
+    let absent = in_buckets(&absent_oids(alloc, oids)?);
+    let present = in_buckets(&present_oids(alloc, oids)?);
+    Ok((absent, present))
 }
 
 #[test]
 fn buckets_double_where_one_entry_more_would_leave_more_than_two_for_each(rt: HostRuntime) {
     let alloc = rt.alloc();
-    assert!(rt; matches!(buckets(alloc, 16), Ok((8, 16))));
-    assert!(rt; matches!(buckets(alloc, 17), Ok((16, 17))));
-    assert!(rt; matches!(buckets(alloc, 33), Ok((32, 33))));
+    assert!(rt; matches!(buckets(alloc, 16), Ok(((8, 16), (8, 16)))));
+    assert!(rt; matches!(buckets(alloc, 17), Ok(((16, 17), (16, 17)))));
+    assert!(rt; matches!(buckets(alloc, 33), Ok(((32, 33), (32, 33)))));
 }
 
 // How many hashes stand in the bucket of this hash once two absent names that have it are kept, and after its message.

@@ -1,4 +1,4 @@
-use pin_pool::Pool;
+use pin_pool::{Pool, Ref};
 use std::alloc::Global;
 
 // The pins of an entry with one user, with two, and with one again, and its value; what comes out as that is
@@ -84,4 +84,65 @@ fn reserved(alloc: Global) -> Option<([bool; 2], u32, bool)> {
 #[test]
 fn a_reference_whose_entry_has_gone_is_dead_whatever_is_added(rt: HostRuntime) {
     assert!(rt; reserved(rt.alloc()) == Some(([false, true], 8, true)));
+}
+
+const MANY: usize = 200;
+
+// Many entries, whose values are their places among the references.
+fn add_many(alloc: Global, pool: &mut Pool<usize>) -> Option<Vec<Ref>> {
+    let mut refs = Vec::new(alloc);
+    for i in 0..MANY {
+        let r = pool.add(i).ok()?;
+        refs.push(r).ok()?;
+    }
+    Some(refs)
+}
+
+// Whether each value is its place among the references.
+fn are_right(pool: &Pool<usize>, refs: &[Ref]) -> bool {
+    for i in 0..refs.len() {
+        if !pool.live(&refs[i]) || *pool.get(&refs[i]) != i {
+            return false;
+        }
+    }
+    refs.len() == MANY
+}
+
+// The value of an entry, which is taken out.
+fn taken_out(pool: &mut Pool<usize>, r: &Ref) -> Option<usize> {
+    if !pool.live(r) {
+        return None;
+    }
+    let _ = pool.mark_dead(r);
+    if pool.live(r) && pool.pins(r) > 0 {
+        return pool.unpin(r);
+    }
+    None
+}
+
+// Whether each is taken out, and its value is its place.
+fn are_taken_out(pool: &mut Pool<usize>, refs: &[Ref]) -> bool {
+    for i in 0..refs.len() {
+        if taken_out(pool, &refs[i]) != Some(i) {
+            return false;
+        }
+    }
+    true
+}
+
+// Whether there is room for many entries once it was made, whether each is right beside the others, and whether as
+// much room is there again as they are taken out.
+fn many(alloc: Global) -> Option<[bool; 3]> {
+    let mut pool = Pool::new(alloc);
+    pool.reserve(MANY).ok()?;
+    let room = pool.spare();
+    let refs = add_many(alloc, &mut pool)?;
+    let right = are_right(&pool, &refs);
+    let out = are_taken_out(&mut pool, &refs);
+    Some([room >= MANY, right, out && pool.spare() == room])
+}
+
+#[test]
+fn many_entries_stand_beside_one_another_and_leave_their_room(rt: HostRuntime) {
+    assert!(rt; many(rt.alloc()) == Some([true, true, true]));
 }
