@@ -107,12 +107,12 @@ countable scenario seen e s counted session follows = by_started s.is_started re
         Counted c = (nat_lt c.looks 1152921504606846976 ≡ true) × (nat_lt c.scans 1152921504606846976 ≡ true) × (nat_lt c.grants 1152921504606846976 ≡ true) × (nat_lt c.unlocks 1152921504606846976 ≡ true) × (nat_lt c.fetches 1152921504606846976 ≡ true) × (nat_lt c.full 1152921504606846976 ≡ true)
 
 -- an entry that comes to a session is one that this lets come
-pub to_come : (ledger : Ledger) (s : Session) (e : Entry) → ComesTo ledger s e → comes_at ledger.next_oid s e.command e.event ≡ true
-to_come ledger s e k = (comes_decides k.scenario k.seen ledger.next_oid e s k.reads.next_oid_is k.comes.next.0 k.session k.comes.follows).1 k.comes.next
+pub to_come : (ledger : Ledger) (s : Session) (e : Entry) → ComesTo ledger s e → comes_at ledger.rows.next_oid s e.command e.event ≡ true
+to_come ledger s e k = (comes_decides k.scenario k.seen ledger.rows.next_oid e s k.reads.rows.next_oid_is k.comes.next.0 k.session k.comes.follows).1 k.comes.next
 
 -- one that starts has few commands
 pub new_few : (ledger : Ledger) (s : Session) (e : Entry) → e.event ≡ events.Start → ComesTo ledger s e → length s.progress.commands ≤ 20000
-new_few ledger s e is k = (new_stands k.scenario k.seen s (start_comes ledger.next_oid s e.command (ap (comes_at ledger.next_oid s e.command) (sym is) ∙ to_come ledger s e k)) k.session.stands).none.waits.few
+new_few ledger s e is k = (new_stands k.scenario k.seen s (start_comes ledger.rows.next_oid s e.command (ap (comes_at ledger.rows.next_oid s e.command) (sym is) ∙ to_come ledger s e k)) k.session.stands).none.waits.few
 
 -- one that has started waits for its entry
 going_on : (ledger : Ledger) (s : Session) (e : Entry) → s.is_started ≡ true → (k : ComesTo ledger s e) → AwaitsEntry k.scenario k.seen s.progress s.lines
@@ -124,7 +124,7 @@ going_few ledger s e is k = few_held k.scenario k.seen s.progress (going_on ledg
 -- and its backend may take it
 pub takes_next : (ledger : Ledger) (s : Session) (e : Entry) → is_start e.event ≡ false → ComesTo ledger s e → MayTake ledger s.progress e.event
 takes_next ledger s e other k =
-    let of = other_comes ledger.next_oid s e.command e.event other (to_come ledger s e k) in
+    let of = other_comes ledger.rows.next_oid s e.command e.event other (to_come ledger s e k) in
     record {
       scenario = k.scenario;
       seen = k.seen;

@@ -188,22 +188,22 @@ own_is : (s : Session) (c : ℕ) (event : Event) (e : Entry) → IsOwn s c event
 own_is s c event e own = λ i. record { backend = own.id i; command = own.command i; event = own.event_is i }
 
 -- the session of its backend takes its start
-pub takes_start : {E : Type 0} (result : Result (Unit {0}) E) (ledger : Ledger) (at : ℕ) (was now : Session) (e : Entry) → events.Start ≡ e.event → comes_at ledger.next_oid was e.command e.event ≡ true
+pub takes_start : {E : Type 0} (result : Result (Unit {0}) E) (ledger : Ledger) (at : ℕ) (was now : Session) (e : Entry) → events.Start ≡ e.event → comes_at ledger.rows.next_oid was e.command e.event ≡ true
     → OnOk result ((scenario : Scenario) (seen : List Entry) → HasNoEntry scenario seen was → ComesNext scenario seen (entry_of was.progress.id 0 events.Start) → IsSessionOf scenario (seen ++ entry_of was.progress.id 0 events.Start ∷ []) was.progress.id now)
     → OnOk result ((scenario : Scenario) (seen : List Entry) → Reads seen ledger → at ≡ length seen + 1 → AreSpelled scenario → IsLegal seen → Plays scenario seen → MayFollow seen e → IsNext scenario seen e → IsSessionOf scenario seen e.backend was → IsSessionOf scenario (seen ++ e ∷ []) e.backend now)
 takes_start (Ok done) ledger at was now e is comes starts = λ scenario seen reads place spelled legal plays follows may session.
     let same : entry_of was.progress.id 0 events.Start ≡ e = own_is was 0 events.Start e (record { id = session.id; command = sym (start_number (life_of seen e.backend) e.command (subst (FollowsLife (life_of seen e.backend) e.command) (sym is) follows.life)); event_is = is }) in
     subst (λ b. IsSessionOf scenario (seen ++ e ∷ []) b now) session.id (subst (λ x. IsSessionOf scenario (seen ++ x ∷ []) was.progress.id now) same
-    (starts scenario seen (new_stands scenario seen was (start_comes ledger.next_oid was e.command (ap (comes_at ledger.next_oid was e.command) is ∙ comes)) session.stands)
+    (starts scenario seen (new_stands scenario seen was (start_comes ledger.rows.next_oid was e.command (ap (comes_at ledger.rows.next_oid was e.command) is ∙ comes)) session.stands)
     (subst (ComesNext scenario seen) (sym same) (record { spelled = spelled; legal = legal; plays = plays; follows = follows; next = may }))))
 takes_start (Err error) ledger at was now e is comes starts = tt
 
 -- and an entry after it
-pub takes_own : {E : Type 0} (result : Result (Unit {0}) E) (ledger : Ledger) (at : ℕ) (was now : Session) (e : Entry) (event : Event) → event ≡ e.event → is_start event ≡ false → comes_at ledger.next_oid was e.command e.event ≡ true
+pub takes_own : {E : Type 0} (result : Result (Unit {0}) E) (ledger : Ledger) (at : ℕ) (was now : Session) (e : Entry) (event : Event) → event ≡ e.event → is_start event ≡ false → comes_at ledger.rows.next_oid was e.command e.event ≡ true
     → OnOk result ((scenario : Scenario) (seen : List Entry) → Reads seen ledger → at ≡ length seen + 1 → AwaitsEntry scenario seen was.progress was.lines → ComesNext scenario seen (entry_of was.progress.id (was.progress.finished + 1) event) → IsSessionOf scenario (with_own seen was.progress event) was.progress.id now)
     → OnOk result ((scenario : Scenario) (seen : List Entry) → Reads seen ledger → at ≡ length seen + 1 → AreSpelled scenario → IsLegal seen → Plays scenario seen → MayFollow seen e → IsNext scenario seen e → IsSessionOf scenario seen e.backend was → IsSessionOf scenario (seen ++ e ∷ []) e.backend now)
 takes_own (Ok done) ledger at was now e event is other comes takes = λ scenario seen reads place spelled legal plays follows may session.
-    let of : ComesOf ledger.next_oid was e.command event = other_comes ledger.next_oid was e.command event other (ap (comes_at ledger.next_oid was e.command) is ∙ comes) in
+    let of : ComesOf ledger.rows.next_oid was e.command event = other_comes ledger.rows.next_oid was e.command event other (ap (comes_at ledger.rows.next_oid was e.command) is ∙ comes) in
     let same : entry_of was.progress.id (was.progress.finished + 1) event ≡ e = own_is was (was.progress.finished + 1) event e (record { id = session.id; command = sym of.command; event_is = is }) in
     let all : ComesNext scenario seen (entry_of was.progress.id (was.progress.finished + 1) event) = subst (ComesNext scenario seen) (sym same) (record { spelled = spelled; legal = legal; plays = plays; follows = follows; next = may }) in
     subst (λ b. IsSessionOf scenario (seen ++ e ∷ []) b now) session.id (subst (λ x. IsSessionOf scenario (seen ++ x ∷ []) was.progress.id now) same
@@ -211,7 +211,7 @@ takes_own (Ok done) ledger at was now e event is other comes takes = λ scenario
 takes_own (Err error) ledger at was now e event is other comes takes = tt
 
 -- its stop too
-pub takes_stop : {E : Type 0} (result : Result (Unit {0}) E) (ledger : Ledger) (at : ℕ) (was now : Session) (e : Entry) → events.Stop ≡ e.event → comes_at ledger.next_oid was e.command e.event ≡ true
+pub takes_stop : {E : Type 0} (result : Result (Unit {0}) E) (ledger : Ledger) (at : ℕ) (was now : Session) (e : Entry) → events.Stop ≡ e.event → comes_at ledger.rows.next_oid was e.command e.event ≡ true
     → OnOk result ((scenario : Scenario) (seen : List Entry) → AwaitsEntry scenario seen was.progress was.lines → ComesNext scenario seen (entry_of was.progress.id (was.progress.finished + 1) events.Stop) → IsSessionOf scenario (with_own seen was.progress events.Stop) was.progress.id now)
     → OnOk result ((scenario : Scenario) (seen : List Entry) → Reads seen ledger → at ≡ length seen + 1 → AreSpelled scenario → IsLegal seen → Plays scenario seen → MayFollow seen e → IsNext scenario seen e → IsSessionOf scenario seen e.backend was → IsSessionOf scenario (seen ++ e ∷ []) e.backend now)
 takes_stop {E = E} (Ok done) ledger at was now e is comes takes = takes_own {E = E} (Ok done) ledger at was now e events.Stop is refl comes (λ scenario seen reads place. takes scenario seen)

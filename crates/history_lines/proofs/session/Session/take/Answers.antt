@@ -8,10 +8,10 @@ pub start-requires : goal.start-requires
 start-requires c = record { few = new_few c.args.ledger.now c.args.self.now c.args.e.now c.in-Start.is c.requires }
 
 pub stop-requires : goal.stop-requires
-stop-requires c = let is = stop_comes c.args.ledger.now.next_oid c.args.self.now c.args.e.now.command c.args.e.now.event c.in-Stop.is (to_come _ _ _ c.requires) in record { going = is; few = going_few c.args.ledger.now c.args.self.now c.args.e.now is c.requires }
+stop-requires c = let is = stop_comes c.args.ledger.now.rows.next_oid c.args.self.now c.args.e.now.command c.args.e.now.event c.in-Stop.is (to_come _ _ _ c.requires) in record { going = is; few = going_few c.args.ledger.now c.args.self.now c.args.e.now is c.requires }
 
 pub go_on-requires-clause-going : goal.go_on-requires-clause-going
-go_on-requires-clause-going c = (other_comes c.args.ledger.now.next_oid c.args.self.now c.args.e.now.command c.args.e.now.event (no_start c.args.e.now.event c.in_default.not-Start) (to_come _ _ _ c.requires)).started
+go_on-requires-clause-going c = (other_comes c.args.ledger.now.rows.next_oid c.args.self.now c.args.e.now.command c.args.e.now.event (no_start c.args.e.now.event c.in_default.not-Start) (to_come _ _ _ c.requires)).started
 
 pub go_on-requires-clause-comes : goal.go_on-requires-clause-comes
 go_on-requires-clause-comes c = takes_next c.args.ledger.now c.args.self.now c.args.e.now (no_start c.args.e.now.event c.in_default.not-Start) c.requires
