@@ -125,6 +125,21 @@ class Statements(unittest.TestCase):
                 found = said(sql, made)[-1]
                 self.assertEqual((list(found.commands), found.reason), (commands, None))
 
+    def test_keys_of_an_index(self):
+        """A key that takes an index that is there is said by its lock, with a name or without; one without columns can't be said."""
+        made = "CREATE TABLE t (a int); CREATE UNIQUE INDEX tu ON t (a)"
+        for action in ("ADD PRIMARY KEY USING INDEX tu", "ADD UNIQUE USING INDEX tu", "ADD CONSTRAINT tc UNIQUE USING INDEX tu",
+                       "ADD CONSTRAINT tc PRIMARY KEY USING INDEX tu DEFERRABLE"):
+            with self.subTest(action):
+                found = said("ALTER TABLE t " + action, made)[-1]
+                self.assertEqual((found.commands, found.reason, found.unsaid), (
+                    ("lock table t in access exclusive mode",), None, "'%s' but for its lock" % action.lower()))
+        for action in ("ADD PRIMARY KEY", "ADD UNIQUE", "ADD CONSTRAINT tc", "ADD FOREIGN KEY (a)", "ADD", "DROP CONSTRAINT"):
+            with self.subTest(action):
+                found = said("ALTER TABLE t " + action, made)[-1]
+                shown = action.lower().replace("(a)", "( a )")
+                self.assertEqual((found.commands, found.reason), ((), "no command says '%s'" % shown))
+
     def test_results(self):
         """Which results can be said, of a table without rows."""
         for sql, rows in (("SELECT * FROM t", Rows("t", ("*",))), ("SELECT b, a FROM t WHERE a = 1", Rows("t", ("b", "a"))),

@@ -137,7 +137,8 @@ ACTIONS = tuple((re.compile(pattern), mode) for pattern, mode in (
     ("cluster on .*|set without cluster", "share update exclusive"),
     ("(?:enable|disable) (?:replica |always )?trigger (?:all|user)|enable (?:replica|always) trigger .*", "share row exclusive"),
     ("(?:set logged|set unlogged|set tablespace .*|replica identity .*|(?:enable|disable|force|no force) row level security|"
-     "(?:enable|disable) .*rule .*|rename constraint .*|alter constraint .*|add constraint .* using index .*)", "access exclusive"),
+     "(?:enable|disable) .*rule .*|rename constraint .*|alter constraint .*|"
+     "add (?:constraint %s )?(?:primary key|unique) using index .*)" % NAME, "access exclusive"),
 ))
 
 # The alterations that have a form here, and those that take less than AccessExclusive.
@@ -390,11 +391,11 @@ class Sayer:
         name, words = (item[1], item[2:]) if item[0] == "constraint" else (None, item)
         groups = re.findall(r"\( (.*?) \)", " ".join(words))
         columns = groups[0].split(" , ") if groups else []
-        if words[0] in ("primary", "unique"):
+        if words[:1] in (["primary"], ["unique"]) and columns:
             self.key(table, words[0] == "primary", columns, name, more)
-        elif words[0] == "check":
+        elif words[:1] == ["check"]:
             self.check(table, name or "%s_check" % table, words[1:], more)
-        elif words[0] == "foreign" and len(columns) == 1:
+        elif words[:1] == ["foreign"] and len(columns) == 1 and "references" in words:
             self.reference(table, name or "%s_%s_fkey" % (table, columns[0]), columns[0], after(words, "references"), more, unsaid)
         else:
             unsaid.append("the constraint '%s'" % " ".join(item))
@@ -460,6 +461,8 @@ class Sayer:
                 unsaid.append("'%s' but for its lock" % action)
                 return ["lock table %s in %s mode" % (table, mode)]
         words, more = action.split(" "), []
+        if len(words) < 2:
+            return None
         if words[0] == "add" and words[1] in ("primary", "unique", "check", "foreign", "constraint", "exclude"):
             count = len(unsaid)
             self.constraint(table, words[1:], more, unsaid)
@@ -469,7 +472,7 @@ class Sayer:
             if item[:3] == ["if", "not", "exists"]:
                 return None
             return ["alter table %s add column %s" % (table, self.column(table, item, more, unsaid))] + more
-        if words[0] == "drop" and words[1] == "constraint" and words[2] in self.known:
+        if words[:2] == ["drop", "constraint"] and words[2:] and words[2] in self.known:
             return ["drop index " + words[2]]
         if "if" in words[:3]:
             return None
