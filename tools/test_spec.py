@@ -229,6 +229,18 @@ class Reports(unittest.TestCase):
         self.assertEqual(status, 1)
         self.assertIn("2 permutations: 1 as expected, 1 differs, of 1 expected\n", shown)
 
+    def test_own_report(self):
+        """A report that was printed here is as expected, whatever it says of itself at its end."""
+        text = ("setup { CREATE TABLE t (a int4); }\nsession s1 step i { INSERT INTO t VALUES (1); } step r { SELECT a + 1 FROM t; }\n"
+                "session s2 step l { LOCK t; }\npermutation l i\npermutation i r\n")
+        status, shown = self.run_spec(text)
+        self.assertEqual((status, shown.split("\n")[-3][:1], shown.split("\n")[-2]), (0, "#", "# not printed: rows of r"))
+        for expected in (shown, shown[:-1], shown + "# one more\n"):
+            status, found = self.run_spec(text, expected=expected)
+            self.assertEqual((status, found.split("\n")[0]), (0, "2 permutations: 2 as expected"))
+        status, found = self.run_spec(text, expected=shown.replace("\nstep i", "\n# one\nstep i", 1))
+        self.assertEqual((status, found.split("\n")[0]), (1, "2 permutations: 1 as expected, 1 differs"))
+
     def test_waits(self):
         """Conditions of steps, warnings, a step that can't be begun, and errors inside steps of several statements."""
         text = ("setup { CREATE TABLE t (a int4); }\nsession s1 step s1b { BEGIN; BEGIN; } step s1x { LOCK t; ALTER TABLE t DROP z; COMMIT; }\n"

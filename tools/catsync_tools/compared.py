@@ -19,11 +19,20 @@ class LeftOut(NamedTuple):
     results: Set[str]
 
 
+def without_notes(text):
+    """A report without the lines at its end in which tools/spec says what isn't said."""
+    lines = text.split("\n")
+    end = len(lines) - (not lines[-1])
+    while end and lines[end - 1].startswith("#"):
+        end -= 1
+    return "\n".join(lines[:end] + [""])
+
+
 class Reader:
     """Reads the permutations of a file with an expected report."""
 
     def __init__(self, text, spec: Spec):
-        self.lines, self.at = text.split("\n"), 0
+        self.lines, self.at = without_notes(text).split("\n"), 0
         self.sessions = {session.name for session in spec.sessions} | {"control connection"}
         self.steps = sorted(spec.steps.values(), key=lambda step: -len(step.name))
 
