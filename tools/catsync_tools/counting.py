@@ -9,7 +9,7 @@ made wrong, and at most two for each item.
 from typing import Dict, List, Optional
 
 from .faults import Fault
-from .items import Count, Item, Own, Stopped
+from .items import Count, Item, Own, Stopped, comma_wanted
 from .runs import Runs
 from .scripts import Turns, steps_line
 from .sources import STEPS, Line, Source
@@ -41,7 +41,8 @@ def refuse(items: List[Item], at, run):
     item = items[at]
     own = steps_of_backends(run.steps)[item.backend]
     place = sum(count for other, count in zip(items[:at], counts_in(items, run)) if other.backend == item.backend)
-    raise Fault("line %d: '%s' can't be reached: %s" % (item.line, item.text, item.until.missing(own, min(place, len(own)))))
+    why = comma_wanted(item.text.split(" ")) or item.until.missing(own, min(place, len(own)))
+    raise Fault("line %d: '%s' can't be reached: %s" % (item.line, item.text, why))
 
 
 def counts_of(items: List[Item], runs: Runs) -> Counts:

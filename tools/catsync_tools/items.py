@@ -99,10 +99,19 @@ def until_of(words):
     return Made(tuple(words)) if words and words[0] in FORMS else None
 
 
+def comma_wanted(words):
+    """Where a comma is wanted in an item `B to ..`: before another one in it; None where there is none. What an entry has may
+    read so, so it is asked only of an item that can't be one."""
+    ends = [at - 1 for at in range(4, len(words)) if words[at] == "to" and _COUNT.fullmatch(words[at - 1])]
+    return "a comma comes after '%s'" % " ".join(words[:ends[0]]) if ends else None
+
+
 def named_item(line, words):
     """The item `B to ..`, or a fault."""
     text = " ".join(words)
     until = until_of(words[2:]) if _COUNT.fullmatch(words[0]) else None
+    if until is None and comma_wanted(words):
+        raise Fault("line %d: '%s': %s" % (line, text, comma_wanted(words)))
     if until is None:
         raise Fault("line %d: '%s' isn't 'B to C' with the number of a command, 'B to end', or 'B to' and the first word of an "
                     "entry: %s" % (line, text, ", ".join(FORMS)))
