@@ -265,6 +265,18 @@ class Reports(unittest.TestCase):
                 status, shown = self.run_spec(text % steps)
                 self.assertEqual((status, shown.split("\n")[-2]), (0, expected))
 
+    def test_unprinted_alone(self):
+        """A set-up's rows and a teardown's are named so, with the session whose it is."""
+        text = ("setup { CREATE TABLE t (a int4); }\nsetup { %s }\nteardown { %s }\nsession s1 setup { %s } step b { BEGIN; } teardown { %s }\n"
+                "session s2 step c { COMMIT; } teardown { %s }\npermutation b c\n")
+        rows = "SELECT a + 1 FROM t;"
+        for at, expected in enumerate(("the set-up", "the teardown", "the set-up of s1", "the teardown of s1", "the teardown of s2")):
+            with self.subTest(expected):
+                status, shown = self.run_spec(text % tuple(rows if place == at else "" for place in range(5)))
+                self.assertEqual((status, shown.split("\n")[-2]), (0, "# not printed: rows of " + expected))
+        self.assertEqual(self.run_spec(text % ((rows,) * 5))[1].split("\n")[-2], "# not printed: rows of the set-up, the set-up of s1, "
+                         "the teardown of s1, the teardown of s2 and the teardown")
+
     def test_inside(self):
         """Half of a commit is between the permutations, and no wait is told for an order of the steps."""
         path = os.path.join(TOP, "examples", "specs", "settings_of_one_commit.spec")

@@ -9,14 +9,16 @@ from .statements import Rows, Sayer, Statement, is_silent
 from .waits import Play
 
 LINE, ROWS, UNKNOWN = "line", "rows", "unknown"
+SET_UP, TEARDOWN = "the set-up", "the teardown"
 STANDARD, SOON = 1.0, 0.1       # seconds: of deadlock_timeout, and of one that is over before the next step
 
 
 class Item(NamedTuple):
-    """A part of the report: its kind, its text, and of which step."""
+    """A part of the report: its kind, its text, and of which step, or of which set-up or teardown."""
     kind: str
     text: str
     step: Optional[str] = None
+    alone: Optional[str] = None
 
 
 class Played(NamedTuple):
@@ -29,11 +31,16 @@ class Stuck(Exception):
     """A step waits for ever."""
 
 
-class Active:
-    """A step that was begun: what of it is left, and what it has been answered."""
+def alone(what, session=None):
+    """The name of a set-up or a teardown, which may be a session's."""
+    return what if session is None else "%s of %s" % (what, session)
 
-    def __init__(self, placed: Placed, statements: List[Statement], backend, order):
-        self.placed, self.backend, self.order = placed, backend, order
+
+class Active:
+    """A step that was begun, or what is run alone: what of it is left, and what it has been answered."""
+
+    def __init__(self, placed: Placed, statements: List[Statement], backend, order, name=None):
+        self.placed, self.backend, self.order, self.alone = placed, backend, order, name
         self.left = list(statements)
         self.statement: Optional[Statement] = None
         self.commands: List[str] = []           # of the statement, that are left
@@ -78,7 +85,7 @@ class Permutation:
         sessions = list(enumerate(self.spec.sessions, 1))
         for backend, sql in [(self.control, sql) for sql in self.spec.setup] + [
                 (number, sql) for number, session in sessions for sql in session.setup]:
-            self.run_alone(backend, sql)
+            self.run_alone(backend, sql, SET_UP)
         for each in placed:
             self.launch(each)
         left = self.complete_all(self.waiting, False)
@@ -87,7 +94,7 @@ class Permutation:
         for backend, sql in [(number, sql) for number, session in sessions for sql in session.teardown] + [
                 (self.control, sql) for sql in self.spec.teardown]:
             if re.search(r"\bselect\b", sql, re.IGNORECASE):
-                self.run_alone(backend, sql)
+                self.run_alone(backend, sql, TEARDOWN)
 
     def line(self, text, step=None):
         """One more line of the report."""
@@ -95,10 +102,10 @@ class Permutation:
 
     # Steps
 
-    def run_alone(self, backend, sql):
+    def run_alone(self, backend, sql, what):
         """Runs a set-up or a teardown."""
         statements = [statement for statement in self.sayer.step(sql) if statement.reason is None]
-        active = Active(Placed(None), statements, backend, 0)
+        active = Active(Placed(None), statements, backend, 0, alone(what, self.names.get(backend)))
         if not self.advance(active):
             raise Stuck("a set-up or a teardown waits")
         errors = [item.text for item in active.items if item.kind == LINE]
@@ -199,7 +206,7 @@ class Permutation:
         self.filled |= {statement.fills} if statement.fills else set()
         if statement.shows:
             rows = self.rows(active, statement.rows) if statement.rows else None
-            active.items.append(Item(ROWS if rows else UNKNOWN, rows or statement.text, name))
+            active.items.append(Item(ROWS if rows else UNKNOWN, rows or statement.text, name, active.alone))
 
     def rows(self, active: Active, rows: Rows):
         """The result of a query of a table without rows, as isolationtester prints it, or None where it can't be said."""

@@ -6,7 +6,7 @@ from .compared import LeftOut, differences, expected_in
 from .faults import Fault, faults_of, read_file, write_output
 from .inside import explored
 from .isolation import Placed, Spec, permutations_of, read_spec
-from .permutation import UNKNOWN, Permutation, Played
+from .permutation import SET_UP, TEARDOWN, UNKNOWN, Permutation, Played, alone
 from .program import Program, own_program
 from .progress import Progress
 from .sentences import counted, listed
@@ -14,7 +14,6 @@ from .statements import OF_ROWS, Sayer, is_silent
 from .waits import Walker
 
 DIFFERS = 1
-SET_UP = "the set-up"
 MOST_SESSIONS = 63      # beside the one that makes the set-up
 
 
@@ -88,7 +87,7 @@ def tell(whole: Whole, expected):
         stuck += played.stuck is not None
         if expected is None:
             lines += report(played)
-            unprinted |= {item.step or SET_UP for item in played.items if item.kind == UNKNOWN}
+            unprinted |= {item.step or item.alone for item in played.items if item.kind == UNKNOWN}
             continue
         found = compared(whole, placed, played, expected[number - 1] if number <= len(expected) else [], left_out)
         if found and rows_meet(whole, placed):
@@ -148,7 +147,7 @@ def notes_of(whole: Whole, left_out: Optional[LeftOut]):
     spec, lines, unsaid = whole.spec, [], {}
     parts = [(SET_UP, sql) for sql in spec.setup]
     for session in spec.sessions:
-        parts += [("the set-up of %s" % session.name, sql) for sql in session.setup]
+        parts += [(alone(SET_UP, session.name), sql) for sql in session.setup]
         parts += [("step " + step.name, step.sql) for step in session.steps]
     for place, sql in parts:
         for statement in whole.sayer.step(sql):
@@ -164,7 +163,10 @@ def notes_of(whole: Whole, left_out: Optional[LeftOut]):
 
 def rows_unprinted(whole: Whole, steps: Set[str]):
     """Whose results aren't in a report, as the rows of their tables aren't known."""
-    places = [name for name in [SET_UP, *whole.spec.steps] if name in steps]
+    sessions = [session.name for session in whole.spec.sessions]
+    set_ups = [SET_UP] + [alone(SET_UP, name) for name in sessions]
+    teardowns = [alone(TEARDOWN, name) for name in sessions] + [TEARDOWN]
+    places = [name for name in [*set_ups, *whole.spec.steps, *teardowns] if name in steps]
     return ["# not printed: rows of %s" % listed(places, len(places))] if places else []
 
 
