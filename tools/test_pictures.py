@@ -904,6 +904,21 @@ class FaultyOutputs(unittest.TestCase):
                 with self.assertRaisesRegex(Fault, "^other: .*" + said):
                     check_script("other", read_source(given.replace(old, new, 1).encode()), output)
 
+    def test_output_of_run(self):
+        """Where all lines can be the script's and only their order can't, and all backends stop, it may be an output of `run`: that
+        is said, and only there."""
+        folder, hint = os.path.join(TOP, "examples"), "; if it is an output of run: leave --script out"
+        given = content_of(os.path.join(folder, "two_backends.script"))
+        data = content_of(os.path.join(folder, "two_backends.output"))
+        early = [line for line in data.split(b"\n") if not line.endswith(b" stop")]
+        for script, shown, is_said in (
+                (given.replace(b"1*4 2*6", b"1*5 2*5"), data, True), (given.replace(b"steps 1*4 2*6 1*3 2*20 1\n", b""), data, True),
+                (given.replace(b"1*4 2*6", b"1*5 2*5"), b"\n".join(early), False),
+                (given.replace(b"(a int4)", b"(b int4)"), data, False)):
+            with self.subTest(script), self.assertRaises(Fault) as raised:
+                check_script("own", read_source(script), read_output(shown))
+            self.assertEqual(str(raised.exception).endswith(hint), is_said, str(raised.exception))
+
     def test_answers_of_commands(self):
         """Which answers a command can have."""
         for command, text, expected in (

@@ -83,7 +83,18 @@ def check_stops(path, source, output):
 
 
 def check_schedule(path, source, output):
-    """A Fault where other backends make the steps than the script's schedule says."""
+    """A Fault where other backends make the steps than the script's schedule says. Where all backends stop it may be an output of
+    `run`, whose order is its own."""
+    try:
+        check_steps(path, source, output)
+    except Fault as fault:
+        stopped = {entry.backend for entry in output.entries if entry.event.kind == "stop"}
+        may_be_of_run = stopped == {entry.backend for entry in output.entries}
+        raise Fault("%s%s" % (fault, "; if it is an output of run: leave --script out" if may_be_of_run else "")) from None
+
+
+def check_steps(path, source, output):
+    """A Fault where the steps aren't in the order of the script's schedule."""
     items = source.items
     if source.has_names:
         return
