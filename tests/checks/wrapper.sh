@@ -16,6 +16,8 @@ check() {
         ./catsync --help | grep -q '^       catsync make N > SCRIPT$' &&
         ./catsync --version | grep -q '^catsync .* runs the program built without proof, .*; the first run builds it$' &&
         wrong_arguments &&
+        refuses "after walk comes nothing, since the script is standard input; found '--help'" walk --help &&
+        refuses "after run comes nothing, since the script is standard input; found '-'" run - &&
         PATH=$temp/bin:$PATH ./catsync make 1 2>/dev/null | cmp - "$temp/made_1" &&
         ./catsync --version | grep -q '^catsync .* runs the program built without proof, .*: crates/catsync/out/unproved-[0-9a-f]*$' &&
         ends 2 "$running"$'\n'"$(cat examples/bad_line.error)" walk <examples/bad_line.script &&
@@ -25,11 +27,11 @@ check() {
         is_checked "$script" examples/two_backends.output && is_run "$script"
 }
 
-# The usage, which argument is wrong, and how a file is handed over where one is named.
+# The usage, which argument is wrong, and how a file is handed over where one is named: a word that begins with `-` is none.
 refuses() {
     local said="$usage"$'\n'"catsync: $1"
     shift
-    [ $# -ne 2 ] || [[ $1 != walk && $1 != run ]] ||
+    [ $# -ne 2 ] || [[ $1 != walk && $1 != run || $2 = -* ]] ||
         said+=$'\n'"catsync: $1 reads its script from standard input: ./catsync $1 < $(printf %q "$2")"
     ends 1 "$said" "$@" <"$script"
 }
