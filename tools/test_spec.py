@@ -277,6 +277,20 @@ class Reports(unittest.TestCase):
         self.assertEqual(self.run_spec(text % ((rows,) * 5))[1].split("\n")[-2], "# not printed: rows of the set-up, the set-up of s1, "
                          "the teardown of s1, the teardown of s2 and the teardown")
 
+    def test_what_differs(self):
+        """What is done or refused here and not by a server is named at the end, where a permutation has come to it."""
+        text = ("setup { CREATE TABLE t (a int PRIMARY KEY, b int, c int UNIQUE); CREATE INDEX i ON t (b); }\nsession s1 "
+                "step p { DROP INDEX t_pkey; } step u { DROP INDEX IF EXISTS t_c_key; } step k { ALTER TABLE t DROP CONSTRAINT t_pkey; } "
+                "step b { ALTER TABLE t DROP COLUMN b; } step i { DROP INDEX i; }\npermutation %s\n")
+        key = "# differs from the server: %s: there the index of a key isn't dropped by itself (2BP01); here it is like any other"
+        column = "# differs from the server: step b: there the indexes and keys of a column go with it, as docs/PROFILE.md says"
+        for steps, expected in (("p", [key % "step p"]), ("p u\npermutation p", [key % "step p and step u"]), ("b", [column]),
+                                ("p b", [key % "step p", column]), ("k p", []), ("i b", [])):
+            with self.subTest(steps):
+                status, shown = self.run_spec(text % steps)
+                self.assertEqual((status, [line for line in shown.split("\n") if line.startswith("# ")]), (0, expected))
+                self.assertEqual(self.run_spec(text % steps, expected=shown)[1].split("\n")[1:-1], expected)
+
     def test_inside(self):
         """Half of a commit is between the permutations, and no wait is told for an order of the steps."""
         path = os.path.join(TOP, "examples", "specs", "settings_of_one_commit.spec")

@@ -9,6 +9,7 @@ from .statements import Rows, Sayer, Statement, is_silent
 from .waits import Play
 
 LINE, ROWS, UNKNOWN = "line", "rows", "unknown"
+COLUMN_GOES = "there the indexes and keys of a column go with it, as docs/PROFILE.md says"
 SET_UP, TEARDOWN = "the set-up", "the teardown"
 STANDARD, SOON = 1.0, 0.1       # seconds: of deadlock_timeout, and of one that is over before the next step
 
@@ -22,9 +23,10 @@ class Item(NamedTuple):
 
 
 class Played(NamedTuple):
-    """The parts of a permutation's report; why it can't go on, where it can't."""
+    """The parts of a permutation's report; why it can't go on, where it can't; and how the server differs, each with the places."""
     items: List[Item]
     stuck: Optional[str]
+    differs: Dict[str, List[str]]
 
 
 class Stuck(Exception):
@@ -53,6 +55,11 @@ class Active:
         """The step."""
         return self.placed.step
 
+    @property
+    def place(self):
+        """What it is called in a note."""
+        return "step " + self.step.name if self.step else self.alone
+
 
 class Permutation:
     """A permutation. Session number N is backend N; one backend more makes the set-up."""
@@ -68,6 +75,7 @@ class Permutation:
         self.notices: Dict[str, int] = {}
         self.wanted: Dict[tuple, int] = {}
         self.begun = 0
+        self.differs: Dict[str, List[str]] = {}
         self.filled: Set[str] = set()           # tables that may have rows
         self.names: Dict[int, str] = {number: session.name for number, session in enumerate(spec.sessions, 1)}
 
@@ -77,8 +85,8 @@ class Permutation:
         try:
             self.run_all(placed)
         except Stuck as stuck:
-            return Played(self.items, str(stuck))
-        return Played(self.items, None)
+            return Played(self.items, str(stuck), self.differs)
+        return Played(self.items, None, self.differs)
 
     def run_all(self, placed: List[Placed]):
         """Set-up, steps and teardown. Of the teardown that alone is run which may show something."""
@@ -204,6 +212,8 @@ class Permutation:
         if statement.commands[:1] in (("commit",), ("rollback",)):
             self.in_block[active.backend] = active.is_implicit = False
         self.filled |= {statement.fills} if statement.fills else set()
+        if statement.differs:
+            self.differs.setdefault(statement.differs, []).append(active.place)
         if statement.shows:
             rows = self.rows(active, statement.rows) if statement.rows else None
             active.items.append(Item(ROWS if rows else UNKNOWN, rows or statement.text, name, active.alone))
@@ -235,6 +245,8 @@ class Permutation:
         self.warn(active, warning_of(command, self.in_block.get(active.backend) or active.is_implicit))
         if not answer.startswith("error "):
             return
+        if answer.startswith("error 0A000 ") and re.fullmatch("alter table .* drop column .*", command):
+            self.differs.setdefault(COLUMN_GOES, []).append(active.place)
         waited = (active.backend, number) in play.clashed
         active.items.append(Item(LINE, "ERROR:  " + message_of(PLACE.sub("", answer), command, waited,
                                                                active.backend in play.victims), name))

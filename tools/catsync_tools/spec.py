@@ -81,10 +81,13 @@ def tell(whole: Whole, expected):
     left_out = LeftOut(set(), set())
     unclear: List[str] = []
     unprinted: Set[str] = set()
+    differs: Dict[str, List[str]] = {}
     for number, placed in enumerate(permutations_of(whole.spec), 1):
         progress.show(0, 1, counted(number, "permutation"))
         played = Permutation(whole.spec, whole.sayer, whole.walker).run(placed)
         stuck += played.stuck is not None
+        for how, places in played.differs.items():
+            differs.setdefault(how, []).extend(places)
         if expected is None:
             lines += report(played)
             unprinted |= {item.step or item.alone for item in played.items if item.kind == UNKNOWN}
@@ -102,6 +105,7 @@ def tell(whole: Whole, expected):
         differ += max(0, len(expected) - number)
         head = [summary(number, len(expected), differ, len(unclear))]
     notes = notes_of(whole, left_out if expected is not None else None) + rows_unprinted(whole, unprinted)
+    notes += ["# differs from the server: %s: %s" % (listed(dict.fromkeys(places)), how) for how, places in differs.items()]
     write_output("\n".join(head + lines + notes) + "\n")
     return DIFFERS if differ or stuck and expected is None else 0
 

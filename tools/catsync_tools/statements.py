@@ -16,6 +16,7 @@ ENDS = ("where", "on", "group", "order", "for", "select", "limit", "set", "when"
 SECONDS = {"us": 1e-6, "ms": 1e-3, None: 1e-3, "s": 1, "min": 60, "h": 3600}
 OF_ROWS = "rows, and waits for them"
 OTHER_TYPE = "text"     # stands for any other
+KEY_STAYS = "there the index of a key isn't dropped by itself (2BP01); here it is like any other"
 
 _SQL = re.compile(r"--[^\n]*|/\*.*?\*/|(?P<text>[eE]?'(?:[^'\\]|''|\\.)*'|\$(?P<tag>[A-Za-z_]*)\$.*?\$(?P=tag)\$)"
                   r'|"(?P<quoted>(?:[^"]|"")*)"|(?P<word>[A-Za-z_\x80-\U0010ffff][\w$]*)|(?P<number>[0-9][0-9.]*)'
@@ -33,8 +34,8 @@ class Rows(NamedTuple):
 
 class Statement(NamedTuple):
     """A statement: its words, the commands that say it, or why it can't be said; what of it isn't said; whether it has a
-    result, and which; whether a lock that it doesn't get at once is an error; the deadlock_timeout that it sets; and the table
-    that it may add rows to."""
+    result, and which; whether a lock that it doesn't get at once is an error; the deadlock_timeout that it sets; the table
+    that it may add rows to; and how the server differs where it is done here."""
     text: str
     commands: Tuple[str, ...] = ()
     reason: Optional[str] = None
@@ -44,6 +45,7 @@ class Statement(NamedTuple):
     nowait: bool = False
     timeout: Optional[float] = None
     fills: Optional[str] = None
+    differs: Optional[str] = None
 
 
 def tokens_of(sql) -> List[str]:
@@ -194,6 +196,7 @@ class Sayer:
         self.renames = False                    # whether a relation gets another name
         self.unsaid: Dict[str, str] = {}        # names, each with why what makes it can't be said
         self.keys: Dict[str, str] = {}          # of tables: the column of the primary key
+        self.of_keys: Set[str] = set()          # the indexes of keys
 
     def note(self, sql):
         """Takes down what SQL makes and fills, before any of it is said."""
@@ -337,7 +340,8 @@ class Sayer:
         found = re.fullmatch("drop (table|index) (.*?)( cascade| restrict)?", text)
         if found:
             names = [part[-1] for part in split(found.group(2).split(" "), ",")]
-            return Statement(text, tuple("drop %s %s" % (found.group(1), name) for name in names))
+            return Statement(text, tuple("drop %s %s" % (found.group(1), name) for name in names),
+                             differs=KEY_STAYS if found.group(1) == "index" and self.of_keys & set(names) else None)
         if first == "alter index":
             found = re.fullmatch("alter index (%s) rename to (%s)" % (NAME, NAME), text)
             return Statement(text, ("alter index %s rename to %s" % found.groups(),)) if found else None
@@ -406,6 +410,7 @@ class Sayer:
             self.keys[table] = columns[0]
         name = name or "%s_pkey" % table if is_primary else name or "_".join([table] + columns + ["key"])
         self.known.add(name)
+        self.of_keys.add(name)
         more.append("create index %s on %s (%s)" % (name, table, ", ".join(columns)))
 
     def check(self, table, name, words, more):
