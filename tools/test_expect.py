@@ -338,6 +338,16 @@ $""")
                 self.assertEqual((status, printed), (2, ""))
                 self.assertTrue(error.startswith("expect: " + said), error)
 
+    @unittest.skipUnless(HAS_PROGRAM, NO_PROGRAM)
+    def test_refused_set_up(self):
+        """A command of the set-up that is refused is a fault of the script, unless an expectation is about it."""
+        given = ALTERED.replace(b"\n1: alter", b"\nsetup 1: alter table tt add column b text\n1: alter")
+        for line in (b"expect never 2.1 columns c:text\n", b"expect 2.2 error\n"):
+            with self.subTest(line):
+                self.assertEqual(self.expect(given=given % line), (
+                    2, "", "expect: standard input: line 3: the set-up's 1.2 is refused: error 42P01 relation tt does not exist\n"))
+        self.assertEqual(self.expect(given=given % b"expect 1.2 error 42P01\n")[:2], (0, "passed: standard input\n1 passed, 0 failed\n"))
+
     def test_closed_input(self):
         """Closed standard input is a fault too."""
         done = subprocess.run(["bash", "-c", "%s %s/expect <&-" % (sys.executable, TOOLS)], stdout=subprocess.PIPE,

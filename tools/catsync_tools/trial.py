@@ -6,7 +6,8 @@ where there are few enough, and else random schedules; as tools/explore does it 
 from typing import Dict, List, NamedTuple, Set, Tuple
 
 from .counting import counted_script
-from .expected import NEVER, OWN, SOME, Answers, Expectation
+from .expected import NEVER, OWN, SOME, Answers, Expectation, plain
+from .faults import Fault
 from .findings import without_places
 from .scripts import steps_line
 from .search import Exploration, Piece, Settings
@@ -123,9 +124,20 @@ def note(came, number, line):
         lines[line] = None
 
 
+def check_setup(source, answers):
+    """A Fault where a command of the set-up is refused, and no expectation is about that command."""
+    meant = {(part.backend, part.command) for one in source.expected for part in one.parts}
+    for item in source.setup:
+        command = (item.backend, item.until.command)
+        answer = plain(answers.texts.get(command, ""))
+        if answer.startswith("error ") and command not in meant:
+            raise Fault("line %d: the set-up's %d.%d is refused: %s" % ((item.line,) + command + (answer,)))
+
+
 def own_results(source, program):
     """What becomes of those of the script's own schedule."""
     answers = Answers(program.run(counted_script(source, lambda: program)).answers)
+    check_setup(source, answers)
     found = {}
     for one in source.expected:
         if one.runs == OWN:
