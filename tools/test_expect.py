@@ -174,7 +174,7 @@ class Tool(unittest.TestCase):
             b"steps 1 to visible, 2 to 1, 1 to end, 2 to end", steps.encode())
         self.assertEqual(self.expect(given=again)[0], 0)
 
-    UNDECIDED = ("not decided within 3 orders: no serial order and no random schedule has it; there are some [0-9]+ orders by an "
+    UNDECIDED = ("not decided within 3 orders: no serial order and no random schedule has it; there are at least [0-9]+ orders by an "
                  "estimate: --most N")
 
     @unittest.skipUnless(HAS_PROGRAM, NO_PROGRAM)
@@ -220,9 +220,9 @@ $""")
             with self.subTest((first, most)), unittest.mock.patch("catsync_tools.search.FIRST", first):
                 (result,) = results_of(source, program, 1, most, Progress()).values()
                 self.assertEqual(result.verdict, UNDECIDED)
-                found = re.search("; there are (some|more than) ([0-9]+) orders?( by an estimate)?: --most N$", result.lines[0])
-                self.assertEqual(found.group(1) == "some", bool(found.group(3)))
-                self.assertGreater(int(found.group(2)) + (found.group(1) != "some"), most)
+                found = re.search("; there are (at least|more than) ([0-9]+) orders?( by an estimate)?: --most N$", result.lines[0])
+                self.assertEqual(found.group(1) == "at least", bool(found.group(3)))
+                self.assertGreater(int(found.group(2)) + (found.group(1) != "at least"), most)
 
     @unittest.skipUnless(HAS_PROGRAM, NO_PROGRAM)
     def test_serial_orders_decide(self):

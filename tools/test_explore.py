@@ -420,7 +420,7 @@ class HowFar(unittest.TestCase):
         self.assertEqual(guess_of([Far(10, 0.5), Far(30, 1.0), Far(0, 0.0), Far(0, 0.0)]), 100)
         self.assertEqual([about(number) for number in (0, 7, 42, 128, 1250, 197160)], ["0", "7", "42", "130", "1200", "200000"])
         self.assertEqual([estimate(guess, 5000) for guess in (None, 1300, 5049, 5060)], ["more than 5000 orders"] * 3 + [
-            "some 5100 orders by an estimate"])
+            "at least 5100 orders by an estimate"])
         self.assertEqual([duration(seconds) for seconds in (0, 99, 150, 5000, 9000)], ["0 s", "99 s", "2 min", "83 min", "2.5 h"])
 
     def test_guess_of_a_search_that_is_cut(self):
@@ -816,7 +816,7 @@ class Explorer(unittest.TestCase):
         """Where there are more orders than are wanted, schedules are drawn, the same ones for the same seed."""
         report = self.report(TWO_CREATORS, "--most", "3", "--seed", "7")
         self.assertRegex(report.head, "^3 random schedules from seed 7, as there are more than 3 orders: .*\n"
-                         "there are some ([4-9]|[1-9][0-9]+) orders by an estimate$")
+                         "there are at least ([4-9]|[1-9][0-9]+) orders by an estimate$")
         self.assertLessEqual({without_places(found) for found in report.answers}, TWO_CREATORS_ANSWERS)
         self.assertEqual(self.explore(TWO_CREATORS, "--most", "3"), self.explore(TWO_CREATORS, "--most", "3", "--seed", "1"))
 

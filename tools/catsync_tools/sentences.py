@@ -35,9 +35,10 @@ def about(number):
 
 
 def estimate(guess, done):
-    """About how many orders there are, where so many are done and not all: a guess below that is none."""
+    """About how many orders there are at least, where so many are done and not all: a guess below that is none, and as more are
+    seen of the tree it grows."""
     is_more = guess is not None and int(about(guess)) > done
-    return "some %s orders by an estimate" % about(guess) if is_more else "more than %s" % counted(done, "order")
+    return "at least %s orders by an estimate" % about(guess) if is_more else "more than %s" % counted(done, "order")
 
 
 def listed(words, most=6):
