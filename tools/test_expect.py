@@ -73,6 +73,21 @@ class Expectations(unittest.TestCase):
                 with self.assertRaisesRegex(Fault, "^line 7: an expectation must read "):
                     read_expectation(7, text)
 
+    def test_slips(self):
+        """What can't be meant as it stands is refused; what an answer may have isn't."""
+        for text, said in (
+                ("expect never 1.2 ok and", "nothing follows the last 'and'"), ("expect 1.1 AND ", "nothing follows the last 'and'"),
+                ("expect 1.1 ok and 1.2 ok and", "nothing follows the last 'and'"),
+                ("expect some 2.2 ok or 2.2 error", "texts are joined by 'and' alone"), ("expect 1.1 ok OR 2 . 1 ok and 1.2 ok", "texts are joined by"),
+                ("expect 1.1 ok or 2.1", "texts are joined by"),
+                ("expect 1.1 columns a:int4 .. b:text", "'..' stands at the end of a text alone"), ("expect 1.1 columns ..; name t", "'..' stands"),
+                ("expect 1.1 columns .. ..", "'..' stands")):
+            with self.subTest(text):
+                with self.assertRaisesRegex(Fault, "^line 7: " + re.escape(said)):
+                    read_expectation(7, text)
+        for text in ("expect 1.1 used by an index or constraint", "expect 1.1 columns or:int4", "expect 1.1 columns a:int4 .. and 2.1 name t .."):
+            read_expectation(7, text)
+
     ANSWERS = Answers((
         "l 1 1 table 16384; name t; columns a:int4 b:text; defaults -; statistics 1:500 2:-1 as of 17; fillfactor - as of 15",
         "l 1 2 error 42P01 relation t does not exist as of 4", "l 2 1 ok", "l 2 2 columns -"))
@@ -268,6 +283,13 @@ $""")
         status, printed, said = self.expect(given=ALTERED % b"expect 1.2 ok\nexpect never 2.1 columns zz:int4\n")
         self.assertEqual((status, printed, said), (0, "passed: standard input\n  line 8: expect never 2.1 columns zz:int4\n"
                                                    "    says nothing: no command names 'zz'\n1 passed, 0 failed\n", ""))
+
+    @unittest.skipUnless(HAS_PROGRAM, NO_PROGRAM)
+    def test_places(self):
+        """That the places in an expectation aren't compared is told."""
+        status, printed, said = self.expect(given=ALTERED % b"expect 1.2 ok\nexpect 2.2 columns a:int4 b:text as of 99\n")
+        self.assertEqual((status, printed, said), (0, "passed: standard input\n  line 8: expect 2.2 columns a:int4 b:text as of 99\n"
+                                                   "    places aren't compared: as of 99\n1 passed, 0 failed\n", ""))
 
     @unittest.skipUnless(HAS_PROGRAM, NO_PROGRAM)
     def test_signals(self):

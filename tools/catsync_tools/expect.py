@@ -3,6 +3,7 @@ import os
 from typing import NamedTuple
 
 from .arguments import MOST_ORDERS, Arguments, count_of
+from .expected import places_in
 from .faults import Fault, faults_of, names_in, read_file, read_input, write_output
 from .program import Program, own_program
 from .progress import Progress
@@ -73,6 +74,7 @@ def lines_of(head, results, are_met_told, source):
         doubt = doubt_of(one, source) if result.verdict != BROKEN else None
         said = result.lines if result.verdict != MET or are_met_told else []
         said = said + ["says nothing: %s" % doubt] if doubt else said
+        said = said + ["places aren't compared: %s" % ", ".join(places_in(one))] if places_in(one) else said
         lines += ["  line %d: %s" % (one.line, one.text)] + ["    " + line for line in said] if said else []
     return lines
 

@@ -13,6 +13,7 @@ MORE = ".."                         # at the end of a text: its field may go on
 _PLACE = re.compile(PLACE.pattern, re.IGNORECASE)
 _PART = re.compile(r"([0-9]{1,9})[ \t]*\.[ \t]*([0-9]{1,9})[ \t]+(\S.*)")
 _AND = re.compile(r"[ \t]+and[ \t]+(?=[0-9]+[ \t]*\.)", re.IGNORECASE)
+_SLIP = re.compile(r"(?:^|[ \t])(?:(and)|(or)[ \t]+[0-9]{1,9}[ \t]*\.[ \t]*[0-9]{1,9}(?:[ \t]+\S.*)?)$", re.IGNORECASE)
 _FORM = "'expect B.C TEXT', 'expect some B.C TEXT' or 'expect never B.C TEXT', with 'and B.C TEXT' for more of one run"
 
 
@@ -44,8 +45,21 @@ def read_expectation(line, text):
     found = [_PART.fullmatch(part.strip()) for part in _AND.split(rest[-1])] if text.isascii() and len(rest) > 1 else [None]
     if None in found:
         raise Fault("line %d: an expectation must read %s" % (line, _FORM))
+    for part in found:
+        check_text(line, part.group(3))
     parts = tuple(Part(int(part.group(1)), int(part.group(2)), plain(part.group(3))) for part in found)
     return Expectation(line, " ".join(text.split()), runs, parts)
+
+
+def check_text(line, text):
+    """A fault where a text can't be meant as it stands, since no answer has it."""
+    slip = _SLIP.search(text)
+    if slip and slip.group(1):
+        raise Fault("line %d: nothing follows the last 'and'" % line)
+    if slip:
+        raise Fault("line %d: texts are joined by 'and' alone; each that may come is an expectation of its own" % line)
+    if MORE in text.rstrip()[:-len(MORE)]:
+        raise Fault("line %d: '..' stands at the end of a text alone" % line)
 
 
 def check_expectation(expectation, commands):
@@ -53,6 +67,11 @@ def check_expectation(expectation, commands):
     for part in expectation.parts:
         if not 1 <= part.command <= commands.get(part.backend, 0):
             raise Fault("line %d: there is no command %d of backend %d" % (expectation.line, part.command, part.backend))
+
+
+def places_in(expectation):
+    """The places in an expectation: they aren't compared."""
+    return [place.strip() for place in _PLACE.findall(expectation.text)]
 
 
 class Answers:
