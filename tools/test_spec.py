@@ -125,6 +125,16 @@ class Statements(unittest.TestCase):
                 found = said(sql, made)[-1]
                 self.assertEqual((list(found.commands), found.reason), (commands, None))
 
+    def test_functions_of_triggers(self):
+        """A trigger's function is missing where neither the spec makes it nor the server or an extension may have it."""
+        made = "CREATE TABLE t (a int); CREATE OR REPLACE FUNCTION f() RETURNS trigger LANGUAGE plpgsql AS $$ BEGIN RETURN NEW; END $$"
+        for function, more, is_missing in (
+                ("FUNCTION f()", "", False), ("PROCEDURE g()", "", True), ("FUNCTION suppress_redundant_updates_trigger()", "", False),
+                ("FUNCTION g()", "CREATE EXTENSION e", False), ("FUNCTION s.g()", "", False)):
+            with self.subTest((function, more)):
+                found = said("CREATE TRIGGER r BEFORE UPDATE ON t FOR EACH ROW EXECUTE " + function, made, more)[-1]
+                self.assertEqual((found.commands, found.differs is not None), (("create trigger r on t",), is_missing))
+
     def test_keys_of_an_index(self):
         """A key that takes an index that is there is said by its lock, with a name or without; one without columns can't be said."""
         made = "CREATE TABLE t (a int); CREATE UNIQUE INDEX tu ON t (a)"

@@ -16,6 +16,9 @@ ENDS = ("where", "on", "group", "order", "for", "select", "limit", "set", "when"
 SECONDS = {"us": 1e-6, "ms": 1e-3, None: 1e-3, "s": 1, "min": 60, "h": 3600}
 OF_ROWS = "rows, and waits for them"
 OTHER_TYPE = "text"     # stands for any other
+OWN_TRIGGERS = ("suppress_redundant_updates_trigger", "tsvector_update_trigger", "tsvector_update_trigger_column",
+                "unique_key_recheck")      # the server's own functions of triggers
+NO_FUNCTION = "there the trigger's function has to exist (42883); here a trigger has none, as docs/PROFILE.md says"
 KEY_STAYS = "there the index of a key isn't dropped by itself (2BP01); here it is like any other"
 
 _SQL = re.compile(r"--[^\n]*|/\*.*?\*/|(?P<text>[eE]?'(?:[^'\\]|''|\\.)*'|\$(?P<tag>[A-Za-z_]*)\$.*?\$(?P=tag)\$)"
@@ -336,7 +339,8 @@ class Sayer:
             return self.create_index(text, tokens)
         found = re.fullmatch("create (?:or replace )?(?:constraint )?trigger (%s) .*? on (%s) .*" % (NAME, NAME), text)
         if found:
-            return Statement(text, ("create trigger %s on %s" % found.groups(),))
+            return Statement(text, ("create trigger %s on %s" % found.groups(),),
+                             differs=NO_FUNCTION if self.lacks_function(text) else None)
         found = re.fullmatch("drop (table|index) (.*?)( cascade| restrict)?", text)
         if found:
             names = [part[-1] for part in split(found.group(2).split(" "), ",")]
@@ -346,6 +350,12 @@ class Sayer:
             found = re.fullmatch("alter index (%s) rename to (%s)" % (NAME, NAME), text)
             return Statement(text, ("alter index %s rename to %s" % found.groups(),)) if found else None
         return self.alter_table(text) if first == "alter table" else None
+
+    def lacks_function(self, text):
+        """Whether a trigger's function is one that neither the spec makes nor the server has; an extension may have any."""
+        found = re.search(r" execute (?:function|procedure) (%s) \(" % NAME, text)
+        has_extension = "a extension" in self.unsaid.values()
+        return found is not None and not has_extension and found.group(1) not in self.unsaid and found.group(1) not in OWN_TRIGGERS
 
     def conditional(self, text, tokens):
         """What depends on whether something exists: it is said where the spec itself makes it, or doesn't."""
