@@ -15,6 +15,7 @@ sys.dont_write_bytecode = sys.pycache_prefix is None
 
 from testing import HAS_PROGRAM, NO_PROGRAM, PROGRAM, TOOLS, TOP, call, content_of, hear_signals
 
+from catsync_tools.counting import counted_script
 from catsync_tools.expected import Answers, Part, read_expectation
 from catsync_tools.faults import Fault
 from catsync_tools.program import Program
@@ -130,7 +131,17 @@ class Doubts(unittest.TestCase):
                 ("2.1 ok", shown + "is never answered 'ok'"), ("2.1 indexes -", shown + "shows no field 'indexes'"),
                 ("1.1 columns ..", "1.1, 'create table t (a int4)', shows no field 'columns'"),
                 ("2.2 indexes 16385:v:1", None), ("2.1 columns b:text", None), ("2.1 no answer", None), ("1.2 ok", None),
-                ("1.2 error 55P03 relation 16384 is locked by backend 2 in as", None), ("2.2 fillfactor 70; constraints ..", None)):
+                ("1.2 error 55P03 relation 16384 is locked by backend 2 in as", None),
+                ("2.1 columns a", "an item of 'columns' reads a:int4"), ("2.2 columns a ..", "an item of 'columns' reads a:int4"),
+                ("2.1 columns a:int8", "no command names the type 'int8'"), ("2.1 columns a:integer", "no command names 'integer'"),
+                ("2.2 fillfactor 70; constraints ..", "no command sets fillfactor 70"), ("2.2 fillfactor -;", None),
+                ("2.2 statistics 1:100 ..", "no command sets statistics 100"), ("2.2 statistics 1:-1 ..", None),
+                ("2.2 statistics 100 ..", "an item of 'statistics' reads 1:100"),
+                ("2.1 error 42703", shown + "is never refused with 42703"), ("2.1 error 42P01", None), ("1.2 error 42701", None),
+                ("2.1 error 55P03 relation 16384 is locked by backend 3", "backend 3 has no command"),
+                ("2.2 error 42P01 and 2.2 columns a:int4 ..", "no answer of 2.2 has both 'error 42P01' and 'columns a:int4 ..'"),
+                ("2.2 error 42P01 and 2.2 error 55P03", "no answer of 2.2 has both 'error 42P01' and 'error 55P03'"),
+                ("2.2 error 42P01 and 2.2 relation t", None), ("2.2 error 42P01 and 2.1 columns a:int4", None)):
             with self.subTest(text):
                 source = read_source(ALTERED % b"expect never %s\n" % text.encode())
                 self.assertEqual(doubt_of(source.expected[0], source), doubt)
@@ -141,6 +152,32 @@ class Doubts(unittest.TestCase):
         for path in SCRIPTS:
             source = read_source(content_of(path))
             self.assertEqual([doubt_of(one._replace(runs="never"), source) for one in source.expected], [None] * len(source.expected), path)
+
+
+    def test_numbers(self):
+        """Numbers that a command sets, as answers have them."""
+        script = (b"backends 1\n1: create table t (a timestamp with time zone)\n1: alter table t set (fillfactor = 070)\n"
+                  b"1: alter table t alter a set statistics 20000\n1: show t\nexpect never 1.4 %s\nend\n")
+        for text, doubt in (("columns a:timestamptz; defaults -", None), ("fillfactor 70", None), ("fillfactor 71", "no command sets fillfactor 71"),
+                            ("statistics 1:10000", None), ("statistics 1:20000", "no command sets statistics 20000")):
+            with self.subTest(text):
+                source = read_source(script % text.encode())
+                self.assertEqual(doubt_of(source.expected[0], source), doubt)
+
+    @unittest.skipUnless(HAS_PROGRAM, NO_PROGRAM)
+    def test_no_doubts_of_answers(self):
+        """Of what is answered there are none, field by field."""
+        program, count = Program(PROGRAM), 0
+        self.addCleanup(program.close)
+        for path in SCRIPTS:
+            source = read_source(content_of(path))
+            for line in program.run(counted_script(source, lambda: program)).answers:
+                _, backend, command, answer = line.split(" ", 3)
+                for text in [answer] + answer.split("; "):
+                    one = read_expectation(1, "expect never %s.%s %s" % (backend, command, text))
+                    self.assertIsNone(doubt_of(one, source), "%s: %s" % (path, line))
+                    count += 1
+        self.assertGreater(count, 200)
 
 
 class Tool(unittest.TestCase):
