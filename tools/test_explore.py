@@ -1029,6 +1029,15 @@ class Explorer(unittest.TestCase):
         self.assertRegex(report.head, "^stopped after [0-9]+ orders?: ")
         self.assertTrue(report.answers)
 
+    def test_interrupt_of_serial_orders(self):
+        """On a signal while serial orders run there are the sets of those that have run."""
+        status, text = self.interrupted(signal.SIGTERM, rb"[2-9] serial orders of ", "--jobs", "1")
+        self.assertEqual(status, 130)
+        report = Report(text.decode())
+        self.assertRegex(report.head, "^stopped after 0 orders: [1-9][0-9]* sets? of answers, ")
+        self.assertTrue(report.answers)
+        self.assertIn(": none of the orders, but an order that was run before them", text.decode())
+
     def test_signal_at_any_time(self):
         """A part that is told to stop at any time leaves the file as it was, or has in it what it has found, whole."""
         draw, count = random.Random(7), int(os.environ.get("CATSYNC_SIGNALS", "8"))

@@ -6,7 +6,7 @@ from .faults import say
 
 WIDTH = 30
 PAUSE = 0.1             # seconds between two drawings
-LINE_PAUSE = 300        # seconds between two lines
+LINE_PAUSE = 60         # seconds between two lines
 
 
 class Progress:

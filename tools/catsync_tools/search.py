@@ -123,18 +123,30 @@ class Exploration:
     # Serial orders
 
     def run_serial(self):
-        """Runs the serial orders, first those of transactions."""
+        """Runs the serial orders, first those of transactions. What they have led to is kept where a signal ends them too."""
         commands = self.source.script.commands()
         transactions = transactions_of(commands)
-        self.run_serial_of(TRANSACTIONS, transactions)
-        if not self.is_found and transactions != commands_of(commands):
-            self.run_serial_of(COMMANDS, commands_of(commands))
-        self.findings.start_counting()
+        try:
+            self.run_serial_of(TRANSACTIONS, transactions)
+            if not self.is_found and transactions != commands_of(commands):
+                self.run_serial_of(COMMANDS, commands_of(commands))
+        except KeyboardInterrupt:
+            self.is_serial_over = False
+            raise
+        finally:
+            self.findings.start_counting()
 
     def run_serial_of(self, kind, groups):
         """Runs the serial orders of transactions or of commands."""
-        runs = SerialRuns(self.runner, groups)
         piece = Piece(self.settings.places)
+        try:
+            self.add_serial(piece, kind, SerialRuns(self.runner, groups))
+        finally:
+            self.learn(piece)
+        self.found = piece.found
+
+    def add_serial(self, piece: Piece, kind, runs: SerialRuns):
+        """Adds the serial orders, until one is looked for."""
         search = Search(Walks(runs.run, WholeAccesses(self.runner.past)), self.runner.backends)
         for answers, _ in search.orders():
             if answers is None:
@@ -146,8 +158,6 @@ class Exploration:
             self.progress.show(piece.schedules, MOST_SERIAL, "%d serial orders of %s" % (piece.schedules, kind))
             if self.add(piece, answers, history_of(runs.last.steps, self.accesses).steps):
                 break
-        self.learn(piece)
-        self.found = piece.found
 
     # All orders
 
