@@ -31,7 +31,7 @@ from catsync_tools.history import history_of
 from catsync_tools.orders import Search
 from catsync_tools.program import Program, Run
 from catsync_tools.progress import Progress, duration
-from catsync_tools.report import led_to
+from catsync_tools.report import Extent, Serial, Shown, head_of, led_to
 from catsync_tools.schedules import SWITCHES, random_schedule
 from catsync_tools.scripts import steps_line, turns_of
 from catsync_tools.search import Exploration, Far, Piece, Settings, guess_of, wanted_of
@@ -444,6 +444,16 @@ class HowFar(unittest.TestCase):
             self.assertFalse(search.run_orders(most))
             self.assertEqual(search.guess, guess)
 
+    def test_head(self):
+        """Where no set comes only when commands are interleaved, how many come only when transactions are."""
+        extent = Extent(9, False, "1", None, True, "")
+        for kinds, said in (({"a": "transactions", "b": "commands", "c": "commands"}, "none only when interleaved, 2 only when transactions are interleaved"),
+                            ({"a": "transactions", "b": "commands"}, "1 only when interleaved"),
+                            ({"a": "transactions", "b": "transactions", "c": "transactions"}, "none only when interleaved")):
+            serial = Serial({(key,): kind for key, kind in kinds.items()}, True)
+            sets = [Shown((key,), None, None) for key in "abc"]
+            self.assertEqual(head_of(extent, serial, sets), ["all 9 orders: 3 sets of answers, " + said])
+
     def test_lines(self):
         """Where standard error is no terminal there is a line now and then."""
         with unittest.mock.patch("sys.stderr", io.StringIO()) as said:
@@ -620,7 +630,7 @@ class Explorer(unittest.TestCase):
                     mark = ("" if key in SERIAL else ", only when transactions are interleaved" if key in SERIAL_COMMANDS
                             else ", only when interleaved")
                     self.assertTrue(count.endswith("orders" + mark), count)
-            self.assertIn(", %s only when interleaved" % (len(answers - SERIAL - SERIAL_COMMANDS) or "none"), report.head)
+            self.assertTrue(report.head.endswith(", %s only when interleaved" % (len(answers - SERIAL - SERIAL_COMMANDS) or "none")), report.head)
             interleaved = self.report(script, "--interleaved")
             self.assertEqual({without_places(found) for found in interleaved.answers}, answers - SERIAL - SERIAL_COMMANDS)
 

@@ -60,6 +60,10 @@ class Serial(NamedTuple):
         """Whether no serial order of commands has these answers."""
         return without_places(answers) not in self.kinds
 
+    def is_of_commands(self, answers):
+        """Whether a serial order of commands has these answers, and none of transactions."""
+        return self.kinds.get(without_places(answers)) == COMMANDS
+
     def mark(self, answers):
         """What is said of a set of answers."""
         kind = self.kinds.get(without_places(answers))
@@ -95,9 +99,11 @@ def led_to(found: Found, all_schedules):
 
 
 def head_of(extent: Extent, serial: Serial, sets: List[Shown]):
-    """What was run, and how many sets there are."""
-    interleaved = sum(serial.is_interleaved(shown.answers) for shown in sets)
-    return ["%s: %s of answers, %s only when interleaved" % (extent.text, counted(len(sets), "set"), interleaved or "none")
+    """What was run, and how many sets there are; where no set comes only when commands are interleaved, also how many come only when
+    transactions are."""
+    interleaved, of_commands = (sum(which(shown.answers) for shown in sets) for which in (serial.is_interleaved, serial.is_of_commands))
+    more = ", %d only when transactions are interleaved" % of_commands if of_commands and not interleaved else ""
+    return ["%s: %s of answers, %s only when interleaved%s" % (extent.text, counted(len(sets), "set"), interleaved or "none", more)
             ] + extent.guessed
 
 
