@@ -87,5 +87,6 @@ killed() {
         wait $! 2>/dev/null
         [ "$signal" = KILL ] || kept 0 || return 1
     done
-    kill "$(cat "$temp/builds")" && walks built && kept 1
+    # What the killed run had started may hold the lock a little longer.
+    kill "$(cat "$temp/builds")" && flock "$out/building.lock" true && walks built && kept 1
 }
