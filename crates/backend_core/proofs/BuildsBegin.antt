@@ -26,11 +26,12 @@ use Rattle.history_model.proofs.Reading.{is_usable-own, is_usable-other}
 use Rattle.cacheless.specs.Types.{OpenRelation}
 use Rattle.cacheless.specs.Facts.{Facts, kept_in, facts_of}
 use Rattle.cacheless.proofs.Reading.{kept_usable}
-use Rattle.cacheless.specs.Owed.{owed_at_start, owed_after, unusable, act_next, is_next_scan}
+use Rattle.cacheless.specs.Work.{work_of}
+use Rattle.cacheless.specs.Owed.{owed_first_in, owed_after, missing, act_next, is_next_in}
 use Rattle.cacheless.specs.Plays.{MayPlayIn, MayPlayAt, IsNext, Plays}
 use Rattle.cacheless.specs.Session.{Session, Outcome, Unsettled, Well, Badly, outcome_of, first_of, none_open, at_command, plan_admitted, plan_first}
 use Rattle.cacheless.specs.Sessions.{written, resumed, noted, commands_left, entered, session_by, session_of}
-use Rattle.cacheless.specs.Settled.{act_done, done_here, acted_on, acted, is_finished, blocks_after, opens_after, next_session, settled}
+use Rattle.cacheless.specs.Settled.{act_done, done_here, acted_on, acted, is_finished_in, blocks_after, opens_after, next_session, settled}
 use Rattle.cacheless.proofs.Allowed.NextOnCourse.{entered_noted}
 use Rattle.cacheless.proofs.Plans.ActOrder.{follows_order}
 use Rattle.cacheless.proofs.Plans.EffectAlong.{plain_row}
@@ -142,11 +143,11 @@ named_acted facts s false named = named
 
 named_settled : (facts : Facts) (commands : List Command) (s : Session) → IsNamed s → IsNamed (settled facts commands s)
 named_settled facts [] s named = named
-named_settled facts (command ∷ rest) s named = by_end (is_finished facts command (acted facts command s)) (named_settled facts rest)
+named_settled facts (command ∷ rest) s named = by_end (is_finished_in facts command (work_of (acted facts command s))) (named_settled facts rest)
   where
     by_end : (t : Bool) → ((x : Session) → IsNamed x → IsNamed (settled facts rest x)) → IsNamed (elim t as (λ x. Session) [ true ↦ settled facts rest (next_session command (first_of rest) (acted facts command s)) | false ↦ acted facts command s ])
     by_end true more = more (next_session command (first_of rest) (acted facts command s)) (named_first (blocks_after command (acted facts command s)) (opens_after command (acted facts command s)) (first_of rest), tt)
-    by_end false more = named_acted facts s (is_empty (owed_at_start facts command s ++ owed_after facts.due)) named
+    by_end false more = named_acted facts s (is_empty (owed_first_in facts command (work_of s) ++ owed_after facts.due)) named
 
 named_written : (plan : Plan) (s : Session) → SearchesNamed plan → IsNamed s → IsNamed (written plan s)
 named_written (Do (Write draft) rest) s plan named = (plan [], named.1)
@@ -190,11 +191,11 @@ named_session scenario history b = along-keeps (λ before o. AreNamed o) (λ bef
         by_owner false = named
 
 -- the first of some scans that isn't usable is one of them
-key_of : (facts : Facts) (scan : Purpose) (n : ℕ) (wanted : List Purpose) → AllByRecursion (λ d. (scan_key d).1 ≡ n) wanted → list_any (same_scan scan) (take 1 (unusable facts wanted)) ≡ true → (scan_key scan).1 ≡ n
+key_of : (facts : Facts) (scan : Purpose) (n : ℕ) (wanted : List Purpose) → AllByRecursion (λ d. (scan_key d).1 ≡ n) wanted → list_any (same_scan scan) (take 1 (missing facts.kept wanted)) ≡ true → (scan_key scan).1 ≡ n
 key_of facts scan n [] all is = absurd (cc is)
 key_of facts scan n (first ∷ wanted) all is = by_usable (is_kept facts.kept first) is (key_of facts scan n wanted all.1)
   where
-    by_usable : (t : Bool) → list_any (same_scan scan) (take 1 (cond (not t) (first ∷ unusable facts wanted) (unusable facts wanted))) ≡ true → (list_any (same_scan scan) (take 1 (unusable facts wanted)) ≡ true → (scan_key scan).1 ≡ n) → (scan_key scan).1 ≡ n
+    by_usable : (t : Bool) → list_any (same_scan scan) (take 1 (cond (not t) (first ∷ missing facts.kept wanted) (missing facts.kept wanted))) ≡ true → (list_any (same_scan scan) (take 1 (missing facts.kept wanted)) ≡ true → (scan_key scan).1 ≡ n) → (scan_key scan).1 ≡ n
     by_usable true any more = more any
     by_usable false any more = by_same (same_scan scan first) refl any
       where
@@ -206,10 +207,10 @@ key_of facts scan n (first ∷ wanted) all is = by_usable (is_kept facts.kept fi
 abbrev Begins : Facts → Purpose → Type 0
 Begins facts scan = (same_scan scan (class_scan scan) || is_kept facts.kept (class_scan scan)) ≡ true
 
-class_first : (facts : Facts) (scan : Purpose) (rel : Oid) (wanted : List Purpose) → AllByRecursion (λ d. (scan_key d).1 ≡ rel.0) wanted → list_any (same_scan scan) (take 1 (unusable facts (scans.Class rel ∷ wanted))) ≡ true → Begins facts scan
+class_first : (facts : Facts) (scan : Purpose) (rel : Oid) (wanted : List Purpose) → AllByRecursion (λ d. (scan_key d).1 ≡ rel.0) wanted → list_any (same_scan scan) (take 1 (missing facts.kept (scans.Class rel ∷ wanted))) ≡ true → Begins facts scan
 class_first facts scan rel wanted all is = by_usable (is_kept facts.kept (scans.Class rel)) refl is
   where
-    by_usable : (t : Bool) → is_kept facts.kept (scans.Class rel) ≡ t → list_any (same_scan scan) (take 1 (cond (not t) (scans.Class rel ∷ unusable facts wanted) (unusable facts wanted))) ≡ true → Begins facts scan
+    by_usable : (t : Bool) → is_kept facts.kept (scans.Class rel) ≡ t → list_any (same_scan scan) (take 1 (cond (not t) (scans.Class rel ∷ missing facts.kept wanted) (missing facts.kept wanted))) ≡ true → Begins facts scan
     by_usable true kept any = or_right (same_scan scan (class_scan scan)) (is_kept facts.kept (class_scan scan)) ((λ i. is_kept facts.kept (scans.Class (record { 0 = key_of facts scan rel.0 wanted all any i }))) ∙ kept)
     by_usable false lacked any = by_same (same_scan scan (scans.Class rel)) refl any
       where
@@ -218,23 +219,23 @@ class_first facts scan rel wanted all is = by_usable (is_kept facts.kept (scans.
         by_same false other has = absurd (cc has)
 
 -- so it is with the scan that comes next for a descriptor
-build_first : (facts : Facts) (scan : Purpose) (kind : Kind) (rel : Oid) → list_any (same_scan scan) (take 1 (unusable facts (build_scans kind rel))) ≡ true → Begins facts scan
+build_first : (facts : Facts) (scan : Purpose) (kind : Kind) (rel : Oid) → list_any (same_scan scan) (take 1 (missing facts.kept (build_scans kind rel))) ≡ true → Begins facts scan
 build_first facts scan Table rel is = class_first facts scan rel (scans.Attribute rel ∷ scans.AttrDef rel ∷ scans.Constraint rel ∷ scans.Index rel ∷ scans.Trigger rel ∷ []) (each_of Table rel).1 is
 build_first facts scan Index rel is = class_first facts scan rel (scans.IndexRow rel ∷ []) (each_of Index rel).1 is
 
-each_first : (facts : Facts) (scan : Purpose) (opened : List Opening) → list_any (same_scan scan) (flat_map (λ o. take 1 (unusable facts (build_scans o.kind o.rel))) opened) ≡ true → Begins facts scan
+each_first : (facts : Facts) (scan : Purpose) (opened : List Opening) → list_any (same_scan scan) (flat_map (λ o. take 1 (missing facts.kept (build_scans o.kind o.rel))) opened) ≡ true → Begins facts scan
 each_first facts scan [] is = absurd (cc is)
-each_first facts scan (o ∷ opened) is = by_side (each_first facts scan opened) (or_cases _ _ (sym (list_any-append (same_scan scan) (take 1 (unusable facts (build_scans o.kind o.rel))) (flat_map (λ p. take 1 (unusable facts (build_scans p.kind p.rel))) opened)) ∙ is))
+each_first facts scan (o ∷ opened) is = by_side (each_first facts scan opened) (or_cases _ _ (sym (list_any-append (same_scan scan) (take 1 (missing facts.kept (build_scans o.kind o.rel))) (flat_map (λ p. take 1 (missing facts.kept (build_scans p.kind p.rel))) opened)) ∙ is))
   where
     later : Bool
-    later = list_any (same_scan scan) (flat_map (λ p. take 1 (unusable facts (build_scans p.kind p.rel))) opened)
+    later = list_any (same_scan scan) (flat_map (λ p. take 1 (missing facts.kept (build_scans p.kind p.rel))) opened)
 
-    by_side : (later ≡ true → Begins facts scan) → (list_any (same_scan scan) (take 1 (unusable facts (build_scans o.kind o.rel))) ≡ true) ⊎ (later ≡ true) → Begins facts scan
+    by_side : (later ≡ true → Begins facts scan) → (list_any (same_scan scan) (take 1 (missing facts.kept (build_scans o.kind o.rel))) ≡ true) ⊎ (later ≡ true) → Begins facts scan
     by_side more (inl here) = build_first facts scan o.kind o.rel here
     by_side more (inr there) = more there
 
 -- a scan that isn't for a descriptor is another one
-not_named : (facts : Facts) (scan wanted : Purpose) → is_build_scan scan ≡ true → is_build_scan wanted ≡ false → list_any (same_scan scan) (take 1 (unusable facts (wanted ∷ []))) ≡ true → Begins facts scan
+not_named : (facts : Facts) (scan wanted : Purpose) → is_build_scan scan ≡ true → is_build_scan wanted ≡ false → list_any (same_scan scan) (take 1 (missing facts.kept (wanted ∷ []))) ≡ true → Begins facts scan
 not_named facts scan wanted builds named is = by_usable (is_kept facts.kept wanted) is
   where
     by_usable : (t : Bool) → list_any (same_scan scan) (take 1 (cond (not t) (wanted ∷ []) [])) ≡ true → Begins facts scan
@@ -258,11 +259,11 @@ act_first facts scan (Done told) named builds is = absurd (cc is)
 act_first facts scan (Fails error) named builds is = absurd (cc is)
 act_first facts scan (Absent name) named builds is = absurd (cc is)
 
-next_first : (facts : Facts) (scan : Purpose) (s : Session) → IsNamed s → is_build_scan scan ≡ true → is_next_scan scan facts s ≡ true → Begins facts scan
+next_first : (facts : Facts) (scan : Purpose) (s : Session) → IsNamed s → is_build_scan scan ≡ true → is_next_in scan facts (work_of s) ≡ true → Begins facts scan
 next_first facts scan s named built is = by_outcome (outcome_of s.left) is
   where
     builds : List Purpose
-    builds = flat_map (λ (o : Opening). take 1 (unusable facts (build_scans o.kind o.rel))) s.opened
+    builds = flat_map (λ (o : Opening). take 1 (missing facts.kept (build_scans o.kind o.rel))) s.opened
 
     both : list_any (same_scan scan) (builds ++ act_next facts s.left) ≡ true → Begins facts scan
     both any = by_side (or_cases _ _ (sym (list_any-append (same_scan scan) builds (act_next facts s.left)) ∙ any))
@@ -284,15 +285,15 @@ module _ (scenario : Scenario) (history : List Entry) (b c : ℕ) (begun : AreBe
       and_from (spares_by history b c (class_scan scan) event) (is_usable history b (class_scan scan)) (sym (spares_alike history b c scan event builds) ∙ parts.0) (begun scan builds parts.1)
 
   -- a scan that may be made
-  made_next : (made : Purpose) (s : Session) → IsNamed s → is_next_scan made (facts_of history b) s ≡ true → (same_scan made scan || is_usable history b scan) ≡ true → (same_scan made (class_scan scan) || is_usable history b (class_scan scan)) ≡ true
+  made_next : (made : Purpose) (s : Session) → IsNamed s → is_next_in made (facts_of history b) (work_of s) ≡ true → (same_scan made scan || is_usable history b scan) ≡ true → (same_scan made (class_scan scan) || is_usable history b (class_scan scan)) ≡ true
   made_next made s named next used = by_same (same_scan made scan) refl used
     where
       by_same : (t : Bool) → same_scan made scan ≡ t → (t || is_usable history b scan) ≡ true → (same_scan made (class_scan scan) || is_usable history b (class_scan scan)) ≡ true
       by_same true same was = let it : made ≡ scan = same_scan-true made scan same in
-          ap (λ d. same_scan d (class_scan scan) || is_usable history b (class_scan scan)) it ∙ ap (λ t. same_scan scan (class_scan scan) || t) (sym (kept_usable history b (class_scan scan))) ∙ next_first (facts_of history b) scan s named builds (ap (λ d. is_next_scan d (facts_of history b) s) (sym it) ∙ next)
+          ap (λ d. same_scan d (class_scan scan) || is_usable history b (class_scan scan)) it ∙ ap (λ t. same_scan scan (class_scan scan) || t) (sym (kept_usable history b (class_scan scan))) ∙ next_first (facts_of history b) scan s named builds (ap (λ d. is_next_in d (facts_of history b) (work_of s)) (sym it) ∙ next)
       by_same false other was = or_right (same_scan made (class_scan scan)) (is_usable history b (class_scan scan)) (begun scan builds was)
 
-  asked : (s : Session) (o : Option Command) (made : Purpose) (count : ℕ) → MayPlayIn (next_oid history) (facts_of history b) o s (events.Scan made count) → is_next_scan made (facts_of history b) s ≡ true
+  asked : (s : Session) (o : Option Command) (made : Purpose) (count : ℕ) → MayPlayIn (next_oid history) (facts_of history b) o s (events.Scan made count) → is_next_in made (facts_of history b) (work_of s) ≡ true
   asked s None made count plays = plays.1
   asked s (Some command) made count plays = plays.1
 

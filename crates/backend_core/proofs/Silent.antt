@@ -24,7 +24,8 @@ use Rattle.base_types.specs.declared.scan.Purpose.TheVariants as scans
 use Rattle.ddl_effect.specs.Plans.{Act, Plan, Do, Lookup}
 use Rattle.ddl_effect.specs.Stages.{plan_at}
 use Rattle.cacheless.specs.Types.{Mode}
-use Rattle.cacheless.specs.Settled.{act_done, class_oid, is_finished, next_session, if_locked, has_accepted, looked_up}
+use Rattle.cacheless.specs.Work.{work_of}
+use Rattle.cacheless.specs.Settled.{act_done, class_oid, is_finished_in, next_session, if_locked, has_accepted_in, looked_up_in}
 use Rattle.cacheless.proofs.Plans.SilentActs.{IsDoneHere, is_done_here, lookup_says, gives_class, kept_already, there_or_fails, on_its_way}
 use Rattle.local_caches.specs.Kept.{is_kept, rows_kept}
 
@@ -36,7 +37,7 @@ acts_going scenario seen b s command course at unsettled = by_ended s.ended refl
     by_ended false is = is
     by_ended true is = by_side (course.ends command at is)
       where
-        by_side : (is_finished (facts_of seen b) command s ≡ true) ⊎ TellsAlone seen b s command → s.ended ≡ false
+        by_side : (is_finished_in (facts_of seen b) command (work_of s) ≡ true) ⊎ TellsAlone seen b s command → s.ended ≡ false
         by_side (inl finished) = absurd (both_ways _ unsettled (and_parts (is_settled (outcome_of s.left)) _ (and_parts (is_settled (outcome_of s.left) && _) _ finished).0).0)
         by_side (inr alone) = absurd (both_ways _ unsettled (ap (λ p. is_settled (outcome_of p)) alone.left))
 
@@ -79,14 +80,14 @@ pub act_goes : (was : Backend) (p : Progress) (keeps told : Bool) → told ≡ w
 act_goes was p keeps told quiet acted kept same scenario seen now = record { agrees = act_agrees scenario seen was p keeps told quiet now (acted scenario seen now.holds) kept same; id = (acted scenario seen now.holds).moves.id }
 
 -- a lookup that came to its end without a relation took no lock
-accepted : (facts : Facts) (s : Session) (read given : List Row) → if_locked (has_accepted facts s) read ≡ Some given → is_none s.taken ≡ true
-accepted facts s read given gave = by_test (has_accepted facts s) refl gave
+accepted : (facts : Facts) (s : Session) (read given : List Row) → if_locked (has_accepted_in facts (work_of s)) read ≡ Some given → is_none s.taken ≡ true
+accepted facts s read given gave = by_test (has_accepted_in facts (work_of s)) refl gave
   where
-    by_test : (t : Bool) → has_accepted facts s ≡ t → if_locked t read ≡ Some given → is_none s.taken ≡ true
+    by_test : (t : Bool) → has_accepted_in facts (work_of s) ≡ t → if_locked t read ≡ Some given → is_none s.taken ≡ true
     by_test true has is = (and_parts (is_none s.taken) _ (and_parts (is_none s.taken && _) _ has).0).0
     by_test false has is = absurd (cc is)
 
-took_none : (facts : Facts) (s : Session) (mode : Mode) (read given : List Row) → class_oid read ≡ None → looked_up facts s mode read ≡ Some given → is_none s.taken ≡ true
+took_none : (facts : Facts) (s : Session) (mode : Mode) (read given : List Row) → class_oid read ≡ None → looked_up_in facts (work_of s) mode read ≡ Some given → is_none s.taken ≡ true
 took_none facts s mode [] given none gave = accepted facts s [] given gave
 took_none facts s mode (rows.Class rel own kind fill ∷ more) given none gave = absurd (cc none)
 took_none facts s mode (row ∷ more) given none gave = accepted facts s (row ∷ []) given gave

@@ -13,15 +13,15 @@ use Rattle.txn_blocks.specs.Blocks.{Block, Level, Blocks, Outside, Inside, Faile
 use Rattle.history_model.specs.Transactions.{is_visible}
 use Rattle.history_model.specs.Changing.{is_empty}
 use Rattle.cacheless.specs.Facts.{Facts}
-use Rattle.seg_calls.specs.Calls.{took_back}
 use Rattle.cacheless.specs.Session.{Session, Badly, opening_of, held_before, number_of, outcome_of, is_settled, plan_first, is_blocked}
-use Rattle.cacheless.specs.Owed.{Owes, OwesLook, owed_after, owed_of, begins, started_in}
-use Rattle.cacheless.specs.Ends.{Commits, TakesBack, end_of, end_of_all}
+use Rattle.cacheless.specs.Work.{work_of}
+use Rattle.cacheless.specs.Owed.{Owes, OwesLook, owed_after, owed_in, begins_in, started_in}
+use Rattle.cacheless.specs.Ends.{Commits, TakesBack, end_in, end_of_all}
 use Rattle.cacheless.specs.Settled.{blocks_after, opens_after}
 use Rattle.cacheless.specs.Types.{OpenRelation}
 use Rattle.cacheless.specs.State.{one_if, is_absent}
 use Rattle.cacheless.specs.Suspects.{lacks, same_kind}
-use Rattle.backend_core.specs.Types.{Oid, Command, Event, OwnLock, Opening, Frame}
+use Rattle.backend_core.specs.Types.{Oid, Command, OwnLock, Opening, Frame}
 use Rattle.backend_core.specs.Frames.{IsStack}
 use Rattle.backend_core.specs.Words.{relation_named, has_error}
 use Rattle.local_caches.specs.Kept.{is_kept, rows_kept}
@@ -71,7 +71,7 @@ first_at facts = option_map_or (λ t. t.first) facts.running 0
 pub record RunsAlone (facts : Facts) (o : Option Command) (s : Session) : Type 0 where
   pub command : Command
   pub at : o ≡ Some command
-  pub begins : begins command s ≡ true
+  pub begins : begins_in command (work_of s) ≡ true
   pub first : first_at facts ≡ number_of s
 
 -- the first command of the outermost level, or this one where there is no level
@@ -130,13 +130,13 @@ pub record OnCommit (facts : Facts) (o : Option Command) (s : Session) : Type 0 
   pub at : o ≡ Some command
   pub going : s.ended ≡ false
   pub out : is_settled (outcome_of s.left) ≡ true
-  pub free : owed_of facts command s ≡ []
-  pub end : end_of facts command s ≡ Commits (first_at facts)
+  pub free : owed_in facts command (work_of s) ≡ []
+  pub end : end_in facts command (work_of s) ≡ Commits (first_at facts)
   pub written : has_write_from (first_at facts) facts.lists ≡ true
 
 -- the end of a command takes back the commands from this one on: nothing asks for an entry, and its answer rests on no scan
 pub record IsTakenBack (facts : Facts) (command : Command) (s : Session) (from : ℕ) : Type 0 where
-  pub end : end_of facts command s ≡ TakesBack from
+  pub end : end_in facts command (work_of s) ≡ TakesBack from
   pub free : owed_after facts.due ≡ []
   pub plain : left_rests_on s.left ≡ []
 

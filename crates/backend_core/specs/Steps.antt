@@ -9,8 +9,8 @@ use Rattle.cacheless.specs.declared.progress.Due.TheVariants as dues
 use Rattle.cacheless.specs.May.{is_next_at, is_next_of_act, has_failed, lacks_opened, lacks_any, owes_nothing, may_lock_at, may_unlock_at, may_end_at, is_next_of_end, is_next_of_commit, is_next_of_back}
 use Rattle.cacheless.specs.MayEnter.{MayEnter}
 use Rattle.cacheless.specs.Silently.{has_accepted_at}
-use Rattle.cacheless.specs.State.{owed_after, is_quiet, is_absent, is_kept, kept_at, owed_first, unsent_at, is_out, end_at, end_of_running}
-use Rattle.cacheless.specs.Ends.{TakesBack}
+use Rattle.cacheless.specs.State.{owed_after, is_quiet, is_absent, is_kept, kept_at, owed_first, unsent_at, is_out, end_at, facts_at}
+use Rattle.cacheless.specs.Ends.{TakesBack, end_of_all}
 use Rattle.backend_core.specs.Types.{Oid, Mode, Purpose, Command, Scenario, Entry, Event, Next, Frame, Progress, Backend}
 use Rattle.backend_core.specs.declared.life.Life.TheVariants as lives
 use Rattle.backend_core.specs.declared.next.Next.TheVariants as nexts
@@ -112,7 +112,7 @@ pub record IsWriteNext (s : Progress) : Type 0 where
 -- this entry of the end of a command that has come out comes next, where no lookup looks once more, or after the last command of taking back what still runs
 pub data EndsNext (s : Backend) (event : Event) : Type 0 where
   InCommand : (command : Command) → IsFree s.progress command → is_out s.progress ≡ true → (owes_nothing command s.progress ≡ true) ⊎ (s.frames ≡ []) → accepts_again s ≡ false → may_end_at command s.progress event ≡ true → EndsNext s event
-  AfterAll : slice_get s.progress.commands s.progress.finished ≡ None → is_next_of_end s.progress event (end_of_running s.progress.running) ≡ true → EndsNext s event
+  AfterAll : slice_get s.progress.commands s.progress.finished ≡ None → is_next_of_end s.progress event (end_of_all (facts_at s.progress)) ≡ true → EndsNext s event
 
 -- its writes were taken back: the release comes next, and no scan, though what is held may lack some
 pub record IsGone (s : Backend) (command : Command) : Type 0 where

@@ -37,10 +37,11 @@ use Rattle.history_model.proofs.Granted.{granted_to, unheld}
 use Rattle.history_model.proofs.Past.{IsPast, past-end, past-other, past-own, past-new}
 use Rattle.cacheless.specs.declared.progress.Due.{Due}
 use Rattle.cacheless.specs.declared.progress.Due.TheVariants as dues
-use Rattle.cacheless.specs.Facts.{Facts, facts_of, facts_by}
+use Rattle.cacheless.specs.Facts.{due_last, Facts, facts_of, facts_by}
 use Rattle.cacheless.specs.Locks.{grant_of, locks_by}
 use Rattle.cacheless.specs.Session.{Session, first_of}
-use Rattle.cacheless.specs.Owed.{Owes, OwesLook, OwesFetch, OwesScan, owed_at_start, owed_after, owed_last, owes_build, owes_accept}
+use Rattle.cacheless.specs.Work.{work_of}
+use Rattle.cacheless.specs.Owed.{Owes, OwesLook, OwesFetch, OwesScan, owed_first_in, owed_after, owes_build_in, accepts_in}
 use Rattle.cacheless.specs.Settled.{settled}
 use Rattle.cacheless.specs.Sessions.{placed_at, counted, entered, commands_left, session_of}
 use Rattle.cacheless.specs.Plays.{IsNext, Plays}
@@ -74,7 +75,7 @@ KnowsOf history b owed waited g = (g.backend == b) ≡ true → Known owed waite
 
 -- with each grant that a backend holds it is past what others changed, if it owes nothing
 abbrev pub Comes : List Entry → ℕ → Type 0
-Comes history b = AllByRecursion (KnowsOf history b (owed_last (last_event_of history b)) (has_waited history b)) (held_of history)
+Comes history b = AllByRecursion (KnowsOf history b (owed_after (due_last (last_event_of history b))) (has_waited history b)) (held_of history)
 
 ended_all : (c from : ℕ) (r : Option Running) → option_map (λ t. t.first) r ≡ Some from → after_release from (begun c r) ≡ None
 ended_all c from None is = absurd (cc)
@@ -99,22 +100,22 @@ not_waiting : (history : List Entry) (e : Entry) (b : ℕ) → (e.backend == b) 
 not_waiting history e b own alive none = no_more (is_alive (life_of (history ++ e ∷ []) b)) (position_of (history ++ e ∷ []) b) (length (log_of (history ++ e ∷ []))) alive none
 
 -- what was held before an own entry is known after it, where nothing was owed
-kept_own : (history : List Entry) (b c : ℕ) (event : Event) (held : List Grant) (waited : Bool) → IsSound history → ((from : ℕ) → event ≡ events.Release from → is_visible (running_transaction_of history b) ≡ false) → owed_last (last_event_of history b) ≡ []
-    → AllByRecursion (KnowsOf history b (owed_last (last_event_of history b)) (has_waited history b)) held → AllByRecursion (KnowsOf (history ++ entry_of b c event ∷ []) b [] waited) held
+kept_own : (history : List Entry) (b c : ℕ) (event : Event) (held : List Grant) (waited : Bool) → IsSound history → ((from : ℕ) → event ≡ events.Release from → is_visible (running_transaction_of history b) ≡ false) → owed_after (due_last (last_event_of history b)) ≡ []
+    → AllByRecursion (KnowsOf history b (owed_after (due_last (last_event_of history b))) (has_waited history b)) held → AllByRecursion (KnowsOf (history ++ entry_of b c event ∷ []) b [] waited) held
 kept_own history b c event held waited sound hidden nothing known =
-    every-weaker (KnowsOf history b (owed_last (last_event_of history b)) (has_waited history b)) (KnowsOf (history ++ entry_of b c event ∷ []) b [] waited)
+    every-weaker (KnowsOf history b (owed_after (due_last (last_event_of history b))) (has_waited history b)) (KnowsOf (history ++ entry_of b c event ∷ []) b [] waited)
     (λ g knows mine. past-own history (entry_of b c event) b g.rel g.mode (eq-eqb b b refl) (sound_placed history sound) hidden (subst (λ owed. Known owed (has_waited history b) (IsPast history b g.rel g.mode)) nothing (knows mine))) held known
 
-comes_by : (history : List Entry) (b c : ℕ) (event : Event) → IsSound history → MayComeNext history (entry_of b c event) → IsPatient (owed_last (last_event_of history b)) event → Comes history b
-    → AllByRecursion (KnowsOf (history ++ entry_of b c event ∷ []) b (owed_last (Some event)) (waited_by (history ++ entry_of b c event ∷ []) b event (has_waited history b))) (held_by b c event (held_of history))
+comes_by : (history : List Entry) (b c : ℕ) (event : Event) → IsSound history → MayComeNext history (entry_of b c event) → IsPatient (owed_after (due_last (last_event_of history b))) event → Comes history b
+    → AllByRecursion (KnowsOf (history ++ entry_of b c event ∷ []) b (owed_after (due_last (Some event))) (waited_by (history ++ entry_of b c event ∷ []) b event (has_waited history b))) (held_by b c event (held_of history))
 comes_by history b c events.Start sound comes patient' known =
     all_past (history ++ entry_of b c events.Start ∷ []) b [] (is_waiting (history ++ entry_of b c events.Start ∷ []) b) (held_of history)
     (omega (arith, ap length (log_of-more history (entry_of b c events.Start)), position_of-own history (entry_of b c events.Start) b (eq-eqb b b refl)))
 comes_by history b c (events.Look true) sound comes patient' known = every (λ g. (g.backend == b) ≡ true → ⊤) (λ g mine. tt) (held_of history)
 comes_by history b c (events.Look false) sound comes patient' known =
-    every-weaker (KnowsOf history b (owed_last (last_event_of history b)) (has_waited history b)) (KnowsOf (history ++ entry_of b c (events.Look false) ∷ []) b [] (has_waited history b))
+    every-weaker (KnowsOf history b (owed_after (due_last (last_event_of history b))) (has_waited history b)) (KnowsOf (history ++ entry_of b c (events.Look false) ∷ []) b [] (has_waited history b))
     (λ g knows mine. past-own history (entry_of b c (events.Look false)) b g.rel g.mode (eq-eqb b b refl) (sound_placed history sound) (λ from release. absurd (cc))
-    (known-looked (owed_last (last_event_of history b)) (has_waited history b) (IsPast history b g.rel g.mode) patient' comes.follows.event (knows mine))) (held_of history) known
+    (known-looked (owed_after (due_last (last_event_of history b))) (has_waited history b) (IsPast history b g.rel g.mode) patient' comes.follows.event (knows mine))) (held_of history) known
 comes_by history b c (events.Fetch count) sound comes patient' known = by_full (count == 32) refl
   where
     e : Entry
@@ -166,11 +167,11 @@ comes_by history b c events.FetchReset sound comes patient' known =
 comes_by history b c event sound comes patient' known = kept_own history b c event (held_of history) (waited_by (history ++ entry_of b c event ∷ []) b event (has_waited history b)) sound (λ from release. absurd (cc)) patient' known
 
 -- after an own entry
-comes_own : (history : List Entry) (b c : ℕ) (event : Event) → IsSound history → MayComeNext history (entry_of b c event) → IsPatient (owed_last (last_event_of history b)) event → Comes history b → Comes (history ++ entry_of b c event ∷ []) b
+comes_own : (history : List Entry) (b c : ℕ) (event : Event) → IsSound history → MayComeNext history (entry_of b c event) → IsPatient (owed_after (due_last (last_event_of history b))) event → Comes history b → Comes (history ++ entry_of b c event ∷ []) b
 comes_own history b c event sound comes patient' known =
-    subst (λ held. AllByRecursion (KnowsOf after b (owed_last (last_event_of after b)) (has_waited after b)) held) (sym (held_of-more history e))
-    (subst (λ last. AllByRecursion (KnowsOf after b (owed_last last) (has_waited after b)) (held_by b c event (held_of history))) (sym (last_event_of-own history e b (eq-eqb b b refl)))
-    (subst (λ waited. AllByRecursion (KnowsOf after b (owed_last (Some event)) waited) (held_by b c event (held_of history))) (sym (waited_of-own history e b (eq-eqb b b refl))) (comes_by history b c event sound comes patient' known)))
+    subst (λ held. AllByRecursion (KnowsOf after b (owed_after (due_last (last_event_of after b))) (has_waited after b)) held) (sym (held_of-more history e))
+    (subst (λ last. AllByRecursion (KnowsOf after b (owed_after (due_last last)) (has_waited after b)) (held_by b c event (held_of history))) (sym (last_event_of-own history e b (eq-eqb b b refl)))
+    (subst (λ waited. AllByRecursion (KnowsOf after b (owed_after (due_last (Some event))) waited) (held_by b c event (held_of history))) (sym (waited_of-own history e b (eq-eqb b b refl))) (comes_by history b c event sound comes patient' known)))
   where
     e : Entry
     e = entry_of b c event
@@ -181,15 +182,15 @@ comes_own history b c event sound comes patient' known =
 -- and after another's
 comes_other : (history : List Entry) (e : Entry) (b : ℕ) → (e.backend == b) ≡ false → IsSound history → Comes history b → Comes (history ++ e ∷ []) b
 comes_other history e b other sound known =
-    subst (λ held. AllByRecursion (KnowsOf after b (owed_last (last_event_of after b)) (has_waited after b)) held) (sym (held_of-more history e))
-    (subst (λ last. AllByRecursion (KnowsOf after b (owed_last last) (has_waited after b)) (held_by e.backend e.command e.event (held_of history))) (sym (last_event_of-other history e b other))
+    subst (λ held. AllByRecursion (KnowsOf after b (owed_after (due_last (last_event_of after b))) (has_waited after b)) held) (sym (held_of-more history e))
+    (subst (λ last. AllByRecursion (KnowsOf after b (owed_after (due_last last)) (has_waited after b)) (held_by e.backend e.command e.event (held_of history))) (sym (last_event_of-other history e b other))
     (subst (λ waited. AllByRecursion (KnowsOf after b owed waited) (held_by e.backend e.command e.event (held_of history))) (sym (waited_of-other history e b other)) (of e.event)))
   where
     after : List Entry
     after = history ++ e ∷ []
 
     owed : List Owes
-    owed = owed_last (last_event_of history b)
+    owed = owed_after (due_last (last_event_of history b))
 
     On : Grant → Type 0
     On = KnowsOf after b owed (has_waited history b)
@@ -240,16 +241,16 @@ cleared_other scenario history e b other sound was =
     (on_locks scenario history b (λ g. AllByRecursion (Agree g) (held_of history)) sound (locks_exclude history sound).agree)))
 
 -- where nothing is owed, all locks are such
-all_cleared : (scenario : Scenario) (history : List Entry) (b : ℕ) → IsSound history → owed_last (last_event_of history b) ≡ [] → Comes history b → Cleared scenario history b
+all_cleared : (scenario : Scenario) (history : List Entry) (b : ℕ) → IsSound history → owed_after (due_last (last_event_of history b)) ≡ [] → Comes history b → Cleared scenario history b
 all_cleared scenario history b sound nothing known =
-    every-weaker (λ lock. KnowsOf history b (owed_last (last_event_of history b)) (has_waited history b) (grant_of b lock)) (λ lock. lock.clear ≡ true → IsPast history b lock.rel lock.mode)
+    every-weaker (λ lock. KnowsOf history b (owed_after (due_last (last_event_of history b))) (has_waited history b) (grant_of b lock)) (λ lock. lock.clear ≡ true → IsPast history b lock.rel lock.mode)
     (λ lock knows is. subst (λ owed. Known owed (has_waited history b) (IsPast history b lock.rel lock.mode)) nothing (knows (eq-eqb b b refl))) (locks_of (session_of scenario history b))
-    (on_locks scenario history b (KnowsOf history b (owed_last (last_event_of history b)) (has_waited history b)) sound known)
+    (on_locks scenario history b (KnowsOf history b (owed_after (due_last (last_event_of history b))) (has_waited history b)) sound known)
 
 -- while a look or a fetch is owed no lock becomes clear
-owes : (facts : Facts) (command : Option Command) (s : Session) → is_empty (owed_after facts.due) ≡ false → owes_accept facts command s ≡ true
+owes : (facts : Facts) (command : Option Command) (s : Session) → is_empty (owed_after facts.due) ≡ false → accepts_in facts (work_of s) command ≡ true
 owes facts None s owed = ap not owed
-owes facts (Some command) s owed = ap (λ t. not t || owes_build facts s) (is_empty-after (owed_at_start facts command s) (owed_after facts.due) owed)
+owes facts (Some command) s owed = ap (λ t. not t || owes_build_in facts (work_of s)) (is_empty-after (owed_first_in facts command (work_of s)) (owed_after facts.due) owed)
 
 locks_owed : (facts : Facts) (commands : List Command) (at c : ℕ) (event : Event) (s : Session) → is_empty (owed_after facts.due) ≡ false → (settled facts commands (entered facts commands at c event s)).locks ≡ locks_by c event s.locks
 locks_owed facts commands at c event s owed =
@@ -309,8 +310,8 @@ cleared_own scenario history b c (events.Fetch count) sound after known was = by
     by_full true full = subst (λ s. AllByRecursion Q (locks_of s)) (sym (session_of-own scenario history e b (eq-eqb b b refl)))
         (session_owed Q scenario (facts_by history b c (events.Fetch count) (facts_of history b)) b (length history + 1) c (events.Fetch count) (ap (λ t. is_empty (owed_if t)) full)
         (λ locks all. all) (session_of scenario history b) (kept_clear scenario history b c (events.Fetch count) sound (λ from release. absurd (cc)) was))
-    by_full false short = all_cleared scenario (history ++ e ∷ []) b after (ap owed_last (last_event_of-own history e b (eq-eqb b b refl)) ∙ ap owed_if short) known
-cleared_own scenario history b c event sound after known was = all_cleared scenario (history ++ entry_of b c event ∷ []) b after (ap owed_last (last_event_of-own history (entry_of b c event) b (eq-eqb b b refl))) known
+    by_full false short = all_cleared scenario (history ++ e ∷ []) b after (ap (λ x. owed_after (due_last x)) (last_event_of-own history e b (eq-eqb b b refl)) ∙ ap owed_if short) known
+cleared_own scenario history b c event sound after known was = all_cleared scenario (history ++ entry_of b c event ∷ []) b after (ap (λ x. owed_after (due_last x)) (last_event_of-own history (entry_of b c event) b (eq-eqb b b refl))) known
 
 -- an entry that may come, and that its backend may do next
 abbrev MayComeAndPlay : Scenario → List Entry → Entry → Type 0

@@ -12,13 +12,14 @@ use Rattle.txn_blocks.specs.declared.transaction.RunningTransaction.{RunningTran
 use Rattle.cacheless.specs.Types.{Message, Command, Event}
 use Rattle.cacheless.specs.declared.progress.Progress.{Progress}
 use Rattle.cacheless.specs.Facts.{Facts}
-use Rattle.cacheless.specs.Ends.{xid_of, next_sent, next_of_commit, end_in, end_of}
+use Rattle.cacheless.specs.Work.{work_of}
+use Rattle.cacheless.specs.Ends.{xid_of, next_sent, next_of_commit, end_in}
 use Rattle.cacheless.specs.State.{facts_at, lists_at, unsent_at, end_at, Rest, session_at}
 use Rattle.cacheless.specs.Holds.{FactsFit}
 use Rattle.cacheless.proofs.Same.{work_same}
 
 -- the end of the running command
-pub end_same : (facts : Facts) (command : Command) (s : Progress) (r : Rest) → FactsFit facts s → length r.finished ≡ s.finished → end_of facts command (session_at s r) ≡ end_at s command
+pub end_same : (facts : Facts) (command : Command) (s : Progress) (r : Rest) → FactsFit facts s → length r.finished ≡ s.finished → end_in facts command (work_of (session_at s r)) ≡ end_at s command
 end_same facts command s r fits count = λ i. end_in (fits i) command (work_same s r count i)
 
 -- the next entry of a commit that is visible, where a message is unsent

@@ -29,14 +29,14 @@ use Rattle.cacheless.specs.declared.progress.Progress.{Progress}
 use Rattle.cacheless.specs.Facts.{Facts, facts_of}
 use Rattle.cacheless.specs.Session.{Session, number_of}
 use Rattle.cacheless.specs.Sessions.{session_of}
-use Rattle.cacheless.specs.Nexts.{is_start, is_next_at, is_next, are_next}
+use Rattle.cacheless.specs.Nexts.{is_start, is_next_event, is_next, are_next}
 use Rattle.ddl_effect.specs.Commands.{commands_of}
 use Rattle.history_model.specs.Drawn.{next_oid}
 use Rattle.history_model.specs.Prefixes.{EachFrom}
 use Rattle.cacheless.specs.Work.{work_of}
-use Rattle.cacheless.specs.Owed.{Owes, owed_after, owed_of, is_free, is_next_scan, has_looked}
-use Rattle.cacheless.specs.Ends.{End, Ends, Commits, TakesBack, xid_of, next_sent, next_of_end, end_of, end_of_all}
-use Rattle.cacheless.specs.Plays.{IsLock, IsUnlock, drafted, IsWrite, names_of, IsClash, IsEnd, IsLastEnd, IsStart, MayPlay, MayPlayLast, MayPlayIn, MayPlayAt, IsNext}
+use Rattle.cacheless.specs.Owed.{Owes, owed_after, owed_in, is_free, is_next_in, has_looked_in}
+use Rattle.cacheless.specs.Ends.{End, Ends, Commits, TakesBack, xid_of, next_sent, next_of_end, end_in, end_of_all}
+use Rattle.cacheless.specs.Plays.{IsLock, IsUnlock, drafted, IsWrite, IsClash, IsEnd, IsLastEnd, IsStart, MayPlay, MayPlayLast, MayPlayIn, MayPlayAt, IsNext}
 use Rattle.cacheless.specs.Puts.{PutOpened}
 use Rattle.cacheless.specs.Settled.{class_oid, finds}
 use Rattle.cacheless.specs.State.{facts_at, work_at, session_at}
@@ -45,6 +45,7 @@ use Rattle.cacheless.specs.Holds.{Holds}
 use Rattle.cacheless.proofs.Tests.{and_true, empty_is}
 use Rattle.cacheless.proofs.Same.{work_same}
 use Rattle.cacheless.proofs.SameRows.{oid_decides, items_decide}
+use Rattle.cacheless.proofs.Written.NamesGiven.{names_of}
 
 by_path : {a b : Bool} → a ≡ b → Decides b (a ≡ true)
 by_path same = (λ is. same ∙ is, λ is. sym same ∙ is)
@@ -93,11 +94,11 @@ unlock_decides facts taken (Do (Lookup name wanted) rest) rel mode = decided_by 
 unlock_decides facts taken p rel mode = never (λ is. is)
 
 -- what waits until nothing is owed
-owed_decides : {P : Type 0} (facts : Facts) (command : Command) (s : Session) (t : Bool) → Decides t P → Decides (is_free facts command (work_of s) && t) ((owed_of facts command s ≡ []) × P)
-owed_decides facts command s t d = both_decide (is_free facts command (work_of s)) t (none_decide (owed_of facts command s) (is_free facts command (work_of s)) refl) d
+owed_decides : {P : Type 0} (facts : Facts) (command : Command) (s : Session) (t : Bool) → Decides t P → Decides (is_free facts command (work_of s) && t) ((owed_in facts command (work_of s) ≡ []) × P)
+owed_decides facts command s t d = both_decide (is_free facts command (work_of s)) t (none_decide (owed_in facts command (work_of s)) (is_free facts command (work_of s)) refl) d
 
 -- a lock, granted or refused
-held_decides : (facts : Facts) (command : Command) (s : Session) (rel : Oid) (mode : Mode) → Decides (is_free facts command (work_of s) && is_none s.taken && is_lock facts s.left rel mode) ((owed_of facts command s ≡ []) × (s.taken ≡ None) × IsLock facts s.left rel mode)
+held_decides : (facts : Facts) (command : Command) (s : Session) (rel : Oid) (mode : Mode) → Decides (is_free facts command (work_of s) && is_none s.taken && is_lock facts s.left rel mode) ((owed_in facts command (work_of s) ≡ []) × (s.taken ≡ None) × IsLock facts s.left rel mode)
 held_decides facts command s rel mode = decided_by _ (regrouped (is_free facts command (work_of s)) (is_none s.taken) (is_lock facts s.left rel mode) (owed_decides facts command s (is_none s.taken && is_lock facts s.left rel mode) (lock_decides facts s.taken s.left rel mode)))
     (λ is. (is.0, is.1.0, is.1.1)) (λ is. (is.0, (is.1, is.2)))
   where
@@ -129,7 +130,7 @@ all_names facts opened next new_oids (change ∷ given) forced puts =
     ap (λ l. l ++ flat_map (names_of facts) (items_of (map (drawn_change next new_oids) given) forced)) (change_names facts opened next new_oids change puts.0)
     ∙ ap (λ l. names_by facts.kept change ++ l) (all_names facts opened next new_oids given forced puts.1)
 
-clash_decides : (facts : Facts) (next : ℕ) (name : List ℕ) (p : Plan) → Decides (is_clash facts.kept name p) (IsClash facts next p name)
+clash_decides : (facts : Facts) (next : ℕ) (name : List ℕ) (p : Plan) → Decides (is_clash facts.kept name p) (IsClash facts p name)
 clash_decides facts next name (Do (Write draft) rest) = by_path refl
 clash_decides facts next name p = never (λ is. is)
 
@@ -190,25 +191,25 @@ comes_decides : (o : Option Event) (event : Event) → IfSome o IsOfEnd → Deci
 comes_decides None event of = never (none_made event)
 comes_decides (Some next) event of = decided_by (same_end next event) (same_decides next event of) (ap Some) (λ is. ap (λ o. unwrap_or o next) is)
 
-before_decides : (facts : Facts) (command : Command) (s : Session) (end : End) → Decides (is_free_to end facts command (work_of s)) (elim end as (λ x. List Owes) [ TakesBack back ↦ owed_after facts.due | other ↦ owed_of facts command s ] ≡ [])
-before_decides facts command s Ends = none_decide (owed_of facts command s) (is_free facts command (work_of s)) refl
-before_decides facts command s (Commits first) = none_decide (owed_of facts command s) (is_free facts command (work_of s)) refl
+before_decides : (facts : Facts) (command : Command) (s : Session) (end : End) → Decides (is_free_to end facts command (work_of s)) (elim end as (λ x. List Owes) [ TakesBack back ↦ owed_after facts.due | other ↦ owed_in facts command (work_of s) ] ≡ [])
+before_decides facts command s Ends = none_decide (owed_in facts command (work_of s)) (is_free facts command (work_of s)) refl
+before_decides facts command s (Commits first) = none_decide (owed_in facts command (work_of s)) (is_free facts command (work_of s)) refl
 before_decides facts command s (TakesBack from) = none_decide (owed_after facts.due) (is_empty (owed_after facts.due)) refl
 
 end_decides : (facts : Facts) (command : Command) (s : Session) (event : Event) → Decides (may_end facts command (work_of s) event) (IsEnd facts command s event)
-end_decides facts command s event = both_decide (is_free_to (end_of facts command s) facts command (work_of s)) (comes_next (left s.ended) event) (before_decides facts command s (end_of facts command s)) (comes_decides (left s.ended) event (by_ended s.ended))
+end_decides facts command s event = both_decide (is_free_to (end_in facts command (work_of s)) facts command (work_of s)) (comes_next (left s.ended) event) (before_decides facts command s (end_in facts command (work_of s))) (comes_decides (left s.ended) event (by_ended s.ended))
   where
     left : Bool → Option Event
-    left t = elim t [ true ↦ None | false ↦ next_of_end facts (end_of facts command s) ]
+    left t = elim t [ true ↦ None | false ↦ next_of_end facts (end_in facts command (work_of s)) ]
 
     by_ended : (t : Bool) → IfSome (left t) IsOfEnd
     by_ended true = tt
-    by_ended false = next_is_of_end facts (end_of facts command s)
+    by_ended false = next_is_of_end facts (end_in facts command (work_of s))
 
 -- a scan may be made now
-scan_decides : (facts : Facts) (s : Session) (scan : Purpose) → Decides (may_scan scan facts (work_of s)) ((owed_after facts.due ≡ []) × (is_next_scan scan facts s ≡ true) × (has_looked facts s ≡ true))
+scan_decides : (facts : Facts) (s : Session) (scan : Purpose) → Decides (may_scan scan facts (work_of s)) ((owed_after facts.due ≡ []) × (is_next_in scan facts (work_of s) ≡ true) × (has_looked_in facts (work_of s) ≡ true))
 scan_decides facts s scan = decided_by _
-    (both_decide (is_empty (owed_after facts.due) && is_next_scan scan facts s) (has_looked facts s) (both_decide (is_empty (owed_after facts.due)) (is_next_scan scan facts s) (none_decide (owed_after facts.due) (is_empty (owed_after facts.due)) refl) (by_path refl)) (by_path refl))
+    (both_decide (is_empty (owed_after facts.due) && is_next_in scan facts (work_of s)) (has_looked_in facts (work_of s)) (both_decide (is_empty (owed_after facts.due)) (is_next_in scan facts (work_of s)) (none_decide (owed_after facts.due) (is_empty (owed_after facts.due)) refl) (by_path refl)) (by_path refl))
     (λ is. (is.0.0, is.0.1, is.1)) (λ is. ((is.0, is.1), is.2))
 
 -- the rule decides what may come next in a command
@@ -263,7 +264,7 @@ start_is : (event : Event) → is_start event ≡ true → IsStart event
 start_is events.Start is = tt
 start_is event is = absurd (cc is)
 
-next_by : (scenario : Scenario) (before : List Entry) (b : ℕ) (o : Option Session) (c : ℕ) (event : Event) → is_next_at scenario before b o c event ≡ true → MayPlayAt scenario before b o c event
+next_by : (scenario : Scenario) (before : List Entry) (b : ℕ) (o : Option Session) (c : ℕ) (event : Event) → is_next_event scenario before b o c event ≡ true → MayPlayAt scenario before b o c event
 next_by scenario before b None c event is = start_is event is
 next_by scenario before b (Some s) c event is = let parts = and_true (c == number_of s) _ is in (
   eqb-true c (number_of s) parts.0,

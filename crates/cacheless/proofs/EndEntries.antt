@@ -15,15 +15,16 @@ use Rattle.history_model.specs.Sent.{unsent_in}
 use Rattle.history_model.specs.Transactions.{begun, is_visible, running_by}
 use Rattle.txn_blocks.specs.declared.transaction.RunningTransaction.{RunningTransaction as Running}
 use Rattle.history_model.specs.Changing.{is_empty}
-use Rattle.cacheless.specs.Ends.{End, Ends, Commits, TakesBack, end_of_all, end_of_block, end_well, end_badly, end_of, end_left, next_sent, next_of_end, xid_of}
+use Rattle.cacheless.specs.Work.{work_of}
+use Rattle.cacheless.specs.Ends.{End, Ends, Commits, TakesBack, end_of_all, end_of_block, end_well_in, end_badly_in, end_in, end_left_in, next_sent, next_of_end, xid_of}
 use Rattle.cacheless.specs.Facts.{Facts}
 use Rattle.cacheless.specs.Holds.{FactsFit}
 use Rattle.cacheless.specs.OnCourse.{DoesNoAct}
-use Rattle.cacheless.specs.Owed.{Owes, OwesLook, begins, owed_at_start, owed_after, owed_of}
+use Rattle.cacheless.specs.Owed.{Owes, OwesLook, begins_in, owed_first_in, owed_after, owed_in}
 use Rattle.cacheless.specs.Plays.{owed_at_end, IsEnd, MayPlay}
 use Rattle.cacheless.specs.Session.{Session, Outcome, Unsettled, Well, Badly, number_of, outcome_of, is_settled}
 use Rattle.cacheless.specs.Sessions.{noted, ends_command, entered}
-use Rattle.cacheless.specs.Settled.{is_finished}
+use Rattle.cacheless.specs.Settled.{is_finished_in}
 use Rattle.cacheless.specs.Silently.{is_to_answer}
 use Rattle.cacheless.specs.State.{Rest, session_at, owes_nothing}
 use Rattle.cacheless.specs.Telling.{IsOnItsEnd}
@@ -35,7 +36,7 @@ use Rattle.cacheless.specs.Types.{Command, Event}
 use Rattle.cacheless.specs.declared.progress.Progress.{Progress}
 
 -- a command that ends blocks begins no transaction
-none_begins : (command : Command) (s : Session) → ends_block command ≡ true → begins command s ≡ false
+none_begins : (command : Command) (s : Session) → ends_block command ≡ true → begins_in command (work_of s) ≡ false
 none_begins command s ends = by_block s.blocks.block
   where
     by_block : (block : Block) → elim block as (λ x. Bool) [ Outside ↦ not (ends_block command) && not s.ended && is_none (refused_by no_block command) | other ↦ false ] ≡ false
@@ -44,11 +45,11 @@ none_begins command s ends = by_block s.blocks.block
     by_block Failed = refl
 
 -- so it owes no look
-none_at_start : (facts : Facts) (command : Command) (s : Session) → ends_block command ≡ true → owed_at_start facts command s ≡ []
+none_at_start : (facts : Facts) (command : Command) (s : Session) → ends_block command ≡ true → owed_first_in facts command (work_of s) ≡ []
 none_at_start facts command s ends = ap (λ t. elim (t && is_none facts.running) as (λ x. List Owes) [ true ↦ OwesLook ∷ [] | false ↦ [] ]) (none_begins command s ends)
 
 -- a command that came out well and takes commands back ends a block, or mends one
-taken_back_ends : (facts : Facts) (command : Command) (s : Session) (from : ℕ) → end_well facts command s ≡ TakesBack from → ends_failure command ≡ true
+taken_back_ends : (facts : Facts) (command : Command) (s : Session) (from : ℕ) → end_well_in facts command (work_of s) ≡ TakesBack from → ends_failure command ≡ true
 taken_back_ends facts commands.Begin s from is = absurd (cc is)
 taken_back_ends facts commands.Commit s from is = refl
 taken_back_ends facts commands.Rollback s from is = refl
@@ -61,16 +62,16 @@ taken_back_ends facts command s from is = absurd (by_block s.blocks.block is)
     by_block Failed end = cc end
 
 -- before an entry of its end a command that came out well ends or mends a block, or nothing has to come of it
-pub ends_or_owes_none : (facts : Facts) (command : Command) (s : Session) → outcome_of s.left ≡ Well → owed_at_end facts command s ≡ [] → (ends_failure command ≡ true) ⊎ (owed_of facts command s ≡ [])
-ends_or_owes_none facts command s well none = by_end (end_well facts command s) refl (sym (ap (λ o. owed_if (end_if o)) well) ∙ none)
+pub ends_or_owes_none : (facts : Facts) (command : Command) (s : Session) → outcome_of s.left ≡ Well → owed_at_end facts command s ≡ [] → (ends_failure command ≡ true) ⊎ (owed_in facts command (work_of s) ≡ [])
+ends_or_owes_none facts command s well none = by_end (end_well_in facts command (work_of s)) refl (sym (ap (λ o. owed_if (end_if o)) well) ∙ none)
   where
     end_if : Outcome → End
-    end_if o = elim o as (λ x. End) [ Well ↦ end_well facts command s | Badly ↦ end_badly s | Unsettled ↦ Ends ]
+    end_if o = elim o as (λ x. End) [ Well ↦ end_well_in facts command (work_of s) | Badly ↦ end_badly_in (work_of s) | Unsettled ↦ Ends ]
 
     owed_if : End → List Owes
-    owed_if end = elim end as (λ x. List Owes) [ TakesBack from ↦ owed_after facts.due | other ↦ owed_of facts command s ]
+    owed_if end = elim end as (λ x. List Owes) [ TakesBack from ↦ owed_after facts.due | other ↦ owed_in facts command (work_of s) ]
 
-    by_end : (end : End) → end_well facts command s ≡ end → owed_if end ≡ [] → (ends_failure command ≡ true) ⊎ (owed_of facts command s ≡ [])
+    by_end : (end : End) → end_well_in facts command (work_of s) ≡ end → owed_if end ≡ [] → (ends_failure command ≡ true) ⊎ (owed_in facts command (work_of s) ≡ [])
     by_end Ends is nothing = inr nothing
     by_end (Commits first) is nothing = inr nothing
     by_end (TakesBack from) is after = inl (taken_back_ends facts command s from is)
@@ -89,7 +90,7 @@ end_answers facts command p rest event fits plain ends = by_outcome (outcome_of 
     told_of_scans : Bool
     told_of_scans = tells_of_scans (told_of (plan_at p.opens p.exec))
 
-    by_side : outcome_of (plan_at p.opens p.exec) ≡ Well → (ends_failure command ≡ true) ⊎ (owed_of facts command (session_at p rest) ≡ []) → (not told_of_scans || owes_nothing command p) ≡ true
+    by_side : outcome_of (plan_at p.opens p.exec) ≡ Well → (ends_failure command ≡ true) ⊎ (owed_in facts command (work_of (session_at p rest)) ≡ []) → (not told_of_scans || owes_nothing command p) ≡ true
     by_side well (inl block) = ap (λ t. not t || owes_nothing command p) (ends_plainly command (session_at p rest) plain block well)
     by_side well (inr none) = ap (λ t. not told_of_scans || t) (sym (owes_nothing_is facts command p rest fits) ∙ ap is_empty none) ∙ or-true (not told_of_scans)
 
@@ -131,7 +132,7 @@ abbrev after_gone : Facts → List Command → ℕ → ℕ → ℕ → Session �
 after_gone after left at n from s = entered after left at n (events.Gone from) s
 
 -- so an end that takes back goes on so
-still_takes_back : (facts after : Facts) (command : Command) (s : Session) (left : List Command) (at n from : ℕ) → after.running ≡ Some (begun n facts.running) → end_of facts command s ≡ TakesBack from → end_of after command (after_gone after left at n from s) ≡ TakesBack from
+still_takes_back : (facts after : Facts) (command : Command) (s : Session) (left : List Command) (at n from : ℕ) → after.running ≡ Some (begun n facts.running) → end_in facts command (work_of s) ≡ TakesBack from → end_in after command (work_of (after_gone after left at n from s)) ≡ TakesBack from
 still_takes_back facts after command s left at n from running is = by_outcome (outcome_of s.left) is
   where
     now : Session
@@ -150,30 +151,30 @@ still_takes_back facts after command s left at n from running is = by_outcome (o
     by_block Inside false takes = all takes
     by_block Failed commit takes = all takes
 
-    by_command : (c : Command) → end_well facts c s ≡ TakesBack from → end_well after c now ≡ TakesBack from
+    by_command : (c : Command) → end_well_in facts c (work_of s) ≡ TakesBack from → end_well_in after c (work_of now) ≡ TakesBack from
     by_command commands.Begin takes = takes
     by_command commands.Commit takes = by_block s.blocks.block true takes
     by_command commands.Rollback takes = by_block s.blocks.block false takes
     by_command c takes = takes
 
-    by_outcome : (o : Outcome) → elim o as (λ x. End) [ Well ↦ end_well facts command s | Badly ↦ end_badly s | Unsettled ↦ Ends ] ≡ TakesBack from → elim o as (λ x. End) [ Well ↦ end_well after command now | Badly ↦ end_badly now | Unsettled ↦ Ends ] ≡ TakesBack from
+    by_outcome : (o : Outcome) → elim o as (λ x. End) [ Well ↦ end_well_in facts command (work_of s) | Badly ↦ end_badly_in (work_of s) | Unsettled ↦ Ends ] ≡ TakesBack from → elim o as (λ x. End) [ Well ↦ end_well_in after command (work_of now) | Badly ↦ end_badly_in (work_of now) | Unsettled ↦ Ends ] ≡ TakesBack from
     by_outcome Well takes = by_command command takes
     by_outcome Badly takes = takes
     by_outcome Unsettled takes = takes
 
 -- after taking back, the end of the command isn't whole
-gone_going : (facts after : Facts) (command : Command) (s : Session) (left : List Command) (at n from : ℕ) → end_left facts command s ≡ Some (events.Gone from) → after.running ≡ Some (begun n facts.running) → IsOnItsEnd after command (after_gone after left at n from s)
+gone_going : (facts after : Facts) (command : Command) (s : Session) (left : List Command) (at n from : ℕ) → end_left_in facts command (work_of s) ≡ Some (events.Gone from) → after.running ≡ Some (begun n facts.running) → IsOnItsEnd after command (after_gone after left at n from s)
 gone_going facts after command s left at n from is running = record { out = ends_out facts command s (events.Gone from) is; going = by_ended s.ended refl is }
   where
     now : Session
     now = after_gone after left at n from s
 
-    by_ended : (t : Bool) → s.ended ≡ t → elim t as (λ x. Option Event) [ true ↦ None | false ↦ next_of_end facts (end_of facts command s) ] ≡ Some (events.Gone from) → is_finished after command now ≡ false
+    by_ended : (t : Bool) → s.ended ≡ t → elim t as (λ x. Option Event) [ true ↦ None | false ↦ next_of_end facts (end_in facts command (work_of s)) ] ≡ Some (events.Gone from) → is_finished_in after command (work_of now) ≡ false
     by_ended true ended made = absurd (cc made)
     by_ended false ended made =
-        ap (λ t. is_settled (outcome_of s.left) && is_none (elim t as (λ x. Option Event) [ true ↦ None | false ↦ next_of_end after (end_of after command now) ]) && is_empty (owed_of after command now)) ended
-        ∙ ap (λ e. is_settled (outcome_of s.left) && is_none (next_of_end after e) && is_empty (owed_of after command now)) (still_takes_back facts after command s left at n from running (taking_back facts (end_of facts command s) from made))
-        ∙ ap (λ t. t && is_empty (owed_of after command now)) (and-false (is_settled (outcome_of s.left)))
+        ap (λ t. is_settled (outcome_of s.left) && is_none (elim t as (λ x. Option Event) [ true ↦ None | false ↦ next_of_end after (end_in after command (work_of now)) ]) && is_empty (owed_in after command (work_of now))) ended
+        ∙ ap (λ e. is_settled (outcome_of s.left) && is_none (next_of_end after e) && is_empty (owed_in after command (work_of now))) (still_takes_back facts after command s left at n from running (taking_back facts (end_in facts command (work_of s)) from made))
+        ∙ ap (λ t. t && is_empty (owed_in after command (work_of now))) (and-false (is_settled (outcome_of s.left)))
 
 -- and so it is whichever entry took back
 pub gone_on : (next : ℕ) (facts after : Facts) (command : Command) (s : Session) (left : List Command) (at n from : ℕ) (event : Event) → event ≡ events.Gone from → MayPlay next facts command s event → after.running ≡ running_by n event facts.running → IsOnItsEnd after command (entered after left at n event s)

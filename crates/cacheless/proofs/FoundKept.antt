@@ -21,10 +21,11 @@ use Rattle.history_model.proofs.ReadRows.{read_asked, read_drawn}
 use Rattle.cacheless.specs.Facts.{Facts}
 use Rattle.cacheless.specs.Types.{Oid, Mode, AccessExclusive, Kind, Row, Entry, Scenario}
 use Rattle.cacheless.specs.OnCourse.{GaveNow}
+use Rattle.cacheless.specs.Work.{work_of}
 use Rattle.cacheless.specs.Plays.{Plays}
 use Rattle.cacheless.specs.Session.{Session}
 use Rattle.cacheless.specs.Sessions.{session_of}
-use Rattle.cacheless.specs.Settled.{if_locked, has_taken_no_other, has_accepted, looked_up}
+use Rattle.cacheless.specs.Settled.{if_locked, has_taken_no_other, has_accepted_in, looked_up_in}
 use Rattle.cacheless.specs.TableWrites.{WritesNamesApart}
 use Rattle.cacheless.proofs.OneName.{seen_by_name}
 use Rattle.cacheless.proofs.Plans.ClearLocks.{lock_keeps_out, session_holds}
@@ -58,7 +59,7 @@ name_kept scenario history b name rel own fill more sound apart plays out usable
 
 -- a lookup ends: its scan still serves, the relation that this gave is locked, if it gave one, and all locks are clear
 pub lookup_ends : (scenario : Scenario) (history : List Entry) (b : ℕ) (s t : Session) (facts : Facts) (name : List ℕ) (mode : Mode) (rest : List Row → Plan) (given : List Row) → IsSound history → Plays scenario history → session_of scenario history b ≡ Some s → s.locks ≡ t.locks → map cleared t.locks ≡ t.locks
-    → is_usable history b (scans.RelName name) ≡ true → looked_up facts t mode (rows_read history b (scans.RelName name)) ≡ Some given → GaveNow history b (Lookup name mode) rest given
+    → is_usable history b (scans.RelName name) ≡ true → looked_up_in facts (work_of t) mode (rows_read history b (scans.RelName name)) ≡ Some given → GaveNow history b (Lookup name mode) rest given
 lookup_ends scenario history b s t facts name mode rest given sound plays is same clear usable gives = of (rows_read history b (scans.RelName name)) refl gives
   where
     Gave : List Row → Type 0
@@ -68,8 +69,8 @@ lookup_ends scenario history b s t facts name mode rest given sound plays is sam
     if_ends true read gives' gave = subst Gave (let same : read ≡ given = cc gives' in same) gave
     if_ends false read gives' gave = absurd (cc gives')
 
-    of : (read : List Row) → rows_read history b (scans.RelName name) ≡ read → looked_up facts t mode read ≡ Some given → Gave given
-    of [] gave gives' = if_ends (has_accepted facts t) [] gives' (record { locked = tt; drawn = tt; still = tt })
+    of : (read : List Row) → rows_read history b (scans.RelName name) ≡ read → looked_up_in facts (work_of t) mode read ≡ Some given → Gave given
+    of [] gave gives' = if_ends (has_accepted_in facts (work_of t)) [] gives' (record { locked = tt; drawn = tt; still = tt })
     of (rows.Class rel own kind fill ∷ more) gave gives' = by_lock (has_lock t.locks rel mode) refl gives'
       where
         by_lock : (u : Bool) → has_lock t.locks rel mode ≡ u → if_locked (u && has_taken_no_other t.taken rel) (rows.Class rel own kind fill ∷ []) ≡ Some given → Gave given
@@ -82,7 +83,7 @@ lookup_ends scenario history b s t facts name mode rest given sound plays is sam
               still = record { name = seen.0; fill = seen.1.0; more = []; are = seen.1.1 };
             })
         by_lock false has gives'' = absurd (cc gives'')
-    of (row ∷ more) gave gives' = if_ends (has_accepted facts t) (row ∷ []) gives' (record { locked = tt; drawn = tt; still = tt })
+    of (row ∷ more) gave gives' = if_ends (has_accepted_in facts (work_of t)) (row ∷ []) gives' (record { locked = tt; drawn = tt; still = tt })
 
 -- the relation that a lookup asks to lock has a drawn oid, whether it is seen or not
 pub asked_drawn : (history : List Entry) (b : ℕ) (name : List ℕ) (rel : Oid) (own : List ℕ) (kind : Kind) (fill : Option ℕ) (more : List Row) → IsSound history → rows_read history b (scans.RelName name) ≡ rows.Class rel own kind fill ∷ more → rel.0 < next_oid history

@@ -39,8 +39,9 @@ use Rattle.history_model.proofs.Locked.{AreBarred, held_bars_all}
 use Rattle.cacheless.specs.Facts.{Facts, facts_of, facts_by}
 use Rattle.cacheless.specs.Locks.{grant_of, locked_by, locks_by}
 use Rattle.cacheless.specs.Session.{Session, first_of, none_open, at_command}
-use Rattle.cacheless.specs.Owed.{owes_accept}
-use Rattle.cacheless.specs.Settled.{done_here, act_done, acted_on, acted, is_finished, next_session, settled}
+use Rattle.cacheless.specs.Work.{work_of}
+use Rattle.cacheless.specs.Owed.{accepts_in}
+use Rattle.cacheless.specs.Settled.{done_here, act_done, acted_on, acted, is_finished_in, next_session, settled}
 use Rattle.cacheless.specs.Sessions.{placed_at, counted, accepted, entered, commands_left, session_by, session_of}
 use Rattle.cacheless.proofs.Reading.{session_of-own, session_of-other}
 
@@ -203,7 +204,7 @@ acted-locks facts command s false = refl
 
 pub settled-locks : (facts : Facts) (commands : List Command) (s : Session) → (settled facts commands s).locks ≡ s.locks
 settled-locks facts [] s = refl
-settled-locks facts (command ∷ rest) s = by_end (is_finished facts command (acted facts command s)) (settled-locks facts rest) ∙ acted-locks facts command s _
+settled-locks facts (command ∷ rest) s = by_end (is_finished_in facts command (work_of (acted facts command s))) (settled-locks facts rest) ∙ acted-locks facts command s _
   where
     by_end : (t : Bool) → ((x : Session) → (settled facts rest x).locks ≡ x.locks)
         → (elim t as (λ x. Session) [ true ↦ settled facts rest (next_session command (first_of rest) (acted facts command s)) | false ↦ acted facts command s ]).locks ≡ (acted facts command s).locks
@@ -216,7 +217,7 @@ cleared_grants b [] = refl
 cleared_grants b (lock ∷ locks) = ap (λ gs. grant_of b lock ∷ gs) (cleared_grants b locks)
 
 accepted-locks : (b : ℕ) (facts : Facts) (command : Option Command) (s : Session) → map (grant_of b) (accepted facts command s).locks ≡ map (grant_of b) s.locks
-accepted-locks b facts command s = by_owed (owes_accept facts command s)
+accepted-locks b facts command s = by_owed (accepts_in facts (work_of s) command)
   where
     by_owed : (t : Bool) → map (grant_of b) (elim t as (λ x. List OwnLock) [ true ↦ s.locks | false ↦ map cleared s.locks ]) ≡ map (grant_of b) s.locks
     by_owed true = refl

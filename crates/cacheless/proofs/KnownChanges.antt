@@ -31,7 +31,8 @@ use Rattle.history_model.proofs.Locked.{IsNoChange}
 use Rattle.history_model.proofs.Observed.{IsDirty}
 use Rattle.history_model.proofs.Ordered.{locks_exclude}
 use Rattle.history_model.proofs.Past.{IsPast, none_in_way}
-use Rattle.cacheless.specs.Owed.{owed_last}
+use Rattle.cacheless.specs.Facts.{due_last}
+use Rattle.cacheless.specs.Owed.{owed_after}
 use Rattle.cacheless.specs.Plays.{Plays}
 use Rattle.cacheless.proofs.Allowed.Patient.{IsPatient, patient}
 use Rattle.cacheless.proofs.Clear.{Known, KnowsOf, Comes, each_known}
@@ -42,8 +43,8 @@ abbrev IsPastOf : List Entry → ℕ → Grant → Type 0
 IsPastOf history b g = (g.backend == b) ≡ true → IsPast history b g.rel g.mode
 
 -- where nothing is owed
-nothing_owed : (history : List Entry) (b : ℕ) → owed_last (last_event_of history b) ≡ [] → Comes history b → AllByRecursion (IsPastOf history b) (held_of history)
-nothing_owed history b none comes = every-weaker (KnowsOf history b (owed_last (last_event_of history b)) (has_waited history b)) (IsPastOf history b)
+nothing_owed : (history : List Entry) (b : ℕ) → owed_after (due_last (last_event_of history b)) ≡ [] → Comes history b → AllByRecursion (IsPastOf history b) (held_of history)
+nothing_owed history b none comes = every-weaker (KnowsOf history b (owed_after (due_last (last_event_of history b))) (has_waited history b)) (IsPastOf history b)
     (λ g knows mine. subst (λ owed. Known owed (has_waited history b) (IsPast history b g.rel g.mode)) none (knows mine)) (held_of history) comes
 
 -- by a lock in AccessExclusive all modes are kept out
@@ -62,12 +63,12 @@ exclusive_keeps history b rel writer sound past held clash = any_with (is_lock b
         }
 
 -- so no change of the relation's row is unknown
-all_known : (history : List Entry) (b : ℕ) (rel : Oid) (d : Purpose) → IsSound history → owed_last (last_event_of history b) ≡ [] → Comes history b → holds (held_of history) b rel AccessExclusive ≡ true → IsDirty history b rel naming_modes d → ⊥
+all_known : (history : List Entry) (b : ℕ) (rel : Oid) (d : Purpose) → IsSound history → owed_after (due_last (last_event_of history b)) ≡ [] → Comes history b → holds (held_of history) b rel AccessExclusive ≡ true → IsDirty history b rel naming_modes d → ⊥
 all_known history b rel d sound none comes held dirty =
     let past = nothing_owed history b none comes in
     not_dirty history b rel naming_modes d (exclusive_keeps history b rel _ sound past held refl, (exclusive_keeps history b rel _ sound past held refl, tt)) dirty
 
-known_by : (history : List Entry) (b : ℕ) (event : Event) → IsSound history → IsPatient (owed_last (last_event_of history b)) event → Comes history b → (rel : Oid) (d : Purpose) → holds (held_of history) b rel AccessExclusive ≡ true → IsDirty history b rel naming_modes d → IsNoChange event
+known_by : (history : List Entry) (b : ℕ) (event : Event) → IsSound history → IsPatient (owed_after (due_last (last_event_of history b))) event → Comes history b → (rel : Oid) (d : Purpose) → holds (held_of history) b rel AccessExclusive ≡ true → IsDirty history b rel naming_modes d → IsNoChange event
 known_by history b (events.Write xid items) sound none comes rel d held dirty = absurd (all_known history b rel d sound none comes held dirty)
 known_by history b (events.Gone from) sound none comes rel d held dirty = absurd (all_known history b rel d sound none comes held dirty)
 known_by history b event sound waits comes rel d held dirty = tt

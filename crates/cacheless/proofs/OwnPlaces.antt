@@ -22,7 +22,8 @@ use Rattle.cacheless.specs.Answering.{AreLastScans, KeepsAbsent, PlacesFit}
 use Rattle.cacheless.specs.Facts.{Facts, facts_of}
 use Rattle.cacheless.specs.Holds.{HasEntered, Rests, entry_of, with_own}
 use Rattle.cacheless.specs.OnCourse.{is_absent, IsOnCourse, FollowsPlan, CourseOf, AllOnCourse}
-use Rattle.cacheless.specs.Owed.{is_next_scan}
+use Rattle.cacheless.specs.Work.{work_of}
+use Rattle.cacheless.specs.Owed.{is_next_in}
 use Rattle.cacheless.specs.Plays.{IsWrite, MayPlayIn}
 use Rattle.cacheless.specs.Session.{Session}
 use Rattle.cacheless.specs.Sessions.{written, resumed}
@@ -75,8 +76,8 @@ pub keeps_none : (seen : List Entry) (s : Progress) → is_absent (plan_at s.ope
 keeps_none seen s there = λ name missed whole. absurd (both_ways _ there (ap is_absent missed))
 
 -- a command that failed to find a relation makes no scan
-scan_there : (facts : Facts) (s : Session) (scan : Purpose) (plan : Plan) → s.left ≡ plan → is_next_scan scan facts s ≡ true → is_absent plan ≡ false
-scan_there facts s scan (Absent name) at is = absurd (both_ways _ (ap (λ p. is_next_scan scan facts (record s { left = p })) at) is)
+scan_there : (facts : Facts) (s : Session) (scan : Purpose) (plan : Plan) → s.left ≡ plan → is_next_in scan facts (work_of s) ≡ true → is_absent plan ≡ false
+scan_there facts s scan (Absent name) at is = absurd (both_ways _ (ap (λ p. is_next_in scan facts (work_of (record s { left = p }))) at) is)
 scan_there facts s scan plan at is = refl
 
 scan_plays : (next : ℕ) (facts : Facts) (o : Option Command) (s : Session) (scan : Purpose) (count : ℕ) → MayPlayIn next facts o s (events.Scan scan count) → is_absent s.left ≡ false

@@ -21,18 +21,19 @@ use Rattle.history_model.proofs.Allows.{legal_follows}
 use Rattle.history_model.proofs.Prefixes.{EachFrom-both, each-keeps}
 use Rattle.history_model.proofs.Reading.{last_event_of-own, last_event_of-other, is_usable-own, is_usable-other}
 use Rattle.history_model.proofs.Touched.{entry_of}
-use Rattle.cacheless.specs.Ends.{end_left}
+use Rattle.cacheless.specs.Work.{work_of}
+use Rattle.cacheless.specs.Ends.{end_left_in}
 use Rattle.cacheless.specs.Facts.{Facts, facts_of}
 use Rattle.cacheless.specs.OnCourse.{is_absent, is_over, FollowsPlan, TellsAlone, TellsStill, IsOnCourse, CourseOf, AllOnCourse, EntersCourse}
 use Rattle.cacheless.specs.Output.{IsAllowed}
 use Rattle.cacheless.specs.Judged.{ArePlaced}
-use Rattle.cacheless.specs.Owed.{owed_at_start, owed_after, act_owed, owed_of}
+use Rattle.cacheless.specs.Owed.{owed_first_in, owed_after, act_owed, owed_in}
 use Rattle.cacheless.specs.Places.{AnswersRightly, IsPlacedRightly, PlacedFrom, ArePlacesUsable}
 use Rattle.cacheless.specs.Played.{AreSpelled, IsPlayed}
 use Rattle.cacheless.specs.Plays.{IsLock, IsUnlock, IsEnd, MayPlay, MayPlayIn, MayPlayAt, IsStart, IsNext}
 use Rattle.cacheless.specs.Session.{Session, Finished, Outcome, Unsettled, Well, Badly, number_of, first_of, none_open, at_command, outcome_of, is_settled}
 use Rattle.cacheless.specs.Sessions.{resumed, noted, ends_command, commands_left, entered, session_of}
-use Rattle.cacheless.specs.Settled.{act_done, done_here, acted_on, acted, is_finished, blocks_after, opens_after, finished_as, next_session, settled}
+use Rattle.cacheless.specs.Settled.{act_done, done_here, acted_on, acted, is_finished_in, blocks_after, opens_after, finished_as, next_session, settled}
 use Rattle.cacheless.specs.Told.{tells_of_scans}
 use Rattle.cacheless.specs.Telling.{IsOnItsEnd}
 use Rattle.cacheless.specs.Types.{Oid, Mode, Row, Command, Scenario, Entry, Event}
@@ -65,18 +66,18 @@ RunsRightly scenario seen b s command = IsPlacedRightly scenario seen b (number_
 -- a command has come out, and failed, tells of no scan or owes nothing
 record HasComeTo (facts : Facts) (command : Command) (s : Session) : Type 0 where
   out : is_settled (outcome_of s.left) ≡ true
-  owes : (outcome_of s.left ≡ Badly) ⊎ (tells_of_scans (told_of s.left) ≡ false) ⊎ (owed_of facts command s ≡ [])
+  owes : (outcome_of s.left ≡ Badly) ⊎ (tells_of_scans (told_of s.left) ≡ false) ⊎ (owed_in facts command (work_of s) ≡ [])
 
 -- so it has where it is finished
-finished_comes : (facts : Facts) (command : Command) (s : Session) → is_finished facts command s ≡ true → HasComeTo facts command s
-finished_comes facts command s finished = let parts = and_parts (is_settled (outcome_of s.left) && is_none (end_left facts command s)) (is_empty (owed_of facts command s)) finished in
-    record { out = (and_parts (is_settled (outcome_of s.left)) (is_none (end_left facts command s)) parts.0).0; owes = inr (inr (empty_list (owed_of facts command s) parts.1)) }
+finished_comes : (facts : Facts) (command : Command) (s : Session) → is_finished_in facts command (work_of s) ≡ true → HasComeTo facts command s
+finished_comes facts command s finished = let parts = and_parts (is_settled (outcome_of s.left) && is_none (end_left_in facts command (work_of s))) (is_empty (owed_in facts command (work_of s))) finished in
+    record { out = (and_parts (is_settled (outcome_of s.left)) (is_none (end_left_in facts command (work_of s))) parts.0).0; owes = inr (inr (empty_list (owed_in facts command (work_of s)) parts.1)) }
 
 -- and before each entry of its end
 end_comes : (facts : Facts) (seen : List Entry) (b : ℕ) (command : Command) (s : Session) (event : Event) → FollowsPlan seen b s command → IsEnd facts command s event → HasComeTo facts command s
 end_comes facts seen b command s event follows ends = by_outcome (outcome_of s.left) refl (ends_out facts command s event ends.1)
   where
-    by_side : outcome_of s.left ≡ Well → (ends_failure command ≡ true) ⊎ (owed_of facts command s ≡ []) → HasComeTo facts command s
+    by_side : outcome_of s.left ≡ Well → (ends_failure command ≡ true) ⊎ (owed_in facts command (work_of s) ≡ []) → HasComeTo facts command s
     by_side well (inl block) = record { out = ap is_settled well; owes = inr (inl (ends_plainly command s follows.plain block well)) }
     by_side well (inr none) = record { out = ap is_settled well; owes = inr (inr none) }
 
@@ -147,7 +148,7 @@ record Acted (scenario : Scenario) (seen : List Entry) (b : ℕ) (s now : Sessio
   absent : AbsentServes seen b now
 
 acts_serve : (scenario : Scenario) (seen : List Entry) (b : ℕ) (command : Command) (plan : Plan) (s : Session) → HasSession scenario seen b s.locks → slice_get (commands_of scenario b) (length s.finished) ≡ Some command → s.left ≡ plan
-    → is_empty (owed_at_start (facts_of seen b) command s ++ owed_after (facts_of seen b).due) ≡ true → EntersCourse scenario seen b s → AbsentServes seen b s → Acted scenario seen b s (acted_on (facts_of seen b) plan s)
+    → is_empty (owed_first_in (facts_of seen b) command (work_of s) ++ owed_after (facts_of seen b).due) ≡ true → EntersCourse scenario seen b s → AbsentServes seen b s → Acted scenario seen b s (acted_on (facts_of seen b) plan s)
 acts_serve scenario seen b command (Do act rest) s has at left free course absent = by_done (done_here (facts_of seen b) s act (Do act rest)) refl
     (λ given done. acts_serve scenario seen b command (rest given) (act_done act given (rest given) s) (record { played = has.played; session = has.session; is = has.is; holds = has.holds }) at refl free
     (act_enters scenario seen b s command act rest given has at free left done course)
@@ -162,9 +163,9 @@ acts_serve scenario seen b command plan s has at left free course absent = recor
 
 acted_serves : (scenario : Scenario) (seen : List Entry) (b : ℕ) (command : Command) (s : Session) → HasSession scenario seen b s.locks → slice_get (commands_of scenario b) (length s.finished) ≡ Some command → EntersCourse scenario seen b s → AbsentServes seen b s
     → Acted scenario seen b s (acted (facts_of seen b) command s)
-acted_serves scenario seen b command s has at course absent = by_test (is_empty (owed_at_start (facts_of seen b) command s ++ owed_after (facts_of seen b).due)) refl
+acted_serves scenario seen b command s has at course absent = by_test (is_empty (owed_first_in (facts_of seen b) command (work_of s) ++ owed_after (facts_of seen b).due)) refl
   where
-    by_test : (t : Bool) → is_empty (owed_at_start (facts_of seen b) command s ++ owed_after (facts_of seen b).due) ≡ t → Acted scenario seen b s (elim t as (λ x. Session) [ true ↦ acted_on (facts_of seen b) s.left s | false ↦ s ])
+    by_test : (t : Bool) → is_empty (owed_first_in (facts_of seen b) command (work_of s) ++ owed_after (facts_of seen b).due) ≡ t → Acted scenario seen b s (elim t as (λ x. Session) [ true ↦ acted_on (facts_of seen b) s.left s | false ↦ s ])
     by_test true free = acts_serve scenario seen b command s.left s has at refl free course absent
     by_test false owed = record { course = course; finished = refl; locks = refl; judged = refl; last = refl; ended = refl; absent = absent }
 
@@ -202,7 +203,7 @@ settled_serves scenario seen b [] s has are enters = record {
   where
     none_left : (command : Command) → slice_get (commands_of scenario b) (length s.finished) ≡ Some command → ⊥
     none_left command at = let both : None ≡ Some command = ap first_of are ∙ first_left (commands_of scenario b) (length s.finished) ∙ at in cc both
-settled_serves scenario seen b (command ∷ rest) s has are enters = by_end (is_finished facts command now) refl (settled_serves scenario seen b rest next)
+settled_serves scenario seen b (command ∷ rest) s has are enters = by_end (is_finished_in facts command (work_of now)) refl (settled_serves scenario seen b rest next)
   where
     facts : Facts
     facts = facts_of seen b
@@ -228,14 +229,14 @@ settled_serves scenario seen b (command ∷ rest) s has are enters = by_end (is_
     finished_now : PlacedFrom scenario seen b 1 now.finished (commands_of scenario b)
     finished_now = subst (λ l. PlacedFrom scenario seen b 1 l (commands_of scenario b)) (sym acts.finished) enters.finished
 
-    never : is_finished facts command now ≡ true → (from : ℕ) → last_event_of seen b ≡ Some (events.Gone from) → ⊥
-    never finished from gone = let on = enters.back from command gone at in both_ways (is_finished facts command s) on.going (ap (is_finished facts command) (sym (acted-out facts command s on.out)) ∙ finished)
+    never : is_finished_in facts command (work_of now) ≡ true → (from : ℕ) → last_event_of seen b ≡ Some (events.Gone from) → ⊥
+    never finished from gone = let on = enters.back from command gone at in both_ways (is_finished_in facts command (work_of s)) on.going (ap (λ x. is_finished_in facts command (work_of x)) (sym (acted-out facts command s on.out)) ∙ finished)
 
     begins_over : ((from : ℕ) → last_event_of seen b ≡ Some (events.Gone from) → ⊥) → (o : Option Event) → last_event_of seen b ≡ o → is_over o next ≡ false
     begins_over none (Some (events.Gone from)) is = absurd (none from is)
     begins_over none o is = refl
 
-    goes_on : is_finished facts command now ≡ true → Enters scenario seen b next
+    goes_on : is_finished_in facts command (work_of now) ≡ true → Enters scenario seen b next
     goes_on finished = record {
       course = finish_enters scenario seen b now command rest (are ∙ ap (λ l. drop (length l) (commands_of scenario b)) (sym acts.finished)) finished acts.course;
       finished = placed_from-push scenario seen b 1 now.finished (finished_as now) (commands_of scenario b) command here finished_now
@@ -246,7 +247,7 @@ settled_serves scenario seen b (command ∷ rest) s has are enters = by_end (is_
       back = λ from other gone there. absurd (never finished from gone);
     }
 
-    by_end : (t : Bool) → is_finished facts command now ≡ t → (HasSession scenario seen b next.locks → rest ≡ drop (length next.finished) (commands_of scenario b) → Enters scenario seen b next → Serves scenario seen b (settled facts rest next))
+    by_end : (t : Bool) → is_finished_in facts command (work_of now) ≡ t → (HasSession scenario seen b next.locks → rest ≡ drop (length next.finished) (commands_of scenario b) → Enters scenario seen b next → Serves scenario seen b (settled facts rest next))
         → Serves scenario seen b (elim t as (λ x. Session) [ true ↦ settled facts rest next | false ↦ now ])
     by_end true finished more = more (record { played = has.played; session = has.session; is = has.is; holds = has.holds ∙ sym acts.locks })
         (rest_left (commands_of scenario b) (length s.finished) command rest are ∙ ap (λ n. drop n (commands_of scenario b)) (sym (length_push now.finished (finished_as now) ∙ ap (λ l. length l + 1) acts.finished))) (goes_on finished)

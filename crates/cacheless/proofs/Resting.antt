@@ -10,10 +10,10 @@ use Rattle.cacheless.specs.Types.{Row, Purpose, Command, Scenario, Entry, Event,
 use Rattle.cacheless.specs.declared.progress.Progress.{Progress}
 use Rattle.cacheless.specs.Facts.{Facts, facts_of}
 use Rattle.cacheless.specs.Session.{Session, Badly, outcome_of, first_of}
-use Rattle.cacheless.specs.Owed.{OwesScan, owed_at_start, owed_after, act_owed, is_free}
-use Rattle.cacheless.specs.Work.{Work}
+use Rattle.cacheless.specs.Owed.{OwesScan, owed_first_in, owed_after, act_owed, is_free}
+use Rattle.cacheless.specs.Work.{work_of, Work}
 use Rattle.cacheless.specs.Ends.{End, Ends, Commits, TakesBack, next_of_end, end_in, end_left_in}
-use Rattle.cacheless.specs.Settled.{gives_in, gives_left, gives, act_done, done_here, acted_on, is_finished_in, is_finished, settled}
+use Rattle.cacheless.specs.Settled.{gives_in, gives_left, act_done, done_here, acted_on, is_finished_in, settled}
 use Rattle.cacheless.specs.State.{facts_at, work_at, kept_at, builds_missing, act_missing, scans_missing, owed_first, owes_nothing, Rest, session_at}
 use Rattle.cacheless.specs.Silently.{acts_on, is_ends, is_finished_at}
 use Rattle.cacheless.specs.Holds.{FactsFit, Holds, Rests}
@@ -38,16 +38,16 @@ cond_none true scan none = refl
 cond_none false scan none = absurd (cc)
 
 -- an act gives what the code works out
-gives_same : (facts : Facts) (s : Progress) (r : Rest) (act : Act) → FactsFit facts s → length r.finished ≡ s.finished → gives facts (session_at s r) act ≡ gives_in (facts_at s) (work_at s) act
+gives_same : (facts : Facts) (s : Progress) (r : Rest) (act : Act) → FactsFit facts s → length r.finished ≡ s.finished → gives_in facts (work_of (session_at s r)) act ≡ gives_in (facts_at s) (work_at s) act
 gives_same facts s r act fits count = λ i. gives_in (fits i) (work_same s r count i) act
 
 -- nothing has to come first
 pub record Free (facts : Facts) (command : Command) (s : Progress) (rest : Rest) : Type 0 where
-  pub first : is_empty (owed_at_start facts command (session_at s rest) ++ owed_after facts.due) ≡ true
+  pub first : is_empty (owed_first_in facts command (work_of (session_at s rest)) ++ owed_after facts.due) ≡ true
   pub scans : scans_missing s ≡ []
 
-pub first_same : (facts : Facts) (command : Command) (s : Progress) (rest : Rest) → FactsFit facts s → is_empty (owed_at_start facts command (session_at s rest) ++ owed_after facts.due) ≡ is_empty (owed_first s command ++ owed_after s.due)
-first_same facts command s rest fits = ap (λ f. is_empty (owed_at_start f command (session_at s rest) ++ owed_after f.due)) fits
+pub first_same : (facts : Facts) (command : Command) (s : Progress) (rest : Rest) → FactsFit facts s → is_empty (owed_first_in facts command (work_of (session_at s rest)) ++ owed_after facts.due) ≡ is_empty (owed_first s command ++ owed_after s.due)
+first_same facts command s rest fits = ap (λ f. is_empty (owed_first_in f command (work_of (session_at s rest)) ++ owed_after f.due)) fits
 
 pub free_now : (facts : Facts) (command : Command) (s : Progress) (rest : Rest) → FactsFit facts s → owes_nothing command s ≡ true → Free facts command s rest
 free_now facts command s rest fits is = let parts = and_true (is_empty (owed_first s command ++ owed_after s.due)) (is_empty (map OwesScan (scans_missing s))) (sym (empty_append (owed_first s command ++ owed_after s.due) (map OwesScan (scans_missing s))) ∙ is) in record {
@@ -82,7 +82,7 @@ over_is facts command w = by_ended w.ended
     by_ended true = refl
     by_ended false = by_end (end_in facts command w)
 
-pub finished_same : (facts : Facts) (command : Command) (s : Progress) (r : Rest) → FactsFit facts s → length r.finished ≡ s.finished → is_finished facts command (session_at s r) ≡ is_finished_at command s
+pub finished_same : (facts : Facts) (command : Command) (s : Progress) (r : Rest) → FactsFit facts s → length r.finished ≡ s.finished → is_finished_in facts command (work_of (session_at s r)) ≡ is_finished_at command s
 finished_same facts command s r fits count = λ i. is_finished_in (fits i) command (work_same s r count i)
 
 none_of : (o : Option (List Row)) → is_some o ≡ false → o ≡ None
@@ -116,7 +116,7 @@ pub rests_here : (scenario : Scenario) (seen : List Entry) (s : Progress) (comma
     → settled (facts_of seen s.id) (drop s.finished s.commands) (session_at s holds.rest) ≡ session_at s holds.rest
 rests_here scenario seen s command holds has stays unfinished =
     ap (λ l. settled facts l (session_at s r)) (left_command s command has)
-    ∙ settled-waits facts command (drop (s.finished + 1) s.commands) (session_at s r) (by_first (is_empty (owed_at_start facts command (session_at s r) ++ owed_after facts.due)) refl) (finished_same facts command s r holds.facts holds.count ∙ unfinished)
+    ∙ settled-waits facts command (drop (s.finished + 1) s.commands) (session_at s r) (by_first (is_empty (owed_first_in facts command (work_of (session_at s r)) ++ owed_after facts.due)) refl) (finished_same facts command s r holds.facts holds.count ∙ unfinished)
   where
     facts : Facts
     facts = facts_of seen s.id
@@ -124,7 +124,7 @@ rests_here scenario seen s command holds has stays unfinished =
     r : Rest
     r = holds.rest
 
-    by_first : (t : Bool) → is_empty (owed_at_start facts command (session_at s r) ++ owed_after facts.due) ≡ t → elim t as (λ x. Session) [ true ↦ acted_on facts (plan_at s.opens s.exec) (session_at s r) | false ↦ session_at s r ] ≡ session_at s r
+    by_first : (t : Bool) → is_empty (owed_first_in facts command (work_of (session_at s r)) ++ owed_after facts.due) ≡ t → elim t as (λ x. Session) [ true ↦ acted_on facts (plan_at s.opens s.exec) (session_at s r) | false ↦ session_at s r ] ≡ session_at s r
     by_first true is = stays_act facts command s r holds.facts holds.count stays (plan_at s.opens s.exec) refl (sym (first_same facts command s r holds.facts) ∙ is)
     by_first false is = refl
 

@@ -16,10 +16,10 @@ use Rattle.cacheless.specs.declared.progress.Due.{Due}
 use Rattle.cacheless.specs.declared.progress.Due.TheVariants as dues
 use Rattle.cacheless.specs.Facts.{Facts}
 use Rattle.cacheless.specs.Session.{Outcome, Unsettled, Well, Badly, outcome_of}
-use Rattle.cacheless.specs.Owed.{OwesScan, owed_at_start, owed_after, builds_owed, scans_owed, owed_of, act_next, is_next_in, is_next_scan, counts_full, owes_accept}
+use Rattle.cacheless.specs.Owed.{OwesScan, owed_first_in, owed_after, builds_missing, scans_owed_in, owed_in, act_next, is_next_in, counts_full, accepts_in}
 use Rattle.cacheless.specs.Work.{work_of}
 use Rattle.cacheless.specs.Rule.{may_look_in}
-use Rattle.cacheless.specs.Plays.{may_look}
+use Rattle.cacheless.specs.Plays.{may_look_in}
 use Rattle.cacheless.specs.Types.{Kind, Oid, Command, Purpose, Opening}
 use Rattle.cacheless.specs.declared.progress.Progress.{Progress}
 use Rattle.cacheless.specs.State.{facts_at, work_at, Kept, kept_at, is_kept, missing, builds_missing, act_missing, scans_missing, lacks_builds, is_full, is_in_accept, owed_first, owes_nothing, Rest, session_at}
@@ -43,27 +43,27 @@ pub work_same : (s : Progress) (rest : Rest) → length rest.finished ≡ s.fini
 work_same s rest count = ap (λ n. record (work_at s) { number = n + 1 }) count
 
 -- what the definitions work out of the facts and the session is what they work out of that
-pub start_owed : (facts : Facts) (command : Command) (s : Progress) (rest : Rest) → FactsFit facts s → owed_at_start facts command (session_at s rest) ≡ owed_first s command
-start_owed facts command s rest fits = ap (λ f. owed_at_start f command (session_at s rest)) fits
+pub start_owed : (facts : Facts) (command : Command) (s : Progress) (rest : Rest) → FactsFit facts s → owed_first_in facts command (work_of (session_at s rest)) ≡ owed_first s command
+start_owed facts command s rest fits = ap (λ f. owed_first_in f command (work_of (session_at s rest))) fits
 
-pub look_same : (facts : Facts) (s : Progress) (rest : Rest) → FactsFit facts s → may_look facts (session_at s rest) ≡ may_look_in (facts_at s) (work_at s)
-look_same facts s rest fits = ap (λ f. may_look f (session_at s rest)) fits
+pub look_same : (facts : Facts) (s : Progress) (rest : Rest) → FactsFit facts s → may_look_in facts (work_of (session_at s rest)) ≡ may_look_in (facts_at s) (work_at s)
+look_same facts s rest fits = ap (λ f. may_look_in f (work_of (session_at s rest))) fits
 
-pub builds_same : (facts : Facts) (s : Progress) → FactsFit facts s → builds_owed facts s.opened ≡ builds_missing (kept_at s) s.opened
-builds_same facts s fits = ap (λ f. builds_owed f s.opened) fits
+pub builds_same : (facts : Facts) (s : Progress) → FactsFit facts s → builds_missing facts.kept s.opened ≡ builds_missing (kept_at s) s.opened
+builds_same facts s fits = ap (λ f. builds_missing f.kept s.opened) fits
 
-pub scans_same : (facts : Facts) (s : Progress) (rest : Rest) → FactsFit facts s → scans_owed facts (session_at s rest) ≡ scans_missing s
-scans_same facts s rest fits = ap (λ f. scans_owed f (session_at s rest)) fits
+pub scans_same : (facts : Facts) (s : Progress) (rest : Rest) → FactsFit facts s → scans_owed_in facts (work_of (session_at s rest)) ≡ scans_missing s
+scans_same facts s rest fits = ap (λ f. scans_owed_in f (work_of (session_at s rest))) fits
 
-pub next_same : (facts : Facts) (s : Progress) (rest : Rest) (scan : Purpose) → FactsFit facts s → is_next_scan scan facts (session_at s rest) ≡ is_next_in scan (facts_at s) (work_at s)
-next_same facts s rest scan fits = ap (λ f. is_next_scan scan f (session_at s rest)) fits
+pub next_same : (facts : Facts) (s : Progress) (rest : Rest) (scan : Purpose) → FactsFit facts s → is_next_in scan facts (work_of (session_at s rest)) ≡ is_next_in scan (facts_at s) (work_at s)
+next_same facts s rest scan fits = ap (λ f. is_next_in scan f (work_of (session_at s rest))) fits
 
-pub owes_nothing_is : (facts : Facts) (command : Command) (s : Progress) (rest : Rest) → FactsFit facts s → is_empty (owed_of facts command (session_at s rest)) ≡ owes_nothing command s
-owes_nothing_is facts command s rest fits = ap (λ f. is_empty (owed_of f command (session_at s rest))) fits
+pub owes_nothing_is : (facts : Facts) (command : Command) (s : Progress) (rest : Rest) → FactsFit facts s → is_empty (owed_in facts command (work_of (session_at s rest))) ≡ owes_nothing command s
+owes_nothing_is facts command s rest fits = ap (λ f. is_empty (owed_in f command (work_of (session_at s rest)))) fits
 
-pub accept_same : (facts : Facts) (o : Option Command) (s : Progress) (rest : Rest) → FactsFit facts s → owes_accept facts o (session_at s rest) ≡ is_in_accept s o
-accept_same facts None s rest fits = ap (λ f. owes_accept f None (session_at s rest)) fits
-accept_same facts (Some command) s rest fits = ap (λ f. owes_accept f (Some command) (session_at s rest)) fits
+pub accept_same : (facts : Facts) (o : Option Command) (s : Progress) (rest : Rest) → FactsFit facts s → accepts_in facts (work_of (session_at s rest)) o ≡ is_in_accept s o
+accept_same facts None s rest fits = ap (λ f. accepts_in f (work_of (session_at s rest)) None) fits
+accept_same facts (Some command) s rest fits = ap (λ f. accepts_in f (work_of (session_at s rest)) (Some command)) fits
 
 pub full_same : (facts : Facts) (count : ℕ) (s : Progress) (rest : Rest) → FactsFit facts s → counts_full count facts (work_of (session_at s rest)) ≡ is_full count s
 full_same facts count s rest fits = ap (λ f. counts_full count f (work_of (session_at s rest))) fits

@@ -9,8 +9,8 @@ use Rattle.history_model.specs.Transactions.{is_visible}
 use Rattle.history_model.specs.Sent.{unsent_in}
 use Rattle.cacheless.specs.Types.{Command, Event}
 use Rattle.cacheless.specs.Facts.{Facts}
-use Rattle.cacheless.specs.Session.{Session, Unsettled, Well, Badly, outcome_of}
-use Rattle.cacheless.specs.Work.{Work, work_of}
+use Rattle.cacheless.specs.Session.{Unsettled, Well, Badly, outcome_of}
+use Rattle.cacheless.specs.Work.{Work}
 
 -- with no entry, by a commit of the transaction with this first command, or by taking back the commands from this one on
 pub data End : Type 0 where
@@ -71,16 +71,3 @@ next_of_end facts (TakesBack from) = Some (next_of_taking_back facts from)
 -- the next entry of the end of a command, if one is left
 abbrev pub end_left_in : Facts → Command → Work → Option Event
 end_left_in facts command w = elim w.ended [ true ↦ None | false ↦ next_of_end facts (end_in facts command w) ]
-
--- the same of sessions
-abbrev pub end_well : Facts → Command → Session → End
-end_well facts command s = end_well_in facts command (work_of s)
-
-abbrev pub end_badly : Session → End
-end_badly s = end_badly_in (work_of s)
-
-abbrev pub end_of : Facts → Command → Session → End
-end_of facts command s = end_in facts command (work_of s)
-
-abbrev pub end_left : Facts → Command → Session → Option Event
-end_left facts command s = end_left_in facts command (work_of s)

@@ -13,8 +13,9 @@ use Rattle.cacheless.specs.declared.progress.Counts.{Counts}
 use Rattle.cacheless.specs.declared.progress.Progress.{Progress}
 use Rattle.cacheless.specs.Facts.{Facts, facts_of}
 use Rattle.cacheless.specs.Session.{none_open, at_command}
-use Rattle.cacheless.specs.Owed.{owed_at_start, owed_after}
-use Rattle.cacheless.specs.Settled.{done_here, act_done, is_finished, next_session, settled}
+use Rattle.cacheless.specs.Work.{work_of}
+use Rattle.cacheless.specs.Owed.{owed_first_in, owed_after}
+use Rattle.cacheless.specs.Settled.{done_here, act_done, is_finished_in, next_session, settled}
 use Rattle.cacheless.specs.Sessions.{entered, session_of}
 use Rattle.cacheless.specs.Puts.{PutsOpened}
 use Rattle.cacheless.specs.State.{facts_at, lists_at, is_absent, IsNew, Rest, session_at}
@@ -92,7 +93,7 @@ pub record HasActed (scenario : Scenario) (seen : List Entry) (was : Progress) (
   pub holds : Holds scenario seen now
   pub command : Command
   pub at : slice_get was.commands was.finished ≡ Some command
-  pub free : is_empty (owed_at_start (facts_of seen was.id) command (session_at was held.rest) ++ owed_after (facts_of seen was.id).due) ≡ true
+  pub free : is_empty (owed_first_in (facts_of seen was.id) command (work_of (session_at was held.rest)) ++ owed_after (facts_of seen was.id).due) ≡ true
   pub act : Act
   pub further : List Row → Plan
   pub left : plan_at was.opens was.exec ≡ Do act further
@@ -106,7 +107,7 @@ pub record HasPassed (scenario : Scenario) (seen : List Entry) (was : Progress) 
   pub holds : Holds scenario seen now
   pub command : Command
   pub at : slice_get was.commands was.finished ≡ Some command
-  pub over : is_finished (facts_of seen was.id) command (session_at was held.rest) ≡ true
+  pub over : is_finished_in (facts_of seen was.id) command (work_of (session_at was held.rest)) ≡ true
   pub session : session_at now holds.rest ≡ next_session command (slice_get was.commands (was.finished + 1)) (session_at was held.rest)
   pub id : now.id ≡ was.id
   pub commands : now.commands ≡ was.commands

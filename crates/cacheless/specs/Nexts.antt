@@ -16,13 +16,13 @@ is_start events.Start = true
 is_start event = false
 
 -- what may come next: the start, or what the session says, with the number of its command
-abbrev pub is_next_at : Scenario → List Entry → ℕ → Option Session → ℕ → Event → Bool
-is_next_at scenario before b None c event = is_start event
-is_next_at scenario before b (Some s) c event = (c == number_of s) && may_come (next_oid before) (facts_of before b) (slice_get (commands_of scenario b) (length s.finished)) (work_of s) event
+abbrev pub is_next_event : Scenario → List Entry → ℕ → Option Session → ℕ → Event → Bool
+is_next_event scenario before b None c event = is_start event
+is_next_event scenario before b (Some s) c event = (c == number_of s) && may_come (next_oid before) (facts_of before b) (slice_get (commands_of scenario b) (length s.finished)) (work_of s) event
 
 -- an entry is what a backend of the script may do next
 abbrev pub is_next : Scenario → List Entry → Entry → Bool
-is_next scenario before e = nat_le 1 e.backend && nat_le e.backend scenario.backends && is_next_at scenario before e.backend (session_of scenario before e.backend) e.command e.event
+is_next scenario before e = nat_le 1 e.backend && nat_le e.backend scenario.backends && is_next_event scenario before e.backend (session_of scenario before e.backend) e.command e.event
 
 -- each of the entries, by those before it
 abbrev pub are_next : Scenario → List Entry → List Entry → Bool

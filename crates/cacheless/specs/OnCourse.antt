@@ -15,9 +15,10 @@ use Rattle.history_model.specs.Versions.{answer_of}
 use Rattle.history_model.specs.Transactions.{has_written}
 use Rattle.cacheless.specs.Types.{Oid, Mode, Row, Command, CommandError, Opening, OpenRelation, Draft, Told, Scenario, Entry, Event}
 use Rattle.cacheless.specs.Facts.{Facts, facts_of}
-use Rattle.cacheless.specs.Owed.{owes_accept}
+use Rattle.cacheless.specs.Work.{work_of}
+use Rattle.cacheless.specs.Owed.{accepts_in}
 use Rattle.cacheless.specs.Session.{Session, Well, held_before, number_of, outcome_of, is_settled}
-use Rattle.cacheless.specs.Settled.{class_oid, found_by, is_finished}
+use Rattle.cacheless.specs.Settled.{class_oid, found_by, is_finished_in}
 use Rattle.cacheless.specs.Sessions.{session_of}
 use Rattle.cacheless.specs.Told.{tells_of_scans}
 use Rattle.cacheless.specs.ActsDone.{LockOn, locks_by, named_by, IsDrawn, IsHeldOn, reached, made_in, opening_by, IsStill, WayHolds, IsOtherLock}
@@ -114,7 +115,7 @@ pub record FollowsPlan (seen : List Entry) (b : ℕ) (s : Session) (command : Co
 
 -- the locks of a session are clear, unless its accept of messages isn't over
 abbrev pub ClearUnlessOwed : Facts → Option Command → Session → Type 0
-ClearUnlessOwed facts command s = owes_accept facts command s ≡ false → map cleared s.locks ≡ s.locks
+ClearUnlessOwed facts command s = accepts_in facts (work_of s) command ≡ false → map cleared s.locks ≡ s.locks
 
 -- a command that does no act came out well, and what it tells rests on no scan
 pub record TellsAlone (seen : List Entry) (b : ℕ) (s : Session) (command : Command) : Type 0 where
@@ -144,7 +145,7 @@ pub record IsOnCourse (scenario : Scenario) (seen : List Entry) (b : ℕ) (s : S
 -- the same before it has gone on without entries: where the running command has made its release, it is finished or tells of no scan
 pub record EntersCourse (scenario : Scenario) (seen : List Entry) (b : ℕ) (s : Session) : Type 0 where
   pub follows : (command : Command) → slice_get (commands_of scenario b) (length s.finished) ≡ Some command → FollowsPlan seen b s command
-  pub ends : (command : Command) → slice_get (commands_of scenario b) (length s.finished) ≡ Some command → s.ended ≡ true → (is_finished (facts_of seen b) command s ≡ true) ⊎ TellsAlone seen b s command
+  pub ends : (command : Command) → slice_get (commands_of scenario b) (length s.finished) ≡ Some command → s.ended ≡ true → (is_finished_in (facts_of seen b) command (work_of s) ≡ true) ⊎ TellsAlone seen b s command
   pub later : (c : ℕ) → number_of s < c → has_written seen b c ≡ false
   pub clear : ClearUnlessOwed (facts_of seen b) (slice_get (commands_of scenario b) (length s.finished)) s
   pub kinds : AreOfKinds seen s.opens s.opened

@@ -7,12 +7,12 @@ use Rattle.ddl_effect.specs.Plans.{Plan, Do, Read, left_rests_on}
 use Rattle.txn_blocks.specs.Blocks.{Outside, no_block, ends_block, refused_by}
 use Rattle.history_model.specs.Changing.{is_empty}
 use Rattle.local_caches.specs.Kept.{Kept, is_kept}
-use Rattle.cacheless.specs.Types.{Purpose, Command, Event, Opening}
+use Rattle.cacheless.specs.Types.{Purpose, Command, Opening}
 use Rattle.cacheless.specs.declared.progress.Due.{Due}
 use Rattle.cacheless.specs.declared.progress.Due.TheVariants as dues
-use Rattle.cacheless.specs.Facts.{Facts, due_last}
-use Rattle.cacheless.specs.Session.{Session, Badly, outcome_of}
-use Rattle.cacheless.specs.Work.{Work, work_of}
+use Rattle.cacheless.specs.Facts.{Facts}
+use Rattle.cacheless.specs.Session.{Badly, outcome_of}
+use Rattle.cacheless.specs.Work.{Work}
 
 -- a look at the has-messages word, a fetch, or a scan
 pub data Owes : Type 0 where
@@ -27,10 +27,6 @@ owed_after dues.Quiet = []
 owed_after (dues.Gone from) = []
 owed_after dues.Look = OwesLook ∷ []
 owed_after dues.Fetch = OwesFetch ∷ []
-
--- the same, by that event
-abbrev pub owed_last : Option Event → List Owes
-owed_last last = owed_after (due_last last)
 
 -- the last event was a look, which told that no message waits
 abbrev pub is_quiet : Due → Bool
@@ -98,34 +94,3 @@ started_in number facts = option_map_or (λ t. elim (t.first == number) [ true �
 -- there was a look for each scan and grant of the command, for the start of its transaction and for each full fetch that asks for one, and one more
 abbrev pub has_looked_in : Facts → Work → Bool
 has_looked_in facts w = nat_lt (w.tally.scans + w.tally.grants + started_in w.number facts + w.tally.full) w.tally.looks
-
--- the same of sessions: the names by which histories are reasoned about
-abbrev pub begins : Command → Session → Bool
-begins command s = begins_in command (work_of s)
-
-abbrev pub owed_at_start : Facts → Command → Session → List Owes
-owed_at_start facts command s = owed_first_in facts command (work_of s)
-
-abbrev pub unusable : Facts → List Purpose → List Purpose
-unusable facts wanted = missing facts.kept wanted
-
-abbrev pub builds_owed : Facts → List Opening → List Purpose
-builds_owed facts opened = builds_missing facts.kept opened
-
-abbrev pub scans_owed : Facts → Session → List Purpose
-scans_owed facts s = scans_owed_in facts (work_of s)
-
-abbrev pub owed_of : Facts → Command → Session → List Owes
-owed_of facts command s = owed_in facts command (work_of s)
-
-abbrev pub is_next_scan : Purpose → Facts → Session → Bool
-is_next_scan scan facts s = is_next_in scan facts (work_of s)
-
-abbrev pub owes_build : Facts → Session → Bool
-owes_build facts s = owes_build_in facts (work_of s)
-
-abbrev pub owes_accept : Facts → Option Command → Session → Bool
-owes_accept facts command s = accepts_in facts (work_of s) command
-
-abbrev pub has_looked : Facts → Session → Bool
-has_looked facts s = has_looked_in facts (work_of s)

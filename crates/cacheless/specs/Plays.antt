@@ -20,14 +20,15 @@ use Rattle.local_caches.specs.Kept.{Kept, rows_kept}
 use Rattle.cacheless.specs.Types.{Oid, Mode, Draft, Command, Scenario, Entry, Event, Item}
 use Rattle.cacheless.specs.Facts.{Facts, facts_of}
 use Rattle.cacheless.specs.Session.{Session, number_of}
-use Rattle.cacheless.specs.Owed.{Owes, OwesFetch, owed_after, owed_of, has_looked, is_next_scan}
-use Rattle.cacheless.specs.Ends.{TakesBack, end_of, end_left, end_of_all, next_of_end}
+use Rattle.cacheless.specs.Work.{Work, work_of}
+use Rattle.cacheless.specs.Owed.{Owes, OwesFetch, owed_after, owed_in, has_looked_in, is_next_in}
+use Rattle.cacheless.specs.Ends.{TakesBack, end_in, end_left_in, end_of_all, next_of_end}
 use Rattle.cacheless.specs.Settled.{class_oid, finds}
 use Rattle.cacheless.specs.Sessions.{session_of}
 
 -- no fetch has to come first, and the looks of the command stay within their bound
-abbrev pub may_look : Facts → Session → Bool
-may_look facts s = elim (owed_after facts.due) [ OwesFetch ∷ owed ↦ false | owed ↦ nat_le (s.tally.looks + 1) (s.tally.scans + s.tally.grants + s.tally.unlocks + 2 * s.tally.fetches + 3) ]
+abbrev pub may_look_in : Facts → Work → Bool
+may_look_in facts w = elim (owed_after facts.due) [ OwesFetch ∷ owed ↦ false | owed ↦ nat_le (w.tally.looks + 1) (w.tally.scans + w.tally.grants + w.tally.unlocks + 2 * w.tally.fetches + 3) ]
 
 -- the next act asks for this lock
 abbrev pub IsLock : Facts → Plan → Oid → Mode → Type 0
@@ -49,12 +50,6 @@ abbrev pub IsWrite : ℕ → Plan → List Item → Type 0
 IsWrite next (Do (Write draft) rest) items = items ≡ drafted next draft
 IsWrite next plan items = ⊥
 
--- the new name that an item gives a relation, if it gives one: none where the row that was read has it already
-abbrev pub names_of : Facts → Item → List (List ℕ)
-names_of facts (items.Add (rows.Class oid name kind fill)) = name ∷ []
-names_of facts (items.Put (rows.Class oid name kind fill)) = if list_any (has_name name) (rows_kept facts.kept (scans.Class oid)) then [] else name ∷ []
-names_of facts item = []
-
 -- the new name that a change gives a relation, if it gives one: none where the row that is kept of it has it already
 abbrev pub names_by : Kept → Change → List (List ℕ)
 names_by kept (changes.Insert (rows.Class oid name kind fill)) = name ∷ []
@@ -62,30 +57,30 @@ names_by kept (changes.Replace (rows.Class oid name kind fill)) = if list_any (h
 names_by kept change = []
 
 -- the next act writes a relation of this name
-abbrev pub IsClash : Facts → ℕ → Plan → List ℕ → Type 0
-IsClash facts next (Do (Write draft) rest) name = list_any (bytes_eq name) (flat_map (names_by facts.kept) draft.changes) ≡ true
-IsClash facts next plan name = ⊥
+abbrev pub IsClash : Facts → Plan → List ℕ → Type 0
+IsClash facts (Do (Write draft) rest) name = list_any (bytes_eq name) (flat_map (names_by facts.kept) draft.changes) ≡ true
+IsClash facts plan name = ⊥
 
 -- what has to come before the next entry of the end: taking back waits for no scan
 abbrev pub owed_at_end : Facts → Command → Session → List Owes
-owed_at_end facts command s = elim (end_of facts command s) [ TakesBack from ↦ owed_after facts.due | end ↦ owed_of facts command s ]
+owed_at_end facts command s = elim (end_in facts command (work_of s)) [ TakesBack from ↦ owed_after facts.due | end ↦ owed_in facts command (work_of s) ]
 
 -- the next entry of the command's end
 abbrev pub IsEnd : Facts → Command → Session → Event → Type 0
-IsEnd facts command s event = (owed_at_end facts command s ≡ []) × (end_left facts command s ≡ Some event)
+IsEnd facts command s event = (owed_at_end facts command s ≡ []) × (end_left_in facts command (work_of s) ≡ Some event)
 
 -- what may come next in a command, where the next new oid is this one
 abbrev pub MayPlay : ℕ → Facts → Command → Session → Event → Type 0
-MayPlay next facts command s (events.Look some_wait) = may_look facts s ≡ true
+MayPlay next facts command s (events.Look some_wait) = may_look_in facts (work_of s) ≡ true
 MayPlay next facts command s (events.Fetch count) = ⊤
 MayPlay next facts command s events.FetchReset = ⊤
-MayPlay next facts command s (events.Scan scan count) = (owed_after facts.due ≡ []) × (is_next_scan scan facts s ≡ true) × (has_looked facts s ≡ true)
-MayPlay next facts command s (events.LockOk rel mode) = (owed_of facts command s ≡ []) × (s.taken ≡ None) × IsLock facts s.left rel mode
-MayPlay next facts command s (events.LockHeld rel mode holder held) = (owed_of facts command s ≡ []) × (s.taken ≡ None) × IsLock facts s.left rel mode
-MayPlay next facts command s (events.Unlock rel mode) = (owed_of facts command s ≡ []) × IsUnlock facts s.taken s.left rel mode
-MayPlay next facts command s (events.Write xid items) = (owed_of facts command s ≡ []) × IsWrite next s.left items
-MayPlay next facts command s (events.ClashRow name rel) = (owed_of facts command s ≡ []) × IsClash facts next s.left name
-MayPlay next facts command s (events.ClashRunning name xid) = (owed_of facts command s ≡ []) × IsClash facts next s.left name
+MayPlay next facts command s (events.Scan scan count) = (owed_after facts.due ≡ []) × (is_next_in scan facts (work_of s) ≡ true) × (has_looked_in facts (work_of s) ≡ true)
+MayPlay next facts command s (events.LockOk rel mode) = (owed_in facts command (work_of s) ≡ []) × (s.taken ≡ None) × IsLock facts s.left rel mode
+MayPlay next facts command s (events.LockHeld rel mode holder held) = (owed_in facts command (work_of s) ≡ []) × (s.taken ≡ None) × IsLock facts s.left rel mode
+MayPlay next facts command s (events.Unlock rel mode) = (owed_in facts command (work_of s) ≡ []) × IsUnlock facts s.taken s.left rel mode
+MayPlay next facts command s (events.Write xid items) = (owed_in facts command (work_of s) ≡ []) × IsWrite next s.left items
+MayPlay next facts command s (events.ClashRow name rel) = (owed_in facts command (work_of s) ≡ []) × IsClash facts s.left name
+MayPlay next facts command s (events.ClashRunning name xid) = (owed_in facts command (work_of s) ≡ []) × IsClash facts s.left name
 MayPlay next facts command s (events.Visible xid) = IsEnd facts command s (events.Visible xid)
 MayPlay next facts command s (events.Publish count) = IsEnd facts command s (events.Publish count)
 MayPlay next facts command s (events.Gone from) = IsEnd facts command s (events.Gone from)
@@ -98,10 +93,10 @@ IsLastEnd facts event = (owed_after facts.due ≡ []) × (next_of_end facts (end
 
 -- after the last command what relations that are open lack may be scanned still, a transaction that still runs is taken back, and the stop follows
 abbrev pub MayPlayLast : Facts → Session → Event → Type 0
-MayPlayLast facts s (events.Look some_wait) = (is_some facts.running ≡ true) × (may_look facts s ≡ true)
+MayPlayLast facts s (events.Look some_wait) = (is_some facts.running ≡ true) × (may_look_in facts (work_of s) ≡ true)
 MayPlayLast facts s (events.Fetch count) = ⊤
 MayPlayLast facts s events.FetchReset = ⊤
-MayPlayLast facts s (events.Scan scan count) = (owed_after facts.due ≡ []) × (is_next_scan scan facts s ≡ true) × (has_looked facts s ≡ true)
+MayPlayLast facts s (events.Scan scan count) = (owed_after facts.due ≡ []) × (is_next_in scan facts (work_of s) ≡ true) × (has_looked_in facts (work_of s) ≡ true)
 MayPlayLast facts s (events.Gone from) = IsLastEnd facts (events.Gone from)
 MayPlayLast facts s (events.Release from) = IsLastEnd facts (events.Release from)
 MayPlayLast facts s events.Stop = facts.running ≡ None

@@ -1,5 +1,5 @@
 -- The rule: what may come next of a backend, by the facts of its entries and by its running command. It computes what Plays says as a relation (`come_decides`).
-use Rattle.std.specs.Prelude.{ℕ, Bool, true, false, not, Option, Some, None, List, ◌∷◌, ◌+◌, ◌*◌, ◌==◌, ◌&&◌, nat_le, is_none, is_some, slice_get}
+use Rattle.std.specs.Prelude.{ℕ, Bool, true, false, not, Option, Some, None, List, ◌==◌, ◌&&◌, is_none, is_some, slice_get}
 use Rattle.std.specs.Option.{option_map_or}
 use Rattle.std.specs.List.{list_any, flat_map}
 use Rattle.std.specs.Str.{bytes_eq}
@@ -14,15 +14,11 @@ use Rattle.local_caches.specs.Kept.{Kept, rows_kept}
 use Rattle.cacheless.specs.Types.{Oid, Mode, Row, Purpose, Command, Item, Event}
 use Rattle.cacheless.specs.Facts.{Facts}
 use Rattle.cacheless.specs.Work.{Work}
-use Rattle.cacheless.specs.Owed.{OwesFetch, owed_after, is_free, is_next_in, has_looked_in}
+use Rattle.cacheless.specs.Owed.{owed_after, is_free, is_next_in, has_looked_in}
 use Rattle.cacheless.specs.Ends.{End, TakesBack, end_of_all, next_of_end, end_in, end_left_in}
-pub use Rattle.cacheless.specs.Plays.{names_by}
+pub use Rattle.cacheless.specs.Plays.{may_look_in, names_by}
 use Rattle.cacheless.specs.Plays.{drafted}
 use Rattle.cacheless.specs.SameItems.{same_items}
-
--- no fetch has to come first, and the looks of the command stay within their bound
-abbrev pub may_look_in : Facts → Work → Bool
-may_look_in facts w = elim (owed_after facts.due) [ OwesFetch ∷ owed ↦ false | owed ↦ nat_le (w.tally.looks + 1) (w.tally.scans + w.tally.grants + w.tally.unlocks + 2 * w.tally.fetches + 3) ]
 
 -- a scan may come next
 abbrev pub may_scan : Purpose → Facts → Work → Bool

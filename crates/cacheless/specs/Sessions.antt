@@ -14,7 +14,7 @@ use Rattle.cacheless.specs.Facts.{Facts, facts_of}
 use Rattle.cacheless.specs.Locks.{locks_by}
 use Rattle.cacheless.specs.Session.{Session, Tally, first_of, none_open, opening_of, held_before, at_command}
 use Rattle.cacheless.specs.Work.{work_of}
-use Rattle.cacheless.specs.Owed.{counts_full, owes_accept}
+use Rattle.cacheless.specs.Owed.{counts_full, accepts_in}
 use Rattle.cacheless.specs.Settled.{settled}
 
 -- the error that an entry shows ends the command
@@ -78,7 +78,7 @@ counted facts event s = s
 
 -- where no accept is left to end, all locks are clear
 abbrev pub accepted : Facts → Option Command → Session → Session
-accepted facts command s = record s { locks = elim (owes_accept facts command s) [ true ↦ s.locks | false ↦ map cleared s.locks ] }
+accepted facts command s = record s { locks = elim (accepts_in facts (work_of s) command) [ true ↦ s.locks | false ↦ map cleared s.locks ] }
 
 -- the commands from the running one on
 abbrev pub commands_left : Scenario → ℕ → Session → List Command

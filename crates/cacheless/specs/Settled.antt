@@ -15,7 +15,7 @@ use Rattle.cacheless.specs.Types.{Oid, Mode, Row, Command, OpenRelation, Opening
 use Rattle.cacheless.specs.Facts.{Facts}
 use Rattle.cacheless.specs.Session.{Session, Finished, number_of, first_of, at_command, Well, outcome_of, is_settled}
 use Rattle.cacheless.specs.Work.{Work, work_of}
-use Rattle.cacheless.specs.Owed.{is_quiet, owed_at_start, owed_after, builds_owed, act_owed, is_free, has_looked_in}
+use Rattle.cacheless.specs.Owed.{is_quiet, owed_first_in, owed_after, builds_missing, act_owed, is_free, has_looked_in}
 use Rattle.cacheless.specs.Ends.{end_left_in}
 
 -- the relation that a lookup found
@@ -63,16 +63,6 @@ gives_left facts w plan = false
 abbrev pub is_finished_in : Facts → Command → Work → Bool
 is_finished_in facts command w = is_settled (outcome_of w.left) && is_none (end_left_in facts command w) && is_free facts command w
 
--- the same of sessions
-abbrev pub has_accepted : Facts → Session → Bool
-has_accepted facts s = has_accepted_in facts (work_of s)
-
-abbrev pub looked_up : Facts → Session → Mode → List Row → Option (List Row)
-looked_up facts s mode given = looked_up_in facts (work_of s) mode given
-
-abbrev pub gives : Facts → Session → Act → Option (List Row)
-gives facts s act = gives_in facts (work_of s) act
-
 -- the descriptor that an act opens
 abbrev pub opened_by : Act → List Opening
 opened_by (Open rel kind) = record { rel = rel; kind = kind } ∷ []
@@ -94,7 +84,7 @@ act_done act given rest s = record s { left = rest; opened = s.opened ++ opened_
 
 -- what the next act gives, if no scan is owed and it needs no entry
 abbrev pub done_here : Facts → Session → Act → Plan → Option (List Row)
-done_here facts s act plan = elim (is_empty (builds_owed facts s.opened ++ act_owed facts plan)) [ true ↦ gives facts s act | false ↦ None ]
+done_here facts s act plan = elim (is_empty (builds_missing facts.kept s.opened ++ act_owed facts plan)) [ true ↦ gives_in facts (work_of s) act | false ↦ None ]
 
 -- the session after the acts of a plan that need no entry
 abbrev pub acted_on : Facts → Plan → Session → Session
@@ -103,11 +93,9 @@ acted_on facts plan s = s
 
 -- the same for the running command, if no look and no fetch is owed
 abbrev pub acted : Facts → Command → Session → Session
-acted facts command s = elim (is_empty (owed_at_start facts command s ++ owed_after facts.due)) [ true ↦ acted_on facts s.left s | false ↦ s ]
+acted facts command s = elim (is_empty (owed_first_in facts command (work_of s) ++ owed_after facts.due)) [ true ↦ acted_on facts s.left s | false ↦ s ]
 
 -- the running command is finished
-abbrev pub is_finished : Facts → Command → Session → Bool
-is_finished facts command s = is_finished_in facts command (work_of s)
 
 -- the blocks after the running command
 abbrev pub blocks_after : Command → Session → Blocks
@@ -156,4 +144,4 @@ abbrev pub settled : Facts → List Command → Session → Session
 settled facts [] s = s
 settled facts (command ∷ rest) s =
     let now = acted facts command s in
-    elim (is_finished facts command now) [ true ↦ settled facts rest (next_session command (first_of rest) now) | false ↦ now ]
+    elim (is_finished_in facts command (work_of now)) [ true ↦ settled facts rest (next_session command (first_of rest) now) | false ↦ now ]

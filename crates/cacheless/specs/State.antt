@@ -1,5 +1,5 @@
 -- What the code holds of a backend, in the words of the definitions.
-use Rattle.std.specs.Prelude.{◌≡◌, ℕ, Bool, true, false, not, Option, Some, None, List, [], ◌∷◌, ◌++◌, ◌+◌, ◌&&◌, map, is_none, slice_get}
+use Rattle.std.specs.Prelude.{◌≡◌, ℕ, Bool, true, false, Option, Some, None, List, [], ◌∷◌, ◌++◌, ◌+◌, map, slice_get}
 use Rattle.std.specs.Option.{option_map_or}
 use Rattle.std.specs.List.{flat_map}
 use Rattle.base_types.specs.declared.change.Change.{Change}
@@ -12,7 +12,7 @@ use Rattle.lock_modes.specs.Own.{cleared, new_lock}
 use Rattle.inval_messages.specs.Lists.{Written, has_write_from, unsent_after}
 use Rattle.command_lists.specs.Lists.{all_lists, no_lists}
 use Rattle.ddl_effect.specs.Plans.{Plan, Do, Lookup}
-use Rattle.txn_blocks.specs.Blocks.{Outside, Blocks, no_block, ends_block, refused_by, blocks_well, blocks_badly}
+use Rattle.txn_blocks.specs.Blocks.{Blocks, no_block, blocks_well, blocks_badly}
 use Rattle.ddl_effect.specs.Stages.{plan_at, plan_again}
 use Rattle.ddl_effect.specs.declared.exec.Exec.TheVariants as stages
 use Rattle.history_model.specs.Sent.{cats_by, rels_by}
@@ -27,11 +27,10 @@ use Rattle.cacheless.specs.Rule.{row_of_name}
 pub use Rattle.cacheless.specs.Facts.{due_looked, due_fetched}
 use Rattle.cacheless.specs.Facts.{Facts}
 use Rattle.cacheless.specs.Owed.{Owes}
-use Rattle.cacheless.specs.Ends.{End, Ends, TakesBack, end_in}
+use Rattle.cacheless.specs.Ends.{End, end_in}
 use Rattle.local_caches.specs.Caches.{kept_of}
 pub use Rattle.local_caches.specs.Kept.{Kept, nothing_kept, kept_with, kept_spared, is_kept, rows_kept, place_kept}
 use Rattle.cacheless.specs.declared.progress.Due.TheVariants as dues
-use Rattle.txn_blocks.specs.declared.transaction.RunningTransaction.{RunningTransaction}
 use Rattle.cacheless.specs.declared.progress.Counts.{Counts}
 use Rattle.cacheless.specs.declared.progress.Progress.{Progress}
 
@@ -220,12 +219,6 @@ session_at s rest = record {
   judged = rest.judged;
   last = rest.last;
 }
-
-abbrev pub end_of_running : Option RunningTransaction → End
-end_of_running own = option_map_or (λ t. TakesBack t.first) own Ends
-
-abbrev pub begins_in : Blocks → Bool → Command → Bool
-begins_in blocks ended command = elim blocks.block [ Outside ↦ not (ends_block command) && not ended && is_none (refused_by no_block command) | block ↦ false ]
 
 abbrev pub has_write_since : ℕ → Progress → Bool
 has_write_since from s = has_write_from from (lists_at s)

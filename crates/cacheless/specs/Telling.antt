@@ -11,7 +11,8 @@ use Rattle.cacheless.specs.Lines.{line_of, lines_from}
 use Rattle.cacheless.specs.OnCourse.{EntersCourse, TellsStill}
 use Rattle.cacheless.specs.Played.{IsPlayed}
 use Rattle.cacheless.specs.Session.{Session, number_of, outcome_of, is_settled}
-use Rattle.cacheless.specs.Settled.{finished_as, is_finished}
+use Rattle.cacheless.specs.Work.{work_of}
+use Rattle.cacheless.specs.Settled.{finished_as, is_finished_in}
 use Rattle.cacheless.specs.State.{session_at}
 
 -- what the running command answers, where that is worked out, is its line
@@ -36,7 +37,7 @@ pub record IsJudgedHere (seen : List Entry) (b : ℕ) (session : Session) (comma
 -- the running command has come out, and its end isn't whole
 pub record IsOnItsEnd (facts : Facts) (command : Command) (session : Session) : Type 0 where
   pub out : is_settled (outcome_of session.left) ≡ true
-  pub going : is_finished facts command session ≡ false
+  pub going : is_finished_in facts command (work_of session) ≡ false
 
 -- a backend whose last entry is the history's last, before it has gone on without entries, or on the way: after taking back, the end of its command isn't whole
 pub record TellsNow (scenario : Scenario) (seen : List Entry) (s : Progress) (holds : Holds scenario seen s) : Type 0 where

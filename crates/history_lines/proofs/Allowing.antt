@@ -1,6 +1,6 @@
 -- What an event meets that comes next of a backend, after some history that the ledger reads: what the calls that enter it ask for.
-use Rattle.std.proofs.Common.{◌≡◌, ◌≤◌, ◌<◌, ◌+◌, ◌∙◌, ◌==◌, ◌&&◌, ◌||◌, ℕ, Bool, true, false, not, Option, Some, None, List, [], ◌∷◌, ◌++◌, length, take, slice_get, refl, sym, ap, subst, arith}
-use Rattle.std.specs.Prelude.{min, nat_lt}
+use Rattle.std.proofs.Common.{◌≡◌, ◌≤◌, ◌<◌, ◌+◌, ◌∙◌, ◌==◌, ◌&&◌, ◌||◌, ℕ, Bool, true, false, Option, Some, None, List, [], ◌∷◌, ◌++◌, length, take, slice_get, refl, sym, ap, subst, arith}
+use Rattle.std.specs.Prelude.{nat_lt}
 use Rattle.std.specs.List.{AllByRecursion, flat_map}
 use Rattle.std.specs.Option.{IfSome}
 use Rattle.std.proofs.Math.Bool.{and-false}
@@ -20,7 +20,7 @@ use Rattle.event_kinds.specs.declared.entry.Item.{Item}
 use Rattle.inval_messages.specs.Lists.{Written}
 use Rattle.inval_messages.specs.declared.message.Message.{Message}
 use Rattle.lock_modes.specs.Grants.{is_lock, holds}
-use Rattle.lock_modes.specs.Own.{has_lock, new_lock}
+use Rattle.lock_modes.specs.Own.{has_lock}
 use Rattle.lock_modes.specs.declared.grant.Grant.{Grant}
 use Rattle.ddl_effect.specs.Commands.{commands_of, plan_of}
 use Rattle.ddl_effect.specs.Plans.{Lookup, Open, Search, Read, Lock, Write, Plan, Done, Fails, Absent, Do}
@@ -43,14 +43,13 @@ use Rattle.cacheless.proofs.CommandEnds.{least_64, unsent_same}
 use Rattle.cacheless.specs.Facts.{facts_of}
 use Rattle.cacheless.specs.Holds.{Holds, entry_of}
 use Rattle.cacheless.specs.Locks.{locked_by}
-use Rattle.cacheless.specs.May.{HasRoom, is_next_at, has_looked_at, is_next_of_end, owes_no_end, may_play_now}
+use Rattle.cacheless.specs.May.{HasRoom, is_next_at, is_next_of_end, owes_no_end, may_play_now}
 use Rattle.cacheless.specs.OnCourse.{CourseOf, IsOnCourse, AllOnCourse, OnItsWay}
-use Rattle.cacheless.specs.Owed.{owed_of}
 use Rattle.cacheless.specs.Played.{IsPlayed}
 use Rattle.cacheless.specs.Plays.{drafted, IsWrite, MayPlayIn}
-use Rattle.cacheless.specs.Session.{Session as Course, Outcome, Unsettled, Well, Badly, number_of, outcome_of, is_settled}
+use Rattle.cacheless.specs.Session.{Session as Course, Outcome, Unsettled, Well, Badly, outcome_of, is_settled}
 use Rattle.cacheless.specs.Sessions.{session_of}
-use Rattle.cacheless.specs.State.{facts_at, work_at, lists_at, unsent_at, has_write_since, is_out, end_at, change_makes, relation_made, locks_made, session_at}
+use Rattle.cacheless.specs.State.{facts_at, work_at, lists_at, unsent_at, has_write_since, is_out, end_at, change_makes, relation_made, session_at}
 use Rattle.cacheless.specs.Types.{Draft, Row}
 use Rattle.cacheless.specs.Awaiting.{AwaitsEntry}
 use Rattle.cacheless.specs.declared.progress.Counts.{Counts}
@@ -66,7 +65,7 @@ use Rattle.cacheless.proofs.Written.Listed.{lists_before_it}
 use Rattle.cacheless.proofs.Written.WriteFits.{write_fits}
 use Rattle.history_lines.specs.Comes.{is_start, comes_at}
 use Rattle.history_lines.specs.Stands.{IsSessionOf, AreCounted}
-use Rattle.history_lines.specs.Takes.{ComesNext, ComesTo, MayTake, SuitsAlone, MakesOne, MayWrite, is_stop}
+use Rattle.history_lines.specs.Takes.{ComesNext, ComesTo, MayTake, SuitsAlone, MayWrite, is_stop}
 use Rattle.history_lines.specs.Types.{Scenario, Command, Entry, Event, Ledger, Progress, Session}
 use Rattle.history_lines.proofs.PastLast.{past_out}
 use Rattle.history_lines.proofs.Coming.{comes_decides}

@@ -4,17 +4,18 @@ use Rattle.std.specs.Option.{IfSome}
 use Rattle.std.proofs.lemmas.List.{length-append}
 use Rattle.event_kinds.specs.declared.entry.Event.TheVariants as events
 use Rattle.ddl_effect.specs.Commands.{commands_of}
-use Rattle.ddl_effect.specs.Plans.{Act, Lookup, Open, Search, Read, Lock, Write, Plan, Done, Fails, Absent, Do}
+use Rattle.ddl_effect.specs.Plans.{Lookup, Open, Search, Read, Lock, Write, Plan, Done, Fails, Absent, Do}
 use Rattle.lock_modes.specs.declared.own_lock.OwnLock.{OwnLock}
 use Rattle.txn_blocks.specs.Blocks.{Blocks, no_block}
 use Rattle.history_model.proofs.Prefixes.{each-keeps}
 use Rattle.history_model.specs.Changing.{is_empty}
 use Rattle.cacheless.specs.Facts.{Facts, facts_of, facts_by}
+use Rattle.cacheless.specs.Work.{work_of}
 use Rattle.cacheless.specs.Plays.{IsNext, Plays}
-use Rattle.cacheless.specs.Owed.{owed_at_start, owed_after}
+use Rattle.cacheless.specs.Owed.{owed_first_in, owed_after}
 use Rattle.cacheless.specs.Session.{Session as Course, Finished, none_open, outcome_of, is_settled, plan_first, at_command, first_of}
 use Rattle.cacheless.specs.Sessions.{written, resumed, noted, entered, commands_left, session_by, session_of}
-use Rattle.cacheless.specs.Settled.{done_here, act_done, acted_on, acted, is_finished, blocks_after, opens_after, finished_as, next_session, settled}
+use Rattle.cacheless.specs.Settled.{done_here, act_done, acted_on, acted, is_finished_in, blocks_after, opens_after, finished_as, next_session, settled}
 use Rattle.cacheless.specs.Types.{Row, OpenRelation}
 use Rattle.cacheless.proofs.Allowed.SettledCourse.{first_left}
 use Rattle.cacheless.proofs.Reading.{session_of-own, session_of-other}
@@ -60,7 +61,7 @@ acted_on_finished facts (Fails error) s = refl
 acted_on_finished facts (Absent name) s = refl
 
 acted_finished : (facts : Facts) (command : Command) (s : Course) → (acted facts command s).finished ≡ s.finished
-acted_finished facts command s = by_test (is_empty (owed_at_start facts command s ++ owed_after facts.due))
+acted_finished facts command s = by_test (is_empty (owed_first_in facts command (work_of s) ++ owed_after facts.due))
   where
     by_test : (t : Bool) → (elim t as (λ x. Course) [ true ↦ acted_on facts s.left s | false ↦ s ]).finished ≡ s.finished
     by_test true = acted_on_finished facts s.left s
@@ -69,7 +70,7 @@ acted_finished facts command s = by_test (is_empty (owed_at_start facts command 
 -- a session that goes on as far as it can
 settled_past : (facts : Facts) (commands left : List Command) (s : Course) → left ≡ drop (length s.finished) commands → IsPast commands s → IsPast commands (settled facts left s)
 settled_past facts commands [] s are past = past
-settled_past facts commands (command ∷ rest) s are past = by_finished (is_finished facts command now)
+settled_past facts commands (command ∷ rest) s are past = by_finished (is_finished_in facts command (work_of now))
     (settled_past facts commands rest (next_session command (first_of rest) now) later (begins_past commands rest (blocks_after command now) (opens_after command now) (now.finished ++ finished_as now ∷ []) now.locks now.last later))
   where
     now : Course

@@ -18,7 +18,8 @@ use Rattle.ddl_effect.specs.Stages.{plan_at}
 use Rattle.cacheless.specs.Facts.{Facts, facts_of}
 use Rattle.cacheless.specs.May.{is_missing, is_first_missing, is_next_of_act, has_failed, is_next_at}
 use Rattle.cacheless.specs.OnCourse.{OnItsWay, AllOnCourse}
-use Rattle.cacheless.specs.Owed.{Owes, OwesLook, begins, owed_at_start}
+use Rattle.cacheless.specs.Work.{work_of}
+use Rattle.cacheless.specs.Owed.{Owes, OwesLook, begins_in, owed_first_in}
 use Rattle.cacheless.specs.Session.{opening_of, held_in, held_before, Session, Unsettled, Well, Badly, outcome_of, is_settled, plan_admitted, plan_first, refused_first, is_blocked}
 use Rattle.cacheless.specs.State.{kept_at, owed_first, is_absent}
 use Rattle.cacheless.specs.Types.{Field, Draft, CommandError, Told, OpenRelation}
@@ -112,7 +113,7 @@ none_left : {X : Type 0} (o : Option X) → is_some o ≡ false → is_none o �
 none_left None is = refl
 none_left (Some x) is = absurd (cc is)
 
-pub acts_run : (facts : Facts) (o : Option Command) (s : Session) (looked : Bool) (frames : List Frame) (told : Bool) (command : Command) → o ≡ Some command → Fits facts o s looked frames told → s.ended ≡ false → s.blocked ≡ false → DoesSome (plan_of s.opens command) → owed_at_start facts command s ≡ []
+pub acts_run : (facts : Facts) (o : Option Command) (s : Session) (looked : Bool) (frames : List Frame) (told : Bool) (command : Command) → o ≡ Some command → Fits facts o s looked frames told → s.ended ≡ false → s.blocked ≡ false → DoesSome (plan_of s.opens command) → owed_first_in facts command (work_of s) ≡ []
     → is_some facts.running ≡ true
 acts_run facts o s looked frames told command at fits going unblocked acts free = by_block s.blocks.block refl (subst (TransactionFits facts o s) going fits.transaction)
   where
@@ -120,12 +121,12 @@ acts_run facts o s looked frames told command at fits going unblocked acts free 
     admitted block here = ap (λ b. elim b as (λ x. Bool) [ Inside ↦ false | other ↦ is_some (refused_by s.blocks command) ]) (sym here) ∙ ap (is_blocked s.blocks) (sym at) ∙ sym fits.blocked ∙ unblocked
 
     -- outside blocks it would owe its first look
-    starts : s.blocks.block ≡ Outside → begins command s ≡ true
+    starts : s.blocks.block ≡ Outside → begins_in command (work_of s) ≡ true
     starts is = ap (λ b. elim b as (λ x. Bool) [ Outside ↦ not (ends_block command) && not s.ended && is_none (refused_by no_block command) | other ↦ false ]) is
         ∙ (λ i. not (ends_none s.opens command acts i) && not (going i) && none_left (refused_by no_block command) (ap (λ b. is_some (refused_by b command)) (sym (outside_is s.blocks fits.opens is)) ∙ admitted Outside is) i)
 
     by_block : (block : Block) → s.blocks.block ≡ block → RunsBy facts o s block → is_some facts.running ≡ true
-    by_block Outside is (inl none) = absurd (let owes : owed_at_start facts command s ≡ OwesLook ∷ [] = (λ i. elim (starts is i && is_none (none i)) as (λ x. List Owes) [ true ↦ OwesLook ∷ [] | false ↦ [] ]) in cc (owes, free))
+    by_block Outside is (inl none) = absurd (let owes : owed_first_in facts command (work_of s) ≡ OwesLook ∷ [] = (λ i. elim (starts is i && is_none (none i)) as (λ x. List Owes) [ true ↦ OwesLook ∷ [] | false ↦ [] ]) in cc (owes, free))
     by_block Outside is (inr alone) = some_first facts.running _ alone.first
     by_block Inside is block = block.runs
     by_block Failed is none = absurd (both_ways _ (admitted Failed is) (ap (λ b. is_some (option_or (refused_in b command) (refused_of s.blocks.levels command))) is

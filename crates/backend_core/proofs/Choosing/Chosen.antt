@@ -14,11 +14,12 @@ use Rattle.seg_calls.specs.Calls.{entry_of, took_back, MayCall, MayRequest}
 use Rattle.seg_calls.proofs.Allowed.{is_start, request_follows}
 use Rattle.cacheless.specs.Facts.{Facts, due_last, facts_of}
 use Rattle.cacheless.specs.May.{lacks_any, owes_nothing, may_play_now}
-use Rattle.cacheless.specs.Owed.{Owes as Owing, OwesLook, OwesFetch, OwesScan, owed_after, owed_of, started_in}
-use Rattle.cacheless.specs.Plays.{may_look, MayPlayIn}
-use Rattle.cacheless.specs.Ends.{TakesBack, end_of, end_of_all, Commits, Ends, End, end_well, end_badly}
+use Rattle.cacheless.specs.Work.{work_of}
+use Rattle.cacheless.specs.Owed.{begins_in, Owes as Owing, OwesLook, OwesFetch, OwesScan, owed_after, owed_in, started_in}
+use Rattle.cacheless.specs.Plays.{may_look_in, MayPlayIn}
+use Rattle.cacheless.specs.Ends.{TakesBack, end_in, end_of_all, Commits, Ends, End, end_well_in, end_badly_in}
 use Rattle.cacheless.specs.Session.{Session, Well, Badly, Unsettled, number_of, outcome_of}
-use Rattle.cacheless.specs.State.{owed_first, begins_in, one_if, is_out, is_absent, is_quiet}
+use Rattle.cacheless.specs.State.{owed_first, work_at, one_if, is_out, is_absent, is_quiet}
 use Rattle.txn_blocks.specs.declared.transaction.RunningTransaction.{RunningTransaction}
 use Rattle.cacheless.proofs.Deciding.{holds_decides}
 use Rattle.cacheless.proofs.Same.{free_is, owes_nothing_is}
@@ -60,7 +61,7 @@ started_still n m None some = absurd (cc some)
 started_still n m (Some t) some = refl
 
 -- a look may come where no fetch is owed
-pub look_may : (facts : Facts) (s : Session) → (owed_after facts.due ≡ []) ⊎ (owed_after facts.due ≡ OwesLook ∷ []) → s.tally.looks + 1 ≤ s.tally.scans + s.tally.grants + 2 * s.tally.fetches + 3 → may_look facts s ≡ true
+pub look_may : (facts : Facts) (s : Session) → (owed_after facts.due ≡ []) ⊎ (owed_after facts.due ≡ OwesLook ∷ []) → s.tally.looks + 1 ≤ s.tally.scans + s.tally.grants + 2 * s.tally.fetches + 3 → may_look_in facts (work_of s) ≡ true
 look_may facts s owes low = by_owed (owed_after facts.due) owes
   where
     by_owed : (l : List Owing) → (l ≡ []) ⊎ (l ≡ OwesLook ∷ []) → elim l [ OwesFetch ∷ owed ↦ false | owed ↦ nat_le (s.tally.looks + 1) (s.tally.scans + s.tally.grants + s.tally.unlocks + 2 * s.tally.fetches + 3) ] ≡ true
@@ -100,13 +101,13 @@ not_empty (x ∷ xs) some = refl
 
 -- a look at a transaction's start
 pub record StartsNow (p : Progress) (command : Command) : Type 0 where
-  pub begins : begins_in p.blocks p.ended command ≡ true
+  pub begins : begins_in command (work_at p) ≡ true
   pub none : p.running ≡ None
 
 pub starts_now : (p : Progress) (command : Command) → owed_first p command ≢ [] → StartsNow p command
-starts_now p command owes = by_tests (begins_in p.blocks p.ended command) p.running refl refl owes
+starts_now p command owes = by_tests (begins_in command (work_at p)) p.running refl refl owes
   where
-    by_tests : (t : Bool) (own : Option RunningTransaction) → begins_in p.blocks p.ended command ≡ t → p.running ≡ own → elim (t && is_none own) as (λ x. List Owing) [ true ↦ OwesLook ∷ [] | false ↦ [] ] ≢ [] → StartsNow p command
+    by_tests : (t : Bool) (own : Option RunningTransaction) → begins_in command (work_at p) ≡ t → p.running ≡ own → elim (t && is_none own) as (λ x. List Owing) [ true ↦ OwesLook ∷ [] | false ↦ [] ] ≢ [] → StartsNow p command
     by_tests true None is none some = record { begins = is; none = none }
     by_tests true (Some t) is none some = absurd (some refl)
     by_tests false own is none some = absurd (some refl)
@@ -115,13 +116,13 @@ module _ (scenario : Scenario) (seen : List Entry) (s : Backend) (waits : Awaits
   abbrev facts : Facts
   facts = facts_of seen s.progress.id
 
-  owes_same : is_empty (owed_of facts command (waiting waits)) ≡ owes_nothing command s.progress
+  owes_same : is_empty (owed_in facts command (work_of (waiting waits))) ≡ owes_nothing command s.progress
   owes_same = owes_nothing_is facts command s.progress waits.rests.holds.rest waits.rests.holds.facts
 
-  all_free : owed_of facts command (waiting waits) ≡ [] → (is_empty (owed_first s.progress command) && is_empty (owed_after s.progress.due) && not (lacks_any s.progress)) ≡ true
+  all_free : owed_in facts command (work_of (waiting waits)) ≡ [] → (is_empty (owed_first s.progress command) && is_empty (owed_after s.progress.due) && not (lacks_any s.progress)) ≡ true
   all_free free = free_is command s.progress ∙ sym owes_same ∙ ap is_empty free
 
-  not_busy : owed_of facts command (waiting waits) ≡ [] → is_out s.progress ≡ true → Busy facts.due s.progress command → (is_absent (plan_at s.progress.opens s.progress.exec) ≡ true → is_quiet s.progress.due ≡ true → ⊥) → ⊥
+  not_busy : owed_in facts command (work_of (waiting waits)) ≡ [] → is_out s.progress ≡ true → Busy facts.due s.progress command → (is_absent (plan_at s.progress.opens s.progress.exec) ≡ true → is_quiet s.progress.due ≡ true → ⊥) → ⊥
   not_busy free out (Due due) never = both_ways _ (ap (λ t. is_empty (owed_first s.progress command) && t && not (lacks_any s.progress)) due ∙ ap (λ t. t && not (lacks_any s.progress)) (and-false (is_empty (owed_first s.progress command)))) (all_free free)
   not_busy free out (Begins owes) never = both_ways _ (ap (λ t. t && is_empty (owed_after s.progress.due) && not (lacks_any s.progress)) (not_empty (owed_first s.progress command) owes)) (all_free free)
   not_busy free out (Scans lacks stays) never = both_ways _ (ap (λ t. is_empty (owed_first s.progress command) && is_empty (owed_after s.progress.due) && not t) lacks ∙ and-false (is_empty (owed_first s.progress command) && is_empty (owed_after s.progress.due))) (all_free free)
@@ -129,7 +130,7 @@ module _ (scenario : Scenario) (seen : List Entry) (s : Backend) (waits : Awaits
   not_busy free out (Sought absent quiet) never = never absent quiet
 
   -- a command that says that there is no relation of a name doesn't commit
-  never_commits : (first : ℕ) → end_of facts command (waiting waits) ≡ Commits first → is_absent (plan_at s.progress.opens s.progress.exec) ≡ true → ⊥
+  never_commits : (first : ℕ) → end_in facts command (work_of (waiting waits)) ≡ Commits first → is_absent (plan_at s.progress.opens s.progress.exec) ≡ true → ⊥
   never_commits first commits absent = by_plan (plan_at s.progress.opens s.progress.exec) refl absent
     where
       by_blocked : (t : Bool) → elim t as (λ x. End) [ true ↦ Ends | false ↦ TakesBack (innermost (number_of (waiting waits)) s.progress.blocks.levels) ] ≡ Commits first → ⊥
@@ -137,7 +138,7 @@ module _ (scenario : Scenario) (seen : List Entry) (s : Backend) (waits : Awaits
       by_blocked false is = cc is
 
       by_plan : (p : Plan) → plan_at s.progress.opens s.progress.exec ≡ p → is_absent p ≡ true → ⊥
-      by_plan (Absent name) is of = by_blocked s.progress.blocked (sym (ap (λ p. elim (outcome_of p) as (λ x. End) [ Well ↦ end_well facts command (waiting waits) | Badly ↦ end_badly (waiting waits) | Unsettled ↦ Ends ]) is) ∙ commits)
+      by_plan (Absent name) is of = by_blocked s.progress.blocked (sym (ap (λ p. elim (outcome_of p) as (λ x. End) [ Well ↦ end_well_in facts command (work_of (waiting waits)) | Badly ↦ end_badly_in (work_of (waiting waits)) | Unsettled ↦ Ends ]) is) ∙ commits)
       by_plan p is of = cc of
 
   -- nor has it taken anything back where its last entry was a look
@@ -151,7 +152,7 @@ module _ (scenario : Scenario) (seen : List Entry) (s : Backend) (waits : Awaits
       by_test : (t : Bool) → is_visible facts.running ≡ t → is_visible facts.running ≡ false
       by_test false is = is
       by_test true is = absurd (let c = waits.fits.visible is in let one : c.command ≡ command = (let both : Some c.command ≡ Some command = sym c.at ∙ at in cc both) in
-          not_busy (subst (λ x. owed_of facts x (waiting waits) ≡ []) one c.free) c.out busy (λ absent quiet. never_commits (first_at facts) (subst (λ x. end_of facts x (waiting waits) ≡ Commits (first_at facts)) one c.end) absent))
+          not_busy (subst (λ x. owed_in facts x (work_of (waiting waits)) ≡ []) one c.free) c.out busy (λ absent quiet. never_commits (first_at facts) (subst (λ x. end_in facts x (work_of (waiting waits)) ≡ Commits (first_at facts)) one c.end) absent))
 
   -- and the last entry took nothing back
   pub standing : Busy facts.due s.progress command → is_gone_due facts.due ≡ false

@@ -16,9 +16,10 @@ use Rattle.history_model.specs.Sent.{unsent_in}
 use Rattle.history_model.specs.Transactions.{is_visible}
 use Rattle.txn_blocks.specs.declared.transaction.RunningTransaction.{RunningTransaction as Running}
 use Rattle.history_model.specs.Changing.{is_empty}
-use Rattle.cacheless.specs.Ends.{End, Ends, Commits, TakesBack, end_of_all, end_of_block, end_well, end_badly, end_of, xid_of, next_sent, next_of_end}
+use Rattle.cacheless.specs.Work.{work_of}
+use Rattle.cacheless.specs.Ends.{End, Ends, Commits, TakesBack, end_of_all, end_of_block, end_well_in, end_badly_in, end_in, xid_of, next_sent, next_of_end}
 use Rattle.cacheless.specs.Facts.{Facts}
-use Rattle.cacheless.specs.Owed.{Owes, OwesScan, owed_at_start, owed_after, scans_owed, owed_of}
+use Rattle.cacheless.specs.Owed.{Owes, OwesScan, owed_first_in, owed_after, scans_owed_in, owed_in}
 use Rattle.cacheless.specs.Plays.{IsEnd, IsLastEnd, MayPlay, MayPlayLast, MayPlayIn}
 use Rattle.cacheless.specs.Session.{Session, Outcome, Well, Badly, Unsettled, number_of, outcome_of, is_settled, plan_admitted, plan_first, is_blocked}
 use Rattle.cacheless.specs.Sessions.{ends_command}
@@ -34,7 +35,7 @@ use Rattle.cacheless.specs.declared.progress.Due.TheVariants as dues
 -- the end of the running command, or after the last one that of what still runs
 abbrev pub end_by : Facts → Option Command → Session → End
 end_by facts None s = end_of_all facts
-end_by facts (Some command) s = end_of facts command s
+end_by facts (Some command) s = end_in facts command (work_of s)
 
 -- its next entry
 pub record EndsBy (facts : Facts) (o : Option Command) (s : Session) (event : Event) : Type 0 where
@@ -63,17 +64,17 @@ ends_by next facts (Some command) s looked frames told event ends fits plays = b
     end : IsEnd facts command s event
     end = is_end next facts command s event ends plays
 
-    free : owed_of facts command s ≡ [] → owed_after facts.due ≡ []
-    free none = (both_empty (owed_at_start facts command s) (owed_after facts.due) (both_empty (owed_at_start facts command s ++ owed_after facts.due) (map OwesScan (scans_owed facts s)) none).0).1
+    free : owed_in facts command (work_of s) ≡ [] → owed_after facts.due ≡ []
+    free none = (both_empty (owed_first_in facts command (work_of s)) (owed_after facts.due) (both_empty (owed_first_in facts command (work_of s) ++ owed_after facts.due) (map OwesScan (scans_owed_in facts (work_of s))) none).0).1
 
-    by_end : (e : End) → elim e as (λ x. List Owes) [ TakesBack from ↦ owed_after facts.due | other ↦ owed_of facts command s ] ≡ [] → owed_after facts.due ≡ []
+    by_end : (e : End) → elim e as (λ x. List Owes) [ TakesBack from ↦ owed_after facts.due | other ↦ owed_in facts command (work_of s) ] ≡ [] → owed_after facts.due ≡ []
     by_end Ends none = free none
     by_end (Commits first) none = free none
     by_end (TakesBack from) none = none
 
-    by_ended : (t : Bool) → s.ended ≡ t → elim t as (λ x. Option Event) [ true ↦ None | false ↦ next_of_end facts (end_of facts command s) ] ≡ Some event → EndsBy facts (Some command) s event
+    by_ended : (t : Bool) → s.ended ≡ t → elim t as (λ x. Option Event) [ true ↦ None | false ↦ next_of_end facts (end_in facts command (work_of s)) ] ≡ Some event → EndsBy facts (Some command) s event
     by_ended true is none = absurd (cc none)
-    by_ended false is comes = record { going = is; out = ends_out facts command s event end.1; after = by_end (end_of facts command s) end.0; comes = comes }
+    by_ended false is comes = record { going = is; out = ends_out facts command s event end.1; after = by_end (end_in facts command (work_of s)) end.0; comes = comes }
 ends_by next facts None s looked frames told event ends fits plays = record { going = by_ended s.ended refl fits.transaction; out = (fits.past refl).out; after = end.0; comes = end.1 }
   where
     end : IsLastEnd facts event
@@ -187,7 +188,7 @@ from_alone facts o s Inside from by is = absurd (cc is)
 from_alone facts o s Failed from by is = absurd (cc is)
 
 -- a command commits its transaction as a whole
-commits_well : (facts : Facts) (o : Option Command) (s : Session) (command : Command) (first : ℕ) → RunsBy facts o s s.blocks.block → end_well facts command s ≡ Commits first → first_begun facts s ≡ first
+commits_well : (facts : Facts) (o : Option Command) (s : Session) (command : Command) (first : ℕ) → RunsBy facts o s s.blocks.block → end_well_in facts command (work_of s) ≡ Commits first → first_begun facts s ≡ first
 commits_well facts o s commands.Begin first by is = absurd (cc is)
 commits_well facts o s commands.Commit first by is = from_block facts s.blocks.block true (number_of s) first (ap end_from is)
 commits_well facts o s commands.Rollback first by is = from_block facts s.blocks.block false (number_of s) first (ap end_from is)
@@ -229,7 +230,7 @@ abbrev RunsBadly : Facts → Session → Block → Type 0
 RunsBadly later s block = RunsIn later (elim block as (λ x. Blocks) [ Outside ↦ s.blocks | other ↦ record { block = Failed; levels = s.blocks.levels } ])
 
 -- a command that failed isn't committed
-badly_back : (s : Session) (first : ℕ) → end_badly s ≡ Commits first → ⊥
+badly_back : (s : Session) (first : ℕ) → end_badly_in (work_of s) ≡ Commits first → ⊥
 badly_back s first is = by_blocked s.blocked is
   where
     by_blocked : (t : Bool) → elim t as (λ x. End) [ true ↦ Ends | false ↦ TakesBack (innermost (number_of s) s.blocks.levels) ] ≡ Commits first → ⊥
@@ -241,10 +242,10 @@ module _ (facts : Facts) (o : Option Command) (s : Session) (looked : Bool) (fra
   runs_by = subst (TransactionFits facts o s) going fits.transaction
 
   -- a commit is that of the transaction as a whole
-  first_of_commit : (first : ℕ) → end_of facts command s ≡ Commits first → first_begun facts s ≡ first
+  first_of_commit : (first : ℕ) → end_in facts command (work_of s) ≡ Commits first → first_begun facts s ≡ first
   first_of_commit first is = by_outcome (outcome_of s.left) is
     where
-      by_outcome : (x : Outcome) → elim x as (λ y. End) [ Well ↦ end_well facts command s | Badly ↦ end_badly s | Unsettled ↦ Ends ] ≡ Commits first → first_begun facts s ≡ first
+      by_outcome : (x : Outcome) → elim x as (λ y. End) [ Well ↦ end_well_in facts command (work_of s) | Badly ↦ end_badly_in (work_of s) | Unsettled ↦ Ends ] ≡ Commits first → first_begun facts s ≡ first
       by_outcome Well end = commits_well facts o s command first runs_by end
       by_outcome Badly end = absurd (badly_back s first end)
       by_outcome Unsettled end = absurd (let no : Ends ≡ Commits first = end in cc no)
@@ -299,7 +300,7 @@ module _ (facts : Facts) (o : Option Command) (s : Session) (looked : Bool) (fra
       })
 
   -- what a command that failed takes back
-  from_badly : (from : ℕ) → outcome_of s.left ≡ Badly → end_from (end_badly s) ≡ Some from → Releases facts o s from
+  from_badly : (from : ℕ) → outcome_of s.left ≡ Badly → end_from (end_badly_in (work_of s)) ≡ Some from → Releases facts o s from
   from_badly from badly is = by_blocked s.blocked refl is
     where
       by_block : (block : Block) → s.blocks.block ≡ block → s.blocked ≡ false → RunsBy facts o s block → innermost (number_of s) s.blocks.levels ≡ from → Releases facts o s from
@@ -357,7 +358,7 @@ module _ (facts : Facts) (o : Option Command) (s : Session) (looked : Bool) (fra
       first = own.first (number_of s) ∙ ap (outermost (number_of s)) found.are
 
   -- what a command that came out well releases
-  from_well : (from : ℕ) → outcome_of s.left ≡ Well → end_from (end_well facts command s) ≡ Some from → Releases facts o s from
+  from_well : (from : ℕ) → outcome_of s.left ≡ Well → end_from (end_well_in facts command (work_of s)) ≡ Some from → Releases facts o s from
   from_well from well = by_command command refl
     where
       closes : (c : Command) (commits : Bool) → command ≡ c → ((later : Facts) → later.running ≡ None → RunsIn later (blocks_well (number_of s) c s.blocks)) → end_from (end_of_block facts s.blocks.block commits) ≡ Some from → Releases facts o s from
@@ -381,7 +382,7 @@ module _ (facts : Facts) (o : Option Command) (s : Session) (looked : Bool) (fra
       stays : s.blocks.block ≡ Outside → (later : Facts) → later.running ≡ None → RunsIn later s.blocks
       stays outside later none = subst (RunsAt later s.blocks.levels) (sym outside) none
 
-      by_command : (c : Command) → command ≡ c → end_from (end_well facts c s) ≡ Some from → Releases facts o s from
+      by_command : (c : Command) → command ≡ c → end_from (end_well_in facts c (work_of s)) ≡ Some from → Releases facts o s from
       by_command commands.Begin same is = absurd (cc is)
       by_command commands.Commit same is = closes commands.Commit true same (λ later none. none) is
       by_command commands.Rollback same is = closes commands.Rollback false same (λ later none. none) is
@@ -391,10 +392,10 @@ module _ (facts : Facts) (o : Option Command) (s : Session) (looked : Bool) (fra
       by_command c same is = alone c same stays is
 
   -- what an end with an entry releases
-  released_by : (from : ℕ) → end_from (end_of facts command s) ≡ Some from → Releases facts o s from
+  released_by : (from : ℕ) → end_from (end_in facts command (work_of s)) ≡ Some from → Releases facts o s from
   released_by from is = by_outcome (outcome_of s.left) refl is
     where
-      by_outcome : (x : Outcome) → outcome_of s.left ≡ x → end_from (elim x as (λ y. End) [ Well ↦ end_well facts command s | Badly ↦ end_badly s | Unsettled ↦ Ends ]) ≡ Some from → Releases facts o s from
+      by_outcome : (x : Outcome) → outcome_of s.left ≡ x → end_from (elim x as (λ y. End) [ Well ↦ end_well_in facts command (work_of s) | Badly ↦ end_badly_in (work_of s) | Unsettled ↦ Ends ]) ≡ Some from → Releases facts o s from
       by_outcome Well outcome end = from_well from outcome end
       by_outcome Badly outcome end = from_badly from outcome end
       by_outcome Unsettled outcome end = absurd (cc end)

@@ -9,10 +9,11 @@ use Rattle.txn_blocks.specs.Blocks.{no_block}
 use Rattle.history_model.specs.Drawn.{next_oid}
 use Rattle.cacheless.specs.Facts.{Facts, facts_of, facts_by}
 use Rattle.cacheless.specs.Holds.{Holds, Rests, HasEntered, HasStarted, HasActed, HasPassed, entry_of, with_own}
+use Rattle.cacheless.specs.Work.{work_of}
 use Rattle.cacheless.specs.Plays.{MayPlayIn}
 use Rattle.cacheless.specs.Session.{Session, first_of, none_open, at_command, outcome_of, is_settled}
 use Rattle.cacheless.specs.Sessions.{placed_at, counted, accepted, entered, commands_left, session_by, session_of}
-use Rattle.cacheless.specs.Settled.{act_done, acted, is_finished, finished_as, next_session, settled}
+use Rattle.cacheless.specs.Settled.{act_done, acted, is_finished_in, finished_as, next_session, settled}
 use Rattle.cacheless.specs.State.{Rest, session_at}
 use Rattle.cacheless.proofs.CommandEnds.{left_none}
 use Rattle.cacheless.proofs.Reading.{facts_of-own, facts_of-other, session_of-own, session_of-other}
@@ -26,7 +27,7 @@ use Rattle.backend_core.proofs.Cutting.Scripts.{slice_get_cut, slice_get_end}
 
 -- a command that waits for an entry waits for it whatever commands come after it
 waits_on : (facts : Facts) (command : Command) (rest more : List Command) (s : Session) → settled facts (command ∷ rest) s ≡ s → settled facts (command ∷ more) s ≡ s
-waits_on facts command rest more s same = by_end (is_finished facts command now) same
+waits_on facts command rest more s same = by_end (is_finished_in facts command (work_of now)) same
   where
     now : Session
     now = acted facts command s

@@ -18,10 +18,11 @@ use Rattle.history_model.proofs.Allows.{legal_follows}
 use Rattle.history_model.proofs.Prefixes.{EachEntry-more, EachFrom-both, each-keeps}
 use Rattle.history_model.proofs.Reading.{life_of-own, life_of-other}
 use Rattle.cacheless.specs.Facts.{Facts, facts_of, facts_by}
+use Rattle.cacheless.specs.Work.{work_of}
 use Rattle.cacheless.specs.Plays.{MayPlayIn, MayPlayAt, IsNext, Plays}
 use Rattle.cacheless.specs.Session.{Session, first_of, none_open, at_command}
 use Rattle.cacheless.specs.Sessions.{placed_at, counted, accepted, entered, commands_left, session_by, session_of}
-use Rattle.cacheless.specs.Settled.{done_here, act_done, acted_on, acted, is_finished, finished_as, next_session, settled}
+use Rattle.cacheless.specs.Settled.{done_here, act_done, acted_on, acted, is_finished_in, finished_as, next_session, settled}
 use Rattle.cacheless.proofs.Allowed.NextOnCourse.{counted_tally, noted_finished}
 use Rattle.cacheless.proofs.HeldLocks.{settled-locks}
 use Rattle.cacheless.proofs.Reading.{session_of-own, session_of-other}
@@ -49,7 +50,7 @@ acted-finished facts s false = refl
 -- and settling only adds to them
 pub settled_grows : (facts : Facts) (commands : List Command) (s : Session) → length s.finished ≤ length (settled facts commands s).finished
 settled_grows facts [] s = omega arith
-settled_grows facts (command ∷ rest) s = by_end (is_finished facts command now) (settled_grows facts rest (next_session command (first_of rest) now))
+settled_grows facts (command ∷ rest) s = by_end (is_finished_in facts command (work_of now)) (settled_grows facts rest (next_session command (first_of rest) now))
   where
     now : Session
     now = acted facts command s
@@ -66,7 +67,7 @@ settled_grows facts (command ∷ rest) s = by_end (is_finished facts command now
 settled_cut : (facts : Facts) (commands : List Command) (j n : ℕ) (s : Session) → length s.finished + j ≡ n → length (settled facts commands s).finished < n → settled facts (take j commands) s ≡ settled facts commands s
 settled_cut facts [] j n s count less = ap (λ l. settled facts l s) (take_all j [] (omega arith))
 settled_cut facts (command ∷ rest) zero n s count less = absurd (omega (arith, count, less, settled_grows facts (command ∷ rest) s))
-settled_cut facts (command ∷ rest) (suc j) n s count less = by_end (is_finished facts command now) less (λ counts small. settled_cut facts rest j n (next_session command (first_of rest) now) counts small)
+settled_cut facts (command ∷ rest) (suc j) n s count less = by_end (is_finished_in facts command (work_of now)) less (λ counts small. settled_cut facts rest j n (next_session command (first_of rest) now) counts small)
   where
     now : Session
     now = acted facts command s

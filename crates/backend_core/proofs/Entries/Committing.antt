@@ -12,11 +12,12 @@ use Rattle.history_model.specs.Transactions.{begun, has_xid, is_visible}
 use Rattle.txn_blocks.specs.declared.transaction.RunningTransaction.{RunningTransaction as Running}
 use Rattle.seg_calls.specs.Calls.{entry_of, ArePublishedNext, MayCall, Appends}
 use Rattle.txn_blocks.specs.declared.transaction.RunningTransaction.{RunningTransaction}
+use Rattle.cacheless.specs.Work.{work_of}
 use Rattle.cacheless.specs.Ends.{Ends, Commits, TakesBack}
 use Rattle.cacheless.specs.Facts.{Facts, due_last, due_after, facts_of}
 use Rattle.cacheless.specs.Holds.{HasEntered}
 use Rattle.cacheless.specs.OnCourse.{AllOnCourse}
-use Rattle.cacheless.specs.Owed.{Owes, owed_after, owed_of}
+use Rattle.cacheless.specs.Owed.{Owes, owed_after, owed_in}
 use Rattle.cacheless.specs.Plays.{MayPlayIn}
 use Rattle.cacheless.specs.Session.{Session, Well, outcome_of}
 use Rattle.cacheless.specs.Sessions.{ends_command}
@@ -67,7 +68,7 @@ module _ (facts : Facts) (o : Option Command) (s : Session) (looked : Bool) (fra
           all_back : (r : Option Running) → option_map_or (λ t. TakesBack t.first) r Ends ≡ Commits own.first → ⊥
           all_back None is = cc is
           all_back (Some t) is = cc is
-      by_command (Some command) may own = owes_no_scan facts command s well (sym (ap (λ e. elim e as (λ x. List Owes) [ TakesBack from ↦ owed_after facts.due | end ↦ owed_of facts command s ]) own.is) ∙ (is_end next facts command s event ends may).0)
+      by_command (Some command) may own = owes_no_scan facts command s well (sym (ap (λ e. elim e as (λ x. List Owes) [ TakesBack from ↦ owed_after facts.due | end ↦ owed_in facts command (work_of s) ]) own.is) ∙ (is_end next facts command s event ends may).0)
 
 -- it may be entered
 pub commit_call : (scenario : Scenario) (seen : List Entry) (s : Backend) (xid : Xid) → AwaitsEntry scenario seen s → EndsNext s (events.Visible xid) → MayCall scenario seen (entry_of s.progress.id (s.progress.finished + 1) (events.Visible xid))

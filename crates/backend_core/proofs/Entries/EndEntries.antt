@@ -15,13 +15,15 @@ use Rattle.seg_calls.specs.Calls.{entry_of, MayCall, Appends}
 use Rattle.txn_blocks.specs.declared.transaction.RunningTransaction.{RunningTransaction}
 use Rattle.cacheless.specs.Facts.{facts_of, facts_by}
 use Rattle.cacheless.specs.Holds.{HasEntered, with_own}
+use Rattle.cacheless.specs.Work.{work_of}
+use Rattle.cacheless.specs.Ends.{Ends, TakesBack, end_of_all}
 use Rattle.cacheless.specs.Rule.{same_end, may_come}
 use Rattle.cacheless.specs.May.{is_next_of_end, may_end_at, may_play_at, may_last_at, may_play_now}
 use Rattle.cacheless.specs.OnCourse.{AllOnCourse}
 use Rattle.cacheless.specs.Plays.{MayPlayIn}
 use Rattle.cacheless.specs.Schedule.{LooksTruly}
 use Rattle.cacheless.specs.Sessions.{ends_command, entered}
-use Rattle.cacheless.specs.State.{facts_at, work_at, owed_after, has_write_since, end_of_running}
+use Rattle.cacheless.specs.State.{facts_at, work_at, owed_after, has_write_since}
 use Rattle.cacheless.proofs.Deciding.{holds_decides}
 use Rattle.cacheless.proofs.Tests.{both_true}
 use Rattle.cacheless.specs.Awaiting.{KeepsScans, answer_after}
@@ -33,7 +35,7 @@ use Rattle.backend_core.proofs.Choosing.EndsNow.{EndsBy, ends_by}
 use Rattle.backend_core.proofs.Fitting.Entered.{fits_at}
 use Rattle.backend_core.proofs.Own.{waiting, OwnEntry, own_enters}
 use Rattle.backend_core.proofs.Fitting.Rebuilding.{owed_bare}
-use Rattle.cacheless.specs.Owed.{owed_of}
+use Rattle.cacheless.specs.Owed.{owed_in}
 use Rattle.cacheless.proofs.Same.{owes_nothing_is}
 use Rattle.cacheless.proofs.Plans.SilentActs.{empty_list}
 
@@ -45,7 +47,7 @@ may_end next command p (events.Release from) ends may = may
 may_end next command p event ends may = absurd (cc ends)
 
 -- what still runs after the last command is taken back
-no_back : (p : Progress) (event : Event) → ((n : ℕ) → same_end (events.Gone n) event ≡ false) → ((n : ℕ) → same_end (events.Release n) event ≡ false) → (own : Option RunningTransaction) → is_next_of_end p event (end_of_running own) ≡ true → ⊥
+no_back : (p : Progress) (event : Event) → ((n : ℕ) → same_end (events.Gone n) event ≡ false) → ((n : ℕ) → same_end (events.Release n) event ≡ false) → (own : Option RunningTransaction) → is_next_of_end p event (option_map_or (λ t. TakesBack t.first) own Ends) ≡ true → ⊥
 no_back p event gone release None is = cc is
 no_back p event gone release (Some t) is = by_write (has_write_since t.first p) is
   where
@@ -53,9 +55,9 @@ no_back p event gone release (Some t) is = by_write (has_write_since t.first p) 
     by_write true same = both_ways _ (gone t.first) same
     by_write false same = both_ways _ (release t.first) same
 
-may_last : (p : Progress) (event : Event) → ends_command event ≡ true → owed_after p.due ≡ [] → is_next_of_end p event (end_of_running p.running) ≡ true → may_last_at p event ≡ true
-may_last p (events.Gone from) ends free next = both_true (is_empty (owed_after p.due)) (is_next_of_end p (events.Gone from) (end_of_running p.running)) (ap (λ l. is_empty l) free) next
-may_last p (events.Release from) ends free next = both_true (is_empty (owed_after p.due)) (is_next_of_end p (events.Release from) (end_of_running p.running)) (ap (λ l. is_empty l) free) next
+may_last : (p : Progress) (event : Event) → ends_command event ≡ true → owed_after p.due ≡ [] → is_next_of_end p event (end_of_all (facts_at p)) ≡ true → may_last_at p event ≡ true
+may_last p (events.Gone from) ends free next = both_true (is_empty (owed_after p.due)) (is_next_of_end p (events.Gone from) (end_of_all (facts_at p))) (ap (λ l. is_empty l) free) next
+may_last p (events.Release from) ends free next = both_true (is_empty (owed_after p.due)) (is_next_of_end p (events.Release from) (end_of_all (facts_at p))) (ap (λ l. is_empty l) free) next
 may_last p (events.Visible xid) ends free next = absurd (no_back p (events.Visible xid) (λ n. refl) (λ n. refl) p.running next)
 may_last p (events.Publish count) ends free next = absurd (no_back p (events.Publish count) (λ n. refl) (λ n. refl) p.running next)
 may_last p event ends free next = absurd (cc ends)
@@ -92,7 +94,7 @@ module _ (scenario : Scenario) (seen : List Entry) (s : Backend) (waits : Awaits
       by_case : EndsNext s event → s.frames ≡ []
       by_case (InCommand command free out (inr bare) accepted may) = bare
       by_case (InCommand command free out (inl owes) accepted may) = owed_bare (facts_of seen s.progress.id) (command_at s) (waiting waits) s.frames command waits.fits.rebuilds
-          (empty_list (owed_of (facts_of seen s.progress.id) command (waiting waits)) (owes_nothing_is (facts_of seen s.progress.id) command s.progress waits.rests.holds.rest waits.rests.holds.facts ∙ owes))
+          (empty_list (owed_in (facts_of seen s.progress.id) command (work_of (waiting waits))) (owes_nothing_is (facts_of seen s.progress.id) command s.progress waits.rests.holds.rest waits.rests.holds.facts ∙ owes))
       by_case (AfterAll past comes) = waits.fits.rebuilds.past past
 
   -- it may come next by the script

@@ -20,10 +20,10 @@ use Rattle.history_model.specs.Changing.{is_empty}
 use Rattle.seg_calls.specs.Calls.{entry_of, due_to, MayCall, Appends, Fetches}
 use Rattle.cacheless.specs.declared.progress.Due.{Due as DueNext}
 use Rattle.cacheless.specs.declared.progress.Due.TheVariants as dues
-use Rattle.cacheless.specs.Facts.{Facts, due_after, due_fetched, facts_of, facts_by}
+use Rattle.cacheless.specs.Facts.{due_last, Facts, due_after, due_fetched, facts_of, facts_by}
 use Rattle.cacheless.specs.Holds.{HasEntered, with_own}
 use Rattle.cacheless.specs.OnCourse.{is_absent, AllOnCourse}
-use Rattle.cacheless.specs.Owed.{Owes, OwesFetch, OwesLook, owed_after, owed_last, counts_full, scans_owed, started_in, unusable, builds_owed, act_owed}
+use Rattle.cacheless.specs.Owed.{OwesFetch, owed_after, counts_full, scans_owed_in, started_in, missing, builds_missing, act_owed}
 use Rattle.cacheless.specs.Plays.{MayPlayIn}
 use Rattle.cacheless.specs.Session.{Session, Tally, number_of, Outcome, Well, Badly, Unsettled, outcome_of}
 use Rattle.cacheless.specs.Sessions.{resumed, placed_at, entered}
@@ -86,7 +86,7 @@ fetch_due : (due : DueNext) → owed_after due ≡ OwesFetch ∷ [] → due ≡ 
 fetch_due dues.Fetch is = refl
 fetch_due due is = absurd (cc is)
 
-fetch_owed : (last : Option Event) → owed_last last ≡ OwesFetch ∷ [] → last ≡ Some (events.Look true)
+fetch_owed : (last : Option Event) → owed_after (due_last last) ≡ OwesFetch ∷ [] → last ≡ Some (events.Look true)
 fetch_owed (Some (events.Look true)) is = refl
 fetch_owed (Some (events.Fetch count)) is = by_test (count == 32) is
   where
@@ -256,7 +256,7 @@ fetched_stands count = elim (count == 32) as (λ t. is_gone_due (elim t as (λ x
 
 -- a scan for a descriptor is owed
 abbrev owes_build_scan : Facts → Session → Bool
-owes_build_scan facts s = list_any is_build_scan (scans_owed facts s)
+owes_build_scan facts s = list_any is_build_scan (scans_owed_in facts (work_of s))
 
 full_most : (t counts : Bool) (tally : Tally) → (elim (t && counts) as (λ x. Tally) [ true ↦ record tally { full = tally.full + 1 } | false ↦ tally ]).full ≤ tally.full + one_if t
 full_most true true tally = omega arith
@@ -411,13 +411,13 @@ some_builds f (x ∷ xs) all is = by_test (f x) is (some_builds f xs all.1)
     by_test true here more = ap (λ t. t || list_any is_build_scan (filter f xs)) all.0
     by_test false later more = more later
 
-held_builds : (facts : Facts) (held : List Opening) → list_any (lacks (is_kept facts.kept)) held ≡ true → list_any is_build_scan (builds_owed facts held) ≡ true
+held_builds : (facts : Facts) (held : List Opening) → list_any (lacks (is_kept facts.kept)) held ≡ true → list_any is_build_scan (builds_missing facts.kept held) ≡ true
 held_builds facts [] some = absurd (cc some)
 held_builds facts (o ∷ held) some = by_side (or_cases (lacks (is_kept facts.kept) o) (list_any (lacks (is_kept facts.kept)) held) some) (held_builds facts held)
   where
-    by_side : (lacks (is_kept facts.kept) o ≡ true) ⊎ (list_any (lacks (is_kept facts.kept)) held ≡ true) → (list_any (lacks (is_kept facts.kept)) held ≡ true → list_any is_build_scan (builds_owed facts held) ≡ true) → list_any is_build_scan (builds_owed facts (o ∷ held)) ≡ true
-    by_side (inl here) more = any-left is_build_scan (unusable facts (build_scans o.kind o.rel)) (builds_owed facts held) (some_builds (λ scan. not (is_kept facts.kept scan)) (build_scans o.kind o.rel) (builds_of o.kind o.rel) here)
-    by_side (inr later) more = any-right is_build_scan (unusable facts (build_scans o.kind o.rel)) (builds_owed facts held) (more later)
+    by_side : (lacks (is_kept facts.kept) o ≡ true) ⊎ (list_any (lacks (is_kept facts.kept)) held ≡ true) → (list_any (lacks (is_kept facts.kept)) held ≡ true → list_any is_build_scan (builds_missing facts.kept held) ≡ true) → list_any is_build_scan (builds_missing facts.kept (o ∷ held)) ≡ true
+    by_side (inl here) more = any-left is_build_scan (missing facts.kept (build_scans o.kind o.rel)) (builds_missing facts.kept held) (some_builds (λ scan. not (is_kept facts.kept scan)) (build_scans o.kind o.rel) (builds_of o.kind o.rel) here)
+    by_side (inr later) more = any-right is_build_scan (missing facts.kept (build_scans o.kind o.rel)) (builds_missing facts.kept held) (more later)
 
 rebuilt_owes : (facts : Facts) (o : Option Command) (s : Session) (f : Frame) (frames : List Frame) → FramesFit facts o s (f ∷ frames) → owes_build_scan facts s ≡ true
 rebuilt_owes facts o s f frames fits = by_outcome (outcome_of s.left) refl
@@ -429,10 +429,10 @@ rebuilt_owes facts o s f frames fits = by_outcome (outcome_of s.left) refl
         by_keeps true keeps = (fits.stack keeps).each.0.among (lacks (is_kept facts.kept)) (fits.stack keeps).each.0.lacking
         by_keeps false over = absurd (let none : f ∷ frames ≡ [] = fits.over over in cc none)
 
-    by_outcome : (x : Outcome) → outcome_of s.left ≡ x → list_any is_build_scan (elim x as (λ y. List Purpose) [ Badly ↦ [] | other ↦ builds_owed facts s.opened ++ act_owed facts s.left ]) ≡ true
+    by_outcome : (x : Outcome) → outcome_of s.left ≡ x → list_any is_build_scan (elim x as (λ y. List Purpose) [ Badly ↦ [] | other ↦ builds_missing facts.kept s.opened ++ act_owed facts s.left ]) ≡ true
     by_outcome Badly is = absurd (let none : f ∷ frames ≡ [] = fits.badly is in cc none)
-    by_outcome Well is = any-left is_build_scan (builds_owed facts s.opened) (act_owed facts s.left) (held_builds facts s.opened lacking)
-    by_outcome Unsettled is = any-left is_build_scan (builds_owed facts s.opened) (act_owed facts s.left) (held_builds facts s.opened lacking)
+    by_outcome Well is = any-left is_build_scan (builds_missing facts.kept s.opened) (act_owed facts s.left) (held_builds facts s.opened lacking)
+    by_outcome Unsettled is = any-left is_build_scan (builds_missing facts.kept s.opened) (act_owed facts s.left) (held_builds facts s.opened lacking)
 
 -- a fetch gives as many messages as its entry says
 fetched_count : (old : List Entry) (b count : ℕ) → count ≡ due_to old b → length (fetched_by old b count) ≡ count

@@ -20,7 +20,8 @@ use Rattle.cacheless.specs.Holds.{HasEntered, with_own}
 use Rattle.cacheless.specs.May.{owes_nothing, names_relation, is_lock_at, may_play_at}
 use Rattle.cacheless.specs.Rule.{may_come}
 use Rattle.cacheless.specs.OnCourse.{AllOnCourse}
-use Rattle.cacheless.specs.Owed.{owed_of, started_in}
+use Rattle.cacheless.specs.Work.{work_of}
+use Rattle.cacheless.specs.Owed.{owed_in, started_in}
 use Rattle.cacheless.specs.Plays.{IsLock, MayPlayIn}
 use Rattle.cacheless.specs.Session.{Session, number_of, outcome_of, is_settled}
 use Rattle.cacheless.specs.Sessions.{entered}
@@ -104,7 +105,7 @@ module _ (scenario : Scenario) (old : List Entry) (was : Backend) (waits : Await
   plays : (event : Event) → may_play_at (next_oid old) next.command was.progress event ≡ true → MayPlayIn (next_oid old) facts (command_at was) s event
   plays event is = now_plays scenario old was waits next.command next.free.at event (ap (λ o. may_come (next_oid old) (facts_at was.progress) o (work_at was.progress) event) next.free.at ∙ is)
 
-  asks : (owed_of facts next.command s ≡ []) × (was.progress.taken ≡ None) × IsLock facts (plan_at was.progress.opens was.progress.exec) rel mode
+  asks : (owed_in facts next.command (work_of s) ≡ []) × (was.progress.taken ≡ None) × IsLock facts (plan_at was.progress.opens was.progress.exec) rel mode
   asks = subst (λ o. MayPlayIn (next_oid old) facts o s (events.LockOk rel mode)) next.free.at (plays (events.LockOk rel mode) next.may)
 
   is_act : IsAct (plan_at was.progress.opens was.progress.exec)

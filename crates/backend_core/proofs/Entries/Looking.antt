@@ -19,9 +19,10 @@ use Rattle.cacheless.specs.declared.progress.Due.TheVariants as dues
 use Rattle.cacheless.specs.Facts.{Facts, due_looked, facts_of, facts_by}
 use Rattle.cacheless.specs.Holds.{HasEntered, with_own}
 use Rattle.cacheless.specs.May.{is_missing, is_next_of_act}
+use Rattle.cacheless.specs.Work.{work_of}
 use Rattle.cacheless.specs.Ends.{TakesBack, end_of_all}
 use Rattle.cacheless.specs.OnCourse.{AllOnCourse}
-use Rattle.cacheless.specs.Owed.{OwesLook, owed_after, begins, started_in, owed_of}
+use Rattle.cacheless.specs.Owed.{OwesLook, owed_after, begins_in, started_in, owed_in}
 use Rattle.cacheless.specs.Plays.{MayPlayIn}
 use Rattle.cacheless.specs.Schedule.{LooksTruly}
 use Rattle.cacheless.specs.Session.{Session, number_of, is_settled, outcome_of, Badly}
@@ -81,7 +82,7 @@ begun_written number None is = absurd (cc is)
 begun_written number (Some t) is = is
 
 -- where the running command begins a transaction no block is open
-begins_outside : (command : Command) (s : Session) → begins command s ≡ true → s.blocks.block ≡ Outside
+begins_outside : (command : Command) (s : Session) → begins_in command (work_of s) ≡ true → s.blocks.block ≡ Outside
 begins_outside command s is = by_block s.blocks.block is
   where
     by_block : (block : Block) → elim block as (λ x. Bool) [ Outside ↦ not (ends_block command) && not s.ended && is_none (refused_by no_block command) | other ↦ false ] ≡ true → block ≡ Outside
@@ -90,7 +91,7 @@ begins_outside command s is = by_block s.blocks.block is
     by_block Failed is = absurd (cc)
 
 -- nor is its release made
-begins_going : (command : Command) (s : Session) → begins command s ≡ true → s.ended ≡ false
+begins_going : (command : Command) (s : Session) → begins_in command (work_of s) ≡ true → s.ended ≡ false
 begins_going command s is = by_ended s.ended refl
   where
     by_ended : (t : Bool) → s.ended ≡ t → t ≡ false
@@ -124,7 +125,7 @@ counts_due : (facts : Facts) (s : Session) (command : Command) (looked : Bool) (
 counts_due facts s command looked frames told owed runs = record { goes = Goes runs; owes = inr owed; once = λ one. omega (arith, one, started_still (number_of s) (number_of s) facts.running runs); most = omega (arith, ap looks_due owed, started_still (number_of s) (number_of s) facts.running runs); least = omega (arith, ap looks_due owed, started_still (number_of s) (number_of s) facts.running runs) }
 
 -- at the transaction's start
-counts_start : (facts : Facts) (s : Session) (command : Command) (looked : Bool) (frames : List Frame) (told : Bool) → owed_after facts.due ≡ [] → begins command s ≡ true → facts.running ≡ None → LookCounts facts s command looked frames told looked frames told
+counts_start : (facts : Facts) (s : Session) (command : Command) (looked : Bool) (frames : List Frame) (told : Bool) → owed_after facts.due ≡ [] → begins_in command (work_of s) ≡ true → facts.running ≡ None → LookCounts facts s command looked frames told looked frames told
 counts_start facts s command looked frames told owed starts none = record { goes = Starts command refl starts (begins_outside command s starts) none; owes = inl owed; once = λ one. omega (arith, started_now (number_of s) facts.running none, ap one_if (begins_going command s starts)); most = omega (arith, ap looks_due owed, started_now (number_of s) facts.running none, none_before); least = omega (arith, ap looks_due owed, started_now (number_of s) facts.running none, none_before) }
   where
     none_before : started_in (number_of s) facts ≡ 0
@@ -392,7 +393,7 @@ accept_well scenario old was p some_wait told waits played courses next follows 
     -- nothing is rebuilt
     bare : FindsNone was.progress next.command → was.frames ≡ []
     bare (Looks unfound owes) = owed_bare facts (command_at was) (waiting waits) was.frames next.command waits.fits.rebuilds
-        (empty_list (owed_of facts next.command (waiting waits)) (owes_nothing_is facts next.command was.progress waits.rests.holds.rest waits.rests.holds.facts ∙ owes))
+        (empty_list (owed_in facts next.command (work_of (waiting waits))) (owes_nothing_is facts next.command was.progress waits.rests.holds.rest waits.rests.holds.facts ∙ owes))
     bare (Says absent quiet) = waits.fits.rebuilds.badly (absent_badly (plan_at was.progress.opens was.progress.exec) absent)
 
     -- and nothing is opened next

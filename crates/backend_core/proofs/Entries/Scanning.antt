@@ -13,7 +13,8 @@ use Rattle.cacheless.specs.Facts.{Facts, facts_of, facts_by}
 use Rattle.cacheless.specs.Holds.{HasEntered, with_own}
 use Rattle.cacheless.specs.May.{has_failed}
 use Rattle.cacheless.specs.OnCourse.{AllOnCourse}
-use Rattle.cacheless.specs.Owed.{owed_after, started_in, has_looked}
+use Rattle.cacheless.specs.Work.{work_of}
+use Rattle.cacheless.specs.Owed.{owed_after, started_in, has_looked_in}
 use Rattle.cacheless.specs.Plays.{MayPlayIn}
 use Rattle.cacheless.specs.Session.{Session, Badly, number_of, outcome_of}
 use Rattle.cacheless.specs.Sessions.{entered}
@@ -48,7 +49,7 @@ use Rattle.std.proofs.Math.Bool.{and-true, and-false}
 pub scan_request : (scenario : Scenario) (seen : List Entry) (s : Backend) (scan : Purpose) (rebuilds : Bool) → AwaitsEntry scenario seen s → IsScanNext s scan rebuilds → MayRequest scenario seen s.progress.id (s.progress.finished + 1)
 scan_request scenario seen s scan rebuilds waits next = may_request scenario seen s waits next.command next.free.at (scan_busy scenario seen s scan rebuilds waits next)
 
-looked_enough : (facts : Facts) (s : Session) (looked : Bool) (frames : List Frame) (told : Bool) → LooksFit facts s looked frames told → owed_after facts.due ≡ [] → 1 ≤ one_if looked + looked_in frames → has_looked facts s ≡ true
+looked_enough : (facts : Facts) (s : Session) (looked : Bool) (frames : List Frame) (told : Bool) → LooksFit facts s looked frames told → owed_after facts.due ≡ [] → 1 ≤ one_if looked + looked_in frames → has_looked_in facts (work_of s) ≡ true
 looked_enough facts s looked frames told fits none some = lt-ltb (s.tally.scans + s.tally.grants + started_in (number_of s) facts + s.tally.full) s.tally.looks (omega (arith, fits.enough, ap looks_due none, some))
 
 -- with the scan more is kept

@@ -9,7 +9,8 @@ use Rattle.history_model.specs.MayFollow.{FollowsVisible, FollowsGone}
 use Rattle.history_model.specs.Transactions.{is_visible}
 use Rattle.txn_blocks.specs.declared.transaction.RunningTransaction.{RunningTransaction as Running}
 use Rattle.seg_calls.specs.Calls.{entry_of, MayCall, Appends}
-use Rattle.cacheless.specs.Ends.{End, Ends, Commits, TakesBack, end_of, end_well, end_badly}
+use Rattle.cacheless.specs.Work.{work_of}
+use Rattle.cacheless.specs.Ends.{End, Ends, Commits, TakesBack, end_in, end_well_in, end_badly_in}
 use Rattle.cacheless.specs.Facts.{Facts, due_last, facts_of, facts_by}
 use Rattle.history_model.specs.Lives.{last_event_of}
 use Rattle.cacheless.specs.declared.progress.Due.TheVariants as dues
@@ -17,7 +18,7 @@ use Rattle.local_caches.specs.Kept.{nothing_kept}
 use Rattle.cacheless.proofs.Entries.EnteredFetches.{is_kept-spared}
 use Rattle.cacheless.specs.Holds.{HasEntered}
 use Rattle.cacheless.specs.OnCourse.{AllOnCourse}
-use Rattle.cacheless.specs.Owed.{Owes, owed_after, owed_of, unusable}
+use Rattle.cacheless.specs.Owed.{Owes, owed_after, owed_in, missing}
 use Rattle.cacheless.specs.Session.{Session, Well, Badly, Unsettled, outcome_of}
 use Rattle.cacheless.specs.State.{lists_at, kept_at, kept_spared}
 use Rattle.cacheless.proofs.Allowed.Releases.{ends_free}
@@ -84,15 +85,15 @@ module _ (scenario : Scenario) (old : List Entry) (was : Backend) (from : ℕ) (
       goes : GoesOn facts unkept
       goes = record { runs = goes_on.runs; some = goes_on.some; same = goes_on.same; free = goes_on.free }
 
-      by_rests : (o : Option Purpose) → unusable unkept (cons_option o []) ≡ [] → cons_option o [] ≡ []
+      by_rests : (o : Option Purpose) → missing unkept.kept (cons_option o []) ≡ [] → cons_option o [] ≡ []
       by_rests None none = refl
       by_rests (Some scan) none = absurd (cc none)
 
-      by_plan : (p : Plan) → s.left ≡ p → end_of facts command s ≡ TakesBack from → left_rests_on p ≡ []
+      by_plan : (p : Plan) → s.left ≡ p → end_in facts command (work_of s) ≡ TakesBack from → left_rests_on p ≡ []
       by_plan (Done told) left back = by_rests (told_rests_on told)
           (ends_free unkept command (later_at s locks at) (λ given none. let alone = (follows scenario old was waits courses command is).plain given none in record { opened = alone.opened; left = alone.left }) (ap outcome_of left)
-          (ap (λ e. elim e as (λ x. List Owes) [ TakesBack n ↦ owed_after unkept.due | end ↦ owed_of unkept command (later_at s locks at) ]) (end_same facts unkept command s locks at goes ∙ back)) told left)
-      by_plan (Do act rest) left back = absurd (let no : Ends ≡ TakesBack from = ap (λ q. elim (outcome_of q) as (λ x. End) [ Well ↦ end_well facts command s | Badly ↦ end_badly s | Unsettled ↦ Ends ]) (sym left) ∙ back in cc no)
+          (ap (λ e. elim e as (λ x. List Owes) [ TakesBack n ↦ owed_after unkept.due | end ↦ owed_in unkept command (work_of (later_at s locks at)) ]) (end_same facts unkept command s locks at goes ∙ back)) told left)
+      by_plan (Do act rest) left back = absurd (let no : Ends ≡ TakesBack from = ap (λ q. elim (outcome_of q) as (λ x. End) [ Well ↦ end_well_in facts command (work_of s) | Badly ↦ end_badly_in (work_of s) | Unsettled ↦ Ends ]) (sym left) ∙ back in cc no)
       by_plan p left back = refl
 
   take_back_fits : AllOnCourse scenario old → (locks : List OwnLock) (at : ℕ) → Fits later (command_at was) (later_at s locks at) was.looked was.frames was.told

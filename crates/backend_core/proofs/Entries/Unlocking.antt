@@ -1,5 +1,5 @@
 -- The lock that a backend gives back.
-use Rattle.std.proofs.Common.{inl, ◌≡◌, ◌+◌, ◌<◌, ◌≤◌, ◌∙◌, ◌&&◌, ◌==◌, ℕ, Bool, true, false, Option, Some, None, List, [], ◌∷◌, refl, sym, ap, subst, filter, length, drop, arith, map, ◌||◌}
+use Rattle.std.proofs.Common.{inl, ◌≡◌, ◌+◌, ◌<◌, ◌≤◌, ◌∙◌, ◌&&◌, ◌==◌, ℕ, true, false, Option, Some, None, List, [], ◌∷◌, refl, sym, ap, subst, filter, length, drop, arith, map, ◌||◌}
 use Rattle.std.specs.List.{AllByRecursion, list_any}
 use Rattle.std.proofs.lemmas.Bool.{and_parts, false_from_ne_true, leb-true}
 use Rattle.event_kinds.specs.declared.entry.Event.TheVariants as events
@@ -15,7 +15,8 @@ use Rattle.seg_calls.specs.Calls.{entry_of, MayCall, Appends}
 use Rattle.cacheless.specs.Facts.{Facts, facts_of, facts_by}
 use Rattle.cacheless.specs.Holds.{HasEntered, with_own}
 use Rattle.cacheless.specs.Locks.{grant_of}
-use Rattle.cacheless.specs.Owed.{owed_of, started_in}
+use Rattle.cacheless.specs.Work.{work_of}
+use Rattle.cacheless.specs.Owed.{owed_in, started_in}
 use Rattle.cacheless.specs.Plays.{IsUnlock, MayPlayIn}
 use Rattle.cacheless.specs.Session.{Session, number_of, outcome_of, is_settled}
 use Rattle.cacheless.specs.Sessions.{entered}
@@ -80,7 +81,7 @@ module _ (scenario : Scenario) (old : List Entry) (was : Backend) (waits : Await
   plays : MayPlayIn (next_oid old) facts (command_at was) s event
   plays = now_plays scenario old was waits next.command next.free.at event (ap (λ o. may_come (next_oid old) (facts_at was.progress) o (work_at was.progress) event) next.free.at ∙ next.may)
 
-  asks : (owed_of facts next.command s ≡ []) × IsUnlock facts was.progress.taken (plan_at was.progress.opens was.progress.exec) rel mode
+  asks : (owed_in facts next.command (work_of s) ≡ []) × IsUnlock facts was.progress.taken (plan_at was.progress.opens was.progress.exec) rel mode
   asks = subst (λ o. MayPlayIn (next_oid old) facts o s event) next.free.at plays
 
   abbrev lookup : IsLookup facts was.progress.taken (plan_at was.progress.opens was.progress.exec) rel mode

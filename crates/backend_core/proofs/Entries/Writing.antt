@@ -33,7 +33,8 @@ use Rattle.cacheless.specs.Facts.{Facts, facts_of, facts_by}
 use Rattle.cacheless.specs.Holds.{Rests, HasEntered, with_own}
 use Rattle.cacheless.specs.Locks.{locked_by}
 use Rattle.cacheless.specs.OnCourse.{OnItsWay, AllOnCourse}
-use Rattle.cacheless.specs.Owed.{owed_after, owed_of, started_in}
+use Rattle.cacheless.specs.Work.{work_of}
+use Rattle.cacheless.specs.Owed.{owed_after, owed_in, started_in}
 use Rattle.cacheless.specs.Plays.{IsWrite, IsClash, MayPlay, MayPlayIn}
 use Rattle.cacheless.specs.Session.{Session, Well, Badly, Unsettled, number_of, outcome_of, is_settled, held_before, held_in}
 use Rattle.cacheless.specs.Sessions.{written, entered}
@@ -89,7 +90,7 @@ clashes_as old new had has b c draft name (clashes.Row rel) writes = writes
 clashes_as old new had has b c draft name (clashes.Running xid) writes = writes
 
 -- which may come next
-clash_plays : (next : ℕ) (facts : Facts) (command : Command) (s : Session) (name : List ℕ) (clash : Clash) → owed_of facts command s ≡ [] → IsClash facts next s.left name → MayPlay next facts command s (clash_event name clash)
+clash_plays : (next : ℕ) (facts : Facts) (command : Command) (s : Session) (name : List ℕ) (clash : Clash) → owed_in facts command (work_of s) ≡ [] → IsClash facts s.left name → MayPlay next facts command s (clash_event name clash)
 clash_plays next facts command s name (clashes.Row rel) none clashes = (none, clashes)
 clash_plays next facts command s name (clashes.Running xid) none clashes = (none, clashes)
 
@@ -111,8 +112,8 @@ module _ (scenario : Scenario) (old : List Entry) (was : Backend) (draft : Draft
   abbrev s : Session
   s = waiting waits
 
-  owed_none : owed_of facts next.command s ≡ []
-  owed_none = empty_list (owed_of facts next.command s) (owes_nothing_is facts next.command was.progress waits.rests.holds.rest waits.rests.holds.facts ∙ next.owes)
+  owed_none : owed_in facts next.command (work_of s) ≡ []
+  owed_none = empty_list (owed_in facts next.command (work_of s)) (owes_nothing_is facts next.command was.progress waits.rests.holds.rest waits.rests.holds.facts ∙ next.owes)
 
   acting : IsActing scenario old was next.command
   acting = record {
@@ -272,7 +273,7 @@ module _ (scenario : Scenario) (old : List Entry) (was : Backend) (draft : Draft
       → Writes old new had has was.progress.id (was.progress.finished + 1) draft (Err (refusals.Clash name clash)) → Enters scenario old new had has first (record was { progress = p })
   clash_enters first id new had has p name clash goes kept none writes = let refused = clashes_as old new had has was.progress.id (was.progress.finished + 1) draft name clash writes in alike_enters scenario old new had has first was (record was { progress = p }) id (failed_enters scenario old new had has was p (clash_event name clash) (error_of name clash) next.command waits played courses acting unlooked (clash_shows scenario old was s name clash)
       (subst (λ o. MayPlayIn (next_oid old) facts o s (clash_event name clash)) (sym next.free.at)
-      (clash_plays (next_oid old) facts next.command s name clash owed_none (subst (λ p. IsClash facts (next_oid old) p name) (sym at) (subst (λ l. list_any (bytes_eq name) l ≡ true) (all_names facts was.progress.opened (next_oid old) draft.new_oids draft.changes draft.forced (subst (PutsOpened was.progress.opened) at waits.rests.holds.puts).0) (suits.names read name refused.is_new))))) goes kept none refused.appends)
+      (clash_plays (next_oid old) facts next.command s name clash owed_none (subst (λ p. IsClash facts p name) (sym at) (subst (λ l. list_any (bytes_eq name) l ≡ true) (all_names facts was.progress.opened (next_oid old) draft.new_oids draft.changes draft.forced (subst (PutsOpened was.progress.opened) at waits.rests.holds.puts).0) (suits.names read name refused.is_new))))) goes kept none refused.appends)
 
   -- what is noted with it
   pub wrote_noted : {D : Type 0} (new : List Entry) (had has : ℕ → ℕ) (p : Progress) (frames : List Frame) (result : Result (Unit {0}) D) (made : Made) (messages : List Message) (known : Option Oid) → known ≡ relation_made draft.changes made.first_oid → MakesWrite old new had has was.progress.id (was.progress.finished + 1) draft made → messages ≡ made.messages.items → kept_at p ≡ kept_spared messages (kept_at was.progress)

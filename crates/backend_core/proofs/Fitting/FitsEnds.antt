@@ -13,10 +13,11 @@ use Rattle.history_model.specs.Sent.{ends_transaction}
 use Rattle.history_model.specs.Transactions.{begun, after_release, is_visible}
 use Rattle.txn_blocks.specs.declared.transaction.RunningTransaction.{RunningTransaction as Running}
 use Rattle.history_model.specs.Changing.{is_empty}
-use Rattle.cacheless.specs.Ends.{End, Ends, Commits, TakesBack, end_of_all, end_of_block, end_well, end_badly, end_of}
+use Rattle.cacheless.specs.Work.{work_of}
+use Rattle.cacheless.specs.Ends.{End, Ends, Commits, TakesBack, end_of_all, end_of_block, end_well_in, end_badly_in, end_in}
 use Rattle.cacheless.specs.Facts.{Facts}
 use Rattle.cacheless.proofs.Allowed.Releases.{OwesNoScan}
-use Rattle.cacheless.specs.Owed.{Owes, OwesLook, OwesScan, unusable, owed_at_start, owed_after, begins, builds_owed, act_owed, scans_owed, owed_of, started_in}
+use Rattle.cacheless.specs.Owed.{Owes, OwesLook, OwesScan, missing, owed_first_in, owed_after, begins_in, builds_missing, act_owed, scans_owed_in, owed_in, started_in}
 use Rattle.cacheless.specs.Session.{Session, Outcome, Well, Badly, Unsettled, opening_of, number_of, outcome_of, is_settled}
 use Rattle.backend_core.specs.Types.{Purpose, Command, Event, OwnLock, Frame}
 use Rattle.backend_core.specs.Fits.{looks_due, LooksFit, first_at, RunsBlock, RunsBy, RunsAfter, TransactionFits, OnCommit, OnTakingBack, Fits, IsLookedFor, Lacks, Unfound, Said, TakesFit, FramesFit, IsTakenBack}
@@ -57,7 +58,7 @@ none_some None some = absurd (cc some)
 none_some (Some x) some = refl
 
 -- the end stays the same
-pub end_same : (facts later : Facts) (command : Command) (s : Session) (locks : List OwnLock) (at : ℕ) → GoesOn facts later → end_of later command (later_at s locks at) ≡ end_of facts command s
+pub end_same : (facts later : Facts) (command : Command) (s : Session) (locks : List OwnLock) (at : ℕ) → GoesOn facts later → end_in later command (work_of (later_at s locks at)) ≡ end_in facts command (work_of s)
 end_same facts later command s locks at goes = by_outcome (outcome_of s.left)
   where
     all : end_of_all later ≡ end_of_all facts
@@ -69,29 +70,29 @@ end_same facts later command s locks at goes = by_outcome (outcome_of s.left)
     by_block Inside false = all
     by_block Failed commits = all
 
-    by_command : (c : Command) → end_well later c (later_at s locks at) ≡ end_well facts c s
+    by_command : (c : Command) → end_well_in later c (work_of (later_at s locks at)) ≡ end_well_in facts c (work_of s)
     by_command commands.Begin = refl
     by_command commands.Commit = by_block s.blocks.block true
     by_command commands.Rollback = by_block s.blocks.block false
     by_command (commands.RollbackTo name) = refl
     by_command c = refl
 
-    by_outcome : (x : Outcome) → ◌≡◌ {A = End} (elim x [ Well ↦ end_well later command (later_at s locks at) | Badly ↦ end_badly (later_at s locks at) | Unsettled ↦ Ends ]) (elim x [ Well ↦ end_well facts command s | Badly ↦ end_badly s | Unsettled ↦ Ends ])
+    by_outcome : (x : Outcome) → ◌≡◌ {A = End} (elim x [ Well ↦ end_well_in later command (work_of (later_at s locks at)) | Badly ↦ end_badly_in (work_of (later_at s locks at)) | Unsettled ↦ Ends ]) (elim x [ Well ↦ end_well_in facts command (work_of s) | Badly ↦ end_badly_in (work_of s) | Unsettled ↦ Ends ])
     by_outcome Well = by_command command
     by_outcome Badly = refl
     by_outcome Unsettled = refl
 
 -- nothing is owed before its next entry
-owed_later : (facts later : Facts) (command : Command) (s : Session) (locks : List OwnLock) (at : ℕ) → GoesOn facts later → is_settled (outcome_of s.left) ≡ true → (outcome_of s.left ≡ Well → OwesNoScan later s) → owed_of later command (later_at s locks at) ≡ []
+owed_later : (facts later : Facts) (command : Command) (s : Session) (locks : List OwnLock) (at : ℕ) → GoesOn facts later → is_settled (outcome_of s.left) ≡ true → (outcome_of s.left ≡ Well → OwesNoScan later s) → owed_in later command (work_of (later_at s locks at)) ≡ []
 owed_later facts later command s locks at goes out built =
-    ap (λ l. l ++ owed_after later.due ++ map OwesScan (scans_owed later (later_at s locks at))) start ∙ ap (λ l. l ++ map OwesScan (scans_owed later (later_at s locks at))) goes.free ∙ ap (map OwesScan) (by_plan s.left refl out built)
+    ap (λ l. l ++ owed_after later.due ++ map OwesScan (scans_owed_in later (work_of (later_at s locks at)))) start ∙ ap (λ l. l ++ map OwesScan (scans_owed_in later (work_of (later_at s locks at)))) goes.free ∙ ap (map OwesScan) (by_plan s.left refl out built)
   where
-    start : owed_at_start later command (later_at s locks at) ≡ []
-    start = ap (λ t. elim (begins command s && t) as (λ x. List Owes) [ true ↦ OwesLook ∷ [] | false ↦ [] ]) (none_some later.running goes.some)
-        ∙ ap (λ t. elim t as (λ x. List Owes) [ true ↦ OwesLook ∷ [] | false ↦ [] ]) (and-false (begins command s))
+    start : owed_first_in later command (work_of (later_at s locks at)) ≡ []
+    start = ap (λ t. elim (begins_in command (work_of s) && t) as (λ x. List Owes) [ true ↦ OwesLook ∷ [] | false ↦ [] ]) (none_some later.running goes.some)
+        ∙ ap (λ t. elim t as (λ x. List Owes) [ true ↦ OwesLook ∷ [] | false ↦ [] ]) (and-false (begins_in command (work_of s)))
 
-    by_plan : (p : Plan) → s.left ≡ p → is_settled (outcome_of p) ≡ true → (outcome_of s.left ≡ Well → OwesNoScan later s) → ◌≡◌ {A = List Purpose} (elim (outcome_of p) [ Badly ↦ [] | other ↦ builds_owed later s.opened ++ act_owed later p ]) []
-    by_plan (Done told) at is none = let free = none (ap outcome_of at) in ap (λ l. l ++ unusable later (left_rests_on (Done told))) free.0 ∙ free.1 told at
+    by_plan : (p : Plan) → s.left ≡ p → is_settled (outcome_of p) ≡ true → (outcome_of s.left ≡ Well → OwesNoScan later s) → ◌≡◌ {A = List Purpose} (elim (outcome_of p) [ Badly ↦ [] | other ↦ builds_missing later.kept s.opened ++ act_owed later p ]) []
+    by_plan (Done told) at is none = let free = none (ap outcome_of at) in ap (λ l. l ++ missing later.kept (left_rests_on (Done told))) free.0 ∙ free.1 told at
     by_plan (Fails error) at is none = refl
     by_plan (Absent name) at is none = refl
     by_plan (Do act rest) at is none = absurd (cc is)

@@ -11,9 +11,10 @@ use Rattle.txn_blocks.specs.declared.transaction.RunningTransaction.{RunningTran
 use Rattle.history_model.specs.Changing.{is_empty}
 use Rattle.cacheless.specs.Facts.{Facts}
 use Rattle.cacheless.specs.Session.{Session, Well, opening_of, held_in, held_before, number_of, outcome_of, is_settled, plan_first, is_blocked}
+use Rattle.cacheless.specs.Work.{work_of}
 use Rattle.cacheless.specs.Settled.{blocks_after, opens_passed, opens_after}
 use Rattle.ddl_effect.specs.Opens.{opens_before}
-use Rattle.cacheless.specs.Owed.{begins}
+use Rattle.cacheless.specs.Owed.{begins_in}
 use Rattle.cacheless.specs.State.{is_absent}
 use Rattle.cacheless.proofs.Entries.EnteredLooks.{not_absent}
 use Rattle.backend_core.specs.Types.{Command, Frame}
@@ -73,7 +74,7 @@ begun_hidden number (Some t) hidden = hidden
 -- a transaction runs, or one begins with this command
 pub data RunsHere (facts : Facts) (o : Option Command) (s : Session) : Type 0 where
   Goes : is_some facts.running ≡ true → RunsHere facts o s
-  Starts : (command : Command) → o ≡ Some command → begins command s ≡ true → s.blocks.block ≡ Outside → facts.running ≡ None → RunsHere facts o s
+  Starts : (command : Command) → o ≡ Some command → begins_in command (work_of s) ≡ true → s.blocks.block ≡ Outside → facts.running ≡ None → RunsHere facts o s
 
 module _ (facts later : Facts) (o : Option Command) (s now : Session) (command : Command) (at : o ≡ Some command) (fits_first : (first_at facts ≤ number_of s)) (stays : StaysInside facts later (number_of s)) (same : StaysAt s now) (goes : RunsHere facts o s) where
   number_same : number_of now ≡ number_of s
@@ -97,7 +98,7 @@ module _ (facts later : Facts) (o : Option Command) (s now : Session) (command :
       by_own None low = omega arith
       by_own (Some t) low = low
 
-  begins_same : (c : Command) → begins c now ≡ begins c s
+  begins_same : (c : Command) → begins_in c (work_of now) ≡ begins_in c (work_of s)
   begins_same c = λ i. elim (same.blocks i).block as (λ x. Bool) [ Outside ↦ not (ends_block c) && not (same.ended i) && is_none (refused_by no_block c) | block ↦ false ]
 
   block_now : (levels : List Level) → RunsBlock facts levels → RunsBlock later levels

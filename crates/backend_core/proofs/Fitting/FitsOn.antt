@@ -13,9 +13,10 @@ use Rattle.txn_blocks.specs.declared.transaction.RunningTransaction.{RunningTran
 use Rattle.history_model.specs.Changing.{is_empty}
 use Rattle.cacheless.specs.Facts.{Facts}
 use Rattle.cacheless.specs.Session.{Session, Outcome, Well, Badly, Unsettled, opening_of, held_in, held_before, number_of, outcome_of, is_settled}
-use Rattle.cacheless.specs.Owed.{OwesScan, owed_at_start, owed_after, scans_owed, owed_of, started_in, act_owed}
-use Rattle.cacheless.specs.Ends.{End, Ends, Commits, TakesBack, end_well, end_badly, end_of, end_of_all, end_left, next_of_end}
-use Rattle.cacheless.specs.Settled.{act_done, is_finished, blocks_after, finished_as, next_session, class_oid, opened_by, opens_well, opens_badly}
+use Rattle.cacheless.specs.Work.{work_of}
+use Rattle.cacheless.specs.Owed.{OwesScan, owed_first_in, owed_after, scans_owed_in, owed_in, started_in, act_owed}
+use Rattle.cacheless.specs.Ends.{End, Ends, Commits, TakesBack, end_well_in, end_badly_in, end_in, end_of_all, end_left_in, next_of_end}
+use Rattle.cacheless.specs.Settled.{act_done, is_finished_in, blocks_after, finished_as, next_session, class_oid, opened_by, opens_well, opens_badly}
 use Rattle.cacheless.proofs.Plans.SilentActs.{both_empty, empty_list, IsDoneHere, gives_class}
 use Rattle.backend_core.specs.Types.{Row, Command, Event, Frame, Opening}
 use Rattle.backend_core.specs.Fits.{looks_due, first_at, LevelsRise, RunsAt, RunsIn, RunsBy, RunsAfter, TransactionFits, IsPast, Fits, IsLookedFor, Lacks, Unfound, Said, FramesFit, IsUnheld, AreHeld, IsTakenBack, came_well, told_owed}
@@ -123,22 +124,22 @@ fits_act facts o s looked frames told command act further given at left going do
 -- the parts of a finished command
 record IsFinished (facts : Facts) (command : Command) (s : Session) : Type 0 where
   out : is_settled (outcome_of s.left) ≡ true
-  none : is_none (end_left facts command s) ≡ true
-  first : owed_at_start facts command s ≡ []
+  none : is_none (end_left_in facts command (work_of s)) ≡ true
+  first : owed_first_in facts command (work_of s) ≡ []
   after : owed_after facts.due ≡ []
-  owed : owed_of facts command s ≡ []
+  owed : owed_in facts command (work_of s) ≡ []
 
-parts_of : (facts : Facts) (command : Command) (s : Session) → is_finished facts command s ≡ true → IsFinished facts command s
-parts_of facts command s is = record { out = front.0; none = front.1; first = (both_empty (owed_at_start facts command s) (owed_after facts.due) owed).0; after = (both_empty (owed_at_start facts command s) (owed_after facts.due) owed).1; owed = empty_list (owed_of facts command s) both.1 }
+parts_of : (facts : Facts) (command : Command) (s : Session) → is_finished_in facts command (work_of s) ≡ true → IsFinished facts command s
+parts_of facts command s is = record { out = front.0; none = front.1; first = (both_empty (owed_first_in facts command (work_of s)) (owed_after facts.due) owed).0; after = (both_empty (owed_first_in facts command (work_of s)) (owed_after facts.due) owed).1; owed = empty_list (owed_in facts command (work_of s)) both.1 }
   where
-    both : (is_settled (outcome_of s.left) && is_none (end_left facts command s) ≡ true) × (is_empty (owed_of facts command s) ≡ true)
-    both = and_parts (is_settled (outcome_of s.left) && is_none (end_left facts command s)) (is_empty (owed_of facts command s)) is
+    both : (is_settled (outcome_of s.left) && is_none (end_left_in facts command (work_of s)) ≡ true) × (is_empty (owed_in facts command (work_of s)) ≡ true)
+    both = and_parts (is_settled (outcome_of s.left) && is_none (end_left_in facts command (work_of s))) (is_empty (owed_in facts command (work_of s))) is
 
-    front : (is_settled (outcome_of s.left) ≡ true) × (is_none (end_left facts command s) ≡ true)
-    front = and_parts (is_settled (outcome_of s.left)) (is_none (end_left facts command s)) both.0
+    front : (is_settled (outcome_of s.left) ≡ true) × (is_none (end_left_in facts command (work_of s)) ≡ true)
+    front = and_parts (is_settled (outcome_of s.left)) (is_none (end_left_in facts command (work_of s))) both.0
 
-    owed : owed_at_start facts command s ++ owed_after facts.due ≡ []
-    owed = (both_empty (owed_at_start facts command s ++ owed_after facts.due) (map OwesScan (scans_owed facts s)) (empty_list (owed_of facts command s) both.1)).0
+    owed : owed_first_in facts command (work_of s) ++ owed_after facts.due ≡ []
+    owed = (both_empty (owed_first_in facts command (work_of s) ++ owed_after facts.due) (map OwesScan (scans_owed_in facts (work_of s))) (empty_list (owed_in facts command (work_of s)) both.1)).0
 
 -- an end without an entry
 none_ends : (facts : Facts) (end : End) → is_none (next_of_end facts end) ≡ true → end ≡ Ends
@@ -150,9 +151,9 @@ none_ends facts (TakesBack from) is = absurd (cc)
 passes_to : (facts : Facts) (o : Option Command) (s : Session) (looked : Bool) (frames : List Frame) (told : Bool) (command : Command) → o ≡ Some command → IsFinished facts command s → Fits facts o s looked frames told → RunsIn facts (blocks_after command s)
 passes_to facts o s looked frames told command at done fits = by_ended s.ended refl fits.transaction done.none
   where
-    by_ended : (t : Bool) → s.ended ≡ t → TransactionFits facts o s t → is_none (elim t as (λ x. Option Event) [ true ↦ None | false ↦ next_of_end facts (end_of facts command s) ]) ≡ true → RunsIn facts (blocks_after command s)
+    by_ended : (t : Bool) → s.ended ≡ t → TransactionFits facts o s t → is_none (elim t as (λ x. Option Event) [ true ↦ None | false ↦ next_of_end facts (end_in facts command (work_of s)) ]) ≡ true → RunsIn facts (blocks_after command s)
     by_ended true is runs over = subst (λ x. RunsAfter facts x s) at runs
-    by_ended false is runs over = next_silent facts o s command at fits.blocked (record { opens = fits.opens; rise = fits.levels; plain = fits.plain }) (well_admitted o s command at fits.settled) is done.out done.first runs (none_ends facts (end_of facts command s) over)
+    by_ended false is runs over = next_silent facts o s command at fits.blocked (record { opens = fits.opens; rise = fits.levels; plain = fits.plain }) (well_admitted o s command at fits.settled) is done.out done.first runs (none_ends facts (end_in facts command (work_of s)) over)
 
 -- by which it runs then
 runs_next : (facts : Facts) (o : Option Command) (s : Session) (block : Block) → RunsAt facts s.blocks.levels block → RunsBy facts o s block
@@ -161,11 +162,11 @@ runs_next facts o s Inside runs = runs
 runs_next facts o s Failed runs = runs
 
 -- an end on its way isn't finished
-on_its_way : (facts : Facts) (command : Command) (s : Session) (event : Event) → IsFinished facts command s → s.ended ≡ false → next_of_end facts (end_of facts command s) ≡ Some event → ⊥
-on_its_way facts command s event done going comes = both_ways _ (ap (λ e. is_none e) comes) (subst (λ t. is_none (elim t as (λ x. Option Event) [ true ↦ None | false ↦ next_of_end facts (end_of facts command s) ]) ≡ true) going done.none)
+on_its_way : (facts : Facts) (command : Command) (s : Session) (event : Event) → IsFinished facts command s → s.ended ≡ false → next_of_end facts (end_in facts command (work_of s)) ≡ Some event → ⊥
+on_its_way facts command s event done going comes = both_ways _ (ap (λ e. is_none e) comes) (subst (λ t. is_none (elim t as (λ x. Option Event) [ true ↦ None | false ↦ next_of_end facts (end_in facts command (work_of s)) ]) ≡ true) going done.none)
 
 -- where the last entry took writes back the command isn't finished
-gone_unfinished : (facts : Facts) (o : Option Command) (s : Session) (looked : Bool) (frames : List Frame) (told : Bool) (command : Command) (from : ℕ) → o ≡ Some command → is_finished facts command s ≡ true → Fits facts o s looked frames told → facts.due ≡ dues.Gone from → ⊥
+gone_unfinished : (facts : Facts) (o : Option Command) (s : Session) (looked : Bool) (frames : List Frame) (told : Bool) (command : Command) (from : ℕ) → o ≡ Some command → is_finished_in facts command (work_of s) ≡ true → Fits facts o s looked frames told → facts.due ≡ dues.Gone from → ⊥
 gone_unfinished facts o s looked frames told command from at finished fits is = on_its_way facts command s _ (parts_of facts command s finished) (fits.taken from is).going
     (ap (next_of_end facts) (subst (λ x. elim x as (λ y. Type 0) [ Some c ↦ IsTakenBack facts c s from | None ↦ end_of_all facts ≡ TakesBack from ]) at (fits.taken from is).end).end)
 
@@ -174,7 +175,7 @@ not_started number None low = refl
 not_started number (Some t) low = ap (λ x. elim x as (λ y. ℕ) [ true ↦ 1 | false ↦ 0 ]) (ne_eqb t.first (number + 1) (λ same. absurd (omega (arith, same, low))))
 
 -- a command that is finished is passed over
-pub fits_pass : (facts : Facts) (o : Option Command) (s : Session) (looked : Bool) (frames : List Frame) (told : Bool) (command : Command) (next : Option Command) → o ≡ Some command → is_finished facts command s ≡ true → Fits facts o s looked frames told → Fits facts next (next_session command next s) false [] false
+pub fits_pass : (facts : Facts) (o : Option Command) (s : Session) (looked : Bool) (frames : List Frame) (told : Bool) (command : Command) (next : Option Command) → o ≡ Some command → is_finished_in facts command (work_of s) ≡ true → Fits facts o s looked frames told → Fits facts next (next_session command next s) false [] false
 fits_pass facts o s looked frames told command next at finished fits = record {
   rebuilds = bare_fits facts next now (λ keeps. open_whole);
   looks = record {
@@ -193,7 +194,7 @@ fits_pass facts o s looked frames told command next at finished fits = record {
   settled = λ is. refl;
   written = fits.written;
   visible = λ is. absurd (on_its_way facts command s _ done (fits.visible is).going (let c = fits.visible is in
-      ap (next_of_end facts) (subst (λ x. end_of facts x s ≡ Commits (first_at facts)) (one c.command c.at) c.end)));
+      ap (next_of_end facts) (subst (λ x. end_in facts x (work_of s) ≡ Commits (first_at facts)) (one c.command c.at) c.end)));
   taken = λ from is. absurd (gone_unfinished facts o s looked frames told command from at finished fits is);
   accepts = fits.accepts;
   relations = opens_next o next s command at fits.settled fits.relations;
@@ -227,10 +228,10 @@ fits_pass facts o s looked frames told command next at finished fits = record {
             held_whole : AreHeld s.opened (map opening_of s.opens) → list_any (lacks (is_kept facts.kept)) (map opening_of (opens_well (number_of s) command s.blocks.levels s.opened s.opens)) ≡ false
             held_whole are = well_none (lacks (is_kept facts.kept)) s.opened s.opens are (whole well) (number_of s) command s.blocks.levels
 
-            silent : end_well facts command s ≡ Ends
-            silent = sym (ap (λ x. elim x as (λ y. End) [ Well ↦ end_well facts command s | Badly ↦ end_badly s | Unsettled ↦ Ends ]) well) ∙ none_ends facts (end_of facts command s) (subst (λ t. is_none (elim t as (λ x. Option Event) [ true ↦ None | false ↦ next_of_end facts (end_of facts command s) ]) ≡ true) going done.none)
+            silent : end_well_in facts command (work_of s) ≡ Ends
+            silent = sym (ap (λ x. elim x as (λ y. End) [ Well ↦ end_well_in facts command (work_of s) | Badly ↦ end_badly_in (work_of s) | Unsettled ↦ Ends ]) well) ∙ none_ends facts (end_in facts command (work_of s)) (subst (λ t. is_none (elim t as (λ x. Option Event) [ true ↦ None | false ↦ next_of_end facts (end_in facts command (work_of s)) ]) ≡ true) going done.none)
 
-            ends_none : (c : Command) → ends_failure c ≡ true → end_well facts c s ≡ Ends → list_any (lacks (is_kept facts.kept)) (map opening_of (opens_well (number_of s) c s.blocks.levels s.opened s.opens)) ≡ false
+            ends_none : (c : Command) → ends_failure c ≡ true → end_well_in facts c (work_of s) ≡ Ends → list_any (lacks (is_kept facts.kept)) (map opening_of (opens_well (number_of s) c s.blocks.levels s.opened s.opens)) ≡ false
             ends_none commands.Commit mends end = refl
             ends_none commands.Rollback mends end = refl
             ends_none (commands.RollbackTo name) mends end = absurd (cc end)

@@ -12,8 +12,9 @@ use Rattle.cacheless.specs.Facts.{Facts}
 use Rattle.ddl_effect.specs.Plans.{Fails}
 use Rattle.cacheless.specs.Session.{Session, Outcome, Well, Badly, Unsettled, number_of, outcome_of, is_settled, plan_admitted, plan_first, is_blocked}
 use Rattle.cacheless.specs.Types.{CommandError}
-use Rattle.cacheless.specs.Owed.{OwesLook, owed_at_start, begins}
-use Rattle.cacheless.specs.Ends.{End, Ends, Commits, TakesBack, end_of_all, end_of_block, end_well, end_badly, end_of}
+use Rattle.cacheless.specs.Work.{work_of}
+use Rattle.cacheless.specs.Owed.{OwesLook, owed_first_in, begins_in}
+use Rattle.cacheless.specs.Ends.{End, Ends, Commits, TakesBack, end_of_all, end_of_block, end_well_in, end_badly_in, end_in}
 use Rattle.cacheless.specs.Settled.{blocks_after}
 use Rattle.backend_core.specs.Types.{Command}
 use Rattle.backend_core.proofs.Fitting.Levels.{rise_more, rise_take, rise_push, IsWithin, within, outside_is, HasOutermost, has_outermost}
@@ -141,7 +142,7 @@ runs_cut facts levels now outer more others are cut block = record { runs = bloc
 
 module _ (facts : Facts) (o : Option Command) (s : Session) (command : Command) (at : o ≡ Some command) (blocked : s.blocked ≡ is_blocked s.blocks o) (levels : LevelsFit (number_of s) s.blocks) (admitted : outcome_of s.left ≡ Well → refused_by s.blocks command ≡ None) where
   -- what a command ends by itself begins no transaction
-  not_begun : ends_block command ≡ true → begins command s ≡ false
+  not_begun : ends_block command ≡ true → begins_in command (work_of s) ≡ false
   not_begun ends = by_block s.blocks.block
     where
       by_block : (block : Block) → elim block as (λ x. Bool) [ Outside ↦ not (ends_block command) && not s.ended && is_none (refused_by no_block command) | other ↦ false ] ≡ false
@@ -150,7 +151,7 @@ module _ (facts : Facts) (o : Option Command) (s : Session) (command : Command) 
       by_block Failed = refl
 
   -- nor does a command that is refused
-  not_begun_refused : is_some (refused_by no_block command) ≡ true → begins command s ≡ false
+  not_begun_refused : is_some (refused_by no_block command) ≡ true → begins_in command (work_of s) ≡ false
   not_begun_refused refused = by_block s.blocks.block
     where
       none_left : (e : Option CommandError) → is_some e ≡ true → is_none e ≡ false
@@ -162,9 +163,9 @@ module _ (facts : Facts) (o : Option Command) (s : Session) (command : Command) 
       by_block Inside = refl
       by_block Failed = refl
 
-  none_alone : RunsBy facts o s Outside → begins command s ≡ false → facts.running ≡ None
+  none_alone : RunsBy facts o s Outside → begins_in command (work_of s) ≡ false → facts.running ≡ None
   none_alone (inl none) not_begins = none
-  none_alone (inr alone) not_begins = let same : alone.command ≡ command = cc (alone.at, at) in absurd (both_ways _ not_begins (ap (λ c. begins c s) (sym same) ∙ alone.begins))
+  none_alone (inr alone) not_begins = let same : alone.command ≡ command = cc (alone.at, at) in absurd (both_ways _ not_begins (ap (λ c. begins_in c (work_of s)) (sym same) ∙ alone.begins))
 
   next_stays : (block : Block) → s.blocks.block ≡ block → (block ≡ Outside → facts.running ≡ None) → RunsBy facts o s block → RunsIn facts s.blocks
   next_stays Outside is none runs = subst (RunsAt facts s.blocks.levels) (sym is) (none refl)
@@ -177,11 +178,11 @@ module _ (facts : Facts) (o : Option Command) (s : Session) (command : Command) 
   closed Inside commits runs none ends = own_closed facts.running facts commits refl runs.runs ends
 
   -- where a block begins, its transaction runs
-  begun_first : s.blocks.block ≡ Outside → begins command s ≡ true → owed_at_start facts command s ≡ [] → RunsBy facts o s Outside → RunsAt facts (record { first = number_of s; savepoint = None } ∷ []) Inside
-  begun_first is starts free (inl none) = absurd (let owes : owed_at_start facts command s ≡ OwesLook ∷ [] = (λ i. elim (starts i && is_none (none i)) [ true ↦ OwesLook ∷ [] | false ↦ [] ]) in cc (owes, free))
+  begun_first : s.blocks.block ≡ Outside → begins_in command (work_of s) ≡ true → owed_first_in facts command (work_of s) ≡ [] → RunsBy facts o s Outside → RunsAt facts (record { first = number_of s; savepoint = None } ∷ []) Inside
+  begun_first is starts free (inl none) = absurd (let owes : owed_first_in facts command (work_of s) ≡ OwesLook ∷ [] = (λ i. elim (starts i && is_none (none i)) [ true ↦ OwesLook ∷ [] | false ↦ [] ]) in cc (owes, free))
   begun_first is starts free (inr alone) = record { runs = some_first facts.running _ alone.first; first = λ _. alone.first }
 
-  next_badly : RunsBy facts o s s.blocks.block → end_badly s ≡ Ends → RunsIn facts (blocks_badly s.blocks)
+  next_badly : RunsBy facts o s s.blocks.block → end_badly_in (work_of s) ≡ Ends → RunsIn facts (blocks_badly s.blocks)
   next_badly runs ends = by_blocked s.blocked refl ends
     where
       refuses : (block : Block) → s.blocks.block ≡ block → s.blocked ≡ true → elim block as (λ x. Bool) [ Inside ↦ false | other ↦ is_some (refused_by s.blocks command) ] ≡ true
@@ -202,11 +203,11 @@ module _ (facts : Facts) (o : Option Command) (s : Session) (command : Command) 
   failed_refuses c failed refuses allowed = let no : None ≡ Some errors.BlockFailed = sym allowed ∙ (λ i. option_or (refused_in (failed i) c) (refused_of s.blocks.levels c)) ∙ ap (λ e. option_or e (refused_of s.blocks.levels c)) refuses in cc no
 
   -- a command that came out well and ends with no entry
-  next_well : (c : Command) → command ≡ c → refused_by s.blocks c ≡ None → s.ended ≡ false → owed_at_start facts command s ≡ [] → RunsBy facts o s s.blocks.block → end_well facts c s ≡ Ends → RunsIn facts (blocks_well (number_of s) c s.blocks)
+  next_well : (c : Command) → command ≡ c → refused_by s.blocks c ≡ None → s.ended ≡ false → owed_first_in facts command (work_of s) ≡ [] → RunsBy facts o s s.blocks.block → end_well_in facts c (work_of s) ≡ Ends → RunsIn facts (blocks_well (number_of s) c s.blocks)
   next_well commands.Begin same allowed going free runs ends = by_block s.blocks.block refl runs
     where
-      starts : s.blocks.block ≡ Outside → begins command s ≡ true
-      starts is = ap (λ c. begins c s) same ∙ ap (λ b. elim b as (λ x. Bool) [ Outside ↦ not s.ended && true | other ↦ false ]) is ∙ ap (λ t. not t && true) going
+      starts : s.blocks.block ≡ Outside → begins_in command (work_of s) ≡ true
+      starts is = ap (λ c. begins_in c (work_of s)) same ∙ ap (λ b. elim b as (λ x. Bool) [ Outside ↦ not s.ended && true | other ↦ false ]) is ∙ ap (λ t. not t && true) going
 
       by_block : (block : Block) → s.blocks.block ≡ block → RunsBy facts o s block
           → RunsIn facts (elim block as (λ x. Blocks) [ Outside ↦ record { block = Inside; levels = record { first = number_of s; savepoint = None } ∷ [] } | other ↦ s.blocks ])
@@ -245,10 +246,10 @@ module _ (facts : Facts) (o : Option Command) (s : Session) (command : Command) 
       by_block Failed is r e = next_stays Failed is (λ x. absurd (cc)) r
 
   -- the transaction after a command that ends with no entry
-  pub next_silent : s.ended ≡ false → is_settled (outcome_of s.left) ≡ true → owed_at_start facts command s ≡ [] → RunsBy facts o s s.blocks.block → end_of facts command s ≡ Ends → RunsIn facts (blocks_after command s)
+  pub next_silent : s.ended ≡ false → is_settled (outcome_of s.left) ≡ true → owed_first_in facts command (work_of s) ≡ [] → RunsBy facts o s s.blocks.block → end_in facts command (work_of s) ≡ Ends → RunsIn facts (blocks_after command s)
   next_silent going out free runs ends = by_outcome (outcome_of s.left) refl out ends
     where
-      by_outcome : (x : Outcome) → outcome_of s.left ≡ x → is_settled x ≡ true → ◌≡◌ {A = End} (elim x [ Well ↦ end_well facts command s | Badly ↦ end_badly s | Unsettled ↦ Ends ]) Ends
+      by_outcome : (x : Outcome) → outcome_of s.left ≡ x → is_settled x ≡ true → ◌≡◌ {A = End} (elim x [ Well ↦ end_well_in facts command (work_of s) | Badly ↦ end_badly_in (work_of s) | Unsettled ↦ Ends ]) Ends
           → RunsIn facts (blocks_out command s x)
       by_outcome Well came is e = next_well command refl (admitted came) going free runs e
       by_outcome Badly came is e = next_badly runs e

@@ -9,7 +9,8 @@ use Rattle.base_types.specs.declared.command.Command.TheVariants as commands
 use Rattle.command_answers.specs.declared.error.CommandError.TheVariants as errors
 use Rattle.ddl_effect.specs.Opens.{place_latest, without_latest, opens_before}
 use Rattle.txn_blocks.specs.Blocks.{Block, Level, Outside, Inside, Failed, Blocks, refused_in, refused_by, innermost, levels_up_to, blocks_begun, blocks_well, blocks_badly}
-use Rattle.cacheless.specs.Ends.{End, Ends, Commits, TakesBack, end_of_block, end_of, end_well, end_badly}
+use Rattle.cacheless.specs.Work.{work_of}
+use Rattle.cacheless.specs.Ends.{End, Ends, Commits, TakesBack, end_of_block, end_in, end_well_in, end_badly_in}
 use Rattle.cacheless.specs.Facts.{Facts}
 use Rattle.cacheless.specs.Session.{Session, Outcome, Well, Badly, Unsettled, opening_of, held_in, number_of, outcome_of, is_settled, plan_first}
 use Rattle.cacheless.specs.Settled.{opens_with, opens_well, opens_badly, opens_passed, opens_after, blocks_after, next_session}
@@ -212,7 +213,7 @@ since_none [] = refl
 since_none (o ∷ opens) = ap (λ t. cond t (o ∷ opens_before 0 opens) (opens_before 0 opens)) (le-ltb o.command 0 (omega arith)) ∙ since_none opens
 
 -- once the release of a command is made, those are open that were opened before what it took back, or none, where it ended its transaction
-pub opens_over : (facts : Facts) (s : Session) (command : Command) (from : ℕ) → end_from (end_of facts command s) ≡ Some from → OpensIn s.blocks.block s.opens → opens_before (first_at facts) s.opens ≡ []
+pub opens_over : (facts : Facts) (s : Session) (command : Command) (from : ℕ) → end_from (end_in facts command (work_of s)) ≡ Some from → OpensIn s.blocks.block s.opens → opens_before (first_at facts) s.opens ≡ []
     → opens_before from s.opens ≡ opens_passed s.left (number_of s) command s.blocked s.blocks.levels (map opening_of (opens_before from s.opens)) s.opens
 opens_over facts s command from comes inside since = by_outcome (outcome_of s.left) comes
   where
@@ -239,7 +240,7 @@ opens_over facts s command from comes inside since = by_outcome (outcome_of s.le
         by_block Inside none is = absurd (cc is)
         by_block Failed none is = absurd (cc is)
 
-    by_command : (c : Command) → end_from (end_well facts c s) ≡ Some from → opens_before from s.opens ≡ opens_well (number_of s) c s.blocks.levels held s.opens
+    by_command : (c : Command) → end_from (end_well_in facts c (work_of s)) ≡ Some from → opens_before from s.opens ≡ opens_well (number_of s) c s.blocks.levels held s.opens
     by_command commands.Begin is = absurd (cc is)
     by_command commands.Commit is = ended true is
     by_command commands.Rollback is = ended false is
@@ -250,7 +251,7 @@ opens_over facts s command from comes inside since = by_outcome (outcome_of s.le
     by_blocked true is = absurd (cc is)
     by_blocked false is = ap (λ n. opens_before n s.opens) (let same : Some (innermost (number_of s) s.blocks.levels) ≡ Some from = is in sym (cc same))
 
-    by_outcome : (x : Outcome) → end_from (elim x as (λ y. End) [ Well ↦ end_well facts command s | Badly ↦ end_badly s | Unsettled ↦ Ends ]) ≡ Some from
+    by_outcome : (x : Outcome) → end_from (elim x as (λ y. End) [ Well ↦ end_well_in facts command (work_of s) | Badly ↦ end_badly_in (work_of s) | Unsettled ↦ Ends ]) ≡ Some from
         → opens_before from s.opens ≡ elim x as (λ y. List OpenRelation) [ Well ↦ opens_well (number_of s) command s.blocks.levels held s.opens | outcome ↦ opens_badly (number_of s) s.blocked s.blocks.levels s.opens ]
     by_outcome Well is = by_command command is
     by_outcome Badly is = by_blocked s.blocked is

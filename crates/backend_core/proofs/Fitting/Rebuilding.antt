@@ -6,7 +6,8 @@ use Rattle.base_types.specs.Scans.{build_scans}
 use Rattle.cacheless.specs.Facts.{Facts}
 use Rattle.cacheless.specs.Holds.{FactsFit}
 use Rattle.cacheless.specs.May.{lacks_opened}
-use Rattle.cacheless.specs.Owed.{OwesScan, owed_at_start, owed_after, unusable, builds_owed, act_owed, scans_owed, owed_of}
+use Rattle.cacheless.specs.Work.{work_of}
+use Rattle.cacheless.specs.Owed.{OwesScan, owed_first_in, owed_after, missing, builds_missing, act_owed, scans_owed_in, owed_in}
 use Rattle.cacheless.specs.Session.{Session, Outcome, Well, Badly, Unsettled, outcome_of}
 use Rattle.cacheless.specs.State.{kept_at, is_kept, is_absent}
 use Rattle.cacheless.specs.Suspects.{lacks}
@@ -27,9 +28,9 @@ found_none f (x ∷ xs) none = by_test (f x) none (found_none f xs)
     by_test true some more = absurd (cc some)
     by_test false later more = more later
 
-pub owed_whole : (facts : Facts) (held : List Opening) → builds_owed facts held ≡ [] → list_any (lacks (is_kept facts.kept)) held ≡ false
+pub owed_whole : (facts : Facts) (held : List Opening) → builds_missing facts.kept held ≡ [] → list_any (lacks (is_kept facts.kept)) held ≡ false
 owed_whole facts [] none = refl
-owed_whole facts (o ∷ held) none = let both = both_empty (unusable facts (build_scans o.kind o.rel)) (builds_owed facts held) none in
+owed_whole facts (o ∷ held) none = let both = both_empty (missing facts.kept (build_scans o.kind o.rel)) (builds_missing facts.kept held) none in
     (λ i. found_none (λ scan. not (is_kept facts.kept scan)) (build_scans o.kind o.rel) both.0 i || owed_whole facts held both.1 i)
 
 -- where none of them lacks a scan each is whole
@@ -60,27 +61,27 @@ bare_fits facts o s whole = record {
 }
 
 -- there is none where no descriptor is owed a scan, or the command has failed
-pub builds_bare : (facts : Facts) (o : Option Command) (s : Session) (frames : List Frame) → FramesFit facts o s frames → builds_owed facts s.opened ≡ [] → frames ≡ []
+pub builds_bare : (facts : Facts) (o : Option Command) (s : Session) (frames : List Frame) → FramesFit facts o s frames → builds_missing facts.kept s.opened ≡ [] → frames ≡ []
 builds_bare facts o s frames fits none = by_keeps (keeps_whole facts s) refl
   where
     by_keeps : (t : Bool) → keeps_whole facts s ≡ t → frames ≡ []
     by_keeps true keeps = stack_none (is_kept facts.kept) s.opened frames (fits.stack keeps) (owed_whole facts s.opened none)
     by_keeps false over = fits.over over
 
-pub scans_bare : (facts : Facts) (o : Option Command) (s : Session) (frames : List Frame) → FramesFit facts o s frames → scans_owed facts s ≡ [] → frames ≡ []
+pub scans_bare : (facts : Facts) (o : Option Command) (s : Session) (frames : List Frame) → FramesFit facts o s frames → scans_owed_in facts (work_of s) ≡ [] → frames ≡ []
 scans_bare facts o s frames fits none = by_outcome (outcome_of s.left) refl none
   where
-    by_outcome : (x : Outcome) → outcome_of s.left ≡ x → elim x as (λ y. List Purpose) [ Badly ↦ [] | other ↦ builds_owed facts s.opened ++ act_owed facts s.left ] ≡ [] → frames ≡ []
+    by_outcome : (x : Outcome) → outcome_of s.left ≡ x → elim x as (λ y. List Purpose) [ Badly ↦ [] | other ↦ builds_missing facts.kept s.opened ++ act_owed facts s.left ] ≡ [] → frames ≡ []
     by_outcome Badly is owed = fits.badly is
-    by_outcome Well is owed = builds_bare facts o s frames fits (both_empty (builds_owed facts s.opened) (act_owed facts s.left) owed).0
-    by_outcome Unsettled is owed = builds_bare facts o s frames fits (both_empty (builds_owed facts s.opened) (act_owed facts s.left) owed).0
+    by_outcome Well is owed = builds_bare facts o s frames fits (both_empty (builds_missing facts.kept s.opened) (act_owed facts s.left) owed).0
+    by_outcome Unsettled is owed = builds_bare facts o s frames fits (both_empty (builds_missing facts.kept s.opened) (act_owed facts s.left) owed).0
 
 no_scan : (scans : List Purpose) → map OwesScan scans ≡ [] → scans ≡ []
 no_scan [] none = refl
 no_scan (scan ∷ scans) none = absurd (cc none)
 
-pub owed_bare : (facts : Facts) (o : Option Command) (s : Session) (frames : List Frame) (command : Command) → FramesFit facts o s frames → owed_of facts command s ≡ [] → frames ≡ []
-owed_bare facts o s frames command fits none = scans_bare facts o s frames fits (no_scan (scans_owed facts s) (both_empty (owed_at_start facts command s ++ owed_after facts.due) (map OwesScan (scans_owed facts s)) none).1)
+pub owed_bare : (facts : Facts) (o : Option Command) (s : Session) (frames : List Frame) (command : Command) → FramesFit facts o s frames → owed_in facts command (work_of s) ≡ [] → frames ≡ []
+owed_bare facts o s frames command fits none = scans_bare facts o s frames fits (no_scan (scans_owed_in facts (work_of s)) (both_empty (owed_first_in facts command (work_of s) ++ owed_after facts.due) (map OwesScan (scans_owed_in facts (work_of s))) none).1)
 
 -- what is kept goes on, where an entry leaves it
 pub same_fits : (facts later : Facts) (o : Option Command) (s now : Session) (frames : List Frame) → is_kept later.kept ≡ is_kept facts.kept → now.opened ≡ s.opened → now.left ≡ s.left → now.ended ≡ s.ended → is_gone_due later.due ≡ is_gone_due facts.due → FramesFit facts o s frames → FramesFit later o now frames
@@ -115,13 +116,13 @@ top_rebuilt facts o s frames f fits on = by_split (split frames)
     by_split (inr g) = by_keeps g (keeps_whole facts s) refl
 
 -- where nothing is owed, and the command hasn't failed, no descriptor is
-pub owed_builds : (facts : Facts) (s : Session) (command : Command) → (outcome_of s.left ≡ Badly → ⊥) → owed_of facts command s ≡ [] → builds_owed facts s.opened ≡ []
-owed_builds facts s command goes none = by_outcome (outcome_of s.left) refl (no_scan (scans_owed facts s) (both_empty (owed_at_start facts command s ++ owed_after facts.due) (map OwesScan (scans_owed facts s)) none).1)
+pub owed_builds : (facts : Facts) (s : Session) (command : Command) → (outcome_of s.left ≡ Badly → ⊥) → owed_in facts command (work_of s) ≡ [] → builds_missing facts.kept s.opened ≡ []
+owed_builds facts s command goes none = by_outcome (outcome_of s.left) refl (no_scan (scans_owed_in facts (work_of s)) (both_empty (owed_first_in facts command (work_of s) ++ owed_after facts.due) (map OwesScan (scans_owed_in facts (work_of s))) none).1)
   where
-    by_outcome : (x : Outcome) → outcome_of s.left ≡ x → elim x as (λ y. List Purpose) [ Badly ↦ [] | other ↦ builds_owed facts s.opened ++ act_owed facts s.left ] ≡ [] → builds_owed facts s.opened ≡ []
+    by_outcome : (x : Outcome) → outcome_of s.left ≡ x → elim x as (λ y. List Purpose) [ Badly ↦ [] | other ↦ builds_missing facts.kept s.opened ++ act_owed facts s.left ] ≡ [] → builds_missing facts.kept s.opened ≡ []
     by_outcome Badly is owed = absurd (goes is)
-    by_outcome Well is owed = (both_empty (builds_owed facts s.opened) (act_owed facts s.left) owed).0
-    by_outcome Unsettled is owed = (both_empty (builds_owed facts s.opened) (act_owed facts s.left) owed).0
+    by_outcome Well is owed = (both_empty (builds_missing facts.kept s.opened) (act_owed facts s.left) owed).0
+    by_outcome Unsettled is owed = (both_empty (builds_missing facts.kept s.opened) (act_owed facts s.left) owed).0
 
 -- a look for the one on top changes nothing of it
 pub look_fit : (facts : Facts) (o : Option Command) (s : Session) (frames : List Frame) → FramesFit facts o s frames → FramesFit facts o s (on_top with_look frames)

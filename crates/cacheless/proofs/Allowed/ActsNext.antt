@@ -17,10 +17,11 @@ use Rattle.cacheless.specs.ActsDone.{made_in, opening_by}
 use Rattle.cacheless.specs.Facts.{Facts, facts_of}
 use Rattle.cacheless.specs.OnCourse.{OnItsWay, IsOnCourse, CourseOf}
 use Rattle.cacheless.specs.OpenedReads.{is_of_opened}
-use Rattle.cacheless.specs.Owed.{Owes, OwesScan, missing, builds_missing, owed_at_start, owed_after, builds_owed, act_owed, act_next, scans_owed, owed_of, is_next_scan}
+use Rattle.cacheless.specs.Work.{work_of}
+use Rattle.cacheless.specs.Owed.{Owes, OwesScan, missing, builds_missing, owed_first_in, owed_after, act_owed, act_next, scans_owed_in, owed_in, is_next_in}
 use Rattle.cacheless.specs.Plays.{IsUnlock}
 use Rattle.cacheless.specs.Session.{Session, Outcome, Unsettled, Well, Badly, held_before, number_of, outcome_of, is_settled}
-use Rattle.cacheless.specs.Settled.{finds, if_locked, has_taken_no_other, looked_up, gives}
+use Rattle.cacheless.specs.Settled.{finds, if_locked, has_taken_no_other, looked_up_in, gives_in}
 use Rattle.cacheless.proofs.Allowed.AllowedHistories.{allowed_on_course}
 use Rattle.cacheless.proofs.Allowed.AtRest.{IsStuck, WaitsForEntry, WaitsIn, allowed_waits}
 use Rattle.cacheless.proofs.Allowed.NextEntries.{HasNext, IsFree, owed_next, lacking_next, asking_next}
@@ -65,27 +66,27 @@ act_first facts (Absent name) reads some = first_of_list (act_owed facts (Absent
 -- where scans are owed some scan is next
 record HasNextScan (facts : Facts) (s : Session) : Type 0 where
   scan : Purpose
-  is : is_next_scan scan facts s ≡ true
+  is : is_next_in scan facts (work_of s) ≡ true
 
-next_scan : (facts : Facts) (s : Session) → ((scan : Purpose) (rest : List Row → Plan) → s.left ≡ Do (Read scan) rest → builds_owed facts s.opened ≡ [] → act_owed facts s.left ≡ []) → (scans_owed facts s ≡ [] → ⊥) → HasNextScan facts s
+next_scan : (facts : Facts) (s : Session) → ((scan : Purpose) (rest : List Row → Plan) → s.left ≡ Do (Read scan) rest → builds_missing facts.kept s.opened ≡ [] → act_owed facts s.left ≡ []) → (scans_owed_in facts (work_of s) ≡ [] → ⊥) → HasNextScan facts s
 next_scan facts s reads some = by_outcome (outcome_of s.left) refl
   where
     builds : List Purpose
     builds = flat_map (λ o. take 1 (missing facts.kept (build_scans o.kind o.rel))) s.opened
 
     owes_if : Outcome → List Purpose
-    owes_if x = elim x as (λ y. List Purpose) [ Badly ↦ [] | other ↦ builds_owed facts s.opened ++ act_owed facts s.left ]
+    owes_if x = elim x as (λ y. List Purpose) [ Badly ↦ [] | other ↦ builds_missing facts.kept s.opened ++ act_owed facts s.left ]
 
     next_if : Outcome → List Purpose
     next_if x = elim x as (λ y. List Purpose) [ Badly ↦ [] | other ↦ builds ++ act_next facts s.left ]
 
-    goes : (x : Outcome) → outcome_of s.left ≡ x → owes_if x ≡ builds_owed facts s.opened ++ act_owed facts s.left → next_if x ≡ builds ++ act_next facts s.left → HasNextScan facts s
-    goes x is owes nexts = by_builds (builds_owed facts s.opened) refl
+    goes : (x : Outcome) → outcome_of s.left ≡ x → owes_if x ≡ builds_missing facts.kept s.opened ++ act_owed facts s.left → next_if x ≡ builds ++ act_next facts s.left → HasNextScan facts s
+    goes x is owes nexts = by_builds (builds_missing facts.kept s.opened) refl
       where
         later : (scan : Purpose) → list_any (same_scan scan) (builds ++ act_next facts s.left) ≡ true → HasNextScan facts s
         later scan among = record { scan = scan; is = ap (λ o. list_any (same_scan scan) (next_if o)) is ∙ ap (list_any (same_scan scan)) nexts ∙ among }
 
-        by_builds : (l : List Purpose) → builds_owed facts s.opened ≡ l → HasNextScan facts s
+        by_builds : (l : List Purpose) → builds_missing facts.kept s.opened ≡ l → HasNextScan facts s
         by_builds [] none =
             let first = act_first facts s.left (λ scan rest at. reads scan rest at none) (λ bare. some (ap owes_if is ∙ owes ∙ (λ i. none i ++ bare i))) in
             later first.scan (any-right (same_scan first.scan) builds (act_next facts s.left) first.is)
@@ -135,7 +136,7 @@ module _ (scenario : Scenario) (history : List Entry) (b : ℕ) (s : Session) (c
   waits = subst (WaitsIn scenario b facts) free.is (allowed_waits scenario history b free.spelled free.allowed) command at
 
   -- what it reads of a descriptor it has, where no descriptor lacks a scan
-  reads_kept : (scan : Purpose) (rest : List Row → Plan) → s.left ≡ Do (Read scan) rest → builds_owed facts s.opened ≡ [] → act_owed facts s.left ≡ []
+  reads_kept : (scan : Purpose) (rest : List Row → Plan) → s.left ≡ Do (Read scan) rest → builds_missing facts.kept s.opened ≡ [] → act_owed facts s.left ≡ []
   reads_kept scan rest left builds = ap (act_owed facts) left ∙ ap (λ t. cond (not t) (scan ∷ []) []) (kept_opened facts.kept scan s.opened of_opened builds)
     where
       way : OnItsWay history b s command
@@ -145,31 +146,31 @@ module _ (scenario : Scenario) (history : List Entry) (b : ℕ) (s : Session) (c
       of_opened = ap (is_of_opened scan) way.opened ∙ any-right (λ o. list_any (same_scan scan) (build_scans o.kind o.rel)) (held_before s) (made_in opening_by way.gave (plan_of s.opens command)) (its_place history b s command (Read scan) rest way left).2
 
   -- what it owes comes next
-  pub owing_next : (owed_of facts command s ≡ [] → ⊥) → HasNext scenario history b
+  pub owing_next : (owed_in facts command (work_of s) ≡ [] → ⊥) → HasNext scenario history b
   owing_next owes = by_due (owed_after facts.due) refl
     where
-      by_scans : owed_after facts.due ≡ [] → owed_at_start facts command s ≡ [] → (l : List Purpose) → scans_owed facts s ≡ l → HasNext scenario history b
+      by_scans : owed_after facts.due ≡ [] → owed_first_in facts command (work_of s) ≡ [] → (l : List Purpose) → scans_owed_in facts (work_of s) ≡ l → HasNext scenario history b
       by_scans due started [] none = absurd (owes (λ i. started i ++ due i ++ map OwesScan (none i)))
       by_scans due started (x ∷ xs) are = let next = next_scan facts s reads_kept (λ none. let no : x ∷ xs ≡ [] = sym are ∙ none in cc no) in lacking_next scenario history b s command next.scan free at due next.is
 
-      by_start : owed_after facts.due ≡ [] → (l : List Owes) → owed_at_start facts command s ≡ l → HasNext scenario history b
-      by_start due [] none = by_scans due none (scans_owed facts s) refl
+      by_start : owed_after facts.due ≡ [] → (l : List Owes) → owed_first_in facts command (work_of s) ≡ l → HasNext scenario history b
+      by_start due [] none = by_scans due none (scans_owed_in facts (work_of s)) refl
       by_start due (x ∷ xs) are = begin_next scenario history b s command free at due (ap is_empty are)
 
       by_due : (l : List Owes) → owed_after facts.due ≡ l → HasNext scenario history b
-      by_due [] none = by_start none (owed_at_start facts command s) refl
+      by_due [] none = by_start none (owed_first_in facts command (work_of s)) refl
       by_due (x ∷ xs) are = owed_next scenario history b s free.spelled free.number free.allowed free.stopped free.is (λ none. let no : x ∷ xs ≡ [] = sym are ∙ none in cc no)
 
   -- an act that is left, where nothing is owed
-  module _ (act : Act) (rest : List Row → Plan) (none : owed_of facts command s ≡ []) (left : s.left ≡ Do act rest) where
-    front : (owed_at_start facts command s ++ owed_after facts.due ≡ []) × (map OwesScan (scans_owed facts s) ≡ [])
-    front = both_empty (owed_at_start facts command s ++ owed_after facts.due) (map OwesScan (scans_owed facts s)) none
+  module _ (act : Act) (rest : List Row → Plan) (none : owed_in facts command (work_of s) ≡ []) (left : s.left ≡ Do act rest) where
+    front : (owed_first_in facts command (work_of s) ++ owed_after facts.due ≡ []) × (map OwesScan (scans_owed_in facts (work_of s)) ≡ [])
+    front = both_empty (owed_first_in facts command (work_of s) ++ owed_after facts.due) (map OwesScan (scans_owed_in facts (work_of s))) none
 
-    scans_none : builds_owed facts s.opened ++ act_owed facts (Do act rest) ≡ []
-    scans_none = sym (ap (λ p. elim (outcome_of p) as (λ x. List Purpose) [ Badly ↦ [] | other ↦ builds_owed facts s.opened ++ act_owed facts p ]) left) ∙ unmapped (scans_owed facts s) front.1
+    scans_none : builds_missing facts.kept s.opened ++ act_owed facts (Do act rest) ≡ []
+    scans_none = sym (ap (λ p. elim (outcome_of p) as (λ x. List Purpose) [ Badly ↦ [] | other ↦ builds_missing facts.kept s.opened ++ act_owed facts p ]) left) ∙ unmapped (scans_owed_in facts (work_of s)) front.1
 
-    gives_none : gives facts s act ≡ None
-    gives_none = sym (ap (λ l. elim (is_empty l) as (λ x. Option (List Row)) [ true ↦ gives facts s act | false ↦ None ]) scans_none) ∙ subst (IsStuck facts s) left (waits.stuck front.0)
+    gives_none : gives_in facts (work_of s) act ≡ None
+    gives_none = sym (ap (λ l. elim (is_empty l) as (λ x. Option (List Row)) [ true ↦ gives_in facts (work_of s) act | false ↦ None ]) scans_none) ∙ subst (IsStuck facts s) left (waits.stuck front.0)
 
   takes : TakesFit (number_of s) s.locks s.taken s.left
   takes = allowed_takes scenario history b s command free.spelled free.allowed free.is at
@@ -179,7 +180,7 @@ module _ (scenario : Scenario) (history : List Entry) (b : ℕ) (s : Session) (c
   held_here rel mode some = any-weaker (λ lock. is_own rel mode lock && (lock.command == number_of s)) (is_own rel mode) (λ lock is. (and_parts (is_own rel mode lock) (lock.command == number_of s) is).0) s.locks some
 
   -- a lookup with a lock that it has newly taken gives that back
-  taken_next : (name : List ℕ) (mode : Mode) (rest : List Row → Plan) (rel : Oid) → owed_of facts command s ≡ [] → s.left ≡ Do (Lookup name mode) rest → s.taken ≡ Some rel → HasNext scenario history b
+  taken_next : (name : List ℕ) (mode : Mode) (rest : List Row → Plan) (rel : Oid) → owed_in facts command (work_of s) ≡ [] → s.left ≡ Do (Lookup name mode) rest → s.taken ≡ Some rel → HasNext scenario history b
   taken_next name mode rest rel none left took = by_rows (rows_kept facts.kept (scans.RelName name)) refl (gives_none (Lookup name mode) rest none left)
     where
       own : has_lock s.locks rel mode ≡ true
@@ -192,12 +193,12 @@ module _ (scenario : Scenario) (history : List Entry) (b : ℕ) (s : Session) (c
       unlocked false given is = refl
       unlocked true given is = absurd (cc is)
 
-      by_rows : (given : List Row) → rows_kept facts.kept (scans.RelName name) ≡ given → looked_up facts s mode (rows_kept facts.kept (scans.RelName name)) ≡ None → HasNext scenario history b
+      by_rows : (given : List Row) → rows_kept facts.kept (scans.RelName name) ≡ given → looked_up_in facts (work_of s) mode (rows_kept facts.kept (scans.RelName name)) ≡ None → HasNext scenario history b
       by_rows (rows.Class oid name' kind fill ∷ more) gave stuck = by_same (same_oid rel oid) refl
         where
           by_same : (t : Bool) → same_oid rel oid ≡ t → HasNext scenario history b
           by_same false differs = unlocks (ap (finds rel) gave ∙ differs)
-          by_same true same = absurd (both_ways _ (unlocked _ _ (sym (ap (looked_up facts s mode) gave) ∙ stuck))
+          by_same true same = absurd (both_ways _ (unlocked _ _ (sym (ap (λ x. looked_up_in facts (work_of s) mode x) gave) ∙ stuck))
               (and_from (has_lock s.locks oid mode) (has_taken_no_other s.taken oid) (ap (λ n. has_lock s.locks (record { 0 = n }) mode) (sym (eqb-true rel.0 oid.0 same)) ∙ own) (ap (λ o. has_taken_no_other o oid) took ∙ eq-eqb oid.0 rel.0 (sym (eqb-true rel.0 oid.0 same)))))
       by_rows [] gave stuck = unlocks (ap (finds rel) gave)
       by_rows (rows.Att of num own' col_type stat live ∷ more) gave stuck = unlocks (ap (finds rel) gave)
@@ -207,7 +208,7 @@ module _ (scenario : Scenario) (history : List Entry) (b : ℕ) (s : Session) (c
       by_rows (rows.Trg oid of own' on ∷ more) gave stuck = unlocks (ap (finds rel) gave)
 
   -- an act that is left is asked for, or made, or what it has taken is given back
-  pub acting_next : (act : Act) (rest : List Row → Plan) → owed_of facts command s ≡ [] → s.left ≡ Do act rest → HasNext scenario history b
+  pub acting_next : (act : Act) (rest : List Row → Plan) → owed_in facts command (work_of s) ≡ [] → s.left ≡ Do act rest → HasNext scenario history b
   acting_next (Lookup name mode) rest none left = by_taken s.taken refl
     where
       by_taken : (o : Option Oid) → s.taken ≡ o → HasNext scenario history b
@@ -225,14 +226,14 @@ module _ (scenario : Scenario) (history : List Entry) (b : ℕ) (s : Session) (c
 
   -- so a command that hasn't come out goes on
   pub unsettled_next : is_settled (outcome_of s.left) ≡ false → HasNext scenario history b
-  unsettled_next going = by_owed (owed_of facts command s) refl
+  unsettled_next going = by_owed (owed_in facts command (work_of s)) refl
     where
-      by_plan : (p : Plan) → s.left ≡ p → owed_of facts command s ≡ [] → HasNext scenario history b
+      by_plan : (p : Plan) → s.left ≡ p → owed_in facts command (work_of s) ≡ [] → HasNext scenario history b
       by_plan (Do act rest) left none = acting_next act rest none left
       by_plan (Done told) left none = absurd (both_ways _ going (ap (λ p. is_settled (outcome_of p)) left))
       by_plan (Fails error) left none = absurd (both_ways _ going (ap (λ p. is_settled (outcome_of p)) left))
       by_plan (Absent name) left none = absurd (both_ways _ going (ap (λ p. is_settled (outcome_of p)) left))
 
-      by_owed : (l : List Owes) → owed_of facts command s ≡ l → HasNext scenario history b
+      by_owed : (l : List Owes) → owed_in facts command (work_of s) ≡ l → HasNext scenario history b
       by_owed [] none = by_plan s.left refl none
       by_owed (x ∷ xs) are = owing_next (λ none. let no : x ∷ xs ≡ [] = sym are ∙ none in cc no)

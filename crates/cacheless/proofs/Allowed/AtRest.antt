@@ -12,12 +12,13 @@ use Rattle.history_model.specs.Drawn.{next_oid}
 use Rattle.cacheless.specs.Types.{Row, Scenario, Command, Entry, Event}
 use Rattle.cacheless.specs.Facts.{Facts, facts_of}
 use Rattle.cacheless.specs.Output.{IsAllowed}
-use Rattle.cacheless.specs.Owed.{owed_at_start, owed_after}
+use Rattle.cacheless.specs.Work.{work_of}
+use Rattle.cacheless.specs.Owed.{owed_first_in, owed_after}
 use Rattle.cacheless.specs.Played.{AreSpelled}
 use Rattle.cacheless.specs.Plays.{MayPlayAt}
 use Rattle.cacheless.specs.Session.{Session, first_of, none_open, at_command}
 use Rattle.cacheless.specs.Sessions.{commands_left, entered, session_by, session_of}
-use Rattle.cacheless.specs.Settled.{act_done, done_here, acted_on, acted, is_finished, finished_as, next_session, settled}
+use Rattle.cacheless.specs.Settled.{act_done, done_here, acted_on, acted, is_finished_in, finished_as, next_session, settled}
 use Rattle.cacheless.proofs.Allowed.AlongAllowed.{Fact, holds_along}
 use Rattle.cacheless.proofs.Allowed.LooksBound.{acted-same}
 use Rattle.cacheless.proofs.Allowed.NextOnCourse.{entered_noted, noted_finished, no_start}
@@ -30,8 +31,8 @@ IsStuck facts s plan = ⊤
 
 -- a command waits for an entry: it isn't finished, and where no look and no fetch is owed its next act isn't done without one
 pub record WaitsForEntry (facts : Facts) (command : Command) (s : Session) : Type 0 where
-  pub unfinished : is_finished facts command s ≡ false
-  pub stuck : owed_at_start facts command s ++ owed_after facts.due ≡ [] → IsStuck facts s s.left
+  pub unfinished : is_finished_in facts command (work_of s) ≡ false
+  pub stuck : owed_first_in facts command (work_of s) ++ owed_after facts.due ≡ [] → IsStuck facts s s.left
 
 acted_on-stuck : (facts : Facts) (p : Plan) (s : Session) → s.left ≡ p → IsStuck facts (acted_on facts p s) (acted_on facts p s).left
 acted_on-stuck facts (Done told) s at = subst (IsStuck facts s) (sym at) tt
@@ -44,13 +45,13 @@ acted_on-stuck facts (Do act rest) s at = by_done (done_here facts s act (Do act
     by_done None none more = subst (IsStuck facts s) (sym at) none
     by_done (Some given) is more = more given
 
-acted-stuck : (facts : Facts) (command : Command) (s : Session) → owed_at_start facts command (acted facts command s) ++ owed_after facts.due ≡ [] → IsStuck facts (acted facts command s) (acted facts command s).left
-acted-stuck facts command s free = by_free (is_empty (owed_at_start facts command s ++ owed_after facts.due)) refl
+acted-stuck : (facts : Facts) (command : Command) (s : Session) → owed_first_in facts command (work_of (acted facts command s)) ++ owed_after facts.due ≡ [] → IsStuck facts (acted facts command s) (acted facts command s).left
+acted-stuck facts command s free = by_free (is_empty (owed_first_in facts command (work_of s) ++ owed_after facts.due)) refl
   where
-    same : owed_at_start facts command (acted facts command s) ≡ owed_at_start facts command s
-    same = acted-same (owed_at_start facts command) (λ act given rest x. refl) facts command s
+    same : owed_first_in facts command (work_of (acted facts command s)) ≡ owed_first_in facts command (work_of s)
+    same = acted-same (λ x. owed_first_in facts command (work_of x)) (λ act given rest x. refl) facts command s
 
-    by_free : (t : Bool) → is_empty (owed_at_start facts command s ++ owed_after facts.due) ≡ t → let now = elim t as (λ x. Session) [ true ↦ acted_on facts s.left s | false ↦ s ] in IsStuck facts now now.left
+    by_free : (t : Bool) → is_empty (owed_first_in facts command (work_of s) ++ owed_after facts.due) ≡ t → let now = elim t as (λ x. Session) [ true ↦ acted_on facts s.left s | false ↦ s ] in IsStuck facts now now.left
     by_free true is = acted_on-stuck facts s.left s refl
     by_free false owes = absurd (both_ways _ owes (ap is_empty (sym (ap (λ l. l ++ owed_after facts.due) same) ∙ free)))
 
@@ -60,7 +61,7 @@ WaitsAmong facts all s = (command : Command) → slice_get all (length s.finishe
 
 settled-waits : (facts : Facts) (all commands : List Command) (s : Session) → commands ≡ drop (length s.finished) all → WaitsAmong facts all (settled facts commands s)
 settled-waits facts all [] s are = λ command at. absurd (let none : None ≡ Some command = ap first_of are ∙ first_left all (length s.finished) ∙ at in cc none)
-settled-waits facts all (command ∷ rest) s are = by_end (is_finished facts command now) refl (settled-waits facts all rest next rest_is)
+settled-waits facts all (command ∷ rest) s are = by_end (is_finished_in facts command (work_of now)) refl (settled-waits facts all rest next rest_is)
   where
     now : Session
     now = acted facts command s
@@ -77,10 +78,10 @@ settled-waits facts all (command ∷ rest) s are = by_end (is_finished facts com
     at_now : Some command ≡ slice_get all (length now.finished)
     at_now = ap first_of are ∙ first_left all (length s.finished) ∙ ap (slice_get all) (sym counts)
 
-    here : is_finished facts command now ≡ false → WaitsAmong facts all now
+    here : is_finished_in facts command (work_of now) ≡ false → WaitsAmong facts all now
     here going c at = subst (λ x. WaitsForEntry facts x now) (let both : Some command ≡ Some c = at_now ∙ at in cc both) (record { unfinished = going; stuck = acted-stuck facts command s })
 
-    by_end : (t : Bool) → is_finished facts command now ≡ t → WaitsAmong facts all (settled facts rest next) → WaitsAmong facts all (elim t as (λ x. Session) [ true ↦ settled facts rest next | false ↦ now ])
+    by_end : (t : Bool) → is_finished_in facts command (work_of now) ≡ t → WaitsAmong facts all (settled facts rest next) → WaitsAmong facts all (elim t as (λ x. Session) [ true ↦ settled facts rest next | false ↦ now ])
     by_end true over more = more
     by_end false going more = here going
 

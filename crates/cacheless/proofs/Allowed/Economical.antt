@@ -14,7 +14,8 @@ use Rattle.history_model.specs.Drawn.{next_oid}
 use Rattle.history_model.specs.Read.{ScansOnlyIfNeeded}
 use Rattle.cacheless.specs.Types.{Purpose, Opening, Scenario, Command, Entry, Event}
 use Rattle.cacheless.specs.Facts.{Facts, facts_of}
-use Rattle.cacheless.specs.Owed.{unusable, act_next, is_next_scan}
+use Rattle.cacheless.specs.Work.{work_of}
+use Rattle.cacheless.specs.Owed.{missing, act_next, is_next_in}
 use Rattle.cacheless.specs.Plays.{MayPlayIn, MayPlayAt, IsNext}
 use Rattle.cacheless.specs.Session.{Session, Outcome, Unsettled, Well, Badly, outcome_of}
 use Rattle.cacheless.specs.Sessions.{session_of}
@@ -22,11 +23,11 @@ use Rattle.local_caches.specs.Kept.{is_kept}
 use Rattle.cacheless.proofs.Reading.{kept_usable}
 
 -- of some scans those that aren't usable are lacked
-first_lacked : (facts : Facts) (scan : Purpose) (wanted : List Purpose) → list_any (same_scan scan) (take 1 (unusable facts wanted)) ≡ true → is_kept facts.kept scan ≡ false
+first_lacked : (facts : Facts) (scan : Purpose) (wanted : List Purpose) → list_any (same_scan scan) (take 1 (missing facts.kept wanted)) ≡ true → is_kept facts.kept scan ≡ false
 first_lacked facts scan [] is = absurd (cc is)
 first_lacked facts scan (first ∷ wanted) is = by_usable (is_kept facts.kept first) refl is (first_lacked facts scan wanted)
   where
-    by_usable : (t : Bool) → is_kept facts.kept first ≡ t → list_any (same_scan scan) (take 1 (cond (not t) (first ∷ unusable facts wanted) (unusable facts wanted))) ≡ true → (list_any (same_scan scan) (take 1 (unusable facts wanted)) ≡ true → is_kept facts.kept scan ≡ false) → is_kept facts.kept scan ≡ false
+    by_usable : (t : Bool) → is_kept facts.kept first ≡ t → list_any (same_scan scan) (take 1 (cond (not t) (first ∷ missing facts.kept wanted) (missing facts.kept wanted))) ≡ true → (list_any (same_scan scan) (take 1 (missing facts.kept wanted)) ≡ true → is_kept facts.kept scan ≡ false) → is_kept facts.kept scan ≡ false
     by_usable true kept any more = more any
     by_usable false lacked any more = by_same (same_scan scan first) refl any
       where
@@ -34,14 +35,14 @@ first_lacked facts scan (first ∷ wanted) is = by_usable (is_kept facts.kept fi
         by_same true same has = ap (is_kept facts.kept) (same_scan-true scan first same) ∙ lacked
         by_same false other has = absurd (cc has)
 
-each_lacked : (facts : Facts) (scan : Purpose) (opened : List Opening) → list_any (same_scan scan) (flat_map (λ o. take 1 (unusable facts (build_scans o.kind o.rel))) opened) ≡ true → is_kept facts.kept scan ≡ false
+each_lacked : (facts : Facts) (scan : Purpose) (opened : List Opening) → list_any (same_scan scan) (flat_map (λ o. take 1 (missing facts.kept (build_scans o.kind o.rel))) opened) ≡ true → is_kept facts.kept scan ≡ false
 each_lacked facts scan [] is = absurd (cc is)
-each_lacked facts scan (o ∷ opened) is = by_side (each_lacked facts scan opened) (or_cases _ _ (sym (list_any-append (same_scan scan) (take 1 (unusable facts (build_scans o.kind o.rel))) (flat_map (λ p. take 1 (unusable facts (build_scans p.kind p.rel))) opened)) ∙ is))
+each_lacked facts scan (o ∷ opened) is = by_side (each_lacked facts scan opened) (or_cases _ _ (sym (list_any-append (same_scan scan) (take 1 (missing facts.kept (build_scans o.kind o.rel))) (flat_map (λ p. take 1 (missing facts.kept (build_scans p.kind p.rel))) opened)) ∙ is))
   where
     later : Bool
-    later = list_any (same_scan scan) (flat_map (λ p. take 1 (unusable facts (build_scans p.kind p.rel))) opened)
+    later = list_any (same_scan scan) (flat_map (λ p. take 1 (missing facts.kept (build_scans p.kind p.rel))) opened)
 
-    by_side : (later ≡ true → is_kept facts.kept scan ≡ false) → (list_any (same_scan scan) (take 1 (unusable facts (build_scans o.kind o.rel))) ≡ true) ⊎ (later ≡ true) → is_kept facts.kept scan ≡ false
+    by_side : (later ≡ true → is_kept facts.kept scan ≡ false) → (list_any (same_scan scan) (take 1 (missing facts.kept (build_scans o.kind o.rel))) ≡ true) ⊎ (later ≡ true) → is_kept facts.kept scan ≡ false
     by_side more (inl here) = first_lacked facts scan (build_scans o.kind o.rel) here
     by_side more (inr there) = more there
 
@@ -59,11 +60,11 @@ act_lacked facts scan (Fails error) is = absurd (cc is)
 act_lacked facts scan (Absent name) is = absurd (cc is)
 
 -- a scan that comes next isn't usable
-next_lacked : (facts : Facts) (scan : Purpose) (s : Session) → is_next_scan scan facts s ≡ true → is_kept facts.kept scan ≡ false
+next_lacked : (facts : Facts) (scan : Purpose) (s : Session) → is_next_in scan facts (work_of s) ≡ true → is_kept facts.kept scan ≡ false
 next_lacked facts scan s is = by_outcome (outcome_of s.left) is
   where
     builds : List Purpose
-    builds = flat_map (λ (o : Opening). take 1 (unusable facts (build_scans o.kind o.rel))) s.opened
+    builds = flat_map (λ (o : Opening). take 1 (missing facts.kept (build_scans o.kind o.rel))) s.opened
 
     both : list_any (same_scan scan) (builds ++ act_next facts s.left) ≡ true → is_kept facts.kept scan ≡ false
     both any = by_side (or_cases _ _ (sym (list_any-append (same_scan scan) builds (act_next facts s.left)) ∙ any))

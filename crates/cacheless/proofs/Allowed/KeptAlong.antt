@@ -13,12 +13,13 @@ use Rattle.cacheless.specs.Types.{Row, Scenario, Command, Entry, Event}
 use Rattle.cacheless.specs.Facts.{Facts, facts_of, facts_by}
 use Rattle.cacheless.specs.OnCourse.{IsOnCourse, CourseOf}
 use Rattle.cacheless.specs.Output.{IsAllowed}
-use Rattle.cacheless.specs.Owed.{owed_at_start, owed_after}
+use Rattle.cacheless.specs.Work.{work_of}
+use Rattle.cacheless.specs.Owed.{owed_first_in, owed_after}
 use Rattle.cacheless.specs.Played.{AreSpelled, IsPlayed}
 use Rattle.cacheless.specs.Plays.{MayPlayIn, MayPlayAt}
 use Rattle.cacheless.specs.Session.{Session, number_of, first_of, none_open, at_command}
 use Rattle.cacheless.specs.Sessions.{commands_left, entered, session_by, session_of}
-use Rattle.cacheless.specs.Settled.{act_done, done_here, acted_on, acted, is_finished, finished_as, next_session, settled}
+use Rattle.cacheless.specs.Settled.{act_done, done_here, acted_on, acted, is_finished_in, finished_as, next_session, settled}
 use Rattle.cacheless.proofs.Allowed.AlongAllowed.{Fact, holds_along}
 use Rattle.cacheless.proofs.Allowed.AtRest.{WaitsForEntry, WaitsAmong, WaitsIn, own-waits}
 use Rattle.cacheless.proofs.Allowed.LooksBound.{acted-same}
@@ -40,12 +41,12 @@ pub record IsKept (scenario : Scenario) (First : Facts → Type 0) (Holds : Fact
   pub starts : (history : List Entry) (b c : ℕ) (o : Option Command) → First (facts_of history b) → Holds (facts_by history b c events.Start (facts_of history b)) o (at_command no_block none_open [] [] (length history + 1) o)
   pub enters : (history : List Entry) (b : ℕ) (o : Option Command) (s : Session) (event : Event) (left : List Command) → Makes scenario history b o s event → first_of left ≡ o → Holds (facts_of history b) o s
       → Holds (facts_by history b (number_of s) event (facts_of history b)) o (entered (facts_by history b (number_of s) event (facts_of history b)) left (length history + 1) (number_of s) event s)
-  pub acts : (facts : Facts) (command : Command) (s : Session) (act : Act) (rest : List Row → Plan) (given : List Row) → s.left ≡ Do act rest → is_empty (owed_at_start facts command s ++ owed_after facts.due) ≡ true → done_here facts s act (Do act rest) ≡ Some given
+  pub acts : (facts : Facts) (command : Command) (s : Session) (act : Act) (rest : List Row → Plan) (given : List Row) → s.left ≡ Do act rest → is_empty (owed_first_in facts command (work_of s) ++ owed_after facts.due) ≡ true → done_here facts s act (Do act rest) ≡ Some given
       → Holds facts (Some command) s → Holds facts (Some command) (act_done act given (rest given) s)
-  pub passes : (facts : Facts) (command : Command) (next : Option Command) (s : Session) → is_finished facts command s ≡ true → Holds facts (Some command) s → Holds facts next (next_session command next s)
+  pub passes : (facts : Facts) (command : Command) (next : Option Command) (s : Session) → is_finished_in facts command (work_of s) ≡ true → Holds facts (Some command) s → Holds facts next (next_session command next s)
 
 module _ (scenario : Scenario) (First : Facts → Type 0) (Holds : Facts → Option Command → Session → Type 0) (kept : IsKept scenario First Holds) where
-  acted_on-keeps : (facts : Facts) (command : Command) (p : Plan) (s : Session) → s.left ≡ p → is_empty (owed_at_start facts command s ++ owed_after facts.due) ≡ true → Holds facts (Some command) s → Holds facts (Some command) (acted_on facts p s)
+  acted_on-keeps : (facts : Facts) (command : Command) (p : Plan) (s : Session) → s.left ≡ p → is_empty (owed_first_in facts command (work_of s) ++ owed_after facts.due) ≡ true → Holds facts (Some command) s → Holds facts (Some command) (acted_on facts p s)
   acted_on-keeps facts command (Do act rest) s at free holds = by_done (done_here facts s act (Do act rest)) refl
       (λ given done. acted_on-keeps facts command (rest given) (act_done act given (rest given) s) refl free (kept.acts facts command s act rest given at free done holds))
     where
@@ -59,9 +60,9 @@ module _ (scenario : Scenario) (First : Facts → Type 0) (Holds : Facts → Opt
   acted_on-keeps facts command (Absent name) s at free holds = holds
 
   acted-keeps : (facts : Facts) (command : Command) (s : Session) → Holds facts (Some command) s → Holds facts (Some command) (acted facts command s)
-  acted-keeps facts command s holds = by_free (is_empty (owed_at_start facts command s ++ owed_after facts.due)) refl
+  acted-keeps facts command s holds = by_free (is_empty (owed_first_in facts command (work_of s) ++ owed_after facts.due)) refl
     where
-      by_free : (t : Bool) → is_empty (owed_at_start facts command s ++ owed_after facts.due) ≡ t → Holds facts (Some command) (elim t as (λ x. Session) [ true ↦ acted_on facts s.left s | false ↦ s ])
+      by_free : (t : Bool) → is_empty (owed_first_in facts command (work_of s) ++ owed_after facts.due) ≡ t → Holds facts (Some command) (elim t as (λ x. Session) [ true ↦ acted_on facts s.left s | false ↦ s ])
       by_free true free = acted_on-keeps facts command s.left s refl free holds
       by_free false owes = holds
 
@@ -71,7 +72,7 @@ module _ (scenario : Scenario) (First : Facts → Type 0) (Holds : Facts → Opt
 
   settled-keeps : (facts : Facts) (all commands : List Command) (s : Session) → commands ≡ drop (length s.finished) all → Holds facts (first_of commands) s → HoldsOf facts all (settled facts commands s)
   settled-keeps facts all [] s are holds = subst (λ o. Holds facts o s) (ap first_of are ∙ first_left all (length s.finished)) holds
-  settled-keeps facts all (command ∷ rest) s are holds = by_end (is_finished facts command now) refl (λ over. settled-keeps facts all rest next rest_is (kept.passes facts command (first_of rest) now over here))
+  settled-keeps facts all (command ∷ rest) s are holds = by_end (is_finished_in facts command (work_of now)) refl (λ over. settled-keeps facts all rest next rest_is (kept.passes facts command (first_of rest) now over here))
     where
       now : Session
       now = acted facts command s
@@ -88,7 +89,7 @@ module _ (scenario : Scenario) (First : Facts → Type 0) (Holds : Facts → Opt
       rest_is : rest ≡ drop (length next.finished) all
       rest_is = rest_left all (length s.finished) command rest are ∙ ap (λ n. drop n all) (sym (length_push now.finished (finished_as now) ∙ ap (λ n. n + 1) counts))
 
-      by_end : (t : Bool) → is_finished facts command now ≡ t → (is_finished facts command now ≡ true → HoldsOf facts all (settled facts rest next)) → HoldsOf facts all (elim t as (λ x. Session) [ true ↦ settled facts rest next | false ↦ now ])
+      by_end : (t : Bool) → is_finished_in facts command (work_of now) ≡ t → (is_finished_in facts command (work_of now) ≡ true → HoldsOf facts all (settled facts rest next)) → HoldsOf facts all (elim t as (λ x. Session) [ true ↦ settled facts rest next | false ↦ now ])
       by_end true over more = more over
       by_end false going more = subst (λ o. Holds facts o now) (ap first_of are ∙ first_left all (length s.finished) ∙ ap (slice_get all) (sym counts)) here
 

@@ -20,13 +20,13 @@ use Rattle.history_model.proofs.Reading.{last_event_of-own, last_event_of-other}
 use Rattle.cacheless.specs.Types.{Row, Item, Scenario, Command, Entry, Event}
 use Rattle.cacheless.specs.Facts.{Facts, due_last, facts_of, facts_by}
 use Rattle.cacheless.specs.OnCourse.{FollowsPlan, AllOnCourse, CourseOf}
-use Rattle.cacheless.specs.Owed.{Owes, OwesLook, OwesFetch, OwesScan, owed_after, owed_last, is_quiet, owed_at_start, counts_full, started_in, has_looked}
+use Rattle.cacheless.specs.Owed.{Owes, OwesLook, OwesFetch, OwesScan, owed_after, is_quiet, owed_first_in, counts_full, started_in, has_looked_in}
 use Rattle.cacheless.specs.Played.{AreSpelled, IsPlayed}
-use Rattle.cacheless.specs.Plays.{may_look, IsWrite, MayPlay, MayPlayLast, MayPlayIn, MayPlayAt, IsNext, Plays}
+use Rattle.cacheless.specs.Plays.{may_look_in, IsWrite, MayPlay, MayPlayLast, MayPlayIn, MayPlayAt, IsNext, Plays}
 use Rattle.cacheless.specs.Session.{Session, Tally, number_of, first_of, none_open, at_command, outcome_of, is_settled}
 use Rattle.cacheless.specs.Sessions.{noted, placed_at, counted, written, commands_left, entered, session_by, session_of}
 use Rattle.cacheless.specs.Work.{work_of}
-use Rattle.cacheless.specs.Settled.{done_here, act_done, acted_on, acted, is_finished, finished_as, next_session, settled}
+use Rattle.cacheless.specs.Settled.{done_here, act_done, acted_on, acted, is_finished_in, finished_as, next_session, settled}
 use Rattle.cacheless.proofs.Allowed.AllowedHistories.{played_more, played_start}
 use Rattle.cacheless.proofs.Allowed.NextOnCourse.{entered_noted, noted_finished, no_start}
 use Rattle.cacheless.proofs.Allowed.OwnEntries.{IsNoted, ends_out}
@@ -93,7 +93,7 @@ bound_on last out other t going (inl none) = inl none
 bound_on last out other t going (inr is) = absurd (both_ways _ going is.1)
 
 -- a look that may be made has room
-look_room : (facts : Facts) (s : Session) → may_look facts s ≡ true → s.tally.looks + 1 ≤ earned s.tally + 3
+look_room : (facts : Facts) (s : Session) → may_look_in facts (work_of s) ≡ true → s.tally.looks + 1 ≤ earned s.tally + 3
 look_room facts s may = by_owed (owed_after facts.due) may
   where
     by_owed : (l : List Owes) → elim l [ OwesFetch ∷ owed ↦ false | owed ↦ nat_le (s.tally.looks + 1) (s.tally.scans + s.tally.grants + s.tally.unlocks + 2 * s.tally.fetches + 3) ] ≡ true → s.tally.looks + 1 ≤ earned s.tally + 3
@@ -115,7 +115,7 @@ acted_on-same get same facts (Do act rest) s = by_given (done_here facts s act (
     by_given (Some given) more = more given
 
 pub acted-same : {X : Type 0} (get : Session → X) → ((act : Act) (given : List Row) (rest : Plan) (s : Session) → get (act_done act given rest s) ≡ get s) → (facts : Facts) (command : Command) (s : Session) → get (acted facts command s) ≡ get s
-acted-same get same facts command s = by_free (is_empty (owed_at_start facts command s ++ owed_after facts.due))
+acted-same get same facts command s = by_free (is_empty (owed_first_in facts command (work_of s) ++ owed_after facts.due))
   where
     by_free : (free : Bool) → get (elim free as (λ x. Session) [ true ↦ acted_on facts s.left s | false ↦ s ]) ≡ get s
     by_free true = acted_on-same get same facts s.left s
@@ -140,7 +140,7 @@ BoundOf last all s = LooksBound last (slice_get all (length s.finished)) s.left 
 -- passing to the next command keeps it: that has made no look
 settled-bound : (facts : Facts) (last : Option Event) (all commands : List Command) (s : Session) → commands ≡ drop (length s.finished) all → LooksBound last (first_of commands) s.left s.tally → BoundOf last all (settled facts commands s)
 settled-bound facts last all [] s are fits = subst (λ o. LooksBound last o s.left s.tally) (ap first_of are ∙ first_left all (length s.finished)) fits
-settled-bound facts last all (command ∷ rest) s are fits = by_end (is_finished facts command now) (settled-bound facts last all rest next rest_is (record { bound = none_made last (is_out (first_of rest) next.left) next.tally refl; full = omega arith }))
+settled-bound facts last all (command ∷ rest) s are fits = by_end (is_finished_in facts command (work_of now)) (settled-bound facts last all rest next rest_is (record { bound = none_made last (is_out (first_of rest) next.left) next.tally refl; full = omega arith }))
   where
     now : Session
     now = acted facts command s
@@ -316,7 +316,7 @@ looks_bound scenario history spelled legal plays = (each-keeps (λ before e. May
     (EachFrom-both MayFollow (IsNext scenario) [] history (legal_follows history legal) plays)).looks
 
 -- a look may be made where there is room and no fetch is owed
-pub look_may : (facts : Facts) (s : Session) → IsNoFetch (owed_after facts.due) → s.tally.looks + 1 ≤ earned s.tally + 3 → may_look facts s ≡ true
+pub look_may : (facts : Facts) (s : Session) → IsNoFetch (owed_after facts.due) → s.tally.looks + 1 ≤ earned s.tally + 3 → may_look_in facts (work_of s) ≡ true
 look_may facts s free low = by_owed (owed_after facts.due) free
   where
     by_owed : (l : List Owes) → IsNoFetch l → elim l [ OwesFetch ∷ owed ↦ false | owed ↦ nat_le (s.tally.looks + 1) (s.tally.scans + s.tally.grants + s.tally.unlocks + 2 * s.tally.fetches + 3) ] ≡ true
@@ -326,10 +326,10 @@ look_may facts s free low = by_owed (owed_after facts.due) free
     by_owed (OwesScan scan ∷ owed) is = le-leb _ _ low
 
 -- a look that is owed after a grant or a full fetch may be made
-pub owed_look_may : (facts : Facts) (last : Option Event) (o : Option Command) (s : Session) → facts.due ≡ due_last last → LooksBound last o s.left s.tally → owed_last last ≡ OwesLook ∷ [] → may_look facts s ≡ true
+pub owed_look_may : (facts : Facts) (last : Option Event) (o : Option Command) (s : Session) → facts.due ≡ due_last last → LooksBound last o s.left s.tally → owed_after (due_last last) ≡ OwesLook ∷ [] → may_look_in facts (work_of s) ≡ true
 owed_look_may facts last o s is fits owes = look_may facts s (subst IsNoFetch (sym (ap owed_after is ∙ owes)) tt) (by_last last fits.bound owes)
   where
-    by_last : (last : Option Event) → BoundAfter last (is_out o s.left) s.tally → owed_last last ≡ OwesLook ∷ [] → s.tally.looks + 1 ≤ earned s.tally + 3
+    by_last : (last : Option Event) → BoundAfter last (is_out o s.left) s.tally → owed_after (due_last last) ≡ OwesLook ∷ [] → s.tally.looks + 1 ≤ earned s.tally + 3
     by_last (Some (events.LockOk rel mode)) bound is = omega (arith, bound)
     by_last (Some (events.Fetch count)) bound is = omega (arith, bound)
     by_last (Some (events.Look true)) bound is = absurd (cc is)
@@ -348,19 +348,19 @@ started_most number facts = by_own facts.running
     by_own (Some t) = one (t.first == number)
 
 -- where a scan or an answer wants one look more, that may be made
-pub wanted_look_may : (facts : Facts) (last : Option Event) (o : Option Command) (s : Session) → LooksBound last o s.left s.tally → owed_after facts.due ≡ [] → has_looked facts s ≡ false → may_look facts s ≡ true
+pub wanted_look_may : (facts : Facts) (last : Option Event) (o : Option Command) (s : Session) → LooksBound last o s.left s.tally → owed_after facts.due ≡ [] → has_looked_in facts (work_of s) ≡ false → may_look_in facts (work_of s) ≡ true
 wanted_look_may facts last o s fits free wants = look_may facts s (subst IsNoFetch (sym free) tt)
     (omega (arith, ltb-false _ _ wants, fits.full, started_most (number_of s) facts))
 
 -- a lookup that found no relation, and whose last entry is no look that said no, may look
-pub unfound_look_may : (facts : Facts) (last : Option Event) (command : Command) (s : Session) → facts.due ≡ due_last last → LooksBound last (Some command) s.left s.tally → owed_last last ≡ [] → is_settled (outcome_of s.left) ≡ false → is_quiet (due_last last) ≡ false → may_look facts s ≡ true
+pub unfound_look_may : (facts : Facts) (last : Option Event) (command : Command) (s : Session) → facts.due ≡ due_last last → LooksBound last (Some command) s.left s.tally → owed_after (due_last last) ≡ [] → is_settled (outcome_of s.left) ≡ false → is_quiet (due_last last) ≡ false → may_look_in facts (work_of s) ≡ true
 unfound_look_may facts last command s is fits free going waits = look_may facts s (subst IsNoFetch (sym (ap owed_after is ∙ free)) tt) (by_last last fits.bound free waits)
   where
     by_other : (s.tally.looks ≡ 0) ⊎ ((s.tally.looks ≤ earned s.tally + 3) × (is_settled (outcome_of s.left) ≡ true)) → s.tally.looks + 1 ≤ earned s.tally + 3
     by_other (inl none) = omega (arith, none)
     by_other (inr out) = absurd (both_ways _ going out.1)
 
-    by_last : (last : Option Event) → BoundAfter last (is_settled (outcome_of s.left)) s.tally → owed_last last ≡ [] → is_quiet (due_last last) ≡ false → s.tally.looks + 1 ≤ earned s.tally + 3
+    by_last : (last : Option Event) → BoundAfter last (is_settled (outcome_of s.left)) s.tally → owed_after (due_last last) ≡ [] → is_quiet (due_last last) ≡ false → s.tally.looks + 1 ≤ earned s.tally + 3
     by_last (Some (events.Look true)) bound is quiet = absurd (cc is)
     by_last (Some (events.Look false)) bound is quiet = absurd (cc quiet)
     by_last (Some (events.LockOk rel mode)) bound is quiet = omega (arith, bound)

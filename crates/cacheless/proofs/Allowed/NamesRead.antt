@@ -16,7 +16,8 @@ use Rattle.cacheless.specs.Types.{Oid, Kind, Row, Purpose, Command, Draft, Openi
 use Rattle.cacheless.specs.ActsDone.{LockOn, locks_by, IsHeldOn, made_in, opening_by}
 use Rattle.cacheless.specs.Facts.{Facts, facts_of, kept_in}
 use Rattle.cacheless.specs.OnCourse.{OnItsWay, IsOnCourse, ClearUnlessOwed}
-use Rattle.cacheless.specs.Owed.{OwesScan, unusable, owed_at_start, owed_after, builds_owed, act_owed, scans_owed, owed_of}
+use Rattle.cacheless.specs.Work.{work_of}
+use Rattle.cacheless.specs.Owed.{OwesScan, missing, owed_first_in, owed_after, builds_missing, act_owed, scans_owed_in, owed_in}
 use Rattle.cacheless.specs.Played.{IsPlayed}
 use Rattle.cacheless.specs.Session.{Session, Badly, held_before, outcome_of}
 use Rattle.cacheless.specs.Sessions.{session_of}
@@ -39,10 +40,10 @@ class_plain rel given = sym (plain_rows (scans.Class rel) (λ row. refl) given)
 
 -- of each descriptor that is open and whose relation is locked in a mode that keeps its row, where all scans for them are usable
 class_read : (scenario : Scenario) (history : List Entry) (b : ℕ) (s : Session) (locked : List LockOn) (opened : List Opening) → IsPlayed scenario history → session_of scenario history b ≡ Some s → map cleared s.locks ≡ s.locks → AllByRecursion (IsHeldOn history b) locked → AllByRecursion (IsKeptBy locked) opened
-    → builds_owed (facts_of history b) opened ≡ [] → AreReadAsNow history b (facts_of history b) opened
+    → builds_missing (facts_of history b).kept opened ≡ [] → AreReadAsNow history b (facts_of history b) opened
 class_read scenario history b s locked [] played is clear held kept none = tt
 class_read scenario history b s locked (o ∷ opened) played is clear held kept none =
-    let both = both_empty (unusable (facts_of history b) (build_scans o.kind o.rel)) (builds_owed (facts_of history b) opened) none in (
+    let both = both_empty (missing (facts_of history b).kept (build_scans o.kind o.rel)) (builds_missing (facts_of history b).kept opened) none in (
       kept_rows_read history b (scans.Class o.rel) (class_usable o.kind o.rel both.0) ∙ sym (class_plain o.rel (rows_read history b (scans.Class o.rel))) ∙ sym (kept_now scenario history b s locked (scans.Class o.rel) played is clear held kept.0 (class_usable o.kind o.rel both.0)) ∙ class_plain o.rel (answer_of history b (scans.Class o.rel)),
       class_read scenario history b s locked opened played is clear held kept.1 both.1,
     )
@@ -51,13 +52,13 @@ class_read scenario history b s locked (o ∷ opened) played is clear held kept 
     first_usable true scan more owed = refl
     first_usable false scan more owed = absurd (cc owed)
 
-    class_usable : (kind : Kind) (rel : Oid) → unusable (facts_of history b) (build_scans kind rel) ≡ [] → is_usable history b (scans.Class rel) ≡ true
+    class_usable : (kind : Kind) (rel : Oid) → missing (facts_of history b).kept (build_scans kind rel) ≡ [] → is_usable history b (scans.Class rel) ≡ true
     class_usable Table rel owed = sym (kept_usable history b (scans.Class rel)) ∙ first_usable (is_kept (kept_in history b) (scans.Class rel)) (scans.Class rel) _ owed
     class_usable Index rel owed = sym (kept_usable history b (scans.Class rel)) ∙ first_usable (is_kept (kept_in history b) (scans.Class rel)) (scans.Class rel) _ owed
 
 -- so it is where nothing is owed, and the backend is on its course
 pub read_as_now : (scenario : Scenario) (history : List Entry) (b : ℕ) (s : Session) (command : Command) (draft : Draft) (rest : List Row → Plan) → IsPlayed scenario history → session_of scenario history b ≡ Some s → IsOnCourse scenario history b s → slice_get (commands_of scenario b) (length s.finished) ≡ Some command
-    → s.left ≡ Do (Write draft) rest → owed_of (facts_of history b) command s ≡ [] → (way : OnItsWay history b s command) → AreReadAsNow history b (facts_of history b) (made_in opening_by way.gave (plan_of s.opens command))
+    → s.left ≡ Do (Write draft) rest → owed_in (facts_of history b) command (work_of s) ≡ [] → (way : OnItsWay history b s command) → AreReadAsNow history b (facts_of history b) (made_in opening_by way.gave (plan_of s.opens command))
 read_as_now scenario history b s command draft rest played is course here at none way =
     class_read scenario history b s (made_in locks_by way.gave (plan_of s.opens command)) opened played is clear way.holds.locked (its_place history b s command (Write draft) rest way at).1 own_builds
   where
@@ -67,19 +68,19 @@ read_as_now scenario history b s command draft rest played is course here at non
     opened : List Opening
     opened = made_in opening_by way.gave (plan_of s.opens command)
 
-    start : owed_at_start facts command s ++ owed_after facts.due ≡ []
-    start = (both_empty (owed_at_start facts command s ++ owed_after facts.due) (map OwesScan (scans_owed facts s)) none).0
+    start : owed_first_in facts command (work_of s) ++ owed_after facts.due ≡ []
+    start = (both_empty (owed_first_in facts command (work_of s) ++ owed_after facts.due) (map OwesScan (scans_owed_in facts (work_of s))) none).0
 
-    same : scans_owed facts s ≡ builds_owed facts s.opened ++ act_owed facts (Do (Write draft) rest)
-    same = ap (λ p. elim (outcome_of p) as (λ x. List Purpose) [ Badly ↦ [] | other ↦ builds_owed facts s.opened ++ act_owed facts p ]) at
+    same : scans_owed_in facts (work_of s) ≡ builds_missing facts.kept s.opened ++ act_owed facts (Do (Write draft) rest)
+    same = ap (λ p. elim (outcome_of p) as (λ x. List Purpose) [ Badly ↦ [] | other ↦ builds_missing facts.kept s.opened ++ act_owed facts p ]) at
 
-    builds : builds_owed facts s.opened ≡ []
-    builds = (both_empty (builds_owed facts s.opened) (act_owed facts (Do (Write draft) rest))
-        (none_mapped OwesScan _ (sym (ap (map OwesScan) same) ∙ (both_empty (owed_at_start facts command s ++ owed_after facts.due) (map OwesScan (scans_owed facts s)) none).1))).0
+    builds : builds_missing facts.kept s.opened ≡ []
+    builds = (both_empty (builds_missing facts.kept s.opened) (act_owed facts (Do (Write draft) rest))
+        (none_mapped OwesScan _ (sym (ap (map OwesScan) same) ∙ (both_empty (owed_first_in facts command (work_of s) ++ owed_after facts.due) (map OwesScan (scans_owed_in facts (work_of s))) none).1))).0
 
-    own_builds : builds_owed facts opened ≡ []
-    own_builds = (both_empty (builds_owed facts (held_before s)) (builds_owed facts opened)
-        (sym (flat_map-append (λ (o : Opening). unusable facts (build_scans o.kind o.rel)) (held_before s) opened) ∙ sym (ap (builds_owed facts) way.opened) ∙ builds)).1
+    own_builds : builds_missing facts.kept opened ≡ []
+    own_builds = (both_empty (builds_missing facts.kept (held_before s)) (builds_missing facts.kept opened)
+        (sym (flat_map-append (λ (o : Opening). missing facts.kept (build_scans o.kind o.rel)) (held_before s) opened) ∙ sym (ap (builds_missing facts.kept) way.opened) ∙ builds)).1
 
     clear : map cleared s.locks ≡ s.locks
     clear = subst (λ o. ClearUnlessOwed facts o s) here course.clear (builds_done facts command s builds (ap is_empty start))

@@ -12,10 +12,11 @@ use Rattle.history_model.specs.Lives.{last_event_of}
 use Rattle.history_model.specs.MayFollow.{FollowsGone}
 use Rattle.history_model.specs.Transactions.{is_visible}
 use Rattle.cacheless.specs.Types.{Scenario, Command, Entry, Event}
-use Rattle.cacheless.specs.Ends.{End, Ends, Commits, TakesBack, end_of_all, end_of, end_left, next_of_commit, next_of_taking_back, next_of_end}
+use Rattle.cacheless.specs.Work.{work_of}
+use Rattle.cacheless.specs.Ends.{End, Ends, Commits, TakesBack, end_of_all, end_in, end_left_in, next_of_commit, next_of_taking_back, next_of_end}
 use Rattle.cacheless.specs.Facts.{Facts, due_last, facts_of}
 use Rattle.cacheless.specs.Output.{IsAllowed}
-use Rattle.cacheless.specs.Owed.{Owes, owed_after, owed_of}
+use Rattle.cacheless.specs.Owed.{Owes, owed_after, owed_in}
 use Rattle.cacheless.specs.Played.{AreSpelled}
 use Rattle.cacheless.specs.Plays.{IsEnd, IsLastEnd, MayPlay, MayPlayLast, MayPlayIn, owed_at_end}
 use Rattle.cacheless.specs.Schedule.{has_stopped}
@@ -62,16 +63,16 @@ last_plays facts s (events.Publish count) comes is = absurd (by_own facts.runnin
 last_plays facts s event comes is = absurd comes
 
 -- what has to come before the next entry of an end
-end_free : (facts : Facts) (command : Command) (s : Session) → owed_of facts command s ≡ [] → owed_at_end facts command s ≡ []
-end_free facts command s none = by_end (end_of facts command s)
+end_free : (facts : Facts) (command : Command) (s : Session) → owed_in facts command (work_of s) ≡ [] → owed_at_end facts command s ≡ []
+end_free facts command s none = by_end (end_in facts command (work_of s))
   where
-    by_end : (end : End) → elim end as (λ x. List Owes) [ TakesBack from ↦ owed_after facts.due | other ↦ owed_of facts command s ] ≡ []
+    by_end : (end : End) → elim end as (λ x. List Owes) [ TakesBack from ↦ owed_after facts.due | other ↦ owed_in facts command (work_of s) ] ≡ []
     by_end (TakesBack from) = nothing_owed facts command s none
     by_end Ends = none
     by_end (Commits first) = none
 
-back_free : (facts : Facts) (command : Command) (s : Session) (from : ℕ) → end_of facts command s ≡ TakesBack from → owed_after facts.due ≡ [] → owed_at_end facts command s ≡ []
-back_free facts command s from back none = ap (λ e. elim e as (λ x. List Owes) [ TakesBack n ↦ owed_after facts.due | other ↦ owed_of facts command s ]) back ∙ none
+back_free : (facts : Facts) (command : Command) (s : Session) (from : ℕ) → end_in facts command (work_of s) ≡ TakesBack from → owed_after facts.due ≡ [] → owed_at_end facts command s ≡ []
+back_free facts command s from back none = ap (λ e. elim e as (λ x. List Owes) [ TakesBack n ↦ owed_after facts.due | other ↦ owed_in facts command (work_of s) ]) back ∙ none
 
 module _ (scenario : Scenario) (history : List Entry) (b : ℕ) (s : Session) (number : IsBackend scenario.backends b) (spelled : AreSpelled scenario) (allowed : IsAllowed scenario history) (is : session_of scenario history b ≡ Some s) (stopped : has_stopped history b ≡ false) where
   abbrev o : Option Command
@@ -87,12 +88,12 @@ module _ (scenario : Scenario) (history : List Entry) (b : ℕ) (s : Session) (n
   ends event ending may = end_next scenario history b s number spelled allowed is stopped fits event ending may
 
   -- the end of a command
-  command_ends : (command : Command) (event : Event) → o ≡ Some command → s.ended ≡ false → is_settled (outcome_of s.left) ≡ true → owed_after facts.due ≡ [] → owed_at_end facts command s ≡ [] → next_of_end facts (end_of facts command s) ≡ Some event → HasNext scenario history b
+  command_ends : (command : Command) (event : Event) → o ≡ Some command → s.ended ≡ false → is_settled (outcome_of s.left) ≡ true → owed_after facts.due ≡ [] → owed_at_end facts command s ≡ [] → next_of_end facts (end_in facts command (work_of s)) ≡ Some event → HasNext scenario history b
   command_ends command event at going out after none comes = ends event (record { going = going; out = out; after = after; comes = ap (λ x. next_of_end facts (end_by facts x s)) at ∙ comes })
-      (subst (λ x. MayPlayIn (next_oid history) facts x s event) (sym at) (end_plays (next_oid history) facts command s event (is_of_end facts (end_of facts command s) event (comes_now facts (end_of facts command s) event comes)) (none, left ∙ comes)))
+      (subst (λ x. MayPlayIn (next_oid history) facts x s event) (sym at) (end_plays (next_oid history) facts command s event (is_of_end facts (end_in facts command (work_of s)) event (comes_now facts (end_in facts command (work_of s)) event comes)) (none, left ∙ comes)))
     where
-      left : end_left facts command s ≡ next_of_end facts (end_of facts command s)
-      left = ap (λ t. elim t as (λ x. Option Event) [ true ↦ None | false ↦ next_of_end facts (end_of facts command s) ]) going
+      left : end_left_in facts command (work_of s) ≡ next_of_end facts (end_in facts command (work_of s))
+      left = ap (λ t. elim t as (λ x. Option Event) [ true ↦ None | false ↦ next_of_end facts (end_in facts command (work_of s)) ]) going
 
   -- the end after the last command
   last_ends : (event : Event) → o ≡ None → s.ended ≡ false → owed_after facts.due ≡ [] → next_of_end facts (end_of_all facts) ≡ Some event → HasNext scenario history b
@@ -118,22 +119,22 @@ module _ (scenario : Scenario) (history : List Entry) (b : ℕ) (s : Session) (n
   -- in the midst of neither
   module _ (free : IsFree scenario history b s) where
     -- a command that has come out and owes nothing ends
-    out_next : (command : Command) → o ≡ Some command → is_settled (outcome_of s.left) ≡ true → owed_of facts command s ≡ [] → HasNext scenario history b
-    out_next command at out none = by_left (end_left facts command s) refl
+    out_next : (command : Command) → o ≡ Some command → is_settled (outcome_of s.left) ≡ true → owed_in facts command (work_of s) ≡ [] → HasNext scenario history b
+    out_next command at out none = by_left (end_left_in facts command (work_of s)) refl
       where
-        by_ended : (event : Event) (t : Bool) → s.ended ≡ t → elim t as (λ x. Option Event) [ true ↦ None | false ↦ next_of_end facts (end_of facts command s) ] ≡ Some event → HasNext scenario history b
+        by_ended : (event : Event) (t : Bool) → s.ended ≡ t → elim t as (λ x. Option Event) [ true ↦ None | false ↦ next_of_end facts (end_in facts command (work_of s)) ] ≡ Some event → HasNext scenario history b
         by_ended event true over comes = absurd (cc comes)
         by_ended event false going comes = command_ends command event at going out (nothing_owed facts command s none) (end_free facts command s none) comes
 
-        by_left : (x : Option Event) → end_left facts command s ≡ x → HasNext scenario history b
+        by_left : (x : Option Event) → end_left_in facts command (work_of s) ≡ x → HasNext scenario history b
         by_left None left = absurd (both_ways _ (waits scenario history b s command free at).unfinished (λ i. out i && is_none (left i) && is_empty (none i)))
         by_left (Some event) left = by_ended event s.ended refl left
 
     command_next : (command : Command) → o ≡ Some command → (t : Bool) → is_settled (outcome_of s.left) ≡ t → HasNext scenario history b
     command_next command at false going = unsettled_next scenario history b s command free at going
-    command_next command at true out = by_owed (owed_of facts command s) refl
+    command_next command at true out = by_owed (owed_in facts command (work_of s)) refl
       where
-        by_owed : (l : List Owes) → owed_of facts command s ≡ l → HasNext scenario history b
+        by_owed : (l : List Owes) → owed_in facts command (work_of s) ≡ l → HasNext scenario history b
         by_owed [] none = out_next command at out none
         by_owed (x ∷ xs) are = owing_next scenario history b s command free at (λ none. let no : x ∷ xs ≡ [] = sym are ∙ none in cc no)
 

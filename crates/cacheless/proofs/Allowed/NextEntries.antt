@@ -35,15 +35,16 @@ use Rattle.cacheless.specs.Types.{Oid, Mode, Row, Purpose, Scenario, Command, En
 use Rattle.cacheless.specs.declared.progress.Due.{Due}
 use Rattle.cacheless.specs.declared.progress.Due.TheVariants as dues
 use Rattle.local_caches.specs.Kept.{rows_kept}
-use Rattle.cacheless.specs.Facts.{Facts, facts_of, facts_by}
+use Rattle.cacheless.specs.Facts.{due_last, Facts, facts_of, facts_by}
 use Rattle.cacheless.specs.Output.{IsAllowed}
-use Rattle.cacheless.specs.Owed.{OwesLook, owed_after, owed_last, is_quiet, owed_of, has_looked, is_next_scan}
+use Rattle.cacheless.specs.Work.{work_of}
+use Rattle.cacheless.specs.Owed.{OwesLook, owed_after, is_quiet, owed_in, has_looked_in, is_next_in}
 use Rattle.cacheless.specs.Played.{AreSpelled}
-use Rattle.cacheless.specs.Plays.{may_look, IsLock, MayPlayIn, MayPlayAt, IsNext, Plays}
+use Rattle.cacheless.specs.Plays.{may_look_in, IsLock, MayPlayIn, MayPlayAt, IsNext, Plays}
 use Rattle.cacheless.specs.Schedule.{has_stopped, is_stopped}
 use Rattle.cacheless.specs.Session.{Session, number_of, first_of, outcome_of, is_settled}
 use Rattle.cacheless.specs.Sessions.{noted, commands_left, entered, session_by, session_of}
-use Rattle.cacheless.specs.Settled.{class_oid, if_locked, has_taken_no_other, has_accepted, looked_up, gives, acted, is_finished, finished_as, next_session, settled}
+use Rattle.cacheless.specs.Settled.{class_oid, if_locked, has_taken_no_other, has_accepted_in, looked_up_in, gives_in, acted, is_finished_in, finished_as, next_session, settled}
 use Rattle.cacheless.proofs.Allowed.AllowedHistories.{allowed_sound, plays_economical}
 use Rattle.cacheless.proofs.Allowed.LooksBound.{LooksBound, BoundIn, looks_bound, owed_look_may, wanted_look_may, unfound_look_may, acted-same}
 use Rattle.cacheless.proofs.Allowed.NextOnCourse.{entered_noted, noted_finished, no_start}
@@ -146,7 +147,7 @@ life_goes c n event low = inr (record { last = c; alive = refl; most = low })
 -- passing over commands lowers no number
 settled-more : (facts : Facts) (commands : List Command) (s : Session) → length s.finished ≤ length (settled facts commands s).finished
 settled-more facts [] s = omega arith
-settled-more facts (command ∷ rest) s = by_end (is_finished facts command now) (settled-more facts rest next)
+settled-more facts (command ∷ rest) s = by_end (is_finished_in facts command (work_of now)) (settled-more facts rest next)
   where
     now : Session
     now = acted facts command s
@@ -302,7 +303,7 @@ look_next scenario history b s free may = free_next scenario history b s (events
     by_wait false is = not_waited history b free.allowed.legal is
 
 -- a scan that is next gives its answer
-pub scan_next : (scenario : Scenario) (history : List Entry) (b : ℕ) (s : Session) (scan : Purpose) → IsFree scenario history b s → owed_last (last_event_of history b) ≡ [] → is_next_scan scan (facts_of history b) s ≡ true → has_looked (facts_of history b) s ≡ true → HasNext scenario history b
+pub scan_next : (scenario : Scenario) (history : List Entry) (b : ℕ) (s : Session) (scan : Purpose) → IsFree scenario history b s → owed_after (due_last (last_event_of history b)) ≡ [] → is_next_in scan (facts_of history b) (work_of s) ≡ true → has_looked_in (facts_of history b) (work_of s) ≡ true → HasNext scenario history b
 scan_next scenario history b s scan free none next looked = free_next scenario history b s (events.Scan scan (length (answer_of history b scan))) free tt refl tt (by_command (slice_get (commands_of scenario b) (length s.finished)))
   where
     by_command : (o : Option Command) → MayPlayIn (next_oid history) (facts_of history b) o s (events.Scan scan (length (answer_of history b scan)))
@@ -311,7 +312,7 @@ scan_next scenario history b s scan free none next looked = free_next scenario h
 
 -- a lock that isn't held is granted or refused
 pub lock_next : (scenario : Scenario) (history : List Entry) (b : ℕ) (s : Session) (command : Command) (rel : Oid) (mode : Mode) → IsFree scenario history b s → slice_get (commands_of scenario b) (length s.finished) ≡ Some command
-    → owed_of (facts_of history b) command s ≡ [] → s.taken ≡ None → IsLock (facts_of history b) s.left rel mode → holds (held_of history) b rel mode ≡ false → HasNext scenario history b
+    → owed_in (facts_of history b) command (work_of s) ≡ [] → s.taken ≡ None → IsLock (facts_of history b) s.left rel mode → holds (held_of history) b rel mode ≡ false → HasNext scenario history b
 lock_next scenario history b s command rel mode free at none untaken asks unheld = by_holder (first_conflict (held_of history) b rel mode) refl
   where
     plays : (event : Event) → MayPlayIn (next_oid history) (facts_of history b) (Some command) s event → MayPlayIn (next_oid history) (facts_of history b) (slice_get (commands_of scenario b) (length s.finished)) s event
@@ -328,7 +329,7 @@ Accepts (Some (events.Look some_wait)) = ⊤
 Accepts (Some (events.Fetch count)) = ⊤
 Accepts last = ⊥
 
-owes_accepts : (last : Option Event) → (owed_last last ≡ [] → ⊥) → Accepts last
+owes_accepts : (last : Option Event) → (owed_after (due_last last) ≡ [] → ⊥) → Accepts last
 owes_accepts (Some (events.LockOk rel mode)) owes = tt
 owes_accepts (Some (events.Look some_wait)) owes = tt
 owes_accepts (Some (events.Fetch count)) owes = tt
@@ -353,7 +354,7 @@ accepts_runs (Some (events.Fetch count)) own accepts runs = runs
 accepts_runs last own accepts runs = absurd accepts
 
 -- what a backend owes after its last entry, a look or a fetch, may come next
-pub owed_next : (scenario : Scenario) (history : List Entry) (b : ℕ) (s : Session) → AreSpelled scenario → IsBackend scenario.backends b → IsAllowed scenario history → has_stopped history b ≡ false → session_of scenario history b ≡ Some s → (owed_last (last_event_of history b) ≡ [] → ⊥) → HasNext scenario history b
+pub owed_next : (scenario : Scenario) (history : List Entry) (b : ℕ) (s : Session) → AreSpelled scenario → IsBackend scenario.backends b → IsAllowed scenario history → has_stopped history b ≡ false → session_of scenario history b ≡ Some s → (owed_after (due_last (last_event_of history b)) ≡ [] → ⊥) → HasNext scenario history b
 owed_next scenario history b s spelled number allowed stopped is owes = by_last (last_event_of history b) refl accepts
   where
     o : Option Command
@@ -372,10 +373,10 @@ owed_next scenario history b s spelled number allowed stopped is owes = by_last 
         by_test false here = refl
         by_test true here = absurd (accepts_hidden (last_event_of history b) accepts (stands.sends here))
 
-    looks : owed_last (last_event_of history b) ≡ OwesLook ∷ [] → HasNext scenario history b
+    looks : owed_after (due_last (last_event_of history b)) ≡ OwesLook ∷ [] → HasNext scenario history b
     looks owed = look_next scenario history b s free (λ some_wait. by_command some_wait o)
       where
-        may : may_look (facts_of history b) s ≡ true
+        may : may_look_in (facts_of history b) (work_of s) ≡ true
         may = owed_look_may (facts_of history b) (last_event_of history b) o s refl (bound_is scenario history b s free) owed
 
         by_command : (some_wait : Bool) (x : Option Command) → MayPlayIn (next_oid history) (facts_of history b) x s (events.Look some_wait)
@@ -401,13 +402,13 @@ owed_next scenario history b s spelled number allowed stopped is owes = by_last 
         by_lapped false served = free_next scenario history b s (events.Fetch count) free tt (told, refl) served (some o)
 
     by_full : (count : ℕ) (t : Bool) → (count == 32) ≡ t → last_event_of history b ≡ Some (events.Fetch count) → HasNext scenario history b
-    by_full count true full at = looks (ap owed_last at ∙ ap (λ t. owed_after (elim t as (λ x. Due) [ true ↦ dues.Look | false ↦ dues.Nothing ])) full)
-    by_full count false full at = absurd (owes (ap owed_last at ∙ ap (λ t. owed_after (elim t as (λ x. Due) [ true ↦ dues.Look | false ↦ dues.Nothing ])) full))
+    by_full count true full at = looks (ap (λ x. owed_after (due_last x)) at ∙ ap (λ t. owed_after (elim t as (λ x. Due) [ true ↦ dues.Look | false ↦ dues.Nothing ])) full)
+    by_full count false full at = absurd (owes (ap (λ x. owed_after (due_last x)) at ∙ ap (λ t. owed_after (elim t as (λ x. Due) [ true ↦ dues.Look | false ↦ dues.Nothing ])) full))
 
     by_last : (last : Option Event) → last_event_of history b ≡ last → Accepts last → HasNext scenario history b
-    by_last (Some (events.LockOk rel mode)) at accepted = looks (ap owed_last at)
+    by_last (Some (events.LockOk rel mode)) at accepted = looks (ap (λ x. owed_after (due_last x)) at)
     by_last (Some (events.Look true)) at accepted = fetches at
-    by_last (Some (events.Look false)) at accepted = absurd (owes (ap owed_last at))
+    by_last (Some (events.Look false)) at accepted = absurd (owes (ap (λ x. owed_after (due_last x)) at))
     by_last (Some (events.Fetch count)) at accepted = by_full count (count == 32) refl at
     by_last last at accepted = absurd accepted
 
@@ -432,17 +433,17 @@ stop_next scenario history b s spelled number allowed stopped is past none = fre
     }
 
 -- a scan that is next comes, or the look for it
-pub lacking_next : (scenario : Scenario) (history : List Entry) (b : ℕ) (s : Session) (command : Command) (scan : Purpose) → IsFree scenario history b s → slice_get (commands_of scenario b) (length s.finished) ≡ Some command → owed_last (last_event_of history b) ≡ [] → is_next_scan scan (facts_of history b) s ≡ true → HasNext scenario history b
-lacking_next scenario history b s command scan free at none next = by_looked (has_looked (facts_of history b) s) refl
+pub lacking_next : (scenario : Scenario) (history : List Entry) (b : ℕ) (s : Session) (command : Command) (scan : Purpose) → IsFree scenario history b s → slice_get (commands_of scenario b) (length s.finished) ≡ Some command → owed_after (due_last (last_event_of history b)) ≡ [] → is_next_in scan (facts_of history b) (work_of s) ≡ true → HasNext scenario history b
+lacking_next scenario history b s command scan free at none next = by_looked (has_looked_in (facts_of history b) (work_of s)) refl
   where
-    by_looked : (t : Bool) → has_looked (facts_of history b) s ≡ t → HasNext scenario history b
+    by_looked : (t : Bool) → has_looked_in (facts_of history b) (work_of s) ≡ t → HasNext scenario history b
     by_looked true looked = scan_next scenario history b s scan free none next looked
     by_looked false wants = look_next scenario history b s free (λ some_wait. subst (λ o. MayPlayIn (next_oid history) (facts_of history b) o s (events.Look some_wait)) (sym at)
         (wanted_look_may (facts_of history b) (last_event_of history b) (slice_get (commands_of scenario b) (length s.finished)) s (bound_is scenario history b s free) none wants))
 
 -- a lookup that found no relation looks, unless it has accepted what it waits for
-pub unfound_next : (scenario : Scenario) (history : List Entry) (b : ℕ) (s : Session) (command : Command) → IsFree scenario history b s → slice_get (commands_of scenario b) (length s.finished) ≡ Some command → owed_last (last_event_of history b) ≡ [] → is_settled (outcome_of s.left) ≡ false
-    → s.taken ≡ None → has_accepted (facts_of history b) s ≡ false → HasNext scenario history b
+pub unfound_next : (scenario : Scenario) (history : List Entry) (b : ℕ) (s : Session) (command : Command) → IsFree scenario history b s → slice_get (commands_of scenario b) (length s.finished) ≡ Some command → owed_after (due_last (last_event_of history b)) ≡ [] → is_settled (outcome_of s.left) ≡ false
+    → s.taken ≡ None → has_accepted_in (facts_of history b) (work_of s) ≡ false → HasNext scenario history b
 unfound_next scenario history b s command free at none going untaken waits = look_next scenario history b s free (λ some_wait. subst (λ o. MayPlayIn (next_oid history) (facts_of history b) o s (events.Look some_wait)) (sym at) may)
   where
     facts : Facts
@@ -451,13 +452,13 @@ unfound_next scenario history b s command free at none going untaken waits = loo
     bound : LooksBound (last_event_of history b) (Some command) s.left s.tally
     bound = subst (λ o. LooksBound (last_event_of history b) o s.left s.tally) at (bound_is scenario history b s free)
 
-    by_tests : (quiet looked : Bool) → is_quiet facts.due ≡ quiet → has_looked facts s ≡ looked → may_look facts s ≡ true
+    by_tests : (quiet looked : Bool) → is_quiet facts.due ≡ quiet → has_looked_in facts (work_of s) ≡ looked → may_look_in facts (work_of s) ≡ true
     by_tests false looked is wants = unfound_look_may facts (last_event_of history b) command s refl bound none going is
     by_tests true false is wants = wanted_look_may facts (last_event_of history b) (Some command) s bound none wants
-    by_tests true true is wants = absurd (both_ways _ waits (ap (λ o. is_none o && is_quiet facts.due && has_looked facts s) untaken ∙ ap (λ t. t && has_looked facts s) is ∙ wants))
+    by_tests true true is wants = absurd (both_ways _ waits (ap (λ o. is_none o && is_quiet facts.due && has_looked_in facts (work_of s)) untaken ∙ ap (λ t. t && has_looked_in facts (work_of s)) is ∙ wants))
 
-    may : may_look facts s ≡ true
-    may = by_tests (is_quiet facts.due) (has_looked facts s) refl refl
+    may : may_look_in facts (work_of s) ≡ true
+    may = by_tests (is_quiet facts.due) (has_looked_in facts (work_of s)) refl refl
 
 -- the act asks for a lock
 abbrev pub IsAsked : Act → Type 0
@@ -466,8 +467,8 @@ IsAsked (Lock rel mode) = ⊤
 IsAsked act = ⊥
 
 -- a lookup or a lock that is to be made comes next, where nothing is owed and no lock is newly taken: the lock of the relation, or where none is found a look
-pub asking_next : (scenario : Scenario) (history : List Entry) (b : ℕ) (s : Session) (command : Command) (act : Act) (rest : List Row → Plan) → IsFree scenario history b s → slice_get (commands_of scenario b) (length s.finished) ≡ Some command → owed_of (facts_of history b) command s ≡ []
-    → s.left ≡ Do act rest → IsAsked act → s.taken ≡ None → gives (facts_of history b) s act ≡ None → HasNext scenario history b
+pub asking_next : (scenario : Scenario) (history : List Entry) (b : ℕ) (s : Session) (command : Command) (act : Act) (rest : List Row → Plan) → IsFree scenario history b s → slice_get (commands_of scenario b) (length s.finished) ≡ Some command → owed_in (facts_of history b) command (work_of s) ≡ []
+    → s.left ≡ Do act rest → IsAsked act → s.taken ≡ None → gives_in (facts_of history b) (work_of s) act ≡ None → HasNext scenario history b
 asking_next scenario history b s command act rest free at none left asks untaken stuck = by_act act left asks stuck
   where
     facts : Facts
@@ -487,12 +488,12 @@ asking_next scenario history b s command act rest free at none left asks untaken
     locks : (rel : Oid) (mode : Mode) → IsLock facts s.left rel mode → has_lock s.locks rel mode ≡ false → HasNext scenario history b
     locks rel mode is free_lock = lock_next scenario history b s command rel mode free at none untaken is (held rel mode ∙ free_lock)
 
-    looks_up : (name : List ℕ) (mode : Mode) (given : List Row) → rows_kept facts.kept (scans.RelName name) ≡ given → s.left ≡ Do (Lookup name mode) rest → looked_up facts s mode given ≡ None → HasNext scenario history b
+    looks_up : (name : List ℕ) (mode : Mode) (given : List Row) → rows_kept facts.kept (scans.RelName name) ≡ given → s.left ≡ Do (Lookup name mode) rest → looked_up_in facts (work_of s) mode given ≡ None → HasNext scenario history b
     looks_up name mode (rows.Class oid own kind fill ∷ more) gave here is = locks oid mode (subst (λ p. IsLock facts p oid mode) (sym here) (ap class_oid gave, refl))
         (sym (alone (has_lock s.locks oid mode)) ∙ sym (ap (λ t. has_lock s.locks oid mode && has_taken_no_other t oid) untaken) ∙ unlocked _ _ is)
     looks_up name mode given gave here is = unfound_next scenario history b s command free at (nothing_owed facts command s none) (ap (λ p. is_settled (outcome_of p)) here) untaken (unlocked _ _ is)
 
-    by_act : (a : Act) → s.left ≡ Do a rest → IsAsked a → gives facts s a ≡ None → HasNext scenario history b
+    by_act : (a : Act) → s.left ≡ Do a rest → IsAsked a → gives_in facts (work_of s) a ≡ None → HasNext scenario history b
     by_act (Lookup name mode) here asked is = looks_up name mode (rows_kept facts.kept (scans.RelName name)) refl here is
     by_act (Lock rel mode) here asked is = locks rel mode (subst (λ p. IsLock facts p rel mode) (sym here) (refl, refl)) (unlocked _ _ is)
     by_act a here asked is = absurd asked

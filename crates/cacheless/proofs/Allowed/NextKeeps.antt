@@ -18,7 +18,8 @@ use Rattle.cacheless.specs.Types.{Oid, Mode, Row, Purpose, Item, Scenario, Comma
 use Rattle.cacheless.specs.ActsDone.{named_by, IsDrawn, made_in}
 use Rattle.cacheless.specs.Facts.{Facts, facts_of, kept_if}
 use Rattle.cacheless.specs.OnCourse.{FollowsPlan, IsOnCourse, CourseOf, AllOnCourse}
-use Rattle.cacheless.specs.Owed.{OwesScan, builds_owed, act_owed, scans_owed, owed_of}
+use Rattle.cacheless.specs.Work.{work_of}
+use Rattle.cacheless.specs.Owed.{OwesScan, builds_missing, act_owed, scans_owed_in, owed_in}
 use Rattle.cacheless.specs.Played.{AreSpelled, IsPlayed}
 use Rattle.cacheless.specs.Plays.{IsLock, IsWrite, MayPlay, MayPlayLast, MayPlayIn, IsStart, MayPlayAt, IsNext}
 use Rattle.cacheless.specs.Session.{Session, Badly, number_of, outcome_of}
@@ -33,11 +34,11 @@ use Rattle.std.specs.Option.{option_map_or}
 use Rattle.local_caches.specs.Kept.{Read as KeptRead}
 
 -- the scan on which a command's next act rests isn't owed, where nothing is
-pub nothing_owed : (facts : Facts) (command : Command) (s : Session) (act : Act) (rest : List Row → Plan) → s.left ≡ Do act rest → owed_of facts command s ≡ [] → act_owed facts (Do act rest) ≡ []
-nothing_owed facts command s act rest at none = (both_empty (builds_owed facts s.opened) (act_owed facts (Do act rest)) (unmapped _ (sym (ap (map OwesScan) same) ∙ (both_empty _ (map OwesScan (scans_owed facts s)) none).1))).1
+pub nothing_owed : (facts : Facts) (command : Command) (s : Session) (act : Act) (rest : List Row → Plan) → s.left ≡ Do act rest → owed_in facts command (work_of s) ≡ [] → act_owed facts (Do act rest) ≡ []
+nothing_owed facts command s act rest at none = (both_empty (builds_missing facts.kept s.opened) (act_owed facts (Do act rest)) (unmapped _ (sym (ap (map OwesScan) same) ∙ (both_empty _ (map OwesScan (scans_owed_in facts (work_of s))) none).1))).1
   where
-    same : scans_owed facts s ≡ builds_owed facts s.opened ++ act_owed facts (Do act rest)
-    same = ap (λ p. elim (outcome_of p) as (λ x. List Purpose) [ Badly ↦ [] | other ↦ builds_owed facts s.opened ++ act_owed facts p ]) at
+    same : scans_owed_in facts (work_of s) ≡ builds_missing facts.kept s.opened ++ act_owed facts (Do act rest)
+    same = ap (λ p. elim (outcome_of p) as (λ x. List Purpose) [ Badly ↦ [] | other ↦ builds_missing facts.kept s.opened ++ act_owed facts p ]) at
 
     unmapped : (l : List Purpose) → map OwesScan l ≡ [] → l ≡ []
     unmapped [] is = refl

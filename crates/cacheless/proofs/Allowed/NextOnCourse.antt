@@ -15,7 +15,8 @@ use Rattle.cacheless.specs.Types.{OwnLock, Scenario, Command, Entry, Event}
 use Rattle.cacheless.specs.Facts.{Facts, facts_of}
 use Rattle.cacheless.specs.OnCourse.{is_over, TellsAlone, IsOnCourse, CourseOf, AllOnCourse, ClearUnlessOwed, EntersCourse, AreOfKinds}
 use Rattle.cacheless.proofs.Allowed.KindsHeld.{kinds_later, noted_kinds}
-use Rattle.cacheless.specs.Owed.{owes_accept}
+use Rattle.cacheless.specs.Work.{work_of}
+use Rattle.cacheless.specs.Owed.{accepts_in}
 use Rattle.cacheless.specs.Played.{IsPlayed}
 use Rattle.cacheless.specs.Plays.{MayPlayIn, IsStart, MayPlayAt, IsNext}
 use Rattle.cacheless.specs.Session.{Session, number_of, first_of, none_open, at_command}
@@ -59,9 +60,9 @@ cleared_twice (lock ∷ locks) = ap (λ l. cleared lock ∷ l) (cleared_twice lo
 
 -- where its accept of messages is over its locks are clear
 pub accepted_clear : (facts : Facts) (command : Option Command) (s : Session) → ClearUnlessOwed facts command (accepted facts command s)
-accepted_clear facts command s = λ owes. by_test (owes_accept facts command s) (same command ∙ owes)
+accepted_clear facts command s = λ owes. by_test (accepts_in facts (work_of s) command) (same command ∙ owes)
   where
-    same : (o : Option Command) → owes_accept facts o s ≡ owes_accept facts o (accepted facts command s)
+    same : (o : Option Command) → accepts_in facts (work_of s) o ≡ accepts_in facts (work_of (accepted facts command s)) o
     same None = refl
     same (Some c) = refl
 

@@ -25,10 +25,11 @@ use Rattle.history_model.proofs.Reading.{has_written-more, last_event_of-own}
 use Rattle.history_model.proofs.Touched.{entry_of}
 use Rattle.cacheless.specs.Types.{Oid, Mode, Row, Purpose, Item, Opening, Command, CommandError, Told, Entry, Event}
 use Rattle.cacheless.specs.ActsDone.{LockOn, locks_by, IsHeldOn, reached, made_in, opening_by, WayHolds, IsOtherLock}
-use Rattle.cacheless.specs.Ends.{End, Ends, end_of, next_of_end, end_left, end_well, end_badly}
+use Rattle.cacheless.specs.Work.{work_of}
+use Rattle.cacheless.specs.Ends.{End, Ends, end_in, next_of_end, end_left_in, end_well_in, end_badly_in}
 use Rattle.cacheless.specs.Facts.{Facts, facts_of}
 use Rattle.cacheless.specs.OnCourse.{is_absent, TakesNew, OnItsWay, is_over, Begun, Wrote, Over, NamedFits, WasSought, DoesNoAct, StillHolds, TellsAlone, FollowsPlan}
-use Rattle.cacheless.specs.Owed.{unusable, act_next, is_next_scan}
+use Rattle.cacheless.specs.Owed.{missing, act_next, is_next_in}
 use Rattle.cacheless.specs.Plays.{IsLock, IsWrite, IsUnlock, MayPlay}
 use Rattle.cacheless.specs.Session.{Session, Outcome, Unsettled, Well, Badly, held_before, number_of, outcome_of, is_settled}
 use Rattle.cacheless.specs.Sessions.{refused_with, written, resumed, noted}
@@ -161,8 +162,8 @@ error_follows seen b s later command error plain held unwritten noted = record {
 }
 
 -- a command that failed to find a relation makes no scan
-pub scan_there : (facts : Facts) (s : Session) (scan : Purpose) (plan : Plan) → s.left ≡ plan → is_next_scan scan facts s ≡ true → is_absent plan ≡ false
-scan_there facts s scan (Absent name) at is = absurd (let no : false ≡ true = sym (ap (λ p. list_any (same_scan scan) (elim (outcome_of p) as (λ x. List Purpose) [ Badly ↦ [] | other ↦ flat_map (λ (o : Opening). take 1 (unusable facts (build_scans o.kind o.rel))) s.opened ++ act_next facts p ])) at) ∙ is in cc no)
+pub scan_there : (facts : Facts) (s : Session) (scan : Purpose) (plan : Plan) → s.left ≡ plan → is_next_in scan facts (work_of s) ≡ true → is_absent plan ≡ false
+scan_there facts s scan (Absent name) at is = absurd (let no : false ≡ true = sym (ap (λ p. list_any (same_scan scan) (elim (outcome_of p) as (λ x. List Purpose) [ Badly ↦ [] | other ↦ flat_map (λ (o : Opening). take 1 (missing facts.kept (build_scans o.kind o.rel))) s.opened ++ act_next facts p ])) at) ∙ is in cc no)
 scan_there facts s scan plan at is = refl
 
 -- a scan
@@ -301,14 +302,14 @@ write_follows history b s later command xid items own noted = by_plan s.left ref
     by_plan (Absent name) at writes is = absurd writes
 
 -- a command that is at its end has come out
-pub ends_out : (facts : Facts) (command : Command) (s : Session) (event : Event) → end_left facts command s ≡ Some event → is_settled (outcome_of s.left) ≡ true
+pub ends_out : (facts : Facts) (command : Command) (s : Session) (event : Event) → end_left_in facts command (work_of s) ≡ Some event → is_settled (outcome_of s.left) ≡ true
 ends_out facts command s event is = by_outcome (outcome_of s.left) (by_ended s.ended is)
   where
-    by_ended : (t : Bool) → elim t as (λ x. Option Event) [ true ↦ None | false ↦ next_of_end facts (end_of facts command s) ] ≡ Some event → next_of_end facts (end_of facts command s) ≡ Some event
+    by_ended : (t : Bool) → elim t as (λ x. Option Event) [ true ↦ None | false ↦ next_of_end facts (end_in facts command (work_of s)) ] ≡ Some event → next_of_end facts (end_in facts command (work_of s)) ≡ Some event
     by_ended true left = absurd (cc left)
     by_ended false left = left
 
-    by_outcome : (o : Outcome) → next_of_end facts (elim o as (λ x. End) [ Well ↦ end_well facts command s | Badly ↦ end_badly s | Unsettled ↦ Ends ]) ≡ Some event → is_settled o ≡ true
+    by_outcome : (o : Outcome) → next_of_end facts (elim o as (λ x. End) [ Well ↦ end_well_in facts command (work_of s) | Badly ↦ end_badly_in (work_of s) | Unsettled ↦ Ends ]) ≡ Some event → is_settled o ≡ true
     by_outcome Unsettled left = absurd (cc left)
     by_outcome Well left = refl
     by_outcome Badly left = refl

@@ -10,11 +10,12 @@ use Rattle.history_model.specs.Lives.{last_event_of}
 use Rattle.history_model.specs.Drawn.{next_oid}
 use Rattle.cacheless.specs.declared.progress.Due.{Due}
 use Rattle.cacheless.specs.declared.progress.Due.TheVariants as dues
-use Rattle.cacheless.specs.Facts.{Facts, facts_of}
+use Rattle.cacheless.specs.Facts.{due_last, Facts, facts_of}
 use Rattle.cacheless.specs.Session.{Session}
-use Rattle.cacheless.specs.Owed.{Owes, OwesFetch, owed_after, owed_last, owed_of}
-use Rattle.cacheless.specs.Ends.{End, Ends, Commits, TakesBack, end_of}
-use Rattle.cacheless.specs.Plays.{may_look, owed_at_end, MayPlay, MayPlayLast, MayPlayIn, IsStart, MayPlayAt, IsNext}
+use Rattle.cacheless.specs.Work.{work_of}
+use Rattle.cacheless.specs.Owed.{Owes, OwesFetch, owed_after, owed_in}
+use Rattle.cacheless.specs.Ends.{End, Ends, Commits, TakesBack, end_in}
+use Rattle.cacheless.specs.Plays.{may_look_in, owed_at_end, MayPlay, MayPlayLast, MayPlayIn, IsStart, MayPlayAt, IsNext}
 use Rattle.cacheless.specs.Sessions.{session_of}
 
 -- no fetch is owed
@@ -39,21 +40,21 @@ right_empty : {X : Type 0} (xs ys : List X) → xs ++ ys ≡ [] → ys ≡ []
 right_empty [] ys none = none
 right_empty (x ∷ xs) ys none = absurd (cc)
 
-pub nothing_owed : (facts : Facts) (command : Command) (s : Session) → owed_of facts command s ≡ [] → owed_after facts.due ≡ []
+pub nothing_owed : (facts : Facts) (command : Command) (s : Session) → owed_in facts command (work_of s) ≡ [] → owed_after facts.due ≡ []
 nothing_owed facts command s none = right_empty _ (owed_after facts.due) (left_empty _ _ none)
 
 at_end : (facts : Facts) (command : Command) (s : Session) → owed_at_end facts command s ≡ [] → owed_after facts.due ≡ []
-at_end facts command s none = by_end (end_of facts command s) none
+at_end facts command s none = by_end (end_in facts command (work_of s)) none
   where
-    by_end : (end : End) → (elim end as (λ x. List Owes) [ TakesBack from ↦ owed_after facts.due | other ↦ owed_of facts command s ]) ≡ [] → owed_after facts.due ≡ []
+    by_end : (end : End) → (elim end as (λ x. List Owes) [ TakesBack from ↦ owed_after facts.due | other ↦ owed_in facts command (work_of s) ]) ≡ [] → owed_after facts.due ≡ []
     by_end (TakesBack from) h = h
     by_end Ends h = nothing_owed facts command s h
     by_end (Commits first) h = nothing_owed facts command s h
 
-look_allowed : (facts : Facts) (s : Session) → may_look facts s ≡ true → IsNoFetch (owed_after facts.due)
+look_allowed : (facts : Facts) (s : Session) → may_look_in facts (work_of s) ≡ true → IsNoFetch (owed_after facts.due)
 look_allowed facts s may = by_due facts.due may
   where
-    by_due : (due : Due) → may_look (record facts { due = due }) s ≡ true → IsNoFetch (owed_after due)
+    by_due : (due : Due) → may_look_in (record facts { due = due }) (work_of s) ≡ true → IsNoFetch (owed_after due)
     by_due dues.Fetch h = absurd (cc)
     by_due due h = tt
 
@@ -89,7 +90,7 @@ at_start owed events.Start is = tt
 at_start owed event is = absurd is
 
 -- what backends do next that follow their commands
-pub patient : (scenario : Scenario) (history : List Entry) (e : Entry) → IsNext scenario history e → IsPatient (owed_last (last_event_of history e.backend)) e.event
+pub patient : (scenario : Scenario) (history : List Entry) (e : Entry) → IsNext scenario history e → IsPatient (owed_after (due_last (last_event_of history e.backend))) e.event
 patient scenario history e next = by_session (session_of scenario history e.backend) next.1
   where
     facts : Facts

@@ -13,12 +13,13 @@ use Rattle.history_model.specs.Changing.{is_empty}
 use Rattle.cacheless.specs.Types.{Row, Purpose, Scenario, Command, CommandError, OpenRelation, Told, OwnLock, Entry}
 use Rattle.cacheless.specs.Facts.{Facts, facts_of}
 use Rattle.cacheless.specs.OnCourse.{is_absent, Begun, FollowsPlan, TellsAlone, IsOnCourse, ClearUnlessOwed, EntersCourse, AreOfKinds}
-use Rattle.cacheless.specs.Owed.{Owes, OwesScan, owed_at_start, owed_after, builds_owed, act_owed, scans_owed, owes_build, owes_accept}
+use Rattle.cacheless.specs.Work.{work_of}
+use Rattle.cacheless.specs.Owed.{Owes, OwesScan, owed_first_in, owed_after, builds_missing, act_owed, scans_owed_in, owes_build_in, accepts_in}
 use Rattle.cacheless.specs.Played.{IsPlayed}
 use Rattle.cacheless.specs.Session.{Session, Finished, Outcome, Unsettled, Well, Badly, first_of, held_in, plan_admitted, at_command, outcome_of, is_settled}
 use Rattle.cacheless.specs.Sessions.{session_of}
-use Rattle.cacheless.specs.Settled.{act_done, done_here, acted_on, acted, is_finished, blocks_after, opens_after, finished_as, next_session, settled}
-use Rattle.cacheless.specs.Ends.{end_left}
+use Rattle.cacheless.specs.Settled.{act_done, done_here, acted_on, acted, is_finished_in, blocks_after, opens_after, finished_as, next_session, settled}
+use Rattle.cacheless.specs.Ends.{end_left_in}
 use Rattle.cacheless.proofs.Plans.ActOrder.{follows_order}
 use Rattle.cacheless.proofs.Plans.UnderLocks.{order_there}
 use Rattle.cacheless.proofs.Settling.{acted-out}
@@ -26,9 +27,9 @@ use Rattle.cacheless.proofs.Allowed.KindsHeld.{IsOpenKind, act_kinds, begin_kind
 use Rattle.cacheless.proofs.Plans.SilentActs.{both_empty, empty_list, IsDoneHere, is_done_here, named_there, absent_name, takes_none, act_follows}
 
 -- whether its accept of messages is over doesn't change where an act is done here
-pub builds_done : (facts : Facts) (command : Command) (s : Session) → builds_owed facts s.opened ≡ [] → is_empty (owed_at_start facts command s ++ owed_after facts.due) ≡ true → owes_accept facts (Some command) s ≡ false
+pub builds_done : (facts : Facts) (command : Command) (s : Session) → builds_missing facts.kept s.opened ≡ [] → is_empty (owed_first_in facts command (work_of s) ++ owed_after facts.due) ≡ true → accepts_in facts (work_of s) (Some command) ≡ false
 builds_done facts command s builds free =
-    ap (λ t. not t || owes_build facts s) free
+    ap (λ t. not t || owes_build_in facts (work_of s)) free
     ∙ ap (λ l. elim (outcome_of s.left) as (λ x. Bool) [ Badly ↦ false | other ↦ not (is_empty l) ]) builds ∙ by_outcome (outcome_of s.left)
   where
     by_outcome : (o : Outcome) → elim o as (λ x. Bool) [ Badly ↦ false | other ↦ false ] ≡ false
@@ -53,7 +54,7 @@ record HasActed (seen : List Entry) (b : ℕ) (command : Command) (s now : Sessi
   kinds : AreOfKinds seen now.opens now.opened
 
 -- all acts that are done here keep it on its course
-acts_follow : (scenario : Scenario) (seen : List Entry) (b : ℕ) (command : Command) (plan : Plan) (s : Session) → HasSession scenario seen b s.locks → s.left ≡ plan → is_empty (owed_at_start (facts_of seen b) command s ++ owed_after (facts_of seen b).due) ≡ true
+acts_follow : (scenario : Scenario) (seen : List Entry) (b : ℕ) (command : Command) (plan : Plan) (s : Session) → HasSession scenario seen b s.locks → s.left ≡ plan → is_empty (owed_first_in (facts_of seen b) command (work_of s) ++ owed_after (facts_of seen b).due) ≡ true
     → ClearUnlessOwed (facts_of seen b) (Some command) s → FollowsPlan seen b s command → AreOfKinds seen s.opens s.opened → HasActed seen b command s (acted_on (facts_of seen b) plan s)
 acts_follow scenario seen b command (Do act rest) s has at free clear follows kinds = by_done (done_here (facts_of seen b) s act (Do act rest)) refl
     (λ given done. acts_follow scenario seen b command (rest given) (act_done act given (rest given) s) (record { played = has.played; session = has.session; is = has.is; holds = has.holds }) refl free (λ owes. cleared_here given done)
@@ -71,9 +72,9 @@ acts_follow scenario seen b command plan s has at free clear follows kinds = rec
 
 acted_follows : (scenario : Scenario) (seen : List Entry) (b : ℕ) (command : Command) (s : Session) → HasSession scenario seen b s.locks → ClearUnlessOwed (facts_of seen b) (Some command) s → FollowsPlan seen b s command → AreOfKinds seen s.opens s.opened
     → HasActed seen b command s (acted (facts_of seen b) command s)
-acted_follows scenario seen b command s has clear follows kinds = by_test (is_empty (owed_at_start (facts_of seen b) command s ++ owed_after (facts_of seen b).due)) refl
+acted_follows scenario seen b command s has clear follows kinds = by_test (is_empty (owed_first_in (facts_of seen b) command (work_of s) ++ owed_after (facts_of seen b).due)) refl
   where
-    by_test : (t : Bool) → is_empty (owed_at_start (facts_of seen b) command s ++ owed_after (facts_of seen b).due) ≡ t → HasActed seen b command s (elim t as (λ x. Session) [ true ↦ acted_on (facts_of seen b) s.left s | false ↦ s ])
+    by_test : (t : Bool) → is_empty (owed_first_in (facts_of seen b) command (work_of s) ++ owed_after (facts_of seen b).due) ≡ t → HasActed seen b command s (elim t as (λ x. Session) [ true ↦ acted_on (facts_of seen b) s.left s | false ↦ s ])
     by_test true free = acts_follow scenario seen b command s.left s has refl free clear follows kinds
     by_test false owed = record { follows = follows; finished = refl; locks = refl; ended = refl; clear = clear; kinds = kinds }
 
@@ -137,32 +138,32 @@ begins_on_course scenario seen b blocks opens finished locks last left are unwri
     }
 
 -- a command that is finished owes nothing in an accept of messages
-finished_accepts : (facts : Facts) (command : Command) (s : Session) → is_finished facts command s ≡ true → owes_accept facts (Some command) s ≡ false
-finished_accepts facts command s finished = by_parts (empty_list _ (and_parts (is_settled (outcome_of s.left) && is_none (end_left facts command s)) _ finished).1)
+finished_accepts : (facts : Facts) (command : Command) (s : Session) → is_finished_in facts command (work_of s) ≡ true → accepts_in facts (work_of s) (Some command) ≡ false
+finished_accepts facts command s finished = by_parts (empty_list _ (and_parts (is_settled (outcome_of s.left) && is_none (end_left_in facts command (work_of s))) _ finished).1)
   where
     first : List Owes
-    first = owed_at_start facts command s ++ owed_after facts.due
+    first = owed_first_in facts command (work_of s) ++ owed_after facts.due
 
-    by_outcome : (o : Outcome) → map OwesScan (elim o as (λ x. List Purpose) [ Badly ↦ [] | other ↦ builds_owed facts s.opened ++ act_owed facts s.left ]) ≡ [] → elim o as (λ x. Bool) [ Badly ↦ false | other ↦ not (is_empty (builds_owed facts s.opened)) ] ≡ false
-    by_outcome Unsettled none = by_builds (builds_owed facts s.opened) none
+    by_outcome : (o : Outcome) → map OwesScan (elim o as (λ x. List Purpose) [ Badly ↦ [] | other ↦ builds_missing facts.kept s.opened ++ act_owed facts s.left ]) ≡ [] → elim o as (λ x. Bool) [ Badly ↦ false | other ↦ not (is_empty (builds_missing facts.kept s.opened)) ] ≡ false
+    by_outcome Unsettled none = by_builds (builds_missing facts.kept s.opened) none
       where
         by_builds : (l : List Purpose) → map OwesScan (l ++ act_owed facts s.left) ≡ [] → not (is_empty l) ≡ false
         by_builds [] is = refl
         by_builds (x ∷ xs) is = absurd (cc is)
-    by_outcome Well none = by_builds (builds_owed facts s.opened) none
+    by_outcome Well none = by_builds (builds_missing facts.kept s.opened) none
       where
         by_builds : (l : List Purpose) → map OwesScan (l ++ act_owed facts s.left) ≡ [] → not (is_empty l) ≡ false
         by_builds [] is = refl
         by_builds (x ∷ xs) is = absurd (cc is)
     by_outcome Badly none = refl
 
-    by_parts : first ++ map OwesScan (scans_owed facts s) ≡ [] → owes_accept facts (Some command) s ≡ false
-    by_parts none = let both = both_empty first (map OwesScan (scans_owed facts s)) none in ap (λ l. not (is_empty l) || owes_build facts s) both.0 ∙ by_outcome (outcome_of s.left) both.1
+    by_parts : first ++ map OwesScan (scans_owed_in facts (work_of s)) ≡ [] → accepts_in facts (work_of s) (Some command) ≡ false
+    by_parts none = let both = both_empty first (map OwesScan (scans_owed_in facts (work_of s))) none in ap (λ l. not (is_empty l) || owes_build_in facts (work_of s)) both.0 ∙ by_outcome (outcome_of s.left) both.1
 
 -- a command that is finished has no act to do, and stays finished
-finished_stays : (facts : Facts) (command : Command) (s : Session) → is_finished facts command s ≡ true → is_finished facts command (acted facts command s) ≡ true
+finished_stays : (facts : Facts) (command : Command) (s : Session) → is_finished_in facts command (work_of s) ≡ true → is_finished_in facts command (work_of (acted facts command s)) ≡ true
 finished_stays facts command s finished =
-    ap (is_finished facts command) (acted-out facts command s (and_parts (is_settled (outcome_of s.left)) (is_none (end_left facts command s)) (and_parts (is_settled (outcome_of s.left) && is_none (end_left facts command s)) _ finished).0).0) ∙ finished
+    ap (λ x. is_finished_in facts command (work_of x)) (acted-out facts command s (and_parts (is_settled (outcome_of s.left)) (is_none (end_left_in facts command (work_of s))) (and_parts (is_settled (outcome_of s.left) && is_none (end_left_in facts command (work_of s))) _ finished).0).0) ∙ finished
 
 -- after its silent acts a session is on its course
 pub settled_on_course : (scenario : Scenario) (seen : List Entry) (b : ℕ) (left : List Command) (s : Session) → HasSession scenario seen b s.locks → left ≡ drop (length s.finished) (commands_of scenario b) → EntersCourse scenario seen b s
@@ -177,7 +178,7 @@ settled_on_course scenario seen b [] s has are course = record {
   where
     none_left : (command : Command) → slice_get (commands_of scenario b) (length s.finished) ≡ Some command → ⊥
     none_left command at = let both : None ≡ Some command = ap first_of are ∙ first_left (commands_of scenario b) (length s.finished) ∙ at in cc both
-settled_on_course scenario seen b (command ∷ rest) s has are course = by_end (is_finished (facts_of seen b) command now) refl
+settled_on_course scenario seen b (command ∷ rest) s has are course = by_end (is_finished_in (facts_of seen b) command (work_of now)) refl
     (settled_on_course scenario seen b rest (next_session command (first_of rest) now))
   where
     now : Session
@@ -192,14 +193,14 @@ settled_on_course scenario seen b (command ∷ rest) s has are course = by_end (
     counts : length now.finished ≡ length s.finished
     counts = ap length acts_done.finished
 
-    over : is_finished (facts_of seen b) command now ≡ false → s.ended ≡ true → TellsAlone seen b now command
+    over : is_finished_in (facts_of seen b) command (work_of now) ≡ false → s.ended ≡ true → TellsAlone seen b now command
     over unfinished is = by_end (course.ends command at is)
       where
-        by_end : (is_finished (facts_of seen b) command s ≡ true) ⊎ TellsAlone seen b s command → TellsAlone seen b now command
+        by_end : (is_finished_in (facts_of seen b) command (work_of s) ≡ true) ⊎ TellsAlone seen b s command → TellsAlone seen b now command
         by_end (inl finished) = absurd (let both : true ≡ false = sym (finished_stays (facts_of seen b) command s finished) ∙ unfinished in cc both)
         by_end (inr alone) = subst (λ x. TellsAlone seen b x command) (sym (acted-out (facts_of seen b) command s (ap (λ p. is_settled (outcome_of p)) alone.left))) alone
 
-    by_end : (t : Bool) → is_finished (facts_of seen b) command now ≡ t
+    by_end : (t : Bool) → is_finished_in (facts_of seen b) command (work_of now) ≡ t
         → (HasSession scenario seen b now.locks → rest ≡ drop (length (now.finished ++ finished_as now ∷ [])) (commands_of scenario b) → EntersCourse scenario seen b (next_session command (first_of rest) now)
         → IsOnCourse scenario seen b (settled (facts_of seen b) rest (next_session command (first_of rest) now)))
         → IsOnCourse scenario seen b (elim t as (λ x. Session) [ true ↦ settled (facts_of seen b) rest (next_session command (first_of rest) now) | false ↦ now ])
@@ -218,7 +219,7 @@ settled_on_course scenario seen b (command ∷ rest) s has are course = by_end (
 
 -- one act that is done here keeps it so
 pub act_enters : (scenario : Scenario) (seen : List Entry) (b : ℕ) (s : Session) (command : Command) (act : Act) (rest : List Row → Plan) (given : List Row) → HasSession scenario seen b s.locks → slice_get (commands_of scenario b) (length s.finished) ≡ Some command
-    → is_empty (owed_at_start (facts_of seen b) command s ++ owed_after (facts_of seen b).due) ≡ true → s.left ≡ Do act rest → done_here (facts_of seen b) s act (Do act rest) ≡ Some given → EntersCourse scenario seen b s → EntersCourse scenario seen b (act_done act given (rest given) s)
+    → is_empty (owed_first_in (facts_of seen b) command (work_of s) ++ owed_after (facts_of seen b).due) ≡ true → s.left ≡ Do act rest → done_here (facts_of seen b) s act (Do act rest) ≡ Some given → EntersCourse scenario seen b s → EntersCourse scenario seen b (act_done act given (rest given) s)
 act_enters scenario seen b s command act rest given has at free left done course = record {
   follows = λ other here. subst (FollowsPlan seen b (act_done act given (rest given) s)) (let both : Some command ≡ Some other = sym at ∙ here in cc both)
       (act_follows scenario seen b s command act rest given (record { played = has.played; session = has.session; is = has.is; holds = has.holds; clear = clear }) left here_done (course.follows command at));
@@ -234,15 +235,15 @@ act_enters scenario seen b s command act rest given has at free left done course
     clear : map cleared s.locks ≡ s.locks
     clear = subst (λ o. ClearUnlessOwed (facts_of seen b) o s) at course.clear (builds_done (facts_of seen b) command s here_done.builds free)
 
-    settled_if : is_finished (facts_of seen b) command s ≡ true → is_settled (outcome_of s.left) ≡ true
-    settled_if finished = (and_parts (is_settled (outcome_of s.left)) (is_none (end_left (facts_of seen b) command s)) (and_parts (is_settled (outcome_of s.left) && is_none (end_left (facts_of seen b) command s)) _ finished).0).0
+    settled_if : is_finished_in (facts_of seen b) command (work_of s) ≡ true → is_settled (outcome_of s.left) ≡ true
+    settled_if finished = (and_parts (is_settled (outcome_of s.left)) (is_none (end_left_in (facts_of seen b) command (work_of s))) (and_parts (is_settled (outcome_of s.left) && is_none (end_left_in (facts_of seen b) command (work_of s))) _ finished).0).0
 
-    unsettled : (is_finished (facts_of seen b) command s ≡ true) ⊎ TellsAlone seen b s command → ⊥
+    unsettled : (is_finished_in (facts_of seen b) command (work_of s) ≡ true) ⊎ TellsAlone seen b s command → ⊥
     unsettled (inl finished) = let both : true ≡ false = sym (settled_if finished) ∙ ap (λ p. is_settled (outcome_of p)) left in cc both
     unsettled (inr alone) = let both : Do act rest ≡ Done alone.told = sym left ∙ alone.left in cc both
 
 -- and so does the passing over a command that is finished
-pub finish_enters : (scenario : Scenario) (seen : List Entry) (b : ℕ) (s : Session) (command : Command) (rest : List Command) → command ∷ rest ≡ drop (length s.finished) (commands_of scenario b) → is_finished (facts_of seen b) command s ≡ true → EntersCourse scenario seen b s
+pub finish_enters : (scenario : Scenario) (seen : List Entry) (b : ℕ) (s : Session) (command : Command) (rest : List Command) → command ∷ rest ≡ drop (length s.finished) (commands_of scenario b) → is_finished_in (facts_of seen b) command (work_of s) ≡ true → EntersCourse scenario seen b s
     → EntersCourse scenario seen b (next_session command (first_of rest) s)
 finish_enters scenario seen b s command rest are finished course =
     begins_on_course scenario seen b (blocks_after command s) (opens_after command s) (s.finished ++ finished_as s ∷ []) s.locks s.last rest

@@ -12,12 +12,13 @@ use Rattle.history_model.specs.Changing.{is_empty}
 use Rattle.history_model.proofs.Prefixes.{each-keeps}
 use Rattle.history_model.proofs.Reading.{running_transaction_of-own, running_transaction_of-other}
 use Rattle.cacheless.specs.Types.{Scenario, Command, Entry, Event}
-use Rattle.cacheless.specs.Facts.{Facts, facts_of, facts_by}
-use Rattle.cacheless.specs.Owed.{Owes, OwesLook, begins, owed_at_start, owed_last}
+use Rattle.cacheless.specs.Facts.{due_last, Facts, facts_of, facts_by}
+use Rattle.cacheless.specs.Work.{work_of}
+use Rattle.cacheless.specs.Owed.{Owes, OwesLook, begins_in, owed_first_in, owed_after}
 use Rattle.cacheless.specs.Plays.{MayPlayIn, MayPlayAt, IsNext, Plays}
 use Rattle.cacheless.specs.Session.{Session, first_of}
 use Rattle.cacheless.specs.Sessions.{commands_left, entered, session_by, session_of}
-use Rattle.cacheless.specs.Settled.{acted, is_finished, next_session, settled}
+use Rattle.cacheless.specs.Settled.{acted, is_finished_in, next_session, settled}
 use Rattle.cacheless.proofs.Allowed.LooksBound.{acted-same, look_may}
 use Rattle.cacheless.proofs.Allowed.NextEntries.{HasNext, IsFree, look_next}
 use Rattle.cacheless.proofs.Allowed.NextOnCourse.{no_start}
@@ -32,7 +33,7 @@ HasBegun own (Some s) = (s.tally.looks ≡ 0) ⊎ ((s.ended ≡ true) ⊎ (is_so
 -- what is done without entries keeps that
 settled-begun : (facts : Facts) (own : Option Running) (commands : List Command) (s : Session) → HasBegun own (Some s) → HasBegun own (Some (settled facts commands s))
 settled-begun facts own [] s was = was
-settled-begun facts own (command ∷ rest) s was = by_end (is_finished facts command now) (settled-begun facts own rest (next_session command (first_of rest) now) (inl refl)) (here was)
+settled-begun facts own (command ∷ rest) s was = by_end (is_finished_in facts command (work_of now)) (settled-begun facts own rest (next_session command (first_of rest) now) (inl refl)) (here was)
   where
     now : Session
     now = acted facts command s
@@ -73,18 +74,18 @@ pub has_begun : (scenario : Scenario) (history : List Entry) → Plays scenario 
 has_begun scenario history plays = each-keeps (IsNext scenario) (λ h. (b : ℕ) → HasBegun (running_transaction_of h b) (session_of scenario h b)) (λ b. tt) (begun_more scenario) history plays
 
 -- where the look at its start is owed no transaction runs, and no release is made
-starts : (facts : Facts) (command : Command) (s : Session) → is_empty (owed_at_start facts command s) ≡ false → (s.ended ≡ false) × (facts.running ≡ None)
+starts : (facts : Facts) (command : Command) (s : Session) → is_empty (owed_first_in facts command (work_of s)) ≡ false → (s.ended ≡ false) × (facts.running ≡ None)
 starts facts command s owes = by_block s.blocks.block refl
   where
     Goal : Type 0
     Goal = (s.ended ≡ false) × (facts.running ≡ None)
 
-    empty : begins command s ≡ false → Goal
+    empty : begins_in command (work_of s) ≡ false → Goal
     empty is = absurd (both_ways _ owes (ap (λ t. is_empty (elim (t && is_none facts.running) as (λ x. List Owes) [ true ↦ OwesLook ∷ [] | false ↦ [] ])) is))
 
-    by_running : (own : Option Running) → facts.running ≡ own → (t : Bool) → begins command s ≡ t → facts.running ≡ None
+    by_running : (own : Option Running) → facts.running ≡ own → (t : Bool) → begins_in command (work_of s) ≡ t → facts.running ≡ None
     by_running None at t is = at
-    by_running (Some r) at true is = absurd (both_ways _ owes (ap (λ o. is_empty (elim (begins command s && is_none o) as (λ x. List Owes) [ true ↦ OwesLook ∷ [] | false ↦ [] ])) at ∙ ap (λ t. is_empty (elim (t && false) as (λ x. List Owes) [ true ↦ OwesLook ∷ [] | false ↦ [] ])) is))
+    by_running (Some r) at true is = absurd (both_ways _ owes (ap (λ o. is_empty (elim (begins_in command (work_of s) && is_none o) as (λ x. List Owes) [ true ↦ OwesLook ∷ [] | false ↦ [] ])) at ∙ ap (λ t. is_empty (elim (t && false) as (λ x. List Owes) [ true ↦ OwesLook ∷ [] | false ↦ [] ])) is))
     by_running (Some r) at false is = absurd (both_ways _ owes (ap (λ t. is_empty (elim (t && is_none facts.running) as (λ x. List Owes) [ true ↦ OwesLook ∷ [] | false ↦ [] ])) is))
 
     by_ended : (t : Bool) → s.ended ≡ t → s.blocks.block ≡ Outside → s.ended ≡ false
@@ -97,13 +98,13 @@ starts facts command s owes = by_block s.blocks.block refl
         none false = refl
 
     by_block : (block : Block) → s.blocks.block ≡ block → Goal
-    by_block Outside is = (by_ended s.ended refl is, by_running facts.running refl (begins command s) refl)
+    by_block Outside is = (by_ended s.ended refl is, by_running facts.running refl (begins_in command (work_of s)) refl)
     by_block Inside is = empty (ap (λ x. elim x as (λ y. Bool) [ Outside ↦ not (ends_block command) && not s.ended && is_none (refused_by no_block command) | block ↦ false ]) is)
     by_block Failed is = empty (ap (λ x. elim x as (λ y. Bool) [ Outside ↦ not (ends_block command) && not s.ended && is_none (refused_by no_block command) | block ↦ false ]) is)
 
 -- the look at the start of a transaction may come next
-pub begin_next : (scenario : Scenario) (history : List Entry) (b : ℕ) (s : Session) (command : Command) → IsFree scenario history b s → slice_get (commands_of scenario b) (length s.finished) ≡ Some command → owed_last (last_event_of history b) ≡ []
-    → is_empty (owed_at_start (facts_of history b) command s) ≡ false → HasNext scenario history b
+pub begin_next : (scenario : Scenario) (history : List Entry) (b : ℕ) (s : Session) (command : Command) → IsFree scenario history b s → slice_get (commands_of scenario b) (length s.finished) ≡ Some command → owed_after (due_last (last_event_of history b)) ≡ []
+    → is_empty (owed_first_in (facts_of history b) command (work_of s)) ≡ false → HasNext scenario history b
 begin_next scenario history b s command free at none owes = look_next scenario history b s free (λ some_wait. subst (λ o. MayPlayIn (next_oid history) (facts_of history b) o s (events.Look some_wait)) (sym at)
     (look_may (facts_of history b) s (subst IsNoFetch (sym none) tt) (omega (arith, no_look (subst (HasBegun (running_transaction_of history b)) free.is (has_begun scenario history free.allowed.plays b))))))
   where

@@ -22,7 +22,8 @@ use Rattle.cacheless.specs.Facts.{Facts, facts_of, facts_by}
 use Rattle.cacheless.specs.Locks.{grant_of, locks_by}
 use Rattle.cacheless.specs.OnCourse.{OnItsWay, IsOnCourse, CourseOf}
 use Rattle.cacheless.specs.Output.{IsAllowed}
-use Rattle.cacheless.specs.Owed.{owes_accept, owed_of}
+use Rattle.cacheless.specs.Work.{work_of}
+use Rattle.cacheless.specs.Owed.{accepts_in, owed_in}
 use Rattle.cacheless.specs.Played.{AreSpelled}
 use Rattle.cacheless.specs.Plays.{IsLock, IsUnlock, IsWrite, MayPlay, MayPlayLast, MayPlayIn}
 use Rattle.cacheless.specs.Session.{Session, number_of, first_of, outcome_of, is_settled}
@@ -170,7 +171,7 @@ last_taken facts later at s event may none = absurd may
 
 entered_takes : (history : List Entry) (b : ℕ) (later : Facts) (at : ℕ) (o : Option Command) (s : Session) (event : Event) (left : List Command) → MayPlayIn (next_oid history) (facts_of history b) o s event → TakesIn o s → TakesIn o (entered later left at (number_of s) event s)
 entered_takes history b later at None s event left may none = last_taken (facts_of history b) later at s event may none
-entered_takes history b later at (Some command) s event left may takes = takes_cleared (owes_accept later (first_of left) now) (number_of now) now.locks now.taken now.left (takes_by history b later at command s event may takes)
+entered_takes history b later at (Some command) s event left may takes = takes_cleared (accepts_in later (work_of now) (first_of left)) (number_of now) now.locks now.taken now.left (takes_by history b later at command s event may takes)
   where
     now : Session
     now = counted later event (placed_at at (number_of s) event s)
@@ -232,7 +233,7 @@ unwritten_from history b n sound none later = none_standing n (lists_of history 
         by_order false below = omega (arith, leb-false n list.command below)
 
 -- such a lock may be given back
-pub unlock_next : (scenario : Scenario) (history : List Entry) (b : ℕ) (s : Session) (command : Command) (rel : Oid) (mode : Mode) → IsFree scenario history b s → slice_get (commands_of scenario b) (length s.finished) ≡ Some command → owed_of (facts_of history b) command s ≡ []
+pub unlock_next : (scenario : Scenario) (history : List Entry) (b : ℕ) (s : Session) (command : Command) (rel : Oid) (mode : Mode) → IsFree scenario history b s → slice_get (commands_of scenario b) (length s.finished) ≡ Some command → owed_in (facts_of history b) command (work_of s) ≡ []
     → IsUnlock (facts_of history b) s.taken s.left rel mode → HasNext scenario history b
 unlock_next scenario history b s command rel mode free at none asks = free_next scenario history b s (events.Unlock rel mode) free tt (lock_of_command b (number_of s) rel mode (held_of history) s.locks grants granted, standing) tt
     (subst (λ o. MayPlayIn (next_oid history) (facts_of history b) o s (events.Unlock rel mode)) (sym at) (none, asks))

@@ -13,9 +13,10 @@ use Rattle.history_model.specs.Transactions.{begun, after_release, is_visible}
 use Rattle.txn_blocks.specs.declared.transaction.RunningTransaction.{RunningTransaction as Running}
 use Rattle.history_model.specs.Changing.{is_empty}
 use Rattle.cacheless.specs.Types.{Command, Event, OwnLock}
-use Rattle.cacheless.specs.Ends.{End, Ends, Commits, TakesBack, end_of_all, end_of_block, end_well, end_badly, end_of}
+use Rattle.cacheless.specs.Work.{work_of}
+use Rattle.cacheless.specs.Ends.{End, Ends, Commits, TakesBack, end_of_all, end_of_block, end_well_in, end_badly_in, end_in}
 use Rattle.cacheless.specs.Facts.{Facts}
-use Rattle.cacheless.specs.Owed.{Owes, OwesLook, OwesScan, owed_at_start, owed_after, begins, scans_owed, owed_of}
+use Rattle.cacheless.specs.Owed.{Owes, OwesLook, OwesScan, owed_first_in, owed_after, begins_in, scans_owed_in, owed_in}
 use Rattle.cacheless.specs.Session.{Session, Outcome, Well, Badly, Unsettled, opening_of, number_of, outcome_of}
 use Rattle.cacheless.specs.declared.progress.Due.TheVariants as dues
 use Rattle.cacheless.proofs.Allowed.EndsReleased.{RunsAfter, TransactionFits, OnCommit, OnTakingBack, Fits, end_by, EndsBy, IsCommit, commit_first}
@@ -48,7 +49,7 @@ none_some None some = absurd (cc some)
 none_some (Some x) some = refl
 
 -- the end stays the same
-pub end_same : (facts later : Facts) (command : Command) (s : Session) (locks : List OwnLock) (at : ℕ) → GoesOn facts later → end_of later command (later_at s locks at) ≡ end_of facts command s
+pub end_same : (facts later : Facts) (command : Command) (s : Session) (locks : List OwnLock) (at : ℕ) → GoesOn facts later → end_in later command (work_of (later_at s locks at)) ≡ end_in facts command (work_of s)
 end_same facts later command s locks at goes = by_outcome (outcome_of s.left)
   where
     all : end_of_all later ≡ end_of_all facts
@@ -60,25 +61,25 @@ end_same facts later command s locks at goes = by_outcome (outcome_of s.left)
     by_block Inside false = all
     by_block Failed commits = all
 
-    by_command : (c : Command) → end_well later c (later_at s locks at) ≡ end_well facts c s
+    by_command : (c : Command) → end_well_in later c (work_of (later_at s locks at)) ≡ end_well_in facts c (work_of s)
     by_command commands.Begin = refl
     by_command commands.Commit = by_block s.blocks.block true
     by_command commands.Rollback = by_block s.blocks.block false
     by_command (commands.RollbackTo name) = refl
     by_command c = refl
 
-    by_outcome : (x : Outcome) → ◌≡◌ {A = End} (elim x [ Well ↦ end_well later command (later_at s locks at) | Badly ↦ end_badly (later_at s locks at) | Unsettled ↦ Ends ]) (elim x [ Well ↦ end_well facts command s | Badly ↦ end_badly s | Unsettled ↦ Ends ])
+    by_outcome : (x : Outcome) → ◌≡◌ {A = End} (elim x [ Well ↦ end_well_in later command (work_of (later_at s locks at)) | Badly ↦ end_badly_in (work_of (later_at s locks at)) | Unsettled ↦ Ends ]) (elim x [ Well ↦ end_well_in facts command (work_of s) | Badly ↦ end_badly_in (work_of s) | Unsettled ↦ Ends ])
     by_outcome Well = by_command command
     by_outcome Badly = refl
     by_outcome Unsettled = refl
 
 -- nothing is owed before its next entry, where no scan is
-owed_later : (facts later : Facts) (command : Command) (s : Session) (locks : List OwnLock) (at : ℕ) → GoesOn facts later → scans_owed later s ≡ [] → owed_of later command (later_at s locks at) ≡ []
+owed_later : (facts later : Facts) (command : Command) (s : Session) (locks : List OwnLock) (at : ℕ) → GoesOn facts later → scans_owed_in later (work_of s) ≡ [] → owed_in later command (work_of (later_at s locks at)) ≡ []
 owed_later facts later command s locks at goes scans = λ i. start i ++ goes.free i ++ map OwesScan (scans i)
   where
-    start : owed_at_start later command (later_at s locks at) ≡ []
-    start = ap (λ t. elim (begins command s && t) as (λ x. List Owes) [ true ↦ OwesLook ∷ [] | false ↦ [] ]) (none_some later.running goes.some)
-        ∙ ap (λ t. elim t as (λ x. List Owes) [ true ↦ OwesLook ∷ [] | false ↦ [] ]) (and-false (begins command s))
+    start : owed_first_in later command (work_of (later_at s locks at)) ≡ []
+    start = ap (λ t. elim (begins_in command (work_of s) && t) as (λ x. List Owes) [ true ↦ OwesLook ∷ [] | false ↦ [] ]) (none_some later.running goes.some)
+        ∙ ap (λ t. elim t as (λ x. List Owes) [ true ↦ OwesLook ∷ [] | false ↦ [] ]) (and-false (begins_in command (work_of s)))
 
 module _ (facts later : Facts) (o : Option Command) (s : Session) (event : Event) (locks : List OwnLock) (at : ℕ) (fits : Fits facts o s) (ends : EndsBy facts o s event) where
   runs_later : GoesOn facts later → (t : Bool) → TransactionFits facts o s t → s.ended ≡ t → TransactionFits later o (later_at s locks at) t
@@ -121,7 +122,7 @@ module _ (facts later : Facts) (o : Option Command) (s : Session) (event : Event
   }
 
   -- a commit goes on
-  pub commits_on : GoesOn facts later → IsCommit facts (end_by facts o s) → later.lists ≡ facts.lists → scans_owed later s ≡ [] → OnCommit later o (later_at s locks at)
+  pub commits_on : GoesOn facts later → IsCommit facts (end_by facts o s) → later.lists ≡ facts.lists → scans_owed_in later (work_of s) ≡ [] → OnCommit later o (later_at s locks at)
   commits_on goes commit lists none = by_command o refl
     where
       begun_is : (own : Option Running) (n : ℕ) → is_some own ≡ true → option_map_or (λ t. t.first) own 0 ≡ option_map_or (λ t. t.first) own n

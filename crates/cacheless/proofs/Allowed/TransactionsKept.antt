@@ -21,16 +21,17 @@ use Rattle.history_model.specs.Transactions.{begun, is_visible}
 use Rattle.cacheless.specs.Types.{Xid, Oid, Mode, Row, Purpose, Item, Scenario, Command, Event, Entry}
 use Rattle.cacheless.specs.declared.progress.Due.{Due}
 use Rattle.cacheless.specs.declared.progress.Due.TheVariants as dues
-use Rattle.cacheless.specs.Ends.{End, Ends, Commits, TakesBack, end_of, end_left, next_of_end}
+use Rattle.cacheless.specs.Work.{work_of}
+use Rattle.cacheless.specs.Ends.{End, Ends, Commits, TakesBack, end_in, end_left_in, next_of_end}
 use Rattle.cacheless.specs.Facts.{Facts, due_last, facts_of, facts_by}
 use Rattle.cacheless.specs.OnCourse.{is_absent}
 use Rattle.cacheless.specs.Output.{IsAllowed}
-use Rattle.cacheless.specs.Owed.{Owes, OwesScan, missing, act_next, owed_at_start, owed_after, scans_owed, owed_of, is_next_scan}
+use Rattle.cacheless.specs.Owed.{Owes, OwesScan, missing, act_next, owed_first_in, owed_after, scans_owed_in, owed_in, is_next_in}
 use Rattle.cacheless.specs.Played.{AreSpelled}
 use Rattle.cacheless.specs.Plays.{IsLock, IsWrite, IsClash, MayPlayLast, MayPlayIn}
 use Rattle.cacheless.specs.Session.{Session, Badly, opening_of, held_in, number_of, none_open, at_command, outcome_of, is_settled, plan_first}
 use Rattle.cacheless.specs.Sessions.{ends_command, written, resumed, noted, placed_at, counted, entered, session_of}
-use Rattle.cacheless.specs.Settled.{act_done, is_finished, blocks_after, opens_after, finished_as, next_session}
+use Rattle.cacheless.specs.Settled.{act_done, is_finished_in, blocks_after, opens_after, finished_as, next_session}
 use Rattle.cacheless.proofs.Allowed.BlockLevels.{LevelsRise}
 use Rattle.cacheless.proofs.Allowed.EndsReleased.{TransactionFits, Fits, end_by, EndsBy, ends_by, is_end, IsCommit, comes_now, from_of, IsInner, Releases, Whole, Inner, end_releases}
 use Rattle.cacheless.proofs.Allowed.KeptAlong.{Makes, IsKept, HoldsBy, kept_along}
@@ -110,7 +111,7 @@ lock_unsettled facts (Done told) rel mode asks out = asks
 lock_unsettled facts (Fails error) rel mode asks out = asks
 lock_unsettled facts (Absent name) rel mode asks out = asks
 
-clash_unsettled : (facts : Facts) (next : ℕ) (p : Plan) (name : List ℕ) → IsClash facts next p name → is_settled (outcome_of p) ≡ true → ⊥
+clash_unsettled : (facts : Facts) (next : ℕ) (p : Plan) (name : List ℕ) → IsClash facts p name → is_settled (outcome_of p) ≡ true → ⊥
 clash_unsettled facts next (Do act rest) name asks out = cc out
 clash_unsettled facts next (Done told) name asks out = asks
 clash_unsettled facts next (Fails error) name asks out = asks
@@ -180,7 +181,7 @@ inside_hidden true (events.Release from) inside follows = absurd inside
 inside_hidden true event inside follows = absurd follows
 
 -- after the last command no scan is lacking, where none runs
-scan_past : (facts : Facts) (s : Session) (scan : Purpose) → Fits facts None s → facts.running ≡ None → is_next_scan scan facts s ≡ true → ⊥
+scan_past : (facts : Facts) (s : Session) (scan : Purpose) → Fits facts None s → facts.running ≡ None → is_next_in scan facts (work_of s) ≡ true → ⊥
 scan_past facts s scan fits none next = both_ways _ (λ i. list_any (same_scan scan) (elim (outcome_of (fits.past refl i)) as (λ x. List Purpose) [ Badly ↦ [] | other ↦ flat_map (λ o. take 1 (missing facts.kept (build_scans o.kind o.rel))) (bare i) ++ act_next facts (fits.past refl i) ])) next
   where
     by_block : s.ended ≡ false → (block : Block) → s.blocks.block ≡ block → OpensIn block s.opens → RunsBy facts None s block → s.opened ≡ []
@@ -244,14 +245,14 @@ module _ (scenario : Scenario) (history : List Entry) (b : ℕ) (s : Session) wh
       later = facts_by history b (number_of s) event facts
 
   -- where a commit comes next no scan is owed
-  commit_free : (o : Option Command) (event : Event) → ends_command event ≡ true → MayPlayIn (next_oid history) facts o s event → IsCommit facts (end_by facts o s) → scans_owed facts s ≡ []
+  commit_free : (o : Option Command) (event : Event) → ends_command event ≡ true → MayPlayIn (next_oid history) facts o s event → IsCommit facts (end_by facts o s) → scans_owed_in facts (work_of s) ≡ []
   commit_free None event ends may commit = absurd (all_back facts.running commit.is)
     where
       all_back : (r : Option Running) → option_map_or (λ t. TakesBack t.first) r Ends ≡ Commits commit.first → ⊥
       all_back None is = cc is
       all_back (Some t) is = cc is
-  commit_free (Some command) event ends may commit = unmapped (scans_owed facts s) (both_empty (owed_at_start facts command s ++ owed_after facts.due) (map OwesScan (scans_owed facts s))
-      (sym (ap (λ e. elim e as (λ x. List Owes) [ TakesBack from ↦ owed_after facts.due | end ↦ owed_of facts command s ]) commit.is) ∙ (is_end (next_oid history) facts command s event ends may).0)).1
+  commit_free (Some command) event ends may commit = unmapped (scans_owed_in facts (work_of s)) (both_empty (owed_first_in facts command (work_of s) ++ owed_after facts.due) (map OwesScan (scans_owed_in facts (work_of s)))
+      (sym (ap (λ e. elim e as (λ x. List Owes) [ TakesBack from ↦ owed_after facts.due | end ↦ owed_in facts command (work_of s) ]) commit.is) ∙ (is_end (next_oid history) facts command s event ends may).0)).1
     where
       unmapped : (l : List Purpose) → map OwesScan l ≡ [] → l ≡ []
       unmapped [] is = refl
@@ -486,20 +487,20 @@ act_fits facts command s act further given left fits = record {
 -- the parts of a finished command
 record IsFinished (facts : Facts) (command : Command) (s : Session) : Type 0 where
   out : is_settled (outcome_of s.left) ≡ true
-  none : is_none (end_left facts command s) ≡ true
-  first : owed_at_start facts command s ≡ []
+  none : is_none (end_left_in facts command (work_of s)) ≡ true
+  first : owed_first_in facts command (work_of s) ≡ []
 
-parts_of : (facts : Facts) (command : Command) (s : Session) → is_finished facts command s ≡ true → IsFinished facts command s
-parts_of facts command s is = record { out = front.0; none = front.1; first = (both_empty (owed_at_start facts command s) (owed_after facts.due) owed).0 }
+parts_of : (facts : Facts) (command : Command) (s : Session) → is_finished_in facts command (work_of s) ≡ true → IsFinished facts command s
+parts_of facts command s is = record { out = front.0; none = front.1; first = (both_empty (owed_first_in facts command (work_of s)) (owed_after facts.due) owed).0 }
   where
-    both : (is_settled (outcome_of s.left) && is_none (end_left facts command s) ≡ true) × (is_empty (owed_of facts command s) ≡ true)
-    both = and_parts (is_settled (outcome_of s.left) && is_none (end_left facts command s)) (is_empty (owed_of facts command s)) is
+    both : (is_settled (outcome_of s.left) && is_none (end_left_in facts command (work_of s)) ≡ true) × (is_empty (owed_in facts command (work_of s)) ≡ true)
+    both = and_parts (is_settled (outcome_of s.left) && is_none (end_left_in facts command (work_of s))) (is_empty (owed_in facts command (work_of s))) is
 
-    front : (is_settled (outcome_of s.left) ≡ true) × (is_none (end_left facts command s) ≡ true)
-    front = and_parts (is_settled (outcome_of s.left)) (is_none (end_left facts command s)) both.0
+    front : (is_settled (outcome_of s.left) ≡ true) × (is_none (end_left_in facts command (work_of s)) ≡ true)
+    front = and_parts (is_settled (outcome_of s.left)) (is_none (end_left_in facts command (work_of s))) both.0
 
-    owed : owed_at_start facts command s ++ owed_after facts.due ≡ []
-    owed = (both_empty (owed_at_start facts command s ++ owed_after facts.due) (map OwesScan (scans_owed facts s)) (empty_list (owed_of facts command s) both.1)).0
+    owed : owed_first_in facts command (work_of s) ++ owed_after facts.due ≡ []
+    owed = (both_empty (owed_first_in facts command (work_of s) ++ owed_after facts.due) (map OwesScan (scans_owed_in facts (work_of s))) (empty_list (owed_in facts command (work_of s)) both.1)).0
 
 -- an end without an entry
 none_ends : (facts : Facts) (end : End) → is_none (next_of_end facts end) ≡ true → end ≡ Ends
@@ -508,11 +509,11 @@ none_ends facts (Commits first) is = absurd (cc)
 none_ends facts (TakesBack from) is = absurd (cc)
 
 -- an end on its way isn't finished
-still_ending : (facts : Facts) (command : Command) (s : Session) (event : Event) → IsFinished facts command s → s.ended ≡ false → next_of_end facts (end_of facts command s) ≡ Some event → ⊥
-still_ending facts command s event done going comes = both_ways _ (ap (λ e. is_none e) comes) (subst (λ t. is_none (elim t as (λ x. Option Event) [ true ↦ None | false ↦ next_of_end facts (end_of facts command s) ]) ≡ true) going done.none)
+still_ending : (facts : Facts) (command : Command) (s : Session) (event : Event) → IsFinished facts command s → s.ended ≡ false → next_of_end facts (end_in facts command (work_of s)) ≡ Some event → ⊥
+still_ending facts command s event done going comes = both_ways _ (ap (λ e. is_none e) comes) (subst (λ t. is_none (elim t as (λ x. Option Event) [ true ↦ None | false ↦ next_of_end facts (end_in facts command (work_of s)) ]) ≡ true) going done.none)
 
 -- a command that is finished is passed over
-pass_fits : (facts : Facts) (command : Command) (next : Option Command) (s : Session) → is_finished facts command s ≡ true → Fits facts (Some command) s → Fits facts next (next_session command next s)
+pass_fits : (facts : Facts) (command : Command) (next : Option Command) (s : Session) → is_finished_in facts command (work_of s) ≡ true → Fits facts (Some command) s → Fits facts next (next_session command next s)
 pass_fits facts command next s finished fits = record {
   transaction = runs_next now.blocks.block passes_to;
   first = subst (λ n. first_at facts ≤ n) (sym counts) (omega (arith, fits.first));
@@ -522,7 +523,7 @@ pass_fits facts command next s finished fits = record {
   blocked = refl;
   settled = λ is. refl;
   written = fits.written;
-  visible = λ is. absurd (let c = fits.visible is in let one : c.command ≡ command = cc (c.at) in still_ending facts command s _ done c.going (ap (next_of_end facts) (subst (λ x. end_of facts x s ≡ Commits (first_at facts)) one c.end)));
+  visible = λ is. absurd (let c = fits.visible is in let one : c.command ≡ command = cc (c.at) in still_ending facts command s _ done c.going (ap (next_of_end facts) (subst (λ x. end_in facts x (work_of s) ≡ Commits (first_at facts)) one c.end)));
   taken = λ from is. absurd (let t = fits.taken from is in still_ending facts command s _ done t.going (ap (next_of_end facts) t.end));
   accepts = fits.accepts;
   past = λ none. ap (plan_first (blocks_after command s) (opens_after command s)) none;
@@ -542,9 +543,9 @@ pass_fits facts command next s finished fits = record {
     passes_to : RunsIn facts (blocks_after command s)
     passes_to = by_ended s.ended refl fits.transaction done.none
       where
-        by_ended : (t : Bool) → s.ended ≡ t → TransactionFits facts (Some command) s t → is_none (elim t as (λ x. Option Event) [ true ↦ None | false ↦ next_of_end facts (end_of facts command s) ]) ≡ true → RunsIn facts (blocks_after command s)
+        by_ended : (t : Bool) → s.ended ≡ t → TransactionFits facts (Some command) s t → is_none (elim t as (λ x. Option Event) [ true ↦ None | false ↦ next_of_end facts (end_in facts command (work_of s)) ]) ≡ true → RunsIn facts (blocks_after command s)
         by_ended true is runs over = runs
-        by_ended false is runs over = next_silent facts (Some command) s command refl fits.blocked (record { opens = fits.opens; rise = fits.levels; plain = fits.plain }) (well_admitted (Some command) s command refl fits.settled) is done.out done.first runs (none_ends facts (end_of facts command s) over)
+        by_ended false is runs over = next_silent facts (Some command) s command refl fits.blocked (record { opens = fits.opens; rise = fits.levels; plain = fits.plain }) (well_admitted (Some command) s command refl fits.settled) is done.out done.first runs (none_ends facts (end_in facts command (work_of s)) over)
 
     runs_next : (block : Block) → RunsAt facts now.blocks.levels block → RunsBy facts next now block
     runs_next Outside none = inl none

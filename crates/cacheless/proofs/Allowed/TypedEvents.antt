@@ -39,7 +39,8 @@ use Rattle.history_model.proofs.Guards.{any_with}
 use Rattle.history_model.proofs.Runs.{Runs}
 use Rattle.local_caches.specs.Kept.{Kept, rows_kept}
 use Rattle.cacheless.specs.Facts.{Facts, facts_of, kept_if}
-use Rattle.cacheless.specs.Owed.{missing, act_next, is_next_scan}
+use Rattle.cacheless.specs.Work.{work_of}
+use Rattle.cacheless.specs.Owed.{missing, act_next, is_next_in}
 use Rattle.cacheless.specs.Plays.{IsLock, drafted, IsWrite, names_by, IsClash, MayPlay, MayPlayLast, MayPlayIn}
 use Rattle.cacheless.specs.Session.{Session, Outcome, Unsettled, Well, Badly, outcome_of}
 use Rattle.cacheless.specs.Settled.{class_oid}
@@ -113,7 +114,7 @@ act_scans_typed facts (Done told) typed = lacking_scans_typed facts.kept (cons_o
 act_scans_typed facts (Fails error) typed = tt
 act_scans_typed facts (Absent name) typed = tt
 
-scan_typed : (facts : Facts) (s : Session) (scan : Purpose) → IsTypedSession s → is_next_scan scan facts s ≡ true → IsPurpose scan
+scan_typed : (facts : Facts) (s : Session) (scan : Purpose) → IsTypedSession s → is_next_in scan facts (work_of s) ≡ true → IsPurpose scan
 scan_typed facts s scan typed next = any_with (same_scan scan) IsPurpose (IsPurpose scan) (λ wanted same is. subst IsPurpose (sym (same_scan-true scan wanted same)) is) _ next (of (outcome_of s.left))
   where
     both : AllByRecursion IsPurpose (flat_map (λ o. take 1 (missing facts.kept (build_scans o.kind o.rel))) s.opened ++ act_next facts s.left)
@@ -188,7 +189,7 @@ all_names : (kept : Kept) (changes : List Change) → AllByRecursion IsTypedChan
 all_names kept [] all = tt
 all_names kept (change ∷ changes) all = every-append IsAnyName (names_by kept change) (flat_map (names_by kept) changes) (change_names kept change all.0) (all_names kept changes all.1)
 
-clash_typed : (facts : Facts) (next : ℕ) (plan : Plan) (name : List ℕ) → IsTypedPlan plan → IsClash facts next plan name → IsAnyName name
+clash_typed : (facts : Facts) (next : ℕ) (plan : Plan) (name : List ℕ) → IsTypedPlan plan → IsClash facts plan name → IsAnyName name
 clash_typed facts next (Do (Write draft) rest) name typed is =
     any_with (bytes_eq name) IsAnyName (IsAnyName name) (λ own same named. subst IsAnyName (sym ((bytes_eq-Decides name own).0 same)) named) (flat_map (names_by facts.kept) draft.changes) is (all_names facts.kept draft.changes typed.0.changes)
 clash_typed facts next (Do (Lookup own mode) rest) name typed is = absurd is

@@ -16,10 +16,10 @@ use Rattle.history_model.specs.Changing.{is_empty}
 use Rattle.history_model.proofs.Every.{every-append, every-map}
 use Rattle.local_caches.specs.Kept.{rows_kept}
 use Rattle.cacheless.specs.Facts.{Facts}
-use Rattle.cacheless.specs.Owed.{builds_owed, act_owed, owed_at_start, owed_after}
+use Rattle.cacheless.specs.Owed.{builds_missing, act_owed, owed_first_in, owed_after}
 use Rattle.cacheless.specs.Session.{Session, Finished, first_of, opening_of, held_in, none_open, plan_admitted, plan_first, at_command}
 use Rattle.cacheless.specs.Sessions.{written, resumed, noted, placed_at, counted, commands_left, entered, session_by}
-use Rattle.cacheless.specs.Settled.{if_locked, looked_up_in, gives, opened_by, sought_by, act_done, done_here, acted_on, acted, is_finished, blocks_after, opens_after, finished_as, next_session, settled}
+use Rattle.cacheless.specs.Settled.{if_locked, looked_up_in, gives_in, opened_by, sought_by, act_done, done_here, acted_on, acted, is_finished_in, blocks_after, opens_after, finished_as, next_session, settled}
 use Rattle.cacheless.specs.Work.{Work, work_of}
 use Rattle.cacheless.specs.Types.{Mode, Row, Command, CommandError, OpenRelation, OwnLock, Event}
 use Rattle.cacheless.specs.Typed.{IsOid, AreTypedRows, IsTypedAct, IsTypedPlan, AreKeptTyped, AreOpenTyped, AreHeldTyped, IsTypedSession}
@@ -37,7 +37,7 @@ looked_up_rows facts w mode [] all = locked_rows _ [] tt
 looked_up_rows facts w mode (rows.Class oid name kind fill ∷ more) all = locked_rows _ (rows.Class oid name kind fill ∷ []) (all.0, tt)
 looked_up_rows facts w mode (row ∷ more) all = locked_rows _ (row ∷ []) (all.0, tt)
 
-gives_rows : (facts : Facts) (s : Session) (act : Act) → AreKeptTyped facts → IfSome (gives facts s act) AreTypedRows
+gives_rows : (facts : Facts) (s : Session) (act : Act) → AreKeptTyped facts → IfSome (gives_in facts (work_of s) act) AreTypedRows
 gives_rows facts s (Lookup name mode) keeps = looked_up_rows facts (work_of s) mode (rows_kept facts.kept (scans.RelName name)) (keeps (scans.RelName name))
 gives_rows facts s (Open rel kind) keeps = tt
 gives_rows facts s (Search scan) keeps = keeps scan
@@ -46,9 +46,9 @@ gives_rows facts s (Lock rel mode) keeps = locked_rows _ [] tt
 gives_rows facts s (Write draft) keeps = tt
 
 done_rows : (facts : Facts) (s : Session) (act : Act) (plan : Plan) → AreKeptTyped facts → IfSome (done_here facts s act plan) AreTypedRows
-done_rows facts s act plan keeps = by_test (is_empty (builds_owed facts s.opened ++ act_owed facts plan))
+done_rows facts s act plan keeps = by_test (is_empty (builds_missing facts.kept s.opened ++ act_owed facts plan))
   where
-    by_test : (t : Bool) → IfSome (elim t as (λ x. Option (List Row)) [ true ↦ gives facts s act | false ↦ None ]) AreTypedRows
+    by_test : (t : Bool) → IfSome (elim t as (λ x. Option (List Row)) [ true ↦ gives_in facts (work_of s) act | false ↦ None ]) AreTypedRows
     by_test true = gives_rows facts s act keeps
     by_test false = tt
 
@@ -89,7 +89,7 @@ acts_typed facts (Fails error) s keeps next typed = record { typed = typed; fini
 acts_typed facts (Absent name) s keeps next typed = record { typed = typed; finished = refl }
 
 acted_typed : (facts : Facts) (command : Command) (s : Session) → AreKeptTyped facts → IsTypedSession s → GoesTyped s (acted facts command s)
-acted_typed facts command s keeps typed = by_test (is_empty (owed_at_start facts command s ++ owed_after facts.due))
+acted_typed facts command s keeps typed = by_test (is_empty (owed_first_in facts command (work_of s) ++ owed_after facts.due))
   where
     by_test : (t : Bool) → GoesTyped s (elim t as (λ x. Session) [ true ↦ acted_on facts s.left s | false ↦ s ])
     by_test true = acts_typed facts s.left s keeps typed.left typed
@@ -125,7 +125,7 @@ pub record IsTypedWithin (most : ℕ) (s : Session) : Type 0 where
 
 settled_typed : (facts : Facts) (most : ℕ) (all : List Command) (s : Session) → AreKeptTyped facts → AllByRecursion IsCommand all → IsTypedSession s → length s.finished + length all ≤ most → IsTypedWithin most (settled facts all s)
 settled_typed facts most [] s keeps spelled typed few = record { typed = typed; few = omega (arith, few) }
-settled_typed facts most (command ∷ rest) s keeps spelled typed few = by_test (is_finished facts command now)
+settled_typed facts most (command ∷ rest) s keeps spelled typed few = by_test (is_finished_in facts command (work_of now))
     (settled_typed facts most rest (next_session command (first_of rest) now) keeps spelled.1 (begins_typed (blocks_after command now) (opens_after command now) (now.finished ++ finished_as now ∷ []) now.locks now.last (first_of rest) (first_spelled rest spelled.1) (after_typed command now goes.typed))
     (omega (arith, few, length_push now.finished (finished_as now), ap length goes.finished)))
   where

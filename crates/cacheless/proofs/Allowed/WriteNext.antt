@@ -29,7 +29,8 @@ use Rattle.cacheless.specs.Types.{Row, Purpose, Item, Opening, Draft, Scenario, 
 use Rattle.cacheless.specs.ActsDone.{reached, made_in, opening_by, after_given, IsStill, AreStill}
 use Rattle.cacheless.specs.Facts.{Facts, facts_of}
 use Rattle.cacheless.specs.OnCourse.{OnItsWay, IsOnCourse, CourseOf}
-use Rattle.cacheless.specs.Owed.{owed_of}
+use Rattle.cacheless.specs.Work.{work_of}
+use Rattle.cacheless.specs.Owed.{owed_in}
 use Rattle.cacheless.specs.Played.{IsPlayed}
 use Rattle.cacheless.specs.Plays.{drafted, IsWrite, IsClash, MayPlayIn}
 use Rattle.cacheless.specs.Puts.{AreGivenBy, PutsOpened}
@@ -87,8 +88,8 @@ some_taken history b (name ∷ names) taken = by_name (is_free history b name) r
     by_name true used is more = let later = more is in record { name = later.name; among = or_later (bytes_eq later.name name) later.among; used = later.used }
 
 -- a name that is in use clashes: with a running transaction, or with a relation that is seen
-clash_next : (scenario : Scenario) (history : List Entry) (b : ℕ) (s : Session) (command : Command) (name : List ℕ) → IsFree scenario history b s → slice_get (commands_of scenario b) (length s.finished) ≡ Some command → owed_of (facts_of history b) command s ≡ []
-    → IsClash (facts_of history b) (next_oid history) s.left name → is_free history b name ≡ false → HasNext scenario history b
+clash_next : (scenario : Scenario) (history : List Entry) (b : ℕ) (s : Session) (command : Command) (name : List ℕ) → IsFree scenario history b s → slice_get (commands_of scenario b) (length s.finished) ≡ Some command → owed_in (facts_of history b) command (work_of s) ≡ []
+    → IsClash (facts_of history b) s.left name → is_free history b name ≡ false → HasNext scenario history b
 clash_next scenario history b s command name free at none clashes used = by_users (users_of history b name) refl
   where
     makes : (event : Event) → MayPlayIn (next_oid history) (facts_of history b) (Some command) s event → MayPlayIn (next_oid history) (facts_of history b) (slice_get (commands_of scenario b) (length s.finished)) s event
@@ -113,7 +114,7 @@ clash_next scenario history b s command name free at none clashes used = by_user
         (ap (list_any (λ u. u == user)) are ∙ ap (λ t. t || list_any (λ u. u == user) more) (eq-eqb user user refl)) tt (makes (events.ClashRunning name (record { 0 = user })) (none, clashes))
 
 -- a write that is next comes, or a clash
-pub write_next : (scenario : Scenario) (history : List Entry) (b : ℕ) (s : Session) (command : Command) (draft : Draft) (rest : List Row → Plan) → IsFree scenario history b s → slice_get (commands_of scenario b) (length s.finished) ≡ Some command → owed_of (facts_of history b) command s ≡ []
+pub write_next : (scenario : Scenario) (history : List Entry) (b : ℕ) (s : Session) (command : Command) (draft : Draft) (rest : List Row → Plan) → IsFree scenario history b s → slice_get (commands_of scenario b) (length s.finished) ≡ Some command → owed_in (facts_of history b) command (work_of s) ≡ []
     → s.left ≡ Do (Write draft) rest → HasNext scenario history b
 write_next scenario history b s command draft rest free at none left = by_names (list_all (is_free history b) (new_names history b items)) refl
   where
@@ -180,4 +181,4 @@ write_next scenario history b s command draft rest free at none left = by_names 
     by_names true unused = free_next scenario history b s (events.Write xid items) free tt (allows unused) tt
         (subst (λ o. MayPlayIn (next_oid history) facts o s (events.Write xid items)) (sym at) (none, subst (λ p. IsWrite (next_oid history) p items) (sym left) refl))
     by_names false used = let taken = some_taken history b (new_names history b items) used in clash_next scenario history b s command taken.name free at none
-        (subst (λ p. IsClash facts (next_oid history) p taken.name) (sym left) (sym (ap (list_any (bytes_eq taken.name)) (all_names facts (held_before s ++ opened) (next_oid history) draft.new_oids draft.changes draft.forced puts.0)) ∙ suits.names read taken.name taken.among)) taken.used
+        (subst (λ p. IsClash facts p taken.name) (sym left) (sym (ap (list_any (bytes_eq taken.name)) (all_names facts (held_before s ++ opened) (next_oid history) draft.new_oids draft.changes draft.forced puts.0)) ∙ suits.names read taken.name taken.among)) taken.used

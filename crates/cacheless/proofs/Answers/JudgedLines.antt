@@ -17,7 +17,8 @@ use Rattle.cacheless.specs.Judged.{ArePlaced}
 use Rattle.cacheless.specs.Lines.{answer_judged, line_of, lines_from}
 use Rattle.cacheless.specs.Session.{Session, Finished, first_of, none_open, at_command}
 use Rattle.cacheless.specs.Sessions.{ends_command, placed_at, counted, commands_left, entered, session_by, session_of}
-use Rattle.cacheless.specs.Settled.{done_here, act_done, acted_on, acted, is_finished, finished_as, next_session, settled}
+use Rattle.cacheless.specs.Work.{work_of}
+use Rattle.cacheless.specs.Settled.{done_here, act_done, acted_on, acted, is_finished_in, finished_as, next_session, settled}
 use Rattle.cacheless.proofs.Allowed.NextOnCourse.{counted_tally, noted_finished}
 
 -- the line of a command that is judged among the entries stays with one more
@@ -76,7 +77,7 @@ acted-placed n facts s false placed = placed
 -- and a command that is finished is judged at one
 settled-placed : (n : ℕ) (facts : Facts) (left : List Command) (s : Session) → Placed n s → Placed n (settled facts left s)
 settled-placed n facts [] s placed = placed
-settled-placed n facts (command ∷ rest) s placed = by_end (is_finished facts command now) (settled-placed n facts rest (next_session command (first_of rest) now))
+settled-placed n facts (command ∷ rest) s placed = by_end (is_finished_in facts command (work_of now)) (settled-placed n facts rest (next_session command (first_of rest) now))
   where
     now : Session
     now = acted facts command s

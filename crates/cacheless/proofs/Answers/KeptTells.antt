@@ -14,7 +14,8 @@ use Rattle.cacheless.specs.Types.{Purpose, Command, Opening, Scenario, Entry}
 use Rattle.cacheless.specs.declared.progress.Progress.{Progress}
 use Rattle.cacheless.specs.Facts.{facts_of}
 use Rattle.cacheless.specs.Lines.{answer_judged, line_of}
-use Rattle.cacheless.specs.Owed.{unusable, builds_owed, owed_of}
+use Rattle.cacheless.specs.Work.{work_of}
+use Rattle.cacheless.specs.Owed.{missing, builds_missing, owed_in}
 use Rattle.cacheless.specs.OnCourse.{FollowsPlan, TellsStill, AreOfKinds}
 use Rattle.cacheless.specs.Played.{IsPlayed}
 use Rattle.cacheless.specs.Session.{Outcome, Badly, number_of, outcome_of}
@@ -59,11 +60,11 @@ all_alike seen p [] fits at usable = tt
 all_alike seen p (scan ∷ wanted) fits at usable = (kept_alike seen p scan fits at usable.0, all_alike seen p wanted fits at usable.1)
 
 -- and those of the opened descriptors
-opened_alike : (seen : List Entry) (p : Progress) (opened : List Opening) → FactsFit (facts_of seen p.id) p → AreLastScans seen p.id (kept_at p) → builds_owed (facts_of seen p.id) opened ≡ []
+opened_alike : (seen : List Entry) (p : Progress) (opened : List Opening) → FactsFit (facts_of seen p.id) p → AreLastScans seen p.id (kept_at p) → builds_missing (facts_of seen p.id).kept opened ≡ []
     → AreAlike (rows_read seen p.id) (rows_kept (kept_at p)) (place_read seen p.id) (place_kept (kept_at p)) opened
 opened_alike seen p [] fits at none = tt
 opened_alike seen p (o ∷ opened) fits at none =
-    let both = both_empty (unusable (facts_of seen p.id) (build_scans o.kind o.rel)) (builds_owed (facts_of seen p.id) opened) none in
+    let both = both_empty (missing (facts_of seen p.id).kept (build_scans o.kind o.rel)) (builds_missing (facts_of seen p.id).kept opened) none in
     (all_alike seen p (build_scans o.kind o.rel) fits at (none_usable seen p.id (build_scans o.kind o.rel) both.0), opened_alike seen p opened fits at both.1)
 
 -- a command that failed to find a relation has the scan of its name at hand
@@ -111,10 +112,10 @@ told_now scenario seen p command text played holds follows stands kinds judged a
     parts : (is_out p ≡ true) × ((has_failed p || not (tells_of_scans (told_of (plan_at p.opens p.exec))) || owes_nothing command p) ≡ true)
     parts = and_parts (is_out p) (has_failed p || not (tells_of_scans (told_of (plan_at p.opens p.exec))) || owes_nothing command p) out
 
-    by_told : (t : Bool) → tells_of_scans (told_of (plan_at p.opens p.exec)) ≡ t → (not t || owes_nothing command p) ≡ true → (tells_of_scans (told_of (plan_at p.opens p.exec)) ≡ false) ⊎ (owed_of (facts_of seen p.id) command (session_at p holds.rest) ≡ [])
+    by_told : (t : Bool) → tells_of_scans (told_of (plan_at p.opens p.exec)) ≡ t → (not t || owes_nothing command p) ≡ true → (tells_of_scans (told_of (plan_at p.opens p.exec)) ≡ false) ⊎ (owed_in (facts_of seen p.id) command (work_of (session_at p holds.rest)) ≡ [])
     by_told false plain any = inl plain
-    by_told true tells owes = inr (empty_list (owed_of (facts_of seen p.id) command (session_at p holds.rest)) (owes_nothing_is (facts_of seen p.id) command p holds.rest holds.facts ∙ owes))
+    by_told true tells owes = inr (empty_list (owed_in (facts_of seen p.id) command (work_of (session_at p holds.rest))) (owes_nothing_is (facts_of seen p.id) command p holds.rest holds.facts ∙ owes))
 
-    by_failed : (t : Bool) → has_failed p ≡ t → (t || not (tells_of_scans (told_of (plan_at p.opens p.exec))) || owes_nothing command p) ≡ true → (outcome_of (plan_at p.opens p.exec) ≡ Badly) ⊎ (tells_of_scans (told_of (plan_at p.opens p.exec)) ≡ false) ⊎ (owed_of (facts_of seen p.id) command (session_at p holds.rest) ≡ [])
+    by_failed : (t : Bool) → has_failed p ≡ t → (t || not (tells_of_scans (told_of (plan_at p.opens p.exec))) || owes_nothing command p) ≡ true → (outcome_of (plan_at p.opens p.exec) ≡ Badly) ⊎ (tells_of_scans (told_of (plan_at p.opens p.exec)) ≡ false) ⊎ (owed_in (facts_of seen p.id) command (work_of (session_at p holds.rest)) ≡ [])
     by_failed true failed any = inl (failed_badly (outcome_of (plan_at p.opens p.exec)) failed)
     by_failed false going owes = inr (by_told (tells_of_scans (told_of (plan_at p.opens p.exec))) refl owes)

@@ -13,7 +13,7 @@ use Rattle.history_model.specs.Transactions.{has_written}
 use Rattle.history_model.proofs.Every.{every-weaker}
 use Rattle.cacheless.specs.Facts.{facts_of}
 use Rattle.cacheless.specs.Lines.{read_field, shown_field, effect_judged}
-use Rattle.cacheless.specs.Owed.{unusable}
+use Rattle.cacheless.specs.Owed.{missing}
 use Rattle.cacheless.specs.Places.{IsShownRightly, TellsRightly, ComesRightly, AnswersRightly}
 use Rattle.cacheless.specs.Protected.{is_protected}
 use Rattle.cacheless.specs.Session.{Session, number_of, outcome_of, is_settled}
@@ -38,7 +38,7 @@ field_rightly scenario seen b rel kind field usable = by_guard (is_protected sce
 open_usable : (scenario : Scenario) (seen : List Entry) (b : ℕ) (s : Session) (command : Command) (told : Told) (rel : Oid) (kind : Kind) → HasComeOut scenario seen b s command → s.left ≡ Done told → tells_of_scans told ≡ true → Contains s.opened (record { rel = rel; kind = kind })
     → (field : Field) → has_field kind field ≡ true → is_usable seen b (read_by field rel) ≡ true
 open_usable scenario seen b s command told rel kind come done of_scans opened field has =
-    field_among (λ d. is_usable seen b d ≡ true) kind rel field has (none_usable seen b (build_scans kind rel) (both_empty (unusable (facts_of seen b) (build_scans kind rel)) []
+    field_among (λ d. is_usable seen b d ≡ true) kind rel field has (none_usable seen b (build_scans kind rel) (both_empty (missing (facts_of seen b).kept (build_scans kind rel)) []
     (one_owes_none (facts_of seen b) s.opened (record { rel = rel; kind = kind }) opened (come.builds (ap outcome_of done) (ap (λ p. tells_of_scans (told_of p)) done ∙ of_scans)))).0)
 
 told_rightly : (scenario : Scenario) (seen : List Entry) (b : ℕ) (s : Session) (command : Command) (told : Told) → HasComeOut scenario seen b s command → s.left ≡ Done told → TellsOpen s.opened told → TellsRightly scenario seen b told

@@ -22,7 +22,8 @@ use Rattle.cacheless.specs.Facts.{facts_of}
 use Rattle.cacheless.specs.Lines.{name_in, answer_well, answer_by, effect_judged, answer_judged, line_of}
 use Rattle.cacheless.specs.OnCourse.{OnItsWay, HasWritten, is_over, Way, Begun, Wrote, Over, FollowsPlan, TellsAlone, TellsStill, AreOfKinds}
 use Rattle.cacheless.proofs.Allowed.KindsHeld.{IsKind}
-use Rattle.cacheless.specs.Owed.{builds_owed, owed_of}
+use Rattle.cacheless.specs.Work.{work_of}
+use Rattle.cacheless.specs.Owed.{builds_missing, owed_in}
 use Rattle.cacheless.proofs.Allowed.Releases.{OwesNoScan, owes_no_scan}
 use Rattle.cacheless.specs.Session.{Session, held_before, number_of, outcome_of, is_settled, Well, Badly}
 use Rattle.cacheless.specs.Settled.{found_by, finished_as}
@@ -42,7 +43,7 @@ pub record HasComeOut (scenario : Scenario) (seen : List Entry) (b : ℕ) (s : S
   pub out : is_settled (outcome_of s.left) ≡ true
   pub stands : TellsStill seen b s command
   pub kinds : AreOfKinds seen s.opens s.opened
-  pub builds : outcome_of s.left ≡ Well → tells_of_scans (told_of s.left) ≡ true → builds_owed (facts_of seen b) s.opened ≡ []
+  pub builds : outcome_of s.left ≡ Well → tells_of_scans (told_of s.left) ≡ true → builds_missing (facts_of seen b).kept s.opened ≡ []
   pub named : (oid : Oid) → s.left ≡ Done (tells.Regclass oid) → is_usable seen b (scans.RelOid oid) ≡ true
 
 -- by what it is on its way to, or has written
@@ -139,7 +140,7 @@ line_told scenario seen b s command come judged = ap (λ h. line_by h) (take_all
 
 -- a command that came out of itself and owes nothing or tells of no scan, or has failed, has come out so, where its last entry takes nothing back and is no release
 pub has_come_out : (scenario : Scenario) (seen : List Entry) (b : ℕ) (s : Session) (command : Command) → HasSession scenario seen b s.locks → FollowsPlan seen b s command → is_settled (outcome_of s.left) ≡ true → TellsStill seen b s command → AreOfKinds seen s.opens s.opened
-    → (outcome_of s.left ≡ Badly) ⊎ (tells_of_scans (told_of s.left) ≡ false) ⊎ (owed_of (facts_of seen b) command s ≡ []) → HasComeOut scenario seen b s command
+    → (outcome_of s.left ≡ Badly) ⊎ (tells_of_scans (told_of s.left) ≡ false) ⊎ (owed_in (facts_of seen b) command (work_of s) ≡ []) → HasComeOut scenario seen b s command
 has_come_out scenario seen b s command has follows out stands kinds owes = record {
   has = has;
   follows = follows;
@@ -150,7 +151,7 @@ has_come_out scenario seen b s command has follows out stands kinds owes = recor
   named = λ oid is. (none_usable seen b (scans.RelOid oid ∷ []) ((by_side owes (ap outcome_of is) (ap (λ p. tells_of_scans (told_of p)) is)).1 (tells.Regclass oid) is)).0;
 }
   where
-    by_side : (outcome_of s.left ≡ Badly) ⊎ (tells_of_scans (told_of s.left) ≡ false) ⊎ (owed_of (facts_of seen b) command s ≡ []) → outcome_of s.left ≡ Well → tells_of_scans (told_of s.left) ≡ true → OwesNoScan (facts_of seen b) s
+    by_side : (outcome_of s.left ≡ Badly) ⊎ (tells_of_scans (told_of s.left) ≡ false) ⊎ (owed_in (facts_of seen b) command (work_of s) ≡ []) → outcome_of s.left ≡ Well → tells_of_scans (told_of s.left) ≡ true → OwesNoScan (facts_of seen b) s
     by_side (inl failed) well tells = absurd (let both : Well ≡ Badly = sym well ∙ failed in cc both)
     by_side (inr (inl plain)) well tells = absurd (let both : true ≡ false = sym tells ∙ plain in cc both)
     by_side (inr (inr none)) well tells = owes_no_scan (facts_of seen b) command s well none

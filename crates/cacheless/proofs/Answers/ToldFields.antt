@@ -14,7 +14,7 @@ use Rattle.history_model.specs.OfKind.{IsOfKind}
 use Rattle.cacheless.specs.Types.{Oid, Kind, Field, Purpose, Shown, Opening, OwnLock, Scenario, Entry}
 use Rattle.cacheless.specs.Facts.{Facts, facts_of, kept_in}
 use Rattle.cacheless.specs.Lines.{read_field, shown_field}
-use Rattle.cacheless.specs.Owed.{unusable, builds_owed}
+use Rattle.cacheless.specs.Owed.{missing, builds_missing}
 use Rattle.cacheless.specs.Protected.{protects, is_protected}
 use Rattle.cacheless.specs.Session.{Session}
 use Rattle.cacheless.specs.Told.{told_field}
@@ -44,33 +44,33 @@ field_among P Index rel fields.Valid has all = all.1.0
 field_among P Index rel field has all = absurd (cc)
 
 -- where none is owed, each is usable
-pub none_unusable : (facts : Facts) (wanted : List Purpose) → unusable facts wanted ≡ [] → AllByRecursion (λ scan. is_kept facts.kept scan ≡ true) wanted
+pub none_unusable : (facts : Facts) (wanted : List Purpose) → missing facts.kept wanted ≡ [] → AllByRecursion (λ scan. is_kept facts.kept scan ≡ true) wanted
 none_unusable facts [] none = tt
 none_unusable facts (scan ∷ wanted) none = by_first (is_kept facts.kept scan) refl none (none_unusable facts wanted)
   where
-    by_first : (t : Bool) → is_kept facts.kept scan ≡ t → cond (not t) (scan ∷ unusable facts wanted) (unusable facts wanted) ≡ [] → (unusable facts wanted ≡ [] → AllByRecursion (λ s. is_kept facts.kept s ≡ true) wanted)
+    by_first : (t : Bool) → is_kept facts.kept scan ≡ t → cond (not t) (scan ∷ missing facts.kept wanted) (missing facts.kept wanted) ≡ [] → (missing facts.kept wanted ≡ [] → AllByRecursion (λ s. is_kept facts.kept s ≡ true) wanted)
         → (is_kept facts.kept scan ≡ true) × AllByRecursion (λ s. is_kept facts.kept s ≡ true) wanted
     by_first true is nothing rest = (is, rest nothing)
     by_first false is nothing rest = absurd (cc nothing)
 
-pub none_usable : (seen : List Entry) (b : ℕ) (wanted : List Purpose) → unusable (facts_of seen b) wanted ≡ [] → AllByRecursion (λ scan. is_usable seen b scan ≡ true) wanted
+pub none_usable : (seen : List Entry) (b : ℕ) (wanted : List Purpose) → missing (facts_of seen b).kept wanted ≡ [] → AllByRecursion (λ scan. is_usable seen b scan ≡ true) wanted
 none_usable seen b wanted none = every-weaker (λ scan. is_kept (kept_in seen b) scan ≡ true) (λ scan. is_usable seen b scan ≡ true) (λ scan has. sym (kept_usable seen b scan) ∙ has) wanted (none_unusable (facts_of seen b) wanted none)
 
 -- what is owed for no descriptor is owed for none of them
-each_owes_none : (facts : Facts) (opened : List Opening) → builds_owed facts opened ≡ [] → AllByRecursion (λ o. unusable facts (build_scans o.kind o.rel) ≡ []) opened
+each_owes_none : (facts : Facts) (opened : List Opening) → builds_missing facts.kept opened ≡ [] → AllByRecursion (λ o. missing facts.kept (build_scans o.kind o.rel) ≡ []) opened
 each_owes_none facts [] none = tt
-each_owes_none facts (one ∷ opened) none = let parts = both_empty (unusable facts (build_scans one.kind one.rel)) (builds_owed facts opened) none in (parts.0, each_owes_none facts opened parts.1)
+each_owes_none facts (one ∷ opened) none = let parts = both_empty (missing facts.kept (build_scans one.kind one.rel)) (builds_missing facts.kept opened) none in (parts.0, each_owes_none facts opened parts.1)
 
-pub one_owes_none : (facts : Facts) (opened : List Opening) (o : Opening) → Contains opened o → builds_owed facts opened ≡ [] → builds_owed facts (o ∷ []) ≡ []
+pub one_owes_none : (facts : Facts) (opened : List Opening) (o : Opening) → Contains opened o → builds_missing facts.kept opened ≡ [] → builds_missing facts.kept (o ∷ []) ≡ []
 one_owes_none facts opened o has none = ap (λ l. l ++ []) (All-contains Owes opened o (All-from_recursion Owes opened (each_owes_none facts opened none)) has)
   where
     Owes : Opening → Type 0
-    Owes d = unusable facts (build_scans d.kind d.rel) ≡ []
+    Owes d = missing facts.kept (build_scans d.kind d.rel) ≡ []
 
 -- a backend in a played history, which has these locks and may rely on all scans for the descriptor of a relation, which is of its kind
 pub record CanTell (scenario : Scenario) (seen : List Entry) (b : ℕ) (locks : List OwnLock) (o : Opening) : Type 0 where
   pub has : HasSession scenario seen b locks
-  pub builds : builds_owed (facts_of seen b) (o ∷ []) ≡ []
+  pub builds : builds_missing (facts_of seen b).kept (o ∷ []) ≡ []
   pub kind : IsOfKind seen o.rel o.kind
 
 -- a field of the relation: as it was read, and where it is protected, as it is now
@@ -86,7 +86,7 @@ field_told scenario seen b locks o field can has =
     guarded = ap (λ s. protects (option_map_or (λ (x : Session). clear_modes x.locks o.rel) s []) o.kind field) can.has.is ∙ ap (λ l. protects (clear_modes l o.rel) o.kind field) can.has.holds
 
     usable : is_usable seen b scan ≡ true
-    usable = field_among (λ d. is_usable seen b d ≡ true) o.kind o.rel field has (none_usable seen b (build_scans o.kind o.rel) (both_empty (unusable (facts_of seen b) (build_scans o.kind o.rel)) [] can.builds).0)
+    usable = field_among (λ d. is_usable seen b d ≡ true) o.kind o.rel field has (none_usable seen b (build_scans o.kind o.rel) (both_empty (missing (facts_of seen b).kept (build_scans o.kind o.rel)) [] can.builds).0)
 
     now : is_protected scenario seen b o.rel o.kind field ≡ true → fresh_text seen b o.rel field ≡ field_text field o.rel (rows_read seen b scan)
     now protected = protected_fresh scenario seen b o.rel o.kind field can.kind can.has.played.sound can.has.played.plays has protected usable

@@ -15,11 +15,12 @@ use Rattle.cacheless.specs.Types.{Mode, Row, Purpose, Scenario, Command, Command
 use Rattle.cacheless.specs.ActsDone.{LockOn, locks_by, named_by, IsDrawn, IsHeldOn, after_given, made_in, made_first, opening_by, IsFirstStill}
 use Rattle.cacheless.specs.Facts.{Facts, facts_of, kept_in}
 use Rattle.cacheless.specs.OnCourse.{is_absent, TakesNew, OnItsWay, Way, Begun, Wrote, Over, GaveNow, NamedFits, WasSought, FollowsPlan}
-use Rattle.cacheless.specs.Owed.{builds_owed, act_owed}
+use Rattle.cacheless.specs.Work.{work_of}
+use Rattle.cacheless.specs.Owed.{builds_missing, act_owed}
 use Rattle.cacheless.specs.Played.{IsPlayed}
 use Rattle.cacheless.specs.Session.{Session, held_before, outcome_of, is_settled}
 use Rattle.cacheless.specs.Sessions.{session_of}
-use Rattle.cacheless.specs.Settled.{class_oid, if_locked, has_taken_no_other, has_accepted, looked_up, gives, opened_by, found_by, act_done, done_here}
+use Rattle.cacheless.specs.Settled.{class_oid, if_locked, has_taken_no_other, has_accepted_in, looked_up_in, gives_in, opened_by, found_by, act_done, done_here}
 use Rattle.cacheless.proofs.FoundKept.{lookup_ends}
 use Rattle.cacheless.proofs.Plans.ActOrder.{follows_order}
 use Rattle.cacheless.proofs.Plans.AfterActs.{IsUnfound, after_opening, after_lock, after_search, after_reading, after_lookup, lookup_lost}
@@ -101,26 +102,26 @@ if_gives true read given is = ap class_oid (some_is read given is)
 if_gives false read given is = absurd (cc is)
 
 -- a lookup gives the relation of its scan
-pub gives_class : (facts : Facts) (s : Session) (mode : Mode) (read given : List Row) → looked_up facts s mode read ≡ Some given → class_oid read ≡ class_oid given
-gives_class facts s mode [] given is = if_gives (has_accepted facts s) [] given is
+pub gives_class : (facts : Facts) (s : Session) (mode : Mode) (read given : List Row) → looked_up_in facts (work_of s) mode read ≡ Some given → class_oid read ≡ class_oid given
+gives_class facts s mode [] given is = if_gives (has_accepted_in facts (work_of s)) [] given is
 gives_class facts s mode (rows.Class rel own kind fill ∷ more) given is = if_gives (has_lock s.locks rel mode && has_taken_no_other s.taken rel) (rows.Class rel own kind fill ∷ []) given is
-gives_class facts s mode (row ∷ more) given is = class_first row more ∙ if_gives (has_accepted facts s) (row ∷ []) given is
+gives_class facts s mode (row ∷ more) given is = class_first row more ∙ if_gives (has_accepted_in facts (work_of s)) (row ∷ []) given is
 
 -- an act that is done here: nothing is owed before it, and it gives these rows
 pub record IsDoneHere (facts : Facts) (s : Session) (act : Act) (rest : List Row → Plan) (given : List Row) : Type 0 where
-  pub builds : builds_owed facts s.opened ≡ []
+  pub builds : builds_missing facts.kept s.opened ≡ []
   pub owed : act_owed facts (Do act rest) ≡ []
-  pub gave : gives facts s act ≡ Some given
+  pub gave : gives_in facts (work_of s) act ≡ Some given
 
 pub is_done_here : (facts : Facts) (s : Session) (act : Act) (rest : List Row → Plan) (given : List Row) → done_here facts s act (Do act rest) ≡ Some given → IsDoneHere facts s act rest given
-is_done_here facts s act rest given is = by_test (is_empty (builds_owed facts s.opened ++ act_owed facts (Do act rest))) refl is
+is_done_here facts s act rest given is = by_test (is_empty (builds_missing facts.kept s.opened ++ act_owed facts (Do act rest))) refl is
   where
-    by_test : (t : Bool) → is_empty (builds_owed facts s.opened ++ act_owed facts (Do act rest)) ≡ t → elim t as (λ x. Option (List Row)) [ true ↦ gives facts s act | false ↦ None ] ≡ Some given → IsDoneHere facts s act rest given
-    by_test true none gave = let both = both_empty (builds_owed facts s.opened) (act_owed facts (Do act rest)) (empty_list _ none) in record { builds = both.0; owed = both.1; gave = gave }
+    by_test : (t : Bool) → is_empty (builds_missing facts.kept s.opened ++ act_owed facts (Do act rest)) ≡ t → elim t as (λ x. Option (List Row)) [ true ↦ gives_in facts (work_of s) act | false ↦ None ] ≡ Some given → IsDoneHere facts s act rest given
+    by_test true none gave = let both = both_empty (builds_missing facts.kept s.opened) (act_owed facts (Do act rest)) (empty_list _ none) in record { builds = both.0; owed = both.1; gave = gave }
     by_test false some gave = absurd (cc gave)
 
 -- it isn't a write
-passes_it : (facts : Facts) (s : Session) (act : Act) (rest : List Row → Plan) (given : List Row) → gives facts s act ≡ Some given → after_given given (Do act rest) ≡ rest given
+passes_it : (facts : Facts) (s : Session) (act : Act) (rest : List Row → Plan) (given : List Row) → gives_in facts (work_of s) act ≡ Some given → after_given given (Do act rest) ≡ rest given
 passes_it facts s (Write draft) rest given gave = absurd (cc gave)
 passes_it facts s act rest given gave = refl
 
@@ -139,7 +140,7 @@ scan_still scenario seen b s command scan rest given holds way goes usable gave 
 act_gave : (scenario : Scenario) (seen : List Entry) (b : ℕ) (s : Session) (command : Command) (act : Act) (rest : List Row → Plan) (given : List Row) → HoldsClear scenario seen b s.locks → (way : OnItsWay seen b s command) → s.left ≡ Do act rest
     → IsDoneHere (facts_of seen b) s act rest given → GaveNow seen b act rest given
 act_gave scenario seen b s command (Lookup name mode) rest given holds way at done = lookup_ends scenario seen b holds.session s (facts_of seen b) name mode rest given holds.played.sound holds.played.plays holds.is holds.holds holds.clear
-    (usable_already seen b (scans.RelName name) done.owed) (ap (looked_up (facts_of seen b) s mode) (sym (kept_rows_read seen b (scans.RelName name) (usable_already seen b (scans.RelName name) done.owed))) ∙ done.gave)
+    (usable_already seen b (scans.RelName name) done.owed) (ap (looked_up_in (facts_of seen b) (work_of s) mode) (sym (kept_rows_read seen b (scans.RelName name) (usable_already seen b (scans.RelName name) done.owed))) ∙ done.gave)
 act_gave scenario seen b s command (Open rel kind) rest given holds way at done = record { locked = tt; drawn = tt; still = tt }
 act_gave scenario seen b s command (Search scan) rest given holds way at done = record {
   locked = tt;

@@ -18,11 +18,11 @@ use Rattle.history_model.specs.Names.{new_names}
 use Rattle.cacheless.specs.Facts.{Facts}
 use Rattle.cacheless.specs.Locks.{locked_by}
 use Rattle.cacheless.specs.State.{relation_made, locks_made}
-use Rattle.cacheless.specs.Plays.{names_of, drafted}
+use Rattle.cacheless.specs.Plays.{drafted}
 use Rattle.cacheless.specs.Types.{Oid, Row, Draft, Entry, Item, Opening}
 use Rattle.cacheless.proofs.Written.ComesTo.{Writer}
 use Rattle.cacheless.proofs.Written.FitToWrite.{IsFit, KeepsAll}
-use Rattle.cacheless.proofs.Written.NamesGiven.{AreReadAsNow}
+use Rattle.cacheless.proofs.Written.NamesGiven.{AreReadAsNow, names_of}
 use Rattle.cacheless.proofs.Written.WrittenParts.{items_in, MayAlter, parts_drafted}
 
 -- the draft of a command that has opened these descriptors may be written, but for its names and that its command has written nothing yet; it changes something; it keeps columns in order, indexes whole and names apart; the names that the history sees in it are those of its plan, where the relations' own rows were read as they are; and it takes the lock of the relation that it makes, if it makes one

@@ -11,8 +11,13 @@ use Rattle.history_model.specs.Versions.{answer_of, old_row}
 use Rattle.history_model.proofs.Locked.{IsSeenAs}
 use Rattle.cacheless.specs.Types.{Oid, Kind, Entry, Item, Opening}
 use Rattle.cacheless.specs.Facts.{Facts}
-use Rattle.cacheless.specs.Plays.{names_of}
 use Rattle.local_caches.specs.Kept.{rows_kept}
+
+-- the new name that an item gives a relation, if it gives one: none where the row that was read has it already
+abbrev pub names_of : Facts → Item → List (List ℕ)
+names_of facts (forms.Add (rows.Class oid name kind fill)) = name ∷ []
+names_of facts (forms.Put (rows.Class oid name kind fill)) = if list_any (has_name name) (rows_kept facts.kept (scans.Class oid)) then [] else name ∷ []
+names_of facts item = []
 
 -- what was read last of the rows of these relations is what is seen of them
 abbrev pub AreReadAsNow : List Entry → ℕ → Facts → List Opening → Type 0

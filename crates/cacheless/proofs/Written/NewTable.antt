@@ -42,7 +42,6 @@ use Rattle.history_model.specs.Held.{held_of}
 use Rattle.history_model.proofs.DrawnRows.{rows_drawn}
 use Rattle.cacheless.specs.Facts.{Facts}
 use Rattle.cacheless.specs.Locks.{locked_by}
-use Rattle.cacheless.specs.Plays.{names_of}
 use Rattle.cacheless.specs.TableWrites.{AreNamesakes, goes_together}
 use Rattle.cacheless.specs.Types.{Opening}
 use Rattle.cacheless.proofs.Written.FitToWrite.{IsFit}
@@ -51,6 +50,7 @@ use Rattle.cacheless.proofs.Written.NewNames.{table_called, table_apart}
 use Rattle.cacheless.proofs.Written.NewRows.{oid_drawn}
 use Rattle.cacheless.proofs.Written.NewTableItems.{column_item, table_items, table_named, TableKeeps, new_table_keeps}
 use Rattle.cacheless.proofs.Written.WrittenParts.{MayAlter}
+use Rattle.cacheless.proofs.Written.NamesGiven.{names_of}
 
 -- the columns of a new table draw no oid and make no relation
 columns_draw : (rel : Oid) (numbered : List (ℕ × NewColumn)) → (flat_map drawn_by (map (column_item rel) numbered) ≡ []) × (flat_map made_by (map (column_item rel) numbered) ≡ [])

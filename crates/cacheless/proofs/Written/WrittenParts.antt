@@ -31,11 +31,11 @@ use Rattle.history_model.proofs.InOrder.{IsIn, of_in}
 use Rattle.cacheless.specs.Types.{Oid, AccessExclusive, Row, Purpose, Entry, Item, Opening}
 use Rattle.cacheless.specs.Locks.{locked_by}
 use Rattle.cacheless.specs.State.{locks_made}
-use Rattle.cacheless.specs.Plays.{names_of, drafted}
+use Rattle.cacheless.specs.Plays.{drafted}
 use Rattle.cacheless.specs.TableWrites.{AreNamesakes, AreCalledApart, KeepsColumns, KeepsIndexes, ShareName, AreNamedApart}
 use Rattle.cacheless.proofs.Written.FitToWrite.{IsFit, Fits, KeepsAll, IsSent, taking, all_fit, all_pass, force_fits, removed_fits}
 use Rattle.cacheless.proofs.Written.LeavingItems.{leaves_unnamed}
-use Rattle.cacheless.proofs.Written.NamesGiven.{AreNamesGiven}
+use Rattle.cacheless.proofs.Written.NamesGiven.{AreNamesGiven, names_of}
 use Rattle.cacheless.proofs.Written.SeenRows.{seen_is_old}
 use Rattle.cacheless.proofs.Written.WrittenMessages.{Tell, written_tell}
 
