@@ -15,14 +15,14 @@ pub mod LooksBound
 pub mod NextEntries
 pub mod StartLooks
 pub mod AlongAllowed
+pub mod AtRest
+pub mod KeptAlong
 pub mod TakenLocks
 pub mod WriteNext
-pub mod AtRest
 pub mod ActsNext
 pub mod BlockLevels
 pub mod NextTransaction
 pub mod OpenSince
-pub mod KeptAlong
 pub mod EndsReleased
 pub mod TransactionGoesOn
 pub mod TransactionRuns
@@ -38,3 +38,4 @@ pub mod TypedSegments
 pub mod CountedBytes
 pub mod TypedEvents
 pub mod TypedHistories
+pub mod WalkGoesOn

@@ -9,8 +9,9 @@
 //! would answer.
 //!
 //! specs/ is to be read in this order: Facts, Locks, Session, Work, Owed, Ends, Settled, Sessions, Plays,
-//! Protected, Lines, Schedule, Output. Rule computes what Plays says as a relation. The worked examples hold of them by computation (proofs/).
-//! ActsDone, how far a command is by the rows that its acts gave, is for the proofs, here and above.
+//! Protected, Lines, Schedule, Output. Rule computes what Plays says as a relation. The worked examples
+//! hold of them by computation (proofs/). ActsDone, how far a command is by the rows that its acts gave,
+//! and Typed, what has a text of all that entries are made of, are for the proofs, here and above.
 //!
 //! A [`Progress`] is what these folds give of one backend, kept up to date entry by entry: its session,
 //! its running transaction and the messages of its writes, what its last entry asks for, the scans that

@@ -120,7 +120,8 @@ kept_opened kept scan (o ∷ opened) has none = by_own (list_any (same_scan scan
     by_own true is among more = kept_among kept scan (build_scans o.kind o.rel) is both.0
     by_own false is among more = more among
 
-unmapped : (l : List Purpose) → map OwesScan l ≡ [] → l ≡ []
+-- no scan is owed where none is among what is owed
+pub unmapped : (l : List Purpose) → map OwesScan l ≡ [] → l ≡ []
 unmapped [] is = refl
 unmapped (x ∷ xs) is = absurd (cc is)
 

@@ -22,7 +22,7 @@ use Rattle.cacheless.specs.Facts.{Facts, due_last, facts_of}
 use Rattle.cacheless.specs.Output.{IsAllowed}
 use Rattle.cacheless.specs.Played.{AreSpelled}
 use Rattle.cacheless.specs.Plays.{MayPlayIn, MayPlayAt}
-use Rattle.cacheless.specs.Schedule.{has_stopped}
+use Rattle.cacheless.specs.Schedule.{has_stopped, LooksTruly}
 use Rattle.cacheless.specs.Session.{Session, number_of}
 use Rattle.cacheless.specs.Sessions.{session_of}
 use Rattle.cacheless.proofs.Allowed.EndsReleased.{Fits, end_by, EndsBy, IsCommit, LetsGo, AllSent, NoWrite, ComesNow, comes_now, from_of, Releases, Whole, Inner, commit_first, end_releases, commit_end, back_end}
@@ -76,8 +76,8 @@ module _ (scenario : Scenario) (history : List Entry) (b : ℕ) (s : Session) (n
   facts = facts_of history b
 
   -- it comes, where the history allows it
-  makes : (event : Event) → IsLater event → FetchesFrom scenario.size history b event → FollowsVisible (is_visible facts.running) event → FollowsGone (last_event_of history b) event → AllowsEvent history b (number_of s) event → MayPlayIn (next_oid history) facts o s event → HasNext scenario history b
-  makes event later fetches visible gone allows may = next_allowed scenario history b (number_of s) event number allowed follows fetches (subst (λ x. MayPlayAt scenario history b x (number_of s) event) (sym is) (refl, may))
+  makes : (event : Event) → IsLater event → FetchesFrom scenario.size history b event → LooksTruly history b event → FollowsVisible (is_visible facts.running) event → FollowsGone (last_event_of history b) event → AllowsEvent history b (number_of s) event → MayPlayIn (next_oid history) facts o s event → HasNext scenario history b
+  makes event later fetches truly visible gone allows may = next_allowed scenario history b (number_of s) event number allowed follows fetches truly (subst (λ x. MayPlayAt scenario history b x (number_of s) event) (sym is) (refl, may))
     where
       follows : MayFollow history (entry_of b (number_of s) event)
       follows = record { life = lives_on scenario history b s event allowed is stopped later; visible = visible; gone = gone; event = allows }
@@ -136,10 +136,10 @@ module _ (scenario : Scenario) (history : List Entry) (b : ℕ) (s : Session) (n
   end_next event ends may = by_event event ends may (comes_now facts (end_by facts o s) event ends.comes)
     where
       by_event : (e : Event) → EndsBy facts o s e → MayPlayIn (next_oid history) facts o s e → ComesNow facts (end_by facts o s) e → HasNext scenario history b
-      by_event (events.Visible xid) ending plays comes = makes (events.Visible xid) tt tt (subst (λ v. FollowsVisible v (events.Visible xid)) (sym comes.hidden) tt) (none_gone (events.Visible xid) comes.commit)
+      by_event (events.Visible xid) ending plays comes = makes (events.Visible xid) tt tt tt (subst (λ v. FollowsVisible v (events.Visible xid)) (sym comes.hidden) tt) (none_gone (events.Visible xid) comes.commit)
           (xid_own facts.running xid.0 (fits.written (write_from_first comes.commit.first facts.lists comes.commit.written)) comes.xid_is, write_from_first comes.commit.first facts.lists comes.commit.written) plays
-      by_event (events.Publish count) ending plays comes = makes (events.Publish count) tt tt (subst (λ v. FollowsVisible v (events.Publish count)) (sym comes.visible) tt) (none_gone (events.Publish count) comes.commit) (comes.visible, comes.some, comes.most) plays
-      by_event (events.Gone from) ending plays comes = makes (events.Gone from) tt tt (subst (λ v. FollowsVisible v (events.Gone from)) (sym (back_hidden from comes.0)) tt) (not_gone from comes.0 comes.1) comes.1 plays
-      by_event (events.Release from) ending plays comes = makes (events.Release from) tt tt (released (is_visible facts.running) from) (release_gone from comes)
+      by_event (events.Publish count) ending plays comes = makes (events.Publish count) tt tt tt (subst (λ v. FollowsVisible v (events.Publish count)) (sym comes.visible) tt) (none_gone (events.Publish count) comes.commit) (comes.visible, comes.some, comes.most) plays
+      by_event (events.Gone from) ending plays comes = makes (events.Gone from) tt tt tt (subst (λ v. FollowsVisible v (events.Gone from)) (sym (back_hidden from comes.0)) tt) (not_gone from comes.0 comes.1) comes.1 plays
+      by_event (events.Release from) ending plays comes = makes (events.Release from) tt tt tt (released (is_visible facts.running) from) (release_gone from comes)
           (from_low from (end_releases facts o s from fits ending.going (from_of facts (end_by facts o s) from comes)), may_release from ending comes) plays
       by_event e ending plays comes = absurd comes

@@ -41,7 +41,7 @@ use Rattle.cacheless.specs.Work.{work_of}
 use Rattle.cacheless.specs.Owed.{OwesLook, owed_after, is_quiet, owed_in, has_looked_in, is_next_in}
 use Rattle.cacheless.specs.Played.{AreSpelled}
 use Rattle.cacheless.specs.Plays.{may_look_in, IsLock, MayPlayIn, MayPlayAt, IsNext, Plays}
-use Rattle.cacheless.specs.Schedule.{has_stopped, is_stopped}
+use Rattle.cacheless.specs.Schedule.{has_stopped, is_stopped, LooksTruly}
 use Rattle.cacheless.specs.Session.{Session, number_of, first_of, outcome_of, is_settled}
 use Rattle.cacheless.specs.Sessions.{noted, commands_left, entered, session_by, session_of}
 use Rattle.cacheless.specs.Settled.{class_oid, if_locked, has_taken_no_other, has_accepted_in, looked_up_in, gives_in, acted, is_finished_in, finished_as, next_session, settled}
@@ -52,17 +52,19 @@ use Rattle.cacheless.proofs.Allowed.Patient.{nothing_owed}
 use Rattle.cacheless.proofs.Plans.ClearLocks.{session_holds}
 use Rattle.cacheless.proofs.Reading.{session_of-own, session_of-other}
 
--- a backend has an entry that may come next in an allowed history
+-- a backend has an entry that may come next in an allowed history; a look says no only where nothing waits
 pub record HasNext (scenario : Scenario) (history : List Entry) (b : ℕ) : Type 0 where
   pub command : ℕ
   pub event : Event
+  pub truly : LooksTruly history b event
   pub allowed : IsAllowed scenario (history ++ entry_of b command event ∷ [])
 
 -- such is one that may follow, of the queue, and next by the script
-pub next_allowed : (scenario : Scenario) (history : List Entry) (b c : ℕ) (event : Event) → IsBackend scenario.backends b → IsAllowed scenario history → MayFollow history (entry_of b c event) → FetchesFrom scenario.size history b event → MayPlayAt scenario history b (session_of scenario history b) c event → HasNext scenario history b
-next_allowed scenario history b c event number allowed follows fetches may = record {
+pub next_allowed : (scenario : Scenario) (history : List Entry) (b c : ℕ) (event : Event) → IsBackend scenario.backends b → IsAllowed scenario history → MayFollow history (entry_of b c event) → FetchesFrom scenario.size history b event → LooksTruly history b event → MayPlayAt scenario history b (session_of scenario history b) c event → HasNext scenario history b
+next_allowed scenario history b c event number allowed follows fetches truly may = record {
   command = c;
   event = event;
+  truly = truly;
   allowed = record {
     legal = EachEntry-more Follows history e allowed.legal ((allows_decides history e).1 follows);
     queue = EachEntry-more (λ before x. FetchesFrom scenario.size before x.backend x.event) history e allowed.queue fetches;
@@ -224,7 +226,7 @@ allowed_stands scenario history allowed = each-keeps (λ before e. MayFollow bef
 
 -- a backend starts that hasn't
 pub start_next : (scenario : Scenario) (history : List Entry) (b : ℕ) → IsBackend scenario.backends b → IsAllowed scenario history → session_of scenario history b ≡ None → HasNext scenario history b
-start_next scenario history b number allowed none = next_allowed scenario history b 0 events.Start number allowed follows tt (subst (λ o. MayPlayAt scenario history b o 0 events.Start) (sym none) tt)
+start_next scenario history b number allowed none = next_allowed scenario history b 0 events.Start number allowed follows tt tt (subst (λ o. MayPlayAt scenario history b o 0 events.Start) (sym none) tt)
   where
     stands : Stands scenario history b
     stands = allowed_stands scenario history allowed b
@@ -281,9 +283,9 @@ pub free_lives : (scenario : Scenario) (history : List Entry) (b : ℕ) (s : Ses
 free_lives scenario history b s event free later = lives_on scenario history b s event free.allowed free.is free.stopped later
 
 -- it makes what the history allows and its script lets come next
-pub free_next : (scenario : Scenario) (history : List Entry) (b : ℕ) (s : Session) (event : Event) → IsFree scenario history b s → IsLater event → AllowsEvent history b (number_of s) event → FetchesFrom scenario.size history b event
+pub free_next : (scenario : Scenario) (history : List Entry) (b : ℕ) (s : Session) (event : Event) → IsFree scenario history b s → IsLater event → AllowsEvent history b (number_of s) event → FetchesFrom scenario.size history b event → LooksTruly history b event
     → MayPlayIn (next_oid history) (facts_of history b) (slice_get (commands_of scenario b) (length s.finished)) s event → HasNext scenario history b
-free_next scenario history b s event free later allows fetches may = next_allowed scenario history b (number_of s) event free.number free.allowed follows fetches
+free_next scenario history b s event free later allows fetches truly may = next_allowed scenario history b (number_of s) event free.number free.allowed follows fetches truly
     (subst (λ o. MayPlayAt scenario history b o (number_of s) event) (sym free.is) (refl, may))
   where
     follows : MayFollow history (entry_of b (number_of s) event)
@@ -296,15 +298,19 @@ bound_is scenario history b s free = subst (BoundIn (last_event_of history b) (c
 -- a look that may be made says whether messages wait
 pub look_next : (scenario : Scenario) (history : List Entry) (b : ℕ) (s : Session) → IsFree scenario history b s
     → ((some_wait : Bool) → MayPlayIn (next_oid history) (facts_of history b) (slice_get (commands_of scenario b) (length s.finished)) s (events.Look some_wait)) → HasNext scenario history b
-look_next scenario history b s free may = free_next scenario history b s (events.Look (is_waiting history b)) free tt (by_wait (is_waiting history b) refl) tt (may (is_waiting history b))
+look_next scenario history b s free may = free_next scenario history b s (events.Look (is_waiting history b)) free tt (by_wait (is_waiting history b) refl) tt (true_look (is_waiting history b) refl) (may (is_waiting history b))
   where
     by_wait : (t : Bool) → is_waiting history b ≡ t → AllowsLook history b t
     by_wait true is = is
     by_wait false is = not_waited history b free.allowed.legal is
 
+    true_look : (t : Bool) → is_waiting history b ≡ t → LooksTruly history b (events.Look t)
+    true_look true is = tt
+    true_look false is = is
+
 -- a scan that is next gives its answer
 pub scan_next : (scenario : Scenario) (history : List Entry) (b : ℕ) (s : Session) (scan : Purpose) → IsFree scenario history b s → owed_after (due_last (last_event_of history b)) ≡ [] → is_next_in scan (facts_of history b) (work_of s) ≡ true → has_looked_in (facts_of history b) (work_of s) ≡ true → HasNext scenario history b
-scan_next scenario history b s scan free none next looked = free_next scenario history b s (events.Scan scan (length (answer_of history b scan))) free tt refl tt (by_command (slice_get (commands_of scenario b) (length s.finished)))
+scan_next scenario history b s scan free none next looked = free_next scenario history b s (events.Scan scan (length (answer_of history b scan))) free tt refl tt tt (by_command (slice_get (commands_of scenario b) (length s.finished)))
   where
     by_command : (o : Option Command) → MayPlayIn (next_oid history) (facts_of history b) o s (events.Scan scan (length (answer_of history b scan)))
     by_command None = (none, next, looked)
@@ -319,8 +325,8 @@ lock_next scenario history b s command rel mode free at none untaken asks unheld
     plays event may = subst (λ o. MayPlayIn (next_oid history) (facts_of history b) o s event) (sym at) may
 
     by_holder : (o : Option Grant) → first_conflict (held_of history) b rel mode ≡ o → HasNext scenario history b
-    by_holder None is = free_next scenario history b s (events.LockOk rel mode) free tt (unheld, is) tt (plays (events.LockOk rel mode) (none, untaken, asks))
-    by_holder (Some g) is = free_next scenario history b s (events.LockHeld rel mode g.backend g.mode) free tt (unheld, ap (option_map {U = ℕ × Mode} (λ h. (h.backend, h.mode))) is) tt (plays (events.LockHeld rel mode g.backend g.mode) (none, untaken, asks))
+    by_holder None is = free_next scenario history b s (events.LockOk rel mode) free tt (unheld, is) tt tt (plays (events.LockOk rel mode) (none, untaken, asks))
+    by_holder (Some g) is = free_next scenario history b s (events.LockHeld rel mode g.backend g.mode) free tt (unheld, ap (option_map {U = ℕ × Mode} (λ h. (h.backend, h.mode))) is) tt tt (plays (events.LockHeld rel mode g.backend g.mode) (none, untaken, asks))
 
 -- a backend that has just been granted a lock, looked or fetched is in the midst of no commit and no rollback
 abbrev pub Accepts : Option Event → Type 0
@@ -398,8 +404,8 @@ owed_next scenario history b s spelled number allowed stopped is owes = by_last 
         reset (Some command) = tt
 
         by_lapped : (t : Bool) → is_lapped scenario.size history b ≡ t → HasNext scenario history b
-        by_lapped true lapped = free_next scenario history b s events.FetchReset free tt told lapped (reset o)
-        by_lapped false served = free_next scenario history b s (events.Fetch count) free tt (told, refl) served (some o)
+        by_lapped true lapped = free_next scenario history b s events.FetchReset free tt told lapped tt (reset o)
+        by_lapped false served = free_next scenario history b s (events.Fetch count) free tt (told, refl) served tt (some o)
 
     by_full : (count : ℕ) (t : Bool) → (count == 32) ≡ t → last_event_of history b ≡ Some (events.Fetch count) → HasNext scenario history b
     by_full count true full at = looks (ap (λ x. owed_after (due_last x)) at ∙ ap (λ t. owed_after (elim t as (λ x. Due) [ true ↦ dues.Look | false ↦ dues.Nothing ])) full)
@@ -415,7 +421,7 @@ owed_next scenario history b s spelled number allowed stopped is owes = by_last 
 -- after its last command a backend stops where no transaction runs
 pub stop_next : (scenario : Scenario) (history : List Entry) (b : ℕ) (s : Session) → AreSpelled scenario → IsBackend scenario.backends b → IsAllowed scenario history → has_stopped history b ≡ false → session_of scenario history b ≡ Some s
     → slice_get (commands_of scenario b) (length s.finished) ≡ None → running_transaction_of history b ≡ None → HasNext scenario history b
-stop_next scenario history b s spelled number allowed stopped is past none = free_next scenario history b s events.Stop free tt none tt (subst (λ o. MayPlayIn (next_oid history) (facts_of history b) o s events.Stop) (sym past) none)
+stop_next scenario history b s spelled number allowed stopped is past none = free_next scenario history b s events.Stop free tt none tt tt (subst (λ o. MayPlayIn (next_oid history) (facts_of history b) o s events.Stop) (sym past) none)
   where
     standing : (last : Option Event) (own : Option Running) → own ≡ None → Runs last own → (event : Event) → FollowsGone last event
     standing (Some (events.Gone from)) own without runs event = absurd (both_ways _ (ap is_some without) runs)

@@ -235,7 +235,7 @@ unwritten_from history b n sound none later = none_standing n (lists_of history 
 -- such a lock may be given back
 pub unlock_next : (scenario : Scenario) (history : List Entry) (b : ℕ) (s : Session) (command : Command) (rel : Oid) (mode : Mode) → IsFree scenario history b s → slice_get (commands_of scenario b) (length s.finished) ≡ Some command → owed_in (facts_of history b) command (work_of s) ≡ []
     → IsUnlock (facts_of history b) s.taken s.left rel mode → HasNext scenario history b
-unlock_next scenario history b s command rel mode free at none asks = free_next scenario history b s (events.Unlock rel mode) free tt (lock_of_command b (number_of s) rel mode (held_of history) s.locks grants granted, standing) tt
+unlock_next scenario history b s command rel mode free at none asks = free_next scenario history b s (events.Unlock rel mode) free tt (lock_of_command b (number_of s) rel mode (held_of history) s.locks grants granted, standing) tt tt
     (subst (λ o. MayPlayIn (next_oid history) (facts_of history b) o s (events.Unlock rel mode)) (sym at) (none, asks))
   where
     sound : IsSound history

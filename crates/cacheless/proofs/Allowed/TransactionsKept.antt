@@ -32,6 +32,7 @@ use Rattle.cacheless.specs.Plays.{IsLock, IsWrite, IsClash, MayPlayLast, MayPlay
 use Rattle.cacheless.specs.Session.{Session, Badly, opening_of, held_in, number_of, none_open, at_command, outcome_of, is_settled, plan_first}
 use Rattle.cacheless.specs.Sessions.{ends_command, written, resumed, noted, placed_at, counted, entered, session_of}
 use Rattle.cacheless.specs.Settled.{act_done, is_finished_in, blocks_after, opens_after, finished_as, next_session}
+use Rattle.cacheless.proofs.Allowed.ActsNext.{unmapped}
 use Rattle.cacheless.proofs.Allowed.BlockLevels.{LevelsRise}
 use Rattle.cacheless.proofs.Allowed.EndsReleased.{TransactionFits, Fits, end_by, EndsBy, ends_by, is_end, IsCommit, comes_now, from_of, IsInner, Releases, Whole, Inner, end_releases}
 use Rattle.cacheless.proofs.Allowed.KeptAlong.{Makes, IsKept, HoldsBy, kept_along}
@@ -253,10 +254,6 @@ module _ (scenario : Scenario) (history : List Entry) (b : ℕ) (s : Session) wh
       all_back (Some t) is = cc is
   commit_free (Some command) event ends may commit = unmapped (scans_owed_in facts (work_of s)) (both_empty (owed_first_in facts command (work_of s) ++ owed_after facts.due) (map OwesScan (scans_owed_in facts (work_of s)))
       (sym (ap (λ e. elim e as (λ x. List Owes) [ TakesBack from ↦ owed_after facts.due | end ↦ owed_in facts command (work_of s) ]) commit.is) ∙ (is_end (next_oid history) facts command s event ends may).0)).1
-    where
-      unmapped : (l : List Purpose) → map OwesScan l ≡ [] → l ≡ []
-      unmapped [] is = refl
-      unmapped (x ∷ xs) is = absurd (cc is)
 
   module _ (o : Option Command) (left : List Command) (fits : Fits facts o s) where
     -- the visibility step

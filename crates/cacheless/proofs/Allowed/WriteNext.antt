@@ -97,7 +97,7 @@ clash_next scenario history b s command name free at none clashes used = by_user
 
     by_row : (row : Row) (more : List Row) → answer_of history b (scans.RelName name) ≡ row ∷ more → selects (scans.RelName name) row ≡ true → users_of history b name ≡ [] → HasNext scenario history b
     by_row (rows.Class rel own kind fill) more gave asked unused = free_next scenario history b s (events.ClashRow name rel) free tt
-        (unused, ap (list_any (is_row_of rel)) gave ∙ ap (λ t. t || list_any (is_row_of rel) more) (eq-eqb rel.0 rel.0 refl)) tt (makes (events.ClashRow name rel) (none, clashes))
+        (unused, ap (list_any (is_row_of rel)) gave ∙ ap (λ t. t || list_any (is_row_of rel) more) (eq-eqb rel.0 rel.0 refl)) tt tt (makes (events.ClashRow name rel) (none, clashes))
     by_row (rows.Att rel num own col_type stat live) more gave asked unused = absurd (cc asked)
     by_row (rows.Def oid rel num word) more gave asked unused = absurd (cc asked)
     by_row (rows.Ind index table state nums) more gave asked unused = absurd (cc asked)
@@ -111,7 +111,7 @@ clash_next scenario history b s command name free at none clashes used = by_user
     by_users : (users : List ℕ) → users_of history b name ≡ users → HasNext scenario history b
     by_users [] unused = by_answer (answer_of history b (scans.RelName name)) refl (answer_asked history b (scans.RelName name)) unused
     by_users (user ∷ more) are = free_next scenario history b s (events.ClashRunning name (record { 0 = user })) free tt
-        (ap (list_any (λ u. u == user)) are ∙ ap (λ t. t || list_any (λ u. u == user) more) (eq-eqb user user refl)) tt (makes (events.ClashRunning name (record { 0 = user })) (none, clashes))
+        (ap (list_any (λ u. u == user)) are ∙ ap (λ t. t || list_any (λ u. u == user) more) (eq-eqb user user refl)) tt tt (makes (events.ClashRunning name (record { 0 = user })) (none, clashes))
 
 -- a write that is next comes, or a clash
 pub write_next : (scenario : Scenario) (history : List Entry) (b : ℕ) (s : Session) (command : Command) (draft : Draft) (rest : List Row → Plan) → IsFree scenario history b s → slice_get (commands_of scenario b) (length s.finished) ≡ Some command → owed_in (facts_of history b) command (work_of s) ≡ []
@@ -178,7 +178,7 @@ write_next scenario history b s command draft rest free at none left = by_names 
     }
 
     by_names : (t : Bool) → list_all (is_free history b) (new_names history b items) ≡ t → HasNext scenario history b
-    by_names true unused = free_next scenario history b s (events.Write xid items) free tt (allows unused) tt
+    by_names true unused = free_next scenario history b s (events.Write xid items) free tt (allows unused) tt tt
         (subst (λ o. MayPlayIn (next_oid history) facts o s (events.Write xid items)) (sym at) (none, subst (λ p. IsWrite (next_oid history) p items) (sym left) refl))
     by_names false used = let taken = some_taken history b (new_names history b items) used in clash_next scenario history b s command taken.name free at none
         (subst (λ p. IsClash facts p taken.name) (sym left) (sym (ap (list_any (bytes_eq taken.name)) (all_names facts (held_before s ++ opened) (next_oid history) draft.new_oids draft.changes draft.forced puts.0)) ∙ suits.names read taken.name taken.among)) taken.used
