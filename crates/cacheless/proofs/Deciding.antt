@@ -4,7 +4,7 @@ use Rattle.std.specs.Bool.{Decides}
 use Rattle.std.specs.List.{list_any, flat_map, AllByRecursion}
 use Rattle.std.specs.Option.{option_map_or}
 use Rattle.std.specs.Prelude.{IfSome, ⊤}
-use Rattle.std.proofs.lemmas.Bool.{eq-eqb, eqb-true, leb-true}
+use Rattle.std.proofs.lemmas.Bool.{eq-eqb, eqb-true, leb-true, le-leb}
 use Rattle.base_types.specs.Modes.{same_mode}
 use Rattle.base_types.specs.Scans.{same_oid}
 use Rattle.base_types.specs.declared.change.Change.{Change}
@@ -260,24 +260,23 @@ holds_decides s next event t same scenario seen holds = subst (λ u. Decides u (
     (sym (same ∙ sym (λ i. may_come next (holds.facts i) (slice_get s.commands s.finished) (work_same s holds.rest holds.count i) event)))
     (come_decides next (facts_of seen s.id) (slice_get s.commands s.finished) (session_at s holds.rest) event)
 
-start_is : (event : Event) → is_start event ≡ true → IsStart event
-start_is events.Start is = tt
-start_is event is = absurd (cc is)
+start_decides : (event : Event) → Decides (is_start event) (IsStart event)
+start_decides events.Start = always tt
+start_decides event = never (λ is. is)
 
-next_by : (scenario : Scenario) (before : List Entry) (b : ℕ) (o : Option Session) (c : ℕ) (event : Event) → is_next_event scenario before b o c event ≡ true → MayPlayAt scenario before b o c event
-next_by scenario before b None c event is = start_is event is
-next_by scenario before b (Some s) c event is = let parts = and_true (c == number_of s) _ is in (
-  eqb-true c (number_of s) parts.0,
-  (come_decides (next_oid before) (facts_of before b) (slice_get (commands_of scenario b) (length s.finished)) s event).0 parts.1,
-)
+at_decides : (scenario : Scenario) (before : List Entry) (b : ℕ) (o : Option Session) (c : ℕ) (event : Event) → Decides (is_next_event scenario before b o c event) (MayPlayAt scenario before b o c event)
+at_decides scenario before b None c event = start_decides event
+at_decides scenario before b (Some s) c event =
+    both_decide (c == number_of s) _ (eqb-true c (number_of s), eq-eqb c (number_of s)) (come_decides (next_oid before) (facts_of before b) (slice_get (commands_of scenario b) (length s.finished)) s event)
 
--- so a history of which the test says yes plays its script
+-- and so what a backend of the script may do next: an entry of which the test says no doesn't come next
+pub next_decides : (scenario : Scenario) (before : List Entry) (e : Entry) → Decides (is_next scenario before e) (IsNext scenario before e)
+next_decides scenario before e =
+    both_decide (nat_le 1 e.backend && nat_le e.backend scenario.backends) _
+      (both_decide (nat_le 1 e.backend) (nat_le e.backend scenario.backends) (leb-true 1 e.backend, le-leb 1 e.backend) (leb-true e.backend scenario.backends, le-leb e.backend scenario.backends))
+      (at_decides scenario before e.backend (session_of scenario before e.backend) e.command e.event)
+
+-- a history of which the test says yes plays its script
 pub plays_by : (scenario : Scenario) (before history : List Entry) → are_next scenario before history ≡ true → EachFrom (IsNext scenario) before history
 plays_by scenario before [] is = tt
-plays_by scenario before (e ∷ rest) is =
-    let parts = and_true (is_next scenario before e) (are_next scenario (before ++ e ∷ []) rest) is in
-    let own = and_true (nat_le 1 e.backend && nat_le e.backend scenario.backends) _ parts.0 in
-    let within = and_true (nat_le 1 e.backend) (nat_le e.backend scenario.backends) own.0 in (
-      ((leb-true 1 e.backend within.0, leb-true e.backend scenario.backends within.1), next_by scenario before e.backend (session_of scenario before e.backend) e.command e.event own.1),
-      plays_by scenario (before ++ e ∷ []) rest parts.1,
-    )
+plays_by scenario before (e ∷ rest) is = let parts = and_true (is_next scenario before e) (are_next scenario (before ++ e ∷ []) rest) is in ((next_decides scenario before e).0 parts.0, plays_by scenario (before ++ e ∷ []) rest parts.1)

@@ -11,7 +11,8 @@ use Rattle.event_kinds.specs.Texts.{text_of}
 use Rattle.history_model.specs.Lapped.{FollowsQueue}
 use Rattle.history_model.specs.Read.{ScansOnlyIfNeeded, IsEconomical}
 use Rattle.history_model.proofs.Allows.{legal_by}
-use Rattle.cacheless.specs.Plays.{IsNext, Plays}
+use Rattle.cacheless.specs.Nexts.{is_next}
+use Rattle.cacheless.specs.Plays.{Plays}
 use Rattle.cacheless.specs.Schedule.{FollowsSchedule, AreLooksTrue, IsComplete}
 use Rattle.cacheless.specs.Lines.{lines_of}
 use Rattle.cacheless.specs.declared.check_kind.CheckKind.TheVariants.{Walk}
@@ -121,20 +122,20 @@ pub cached_name_scanned : ScansOnlyIfNeeded name_kept 2 (Scan (scans.RelName (co
 cached_name_scanned h = search arith
 
 -- no command does so
-pub cached_name_unasked : IsNext columns_of_a_later_table name_kept (entry 2 8 (Scan (scans.RelName (codes "t")) 1)) → ⊥
-cached_name_unasked h = search arith
+pub cached_name_unasked : is_next columns_of_a_later_table name_kept (entry 2 8 (Scan (scans.RelName (codes "t")) 1)) ≡ false
+cached_name_unasked = refl
 
 -- the lock is taken without it
-pub cached_name_serves : IsNext columns_of_a_later_table name_kept (entry 2 8 (LockOk (oid 16384) AccessShare))
-cached_name_serves = search arith
+pub cached_name_serves : is_next columns_of_a_later_table name_kept (entry 2 8 (LockOk (oid 16384) AccessShare)) ≡ true
+cached_name_serves = refl
 
 -- the transaction's start, where the name is cached as absent
 abbrev pub absent_cached : List Entry
 absent_cached = absent_ended ++ entry 2 2 (Look false) ∷ []
 
 -- the command ends without an accept of its lookup
-pub absent_name_unaccepted : IsNext columns_of_a_later_table absent_cached (entry 2 2 (Release 2)) → ⊥
-absent_name_unaccepted h = search arith
+pub absent_name_unaccepted : is_next columns_of_a_later_table absent_cached (entry 2 2 (Release 2)) ≡ false
+absent_name_unaccepted = refl
 
 -- an accept that brings nothing
 abbrev pub absent_kept : List Entry
@@ -145,20 +146,20 @@ pub absent_name_scanned : ScansOnlyIfNeeded absent_kept 2 (Scan (scans.RelName (
 absent_name_scanned h = search arith
 
 -- no command does so
-pub absent_name_unasked : IsNext columns_of_a_later_table absent_kept (entry 2 2 (Scan (scans.RelName (codes "t")) 0)) → ⊥
-absent_name_unasked h = search arith
+pub absent_name_unasked : is_next columns_of_a_later_table absent_kept (entry 2 2 (Scan (scans.RelName (codes "t")) 0)) ≡ false
+absent_name_unasked = refl
 
 -- the command ends without it
-pub absent_name_serves : IsNext columns_of_a_later_table absent_kept (entry 2 2 (Release 2))
-absent_name_serves = search arith
+pub absent_name_serves : is_next columns_of_a_later_table absent_kept (entry 2 2 (Release 2)) ≡ true
+absent_name_serves = refl
 
 -- a command ends by the absent name after an accept that brings nothing, though the messages of the table of that name have been fetched
-pub absent_after_its_message : IsNext columns_of_a_later_table (name_fetched ++ entry 2 4 (Look false) ∷ []) (entry 2 4 (Release 3)) → ⊥
-absent_after_its_message h = search arith
+pub absent_after_its_message : is_next columns_of_a_later_table (name_fetched ++ entry 2 4 (Look false) ∷ []) (entry 2 4 (Release 3)) ≡ false
+absent_after_its_message = refl
 
 -- a command ends by the list that a message for a column of another table has taken away
-pub list_after_a_columns_message : IsNext columns_of_a_later_table list_gone (entry 2 8 (Release 8)) → ⊥
-list_after_a_columns_message h = search arith
+pub list_after_a_columns_message : is_next columns_of_a_later_table list_gone (entry 2 8 (Release 8)) ≡ false
+list_after_a_columns_message = refl
 
 -- that message leaves the column that was read by itself
 pub column_kept : ScansOnlyIfNeeded list_gone 2 (Scan (scans.AttName (oid 16384) (codes "a")) 1) → ⊥

@@ -1,5 +1,5 @@
 -- Worked examples: a relation is open while another backend changes it. Its descriptor is rebuilt before the command's next act; a message that comes meanwhile has its scans made again; and what came in a failed block is made up for at `rollback to`. (The entries of the first backend are legal, and leave out its lookups.)
-use Rattle.std.proofs.Common.{◌≡◌, ◌++◌, ℕ, true, false, Some, List, [], ◌∷◌, codes, refl, arith}
+use Rattle.std.proofs.Common.{◌≡◌, ◌++◌, ℕ, true, false, Some, List, [], ◌∷◌, codes, refl}
 use Rattle.base_types.specs.Scenario.{Scenario}
 use Rattle.base_types.specs.declared.command.Command.TheVariants as commands
 use Rattle.base_types.specs.declared.kind.Kind.TheVariants.{Table}
@@ -13,7 +13,7 @@ use Rattle.event_kinds.specs.declared.entry.Item.TheVariants.{Put}
 use Rattle.history_model.specs.Legal.{IsLegal}
 use Rattle.history_model.proofs.Allows.{legal_by}
 use Rattle.cacheless.specs.Places.{ServesSince}
-use Rattle.cacheless.specs.Plays.{IsNext}
+use Rattle.cacheless.specs.Nexts.{is_next}
 use Rattle.cacheless.specs.Types.{Purpose}
 use Rattle.cacheless.proofs.Answers.ServingScans.{serves}
 use Rattle.cacheless.proofs.Plans.Given.{oid, xid, entry, placed, script, new_table}
@@ -55,20 +55,20 @@ pub row_serves_no_longer : ServesSince changed 2 (scans.Class (oid 16384)) 17 �
 row_serves_no_longer at = let both : false ≡ true = at.usable in cc both
 
 -- the rebuild begins with the relation's row
-pub rebuild_begins : IsNext name_of_other changed (entry 2 3 (Scan (scans.Class (oid 16384)) 1))
-rebuild_begins = search arith
+pub rebuild_begins : is_next name_of_other changed (entry 2 3 (Scan (scans.Class (oid 16384)) 1)) ≡ true
+rebuild_begins = refl
 
 -- not with its columns
-pub rebuild_out_of_order : IsNext name_of_other changed (entry 2 3 (Scan (scans.Attribute (oid 16384)) 1)) → ⊥
-rebuild_out_of_order h = search arith
+pub rebuild_out_of_order : is_next name_of_other changed (entry 2 3 (Scan (scans.Attribute (oid 16384)) 1)) ≡ false
+rebuild_out_of_order = refl
 
 -- the scan on which the command's next act rests may come before it
-pub act_scan_first : IsNext name_of_other changed (entry 2 3 (Scan (scans.RelOid (oid 16385)) 1))
-act_scan_first = search arith
+pub act_scan_first : is_next name_of_other changed (entry 2 3 (Scan (scans.RelOid (oid 16385)) 1)) ≡ true
+act_scan_first = refl
 
 -- but the command isn't over then
-pub over_without_rebuild : IsNext name_of_other (changed ++ entry 2 3 (Scan (scans.RelOid (oid 16385)) 1) ∷ []) (entry 2 4 (Release 1)) → ⊥
-over_without_rebuild h = search arith
+pub over_without_rebuild : is_next name_of_other (changed ++ entry 2 3 (Scan (scans.RelOid (oid 16385)) 1) ∷ []) (entry 2 4 (Release 1)) ≡ false
+over_without_rebuild = refl
 
 -- the relation's row is read, and the table changes again
 abbrev pub rebuilding : List Entry
@@ -78,16 +78,16 @@ pub rebuilding_legal : IsLegal rebuilding
 rebuilding_legal = legal_by rebuilding refl
 
 -- without the second change the columns would come next
-pub columns_next : IsNext name_of_other (changed ++ entry 2 3 (Scan (scans.Class (oid 16384)) 1) ∷ entry 2 3 (Look false) ∷ []) (entry 2 3 (Scan (scans.Attribute (oid 16384)) 1))
-columns_next = search arith
+pub columns_next : is_next name_of_other (changed ++ entry 2 3 (Scan (scans.Class (oid 16384)) 1) ∷ entry 2 3 (Look false) ∷ []) (entry 2 3 (Scan (scans.Attribute (oid 16384)) 1)) ≡ true
+columns_next = refl
 
 -- with it the row is read again
-pub row_again : IsNext name_of_other rebuilding (entry 2 3 (Scan (scans.Class (oid 16384)) 1))
-row_again = search arith
+pub row_again : is_next name_of_other rebuilding (entry 2 3 (Scan (scans.Class (oid 16384)) 1)) ≡ true
+row_again = refl
 
 -- and the columns wait
-pub old_row_kept : IsNext name_of_other rebuilding (entry 2 3 (Scan (scans.Attribute (oid 16384)) 1)) → ⊥
-old_row_kept h = search arith
+pub old_row_kept : is_next name_of_other rebuilding (entry 2 3 (Scan (scans.Attribute (oid 16384)) 1)) ≡ false
+old_row_kept = refl
 
 abbrev pub back_to_savepoint : Scenario
 back_to_savepoint = script 2 (placed 2 commands.Begin ∷ placed 2 (commands.OpenRel (codes "t")) ∷ placed 2 (commands.Savepoint (codes "s")) ∷ placed 2 (commands.LockTable (codes "u") AccessShare) ∷ placed 2 (commands.RollbackTo (codes "s")) ∷ placed 2 commands.Commit ∷ []) []
@@ -98,33 +98,33 @@ refused = opened ++ (looked 4 (scans.RelName (codes "u")) 1 ++ (entry 1 3 (LockO
     ∷ entry 2 4 (LockHeld (oid 16385) AccessShare 1 AccessExclusive) ∷ entry 2 4 (Look true) ∷ entry 2 4 (Fetch 3) ∷ []))
 
 -- a command that has failed rebuilds nothing
-pub failed_rebuilds : IsNext back_to_savepoint refused (entry 2 4 (Scan (scans.Class (oid 16384)) 1)) → ⊥
-failed_rebuilds h = search arith
+pub failed_rebuilds : is_next back_to_savepoint refused (entry 2 4 (Scan (scans.Class (oid 16384)) 1)) ≡ false
+failed_rebuilds = refl
 
 -- nor does a block that has failed
 abbrev pub block_failed : List Entry
 block_failed = refused ++ entry 2 4 (Release 3) ∷ []
 
-pub level_taken_back : IsNext back_to_savepoint refused (entry 2 4 (Release 3))
-level_taken_back = ((omega arith, omega arith), (refl, (refl, refl)))
+pub level_taken_back : is_next back_to_savepoint refused (entry 2 4 (Release 3)) ≡ true
+level_taken_back = refl
 
-pub failed_block_rebuilds : IsNext back_to_savepoint (block_failed ++ entry 2 5 (Look false) ∷ []) (entry 2 5 (Scan (scans.Class (oid 16384)) 1)) → ⊥
-failed_block_rebuilds h = search arith
+pub failed_block_rebuilds : is_next back_to_savepoint (block_failed ++ entry 2 5 (Look false) ∷ []) (entry 2 5 (Scan (scans.Class (oid 16384)) 1)) ≡ false
+failed_block_rebuilds = refl
 
 -- `rollback to` mends the block
 abbrev pub mended : List Entry
 mended = block_failed ++ entry 2 5 (Release 3) ∷ []
 
-pub mends : IsNext back_to_savepoint block_failed (entry 2 5 (Release 3))
-mends = ((omega arith, omega arith), (refl, (refl, refl)))
+pub mends : is_next back_to_savepoint block_failed (entry 2 5 (Release 3)) ≡ true
+mends = refl
 
 pub mended_legal : IsLegal (mended ++ entry 2 5 (Look false) ∷ entry 2 5 (Scan (scans.Class (oid 16384)) 1) ∷ [])
 mended_legal = legal_by (mended ++ entry 2 5 (Look false) ∷ entry 2 5 (Scan (scans.Class (oid 16384)) 1) ∷ []) refl
 
 -- and then the descriptor is rebuilt
-pub rebuilt_after_mending : IsNext back_to_savepoint (mended ++ entry 2 5 (Look false) ∷ []) (entry 2 5 (Scan (scans.Class (oid 16384)) 1))
-rebuilt_after_mending = search arith
+pub rebuilt_after_mending : is_next back_to_savepoint (mended ++ entry 2 5 (Look false) ∷ []) (entry 2 5 (Scan (scans.Class (oid 16384)) 1)) ≡ true
+rebuilt_after_mending = refl
 
 -- before the next command
-pub mended_without_rebuild : IsNext back_to_savepoint mended (entry 2 6 (Release 1)) → ⊥
-mended_without_rebuild h = search arith
+pub mended_without_rebuild : is_next back_to_savepoint mended (entry 2 6 (Release 1)) ≡ false
+mended_without_rebuild = refl

@@ -1,6 +1,6 @@
 -- A worked example: an error takes back a savepoint's level, `rollback to` mends the block, and what is written then draws new oids. After `release` the level is part of the one around it, and an error takes back that.
 use Rattle.std.specs.Fmt.{digits}
-use Rattle.std.proofs.Common.{◌≡◌, ◌++◌, ℕ, false, None, List, [], ◌∷◌, codes, refl, sym, arith}
+use Rattle.std.proofs.Common.{◌≡◌, ◌++◌, ℕ, false, None, List, [], ◌∷◌, codes, refl, sym}
 use Rattle.base_types.specs.Scenario.{Scenario}
 use Rattle.base_types.specs.declared.scan.Purpose.TheVariants as scans
 use Rattle.base_types.specs.declared.command.Command.TheVariants as commands
@@ -11,7 +11,8 @@ use Rattle.history_model.specs.Lapped.{FollowsQueue}
 use Rattle.history_model.specs.Read.{IsEconomical}
 use Rattle.history_model.proofs.Allows.{legal_by}
 use Rattle.cacheless.proofs.Deciding.{plays_by}
-use Rattle.cacheless.specs.Plays.{IsNext, Plays}
+use Rattle.cacheless.specs.Nexts.{is_next}
+use Rattle.cacheless.specs.Plays.{Plays}
 use Rattle.cacheless.specs.Schedule.{FollowsSchedule, AreLooksTrue, IsComplete}
 use Rattle.cacheless.specs.Lines.{lines_of}
 use Rattle.cacheless.specs.declared.check_kind.CheckKind.TheVariants.{Walk}
@@ -90,25 +91,25 @@ pub saved_block_output : IsOutput Walk saved_block saved_block_text
 saved_block_output = record { history = ended; allowed = record { legal = legal_by ended refl; queue = saved_block_queue; plays = saved_block_plays; economical = saved_block_economical }; interleaved = record { follows = saved_block_follows; looks = saved_block_looks }; complete = saved_block_complete; text_is = sym saved_block_spelled }
 
 -- an error after a savepoint doesn't take back what was written before it
-pub whole_gone_in_level : IsNext saved_block failed (entry 1 5 (Gone 1)) → ⊥
-whole_gone_in_level h = search arith
+pub whole_gone_in_level : is_next saved_block failed (entry 1 5 (Gone 1)) ≡ false
+whole_gone_in_level = refl
 
 -- a level is not released while a write of it stands
-pub level_released_with_write : IsNext saved_block failed (entry 1 5 (Release 3)) → ⊥
-level_released_with_write h = search arith
+pub level_released_with_write : is_next saved_block failed (entry 1 5 (Release 3)) ≡ false
+level_released_with_write = refl
 
 -- an error after a savepoint doesn't end the transaction
-pub whole_released_in_level : IsNext saved_block gone (entry 1 5 (Release 1)) → ⊥
-whole_released_in_level h = search arith
+pub whole_released_in_level : is_next saved_block gone (entry 1 5 (Release 1)) ≡ false
+whole_released_in_level = refl
 
 -- nor does `rollback to`
-pub whole_released_by_rollback_to : IsNext saved_block released (entry 1 7 (Release 1)) → ⊥
-whole_released_by_rollback_to h = search arith
+pub whole_released_by_rollback_to : is_next saved_block released (entry 1 7 (Release 1)) ≡ false
+whole_released_by_rollback_to = refl
 
 -- `rollback to` is not done without a release
-pub mended_without_release : IsNext saved_block released (entry 1 8 (Write (xid 1) (new_table 16386 (codes "u") (codes "a")))) → ⊥
-mended_without_release h = search arith
+pub mended_without_release : is_next saved_block released (entry 1 8 (Write (xid 1) (new_table 16386 (codes "u") (codes "a")))) ≡ false
+mended_without_release = refl
 
 -- after its release a level is not taken back alone
-pub released_level_gone : IsNext saved_block written_again (entry 1 10 (Gone 3)) → ⊥
-released_level_gone h = search arith
+pub released_level_gone : is_next saved_block written_again (entry 1 10 (Gone 3)) ≡ false
+released_level_gone = refl

@@ -1,5 +1,5 @@
 -- Worked examples: while a lookup waits for its lock the relation gets another name. What the lookup has newly locked it unlocks; then it locks what has the name now, or finds none, or finds what the session holds already. (The entries of the first backend are legal, and leave out its lookups.)
-use Rattle.std.proofs.Common.{◌++◌, true, false, None, List, [], ◌∷◌, codes, refl, arith}
+use Rattle.std.proofs.Common.{◌≡◌, ◌++◌, true, false, None, List, [], ◌∷◌, codes, refl}
 use Rattle.base_types.specs.Scenario.{Scenario}
 use Rattle.base_types.specs.declared.command.Command.TheVariants as commands
 use Rattle.base_types.specs.declared.index_state.IndexState.TheVariants.{Valid}
@@ -12,7 +12,7 @@ use Rattle.event_kinds.specs.declared.entry.Event.TheVariants.{Start, Look, Fetc
 use Rattle.event_kinds.specs.declared.entry.Item.TheVariants.{Add, Put, Force}
 use Rattle.history_model.specs.Legal.{IsLegal}
 use Rattle.history_model.proofs.Allows.{legal_by}
-use Rattle.cacheless.specs.Plays.{IsNext}
+use Rattle.cacheless.specs.Nexts.{is_next}
 use Rattle.cacheless.proofs.Plans.Given.{oid, xid, entry, placed, script, new_table}
 
 abbrev pub one_lock : Scenario
@@ -39,24 +39,24 @@ pub other_legal : IsLegal (other_unlocked ++ entry 2 2 (LockOk (oid 16385) Acces
 other_legal = legal_by (other_unlocked ++ entry 2 2 (LockOk (oid 16385) AccessShare) ∷ []) refl
 
 -- it gives the lock back
-pub other_unlocks : IsNext one_lock other_found (entry 2 2 (Unlock (oid 16384) AccessShare))
-other_unlocks = search arith
+pub other_unlocks : is_next one_lock other_found (entry 2 2 (Unlock (oid 16384) AccessShare)) ≡ true
+other_unlocks = refl
 
 -- and then asks for that on what has the name
-pub other_locks : IsNext one_lock other_unlocked (entry 2 2 (LockOk (oid 16385) AccessShare))
-other_locks = search arith
+pub other_locks : is_next one_lock other_unlocked (entry 2 2 (LockOk (oid 16385) AccessShare)) ≡ true
+other_locks = refl
 
 -- not before
-pub other_locked_first : IsNext one_lock other_found (entry 2 2 (LockOk (oid 16385) AccessShare)) → ⊥
-other_locked_first h = search arith
+pub other_locked_first : is_next one_lock other_found (entry 2 2 (LockOk (oid 16385) AccessShare)) ≡ false
+other_locked_first = refl
 
 -- nor is it done without that lock
-pub other_left_unlocked : IsNext one_lock other_unlocked (entry 2 3 (Release 1)) → ⊥
-other_left_unlocked h = search arith
+pub other_left_unlocked : is_next one_lock other_unlocked (entry 2 3 (Release 1)) ≡ false
+other_left_unlocked = refl
 
 -- what has the name isn't unlocked
-pub found_unlocked : IsNext one_lock other_found (entry 2 2 (Unlock (oid 16385) AccessShare)) → ⊥
-found_unlocked h = search arith
+pub found_unlocked : is_next one_lock other_found (entry 2 2 (Unlock (oid 16385) AccessShare)) ≡ false
+found_unlocked = refl
 
 -- the first only renames it: no relation has the name
 abbrev pub none_found : List Entry
@@ -69,20 +69,20 @@ none_unlocked = none_found ++ entry 2 2 (Unlock (oid 16384) AccessShare) ∷ []
 pub none_legal : IsLegal (none_unlocked ++ entry 2 2 (Look false) ∷ entry 2 2 (Release 1) ∷ [])
 none_legal = legal_by (none_unlocked ++ entry 2 2 (Look false) ∷ entry 2 2 (Release 1) ∷ []) refl
 
-pub none_unlocks : IsNext one_lock none_found (entry 2 2 (Unlock (oid 16384) AccessShare))
-none_unlocks = search arith
+pub none_unlocks : is_next one_lock none_found (entry 2 2 (Unlock (oid 16384) AccessShare)) ≡ true
+none_unlocks = refl
 
 -- after a look that says no, the command fails, and its block with it
-pub none_fails : IsNext one_lock (none_unlocked ++ entry 2 2 (Look false) ∷ []) (entry 2 2 (Release 1))
-none_fails = ((omega arith, omega arith), (refl, (refl, refl)))
+pub none_fails : is_next one_lock (none_unlocked ++ entry 2 2 (Look false) ∷ []) (entry 2 2 (Release 1)) ≡ true
+none_fails = refl
 
 -- not before the look
-pub none_without_look : IsNext one_lock none_unlocked (entry 2 2 (Release 1)) → ⊥
-none_without_look h = search arith
+pub none_without_look : is_next one_lock none_unlocked (entry 2 2 (Release 1)) ≡ false
+none_without_look = refl
 
 -- and not with the lock held
-pub none_still_locked : IsNext one_lock (none_found ++ entry 2 2 (Look false) ∷ []) (entry 2 2 (Release 1)) → ⊥
-none_still_locked h = search arith
+pub none_still_locked : is_next one_lock (none_found ++ entry 2 2 (Look false) ∷ []) (entry 2 2 (Release 1)) ≡ false
+none_still_locked = refl
 
 abbrev pub two_shows : Scenario
 two_shows = script 2 (placed 2 commands.Begin ∷ placed 2 (commands.Show (codes "i") None) ∷ placed 2 (commands.Show (codes "t") None) ∷ placed 2 commands.Commit ∷ []) []
@@ -106,17 +106,17 @@ held_unlocked = held_found ++ entry 2 3 (Unlock (oid 16384) AccessShare) ∷ []
 pub held_legal : IsLegal (held_unlocked ++ entry 2 3 (Look false) ∷ entry 2 3 (Scan (scans.Class (oid 16385)) 1) ∷ [])
 held_legal = legal_by (held_unlocked ++ entry 2 3 (Look false) ∷ entry 2 3 (Scan (scans.Class (oid 16385)) 1) ∷ []) refl
 
-pub held_unlocks : IsNext two_shows held_found (entry 2 3 (Unlock (oid 16384) AccessShare))
-held_unlocks = search arith
+pub held_unlocks : is_next two_shows held_found (entry 2 3 (Unlock (oid 16384) AccessShare)) ≡ true
+held_unlocks = refl
 
 -- it needs no further lock, and goes on with the descriptor
-pub held_goes_on : IsNext two_shows (held_unlocked ++ entry 2 3 (Look false) ∷ []) (entry 2 3 (Scan (scans.Class (oid 16385)) 1))
-held_goes_on = search arith
+pub held_goes_on : is_next two_shows (held_unlocked ++ entry 2 3 (Look false) ∷ []) (entry 2 3 (Scan (scans.Class (oid 16385)) 1)) ≡ true
+held_goes_on = refl
 
 -- the descriptor isn't built while the other lock is held
-pub held_without_unlock : IsNext two_shows (held_found ++ entry 2 3 (Look false) ∷ []) (entry 2 3 (Scan (scans.Class (oid 16385)) 1)) → ⊥
-held_without_unlock h = search arith
+pub held_without_unlock : is_next two_shows (held_found ++ entry 2 3 (Look false) ∷ []) (entry 2 3 (Scan (scans.Class (oid 16385)) 1)) ≡ false
+held_without_unlock = refl
 
 -- what was locked before isn't unlocked
-pub held_given_back : IsNext two_shows held_found (entry 2 3 (Unlock (oid 16385) AccessShare)) → ⊥
-held_given_back h = search arith
+pub held_given_back : is_next two_shows held_found (entry 2 3 (Unlock (oid 16385) AccessShare)) ≡ false
+held_given_back = refl
