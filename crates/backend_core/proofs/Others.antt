@@ -39,6 +39,7 @@ not_joined-other : (scenario : Scenario) (seen : List Entry) (e : Entry) (s : Ba
 not_joined-other scenario seen e s other before = record {
   waits = none.waits;
   new = before.new;
+  last = none.last;
   session = none.session;
   facts = none.facts;
   life = life_of-other seen e s.progress.id other ∙ before.life;

@@ -23,7 +23,7 @@ use Rattle.cacheless.specs.State.{session_at}
 use Rattle.cacheless.specs.Telling.{AreLines, TellsNow}
 use Rattle.cacheless.proofs.Allowed.Economical.{plays_needed}
 use Rattle.cacheless.proofs.Allowed.NextKeeps.{KeepsAllBy, next_keeps}
-use Rattle.cacheless.specs.Awaiting.{HasNoEntry, AwaitsEntry as SessionAwaits, KeepsScans, answer_after}
+use Rattle.cacheless.specs.Awaiting.{HasNoEntry, AwaitsEntry as SessionAwaits, answer_after}
 use Rattle.cacheless.proofs.OwnAnswers.{waiting_is as session_is, at_session as command_is, own_next, own_tells}
 use Rattle.cacheless.proofs.OwnPlaces.{own_places}
 use Rattle.backend_core.specs.Types.{Command, Scenario, Entry, Event, Backend}
@@ -43,7 +43,7 @@ session_waits waits = record { rests = waits.rests; places = waits.keeps.places;
 
 -- one that hasn't joined has a session without entries
 abbrev pub no_entry : {scenario : Scenario} {seen : List Entry} {s : Backend} → HasNotJoined scenario seen s → HasNoEntry scenario seen s.progress
-no_entry before = record { waits = before.waits; session = before.session; facts = before.facts; unwritten = before.unwritten }
+no_entry before = record { waits = before.waits; last = before.last; session = before.session; facts = before.facts; unwritten = before.unwritten }
 
 -- the session of one that waits is that of the history
 pub waiting_is : (scenario : Scenario) (seen : List Entry) (s : Backend) (waits : AwaitsEntry scenario seen s) → session_of scenario seen s.progress.id ≡ Some (waiting waits)
@@ -134,11 +134,11 @@ own_makes scenario old new had has was event waits played courses own appends = 
 
 -- after its own entry a backend agrees
 pub own_agrees : (scenario : Scenario) (old : List Entry) (was now : Backend) (event : Event) (waits : AwaitsEntry scenario old was) → IsPlayed scenario old → AllOnCourse scenario old → MayPlayIn (next_oid old) (facts_of old was.progress.id) (command_at was) (waiting waits) event
-    → MayFollow old (entry_of was.progress.id (was.progress.finished + 1) event) → (goes : HasEntered scenario old was.progress event waits.rests now.progress) → KeepsScans old was.progress event now.progress
+    → MayFollow old (entry_of was.progress.id (was.progress.finished + 1) event) → (goes : HasEntered scenario old was.progress event waits.rests now.progress)
     → Fits (facts_of (with_own old was.progress event) now.progress.id) (command_at now) (session_at now.progress goes.holds.rest) now.looked now.frames now.told
     → now.life ≡ was.life → life_by (was.progress.finished + 1) event ≡ Alive (was.progress.finished + 1) → now.lines ≡ was.lines → event ≢ events.Stop → now.progress.answer ≡ answer_after event was.progress.answer
     → AgreesNow scenario (with_own old was.progress event) now
-own_agrees scenario old was now event waits played courses plays follows goes kept fits life lives lines stays answer = record { keeps = keeps; holds = goes.holds; fits = fits; tells = told.0; lines = lines ∙ told.1; before = before_own scenario old was.progress now.progress event waits.rests waits.before plays goes }
+own_agrees scenario old was now event waits played courses plays follows goes fits life lives lines stays answer = record { keeps = keeps; holds = goes.holds; fits = fits; tells = told.0; lines = lines ∙ told.1; before = before_own scenario old was.progress now.progress event waits.rests waits.before plays goes }
   where
     b : ℕ
     b = was.progress.id
@@ -151,7 +151,7 @@ own_agrees scenario old was now event waits played courses plays follows goes ke
         alive = ap (life_of (with_own old was.progress event)) goes.moves.id ∙ life_of-own old (entry_of b (was.progress.finished + 1) event) b (eq-eqb b b refl) ∙ lives;
         most = omega (arith, goes.moves.finished);
       };
-      places = own_places scenario old was.progress now.progress event was.lines (session_waits waits) courses follows plays (record { goes = goes; kept = kept; answer = answer });
+      places = own_places scenario old was.progress now.progress event was.lines (session_waits waits) courses follows plays goes;
     }
 
     told : TellsNow scenario (with_own old was.progress event) now.progress goes.holds × AreLines scenario (with_own old was.progress event) now.progress (session_at now.progress goes.holds.rest) was.lines
@@ -159,12 +159,12 @@ own_agrees scenario old was now event waits played courses plays follows goes ke
 
 -- a backend's own entry
 pub own_enters : (scenario : Scenario) (old new : List Entry) (had has : ℕ → ℕ) (was now : Backend) (event : Event) (waits : AwaitsEntry scenario old was) → IsPlayed scenario old → AllOnCourse scenario old → OwnEntry scenario old was event waits
-    → (goes : HasEntered scenario old was.progress event waits.rests now.progress) → KeepsScans old was.progress event now.progress
+    → (goes : HasEntered scenario old was.progress event waits.rests now.progress)
     → Fits (facts_of (with_own old was.progress event) now.progress.id) (command_at now) (session_at now.progress goes.holds.rest) now.looked now.frames now.told
     → now.life ≡ was.life → life_by (was.progress.finished + 1) event ≡ Alive (was.progress.finished + 1) → now.lines ≡ was.lines → event ≢ events.Stop → now.progress.answer ≡ answer_after event was.progress.answer
     → Appends old new had has (entry_of was.progress.id (was.progress.finished + 1) event) → Enters scenario old new had has was now
-own_enters scenario old new had has was now event waits played courses own goes kept fits life lives lines stays answer appends = record {
+own_enters scenario old new had has was now event waits played courses own goes fits life lives lines stays answer appends = record {
   makes = own_makes scenario old new had has was event waits played courses own appends;
   id = goes.moves.id;
-  agrees = subst (λ h. AgreesNow scenario h now) (sym appends.entries) (own_agrees scenario old was now event waits played courses own.plays appends.comes.follows goes kept fits life lives lines stays answer);
+  agrees = subst (λ h. AgreesNow scenario h now) (sym appends.entries) (own_agrees scenario old was now event waits played courses own.plays appends.comes.follows goes fits life lives lines stays answer);
 }

@@ -1,6 +1,6 @@
 -- How a backend agrees with a history.
 use Rattle.std.specs.Prelude.{◌≡◌, ◌≤◌, ◌+◌, ℕ, true, false, Option, None, List, [], slice_get, is_some}
-use Rattle.history_model.specs.Lives.{life_of}
+use Rattle.history_model.specs.Lives.{life_of, last_event_of}
 use Rattle.history_model.specs.declared.life.Life.{Life}
 use Rattle.history_model.specs.declared.life.Life.TheVariants.{Unstarted, Alive, Stopped}
 use Rattle.history_model.specs.Transactions.{has_written}
@@ -79,6 +79,7 @@ pub record IsNew (s : Backend) (id : ℕ) (commands : List Command) : Type 0 whe
 pub record HasNotJoined (scenario : Scenario) (seen : List Entry) (s : Backend) : Type 0 where
   pub waits : HasNotStarted scenario seen s.progress
   pub new : IsNew s s.progress.id s.progress.commands
+  pub last : last_event_of seen s.progress.id ≡ None
   pub session : session_of scenario seen s.progress.id ≡ None
   pub facts : facts_of seen s.progress.id ≡ facts_of [] s.progress.id
   pub life : life_of seen s.progress.id ≡ Unstarted

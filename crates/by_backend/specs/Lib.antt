@@ -1,1 +1,2 @@
 pub mod OwnCommands
+pub mod Copies

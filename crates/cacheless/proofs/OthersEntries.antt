@@ -64,6 +64,7 @@ awaits-other scenario seen e s lines other waits = record {
 pub no_entry-other : (scenario : Scenario) (seen : List Entry) (e : Entry) (s : Progress) → (e.backend == s.id) ≡ false → HasNoEntry scenario seen s → HasNoEntry scenario (seen ++ e ∷ []) s
 no_entry-other scenario seen e s other before = record {
   waits = not_started-other scenario seen e s other before.waits;
+  last = last_event_of-other seen e s.id other ∙ before.last;
   session = session_of-other scenario seen e s.id other ∙ before.session;
   facts = facts_of-other seen e s.id other ∙ before.facts;
   unwritten = λ c. has_written-other seen e s.id c other ∙ before.unwritten c;

@@ -1,79 +1,57 @@
 -- The places of the scans that a session keeps, after an entry of its own.
-use Rattle.std.proofs.Common.{◌≡◌, ◌+◌, ◌∙◌, ◌∷◌, ◌++◌, [], ℕ, Bool, true, false, Option, Some, None, IfSome, List, refl, sym, ap, subst, length, slice_get, if◌then◌else◌}
+use Rattle.std.proofs.Common.{◌≡◌, ◌+◌, ◌∙◌, [], ℕ, Bool, true, false, Option, Some, None, IfSome, List, refl, sym, ap, subst, slice_get}
 use Rattle.std.proofs.lemmas.Bool.{both_ways, eq-eqb}
-use Rattle.base_types.specs.Scans.{same_scan}
 use Rattle.base_types.specs.declared.ids.Xid.{Xid}
 use Rattle.base_types.specs.declared.scan.Purpose.TheVariants as scans
 use Rattle.event_kinds.specs.declared.entry.Event.TheVariants as events
 use Rattle.ddl_effect.specs.Commands.{commands_of}
 use Rattle.ddl_effect.specs.Plans.{Lookup, Open, Search, Read, Lock, Write, Plan, Done, Fails, Absent, Do}
 use Rattle.ddl_effect.specs.Stages.{plan_at}
-use Rattle.inval_messages.specs.Lists.{cats_in, rels_in, lists_from}
-use Rattle.local_caches.specs.Kept.{Kept, Read as KeptRead, kept_with, kept_spared, is_kept}
+use Rattle.local_caches.specs.Kept.{Read as KeptRead, is_kept}
 use Rattle.history_model.specs.Drawn.{next_oid}
 use Rattle.history_model.specs.MayFollow.{FollowsGone, MayFollow}
 use Rattle.history_model.specs.Lives.{last_event_of}
-use Rattle.history_model.specs.Log.{fetched_by}
-use Rattle.history_model.specs.Read.{is_scan_of, place_read}
-use Rattle.history_model.specs.Versions.{answer_of}
-use Rattle.history_model.proofs.Ordered.{if_some}
+use Rattle.history_model.specs.Read.{is_usable, rows_read, place_read}
 use Rattle.history_model.proofs.Reading.{last_event_of-own}
 use Rattle.cacheless.specs.Answering.{AreLastScans, KeepsAbsent, PlacesFit}
-use Rattle.cacheless.specs.Facts.{Facts, facts_of}
-use Rattle.cacheless.specs.Holds.{HasEntered, Rests, entry_of, with_own}
+use Rattle.cacheless.specs.Facts.{Facts, facts_of, facts_by, kept_if, kept_by}
+use Rattle.cacheless.specs.Holds.{FactsFit, HasEntered, Rests, entry_of, with_own}
 use Rattle.cacheless.specs.OnCourse.{is_absent, IsOnCourse, FollowsPlan, CourseOf, AllOnCourse}
 use Rattle.cacheless.specs.Work.{work_of}
 use Rattle.cacheless.specs.Owed.{is_next_in}
 use Rattle.cacheless.specs.Plays.{IsWrite, MayPlayIn}
 use Rattle.cacheless.specs.Session.{Session}
 use Rattle.cacheless.specs.Sessions.{written, resumed}
-use Rattle.cacheless.specs.State.{kept_at, lists_at, messages_in, session_at}
-use Rattle.cacheless.proofs.Answers.ReadPlaces.{place_read-more, place_read-scan}
-use Rattle.cacheless.proofs.Entries.EnteredFetches.{all-spared, never_absent}
+use Rattle.cacheless.specs.State.{kept_at, session_at}
+use Rattle.cacheless.proofs.Entries.EnteredFetches.{never_absent}
 use Rattle.cacheless.proofs.Plans.SilentActs.{on_its_way, its_place}
+use Rattle.cacheless.proofs.Reading.{facts_of-own}
 use Rattle.cacheless.proofs.Resting.{settled_at_rest}
-use Rattle.cacheless.specs.Awaiting.{AwaitsEntry, KeepsScans, HasTaken}
-use Rattle.cacheless.specs.Types.{Purpose, Row, Message, Scenario, Command, Entry, Event, Item, Line}
+use Rattle.cacheless.specs.Awaiting.{AwaitsEntry}
+use Rattle.cacheless.specs.Types.{Purpose, Scenario, Command, Entry, Event, Item, Line}
 use Rattle.cacheless.specs.declared.progress.Progress.{Progress}
 
--- the places of scans stay with an entry that is none
-pub kept_stays : (seen : List Entry) (e : Entry) (b : ℕ) (kept : Kept) → ((scan : Purpose) → is_scan_of scan e.event ≡ false) → AreLastScans seen b kept → AreLastScans (seen ++ e ∷ []) b kept
-kept_stays seen e b kept others at = λ scan. if_some (λ (read : KeptRead). place_read seen b scan ≡ read.at) (λ (read : KeptRead). place_read (seen ++ e ∷ []) b scan ≡ read.at) (λ read is. place_read-more seen e b scan (others scan) ∙ is) (kept scan) (at scan)
-
--- and so do those that messages leave
-pub kept-spared : (seen : List Entry) (b : ℕ) (messages : List Message) (kept : Kept) → AreLastScans seen b kept → AreLastScans seen b (kept_spared messages kept)
-kept-spared seen b messages kept at = all-spared (λ scan read. place_read seen b scan ≡ read.at) messages kept at
-
--- a scan is kept with the place of its entry
-kept_scan : (seen : List Entry) (b c : ℕ) (scan : Purpose) (count : ℕ) (rows : List Row) (kept : Kept) → AreLastScans seen b kept → AreLastScans (seen ++ entry_of b c (events.Scan scan count) ∷ []) b (kept_with scan rows (length seen + 1) kept)
-kept_scan seen b c scan count rows kept at other = by_same (same_scan scan other) refl (kept other) (at other)
+-- a session keeps its backend's scans, each with the place of the last one
+pub last_scans : (seen : List Entry) (s : Progress) → FactsFit (facts_of seen s.id) s → AreLastScans seen s.id (kept_at s)
+last_scans seen s fits = subst (AreLastScans seen s.id) (ap (λ (f : Facts). f.kept) fits) (λ scan. by_use scan (is_usable seen s.id scan))
   where
-    e : Entry
-    e = entry_of b c (events.Scan scan count)
+    by_use : (scan : Purpose) (t : Bool) → IfSome (kept_if t (rows_read seen s.id scan) (place_read seen s.id scan)) (λ (read : KeptRead). place_read seen s.id scan ≡ read.at)
+    by_use scan true = refl
+    by_use scan false = tt
 
-    made : KeptRead
-    made = record { rows = rows; at = length seen + 1 }
-
-    by_same : (t : Bool) → same_scan scan other ≡ t → (o : Option KeptRead) → IfSome o (λ (read : KeptRead). place_read seen b other ≡ read.at) → IfSome (if t then Some made else o) (λ (read : KeptRead). place_read (seen ++ e ∷ []) b other ≡ read.at)
-    by_same true same o at = place_read-scan seen e b other (eq-eqb b b refl) same
-    by_same false others None at = tt
-    by_same false others (Some read) at = place_read-more seen e b other others ∙ at
-
--- whichever entry it is
-kept_then : (seen : List Entry) (was now : Progress) (event : Event) → KeepsScans seen was event now → AreLastScans seen was.id (kept_at was) → AreLastScans (with_own seen was event) was.id (kept_at now)
-kept_then seen was now (events.Fetch count) keeps at = subst (AreLastScans (with_own seen was (events.Fetch count)) was.id) (sym keeps) (kept-spared (with_own seen was (events.Fetch count)) was.id (fetched_by seen was.id count) (kept_at was)
-    (kept_stays seen (entry_of was.id (was.finished + 1) (events.Fetch count)) was.id (kept_at was) (λ scan. refl) at))
-kept_then seen was now events.FetchReset keeps at = subst (AreLastScans (with_own seen was events.FetchReset) was.id) (sym keeps) (λ scan. tt)
-kept_then seen was now (events.Scan scan count) keeps at = subst (AreLastScans (with_own seen was (events.Scan scan count)) was.id) (sym keeps) (kept_scan seen was.id (was.finished + 1) scan count (answer_of seen was.id scan) (kept_at was) at)
-kept_then seen was now (events.Write xid items) keeps at = subst (AreLastScans (with_own seen was (events.Write xid items)) was.id) (sym keeps) (kept-spared (with_own seen was (events.Write xid items)) was.id (messages_in seen was.id items) (kept_at was)
-    (kept_stays seen (entry_of was.id (was.finished + 1) (events.Write xid items)) was.id (kept_at was) (λ scan. refl) at))
-kept_then seen was now (events.Gone from) keeps at = subst (AreLastScans (with_own seen was (events.Gone from)) was.id) (sym keeps) (kept-spared (with_own seen was (events.Gone from)) was.id (rels_in (lists_from from (lists_at was))) (kept_spared (cats_in (lists_from from (lists_at was))) (kept_at was))
-    (kept-spared (with_own seen was (events.Gone from)) was.id (cats_in (lists_from from (lists_at was))) (kept_at was) (kept_stays seen (entry_of was.id (was.finished + 1) (events.Gone from)) was.id (kept_at was) (λ scan. refl) at)))
-kept_then seen was now event keeps at = subst (AreLastScans (with_own seen was event) was.id) (sym keeps) (kept_stays seen (entry_of was.id (was.finished + 1) event) was.id (kept_at was) (λ scan. refl) at)
+-- and after an entry of its own those that the entry leaves
+kept_after : (scenario : Scenario) (seen : List Entry) (was now : Progress) (event : Event) (rests : Rests scenario seen was) → HasEntered scenario seen was event rests now → kept_at now ≡ kept_by seen was.id event (kept_at was)
+kept_after scenario seen was now event rests goes = ap (λ (f : Facts). f.kept) (sym goes.holds.facts ∙ ap (facts_of (with_own seen was event)) goes.moves.id
+    ∙ facts_of-own seen (entry_of was.id (was.finished + 1) event) was.id (eq-eqb was.id was.id refl) ∙ ap (facts_by seen was.id (was.finished + 1) event) rests.holds.facts)
 
 -- a plan that isn't absent has no scan to keep
 pub keeps_none : (seen : List Entry) (s : Progress) → is_absent (plan_at s.opens s.exec) ≡ false → KeepsAbsent seen s
 keeps_none seen s there = λ name missed whole. absurd (both_ways _ there (ap is_absent missed))
+
+-- no command fails so
+fail_plays : (next : ℕ) (facts : Facts) (o : Option Command) (s : Session) → MayPlayIn next facts o s events.Fail → ⊥
+fail_plays next facts None s plays = plays
+fail_plays next facts (Some command) s plays = plays
 
 -- a command that failed to find a relation makes no scan
 scan_there : (facts : Facts) (s : Session) (scan : Purpose) (plan : Plan) → s.left ≡ plan → is_next_in scan facts (work_of s) ≡ true → is_absent plan ≡ false
@@ -126,7 +104,7 @@ module _ (scenario : Scenario) (seen : List Entry) (was now : Progress) (rests :
 
   -- where a lookup found no relation its scan is kept still, whichever entry it is
   absent_then : (event : Event) → MayFollow seen (entry_of was.id (was.finished + 1) event) → MayPlayIn (next_oid seen) (facts_of seen was.id) (slice_get was.commands was.finished) (session_at was rests.holds.rest) event
-      → KeepsScans seen was event now → HasEntered scenario seen was event rests now → KeepsAbsent (with_own seen was event) now
+      → kept_at now ≡ kept_by seen was.id event (kept_at was) → HasEntered scenario seen was event rests now → KeepsAbsent (with_own seen was event) now
   absent_then (events.Fetch count) follows plays keeps goes = keeps_none (with_own seen was (events.Fetch count)) now (ap (λ (x : Session). is_absent x.left) goes.session ∙ fetch_there scenario seen was rests)
   absent_then events.FetchReset follows plays keeps goes = keeps_none (with_own seen was events.FetchReset) now (ap (λ (x : Session). is_absent x.left) goes.session ∙ fetch_there scenario seen was rests)
   absent_then (events.Scan scan count) follows plays keeps goes = keeps_none (with_own seen was (events.Scan scan count)) now (ap (λ (x : Session). is_absent x.left) goes.session
@@ -138,13 +116,14 @@ module _ (scenario : Scenario) (seen : List Entry) (was now : Progress) (rests :
       ∙ write_plays scenario seen was rests (next_oid seen) (facts_of seen was.id) (slice_get was.commands was.finished) courses refl xid items plays)
   absent_then (events.Gone from) follows plays keeps goes = λ name missed whole. absurd (whole.untaken from (ap (last_event_of (with_own seen was (events.Gone from))) goes.moves.id ∙ last_event_of-own seen (entry_of was.id (was.finished + 1) (events.Gone from)) was.id (eq-eqb was.id was.id refl)))
   absent_then (events.Release from) follows plays keeps goes = λ name missed whole. absurd (both_ways _ whole.going (ap (λ (x : Session). x.ended) goes.session))
+  absent_then events.Fail follows plays keeps goes = absurd (fail_plays (next_oid seen) (facts_of seen was.id) (slice_get was.commands was.finished) (session_at was rests.holds.rest) plays)
   absent_then event follows plays keeps goes = absent_still event keeps (ap (λ (x : Session). x.left) goes.session) (ap (λ (x : Session). x.ended) goes.session) (λ from gone. subst (λ last. FollowsGone last event) gone follows.gone)
 
 -- they are those of its last scans
 pub own_places : (scenario : Scenario) (seen : List Entry) (was now : Progress) (event : Event) (lines : List Line) (waits : AwaitsEntry scenario seen was lines) → AllOnCourse scenario seen
     → MayFollow seen (entry_of was.id (was.finished + 1) event) → MayPlayIn (next_oid seen) (facts_of seen was.id) (slice_get was.commands was.finished) (session_at was waits.rests.holds.rest) event
-    → HasTaken scenario seen was event waits.rests now → PlacesFit (with_own seen was event) now
-own_places scenario seen was now event lines waits courses follows plays takes = record {
-  kept = subst (λ b. AreLastScans (with_own seen was event) b (kept_at now)) (sym takes.goes.moves.id) (kept_then seen was now event takes.kept waits.places.kept);
-  absent = absent_then scenario seen was now waits.rests waits.places courses event follows plays takes.kept takes.goes;
+    → HasEntered scenario seen was event waits.rests now → PlacesFit (with_own seen was event) now
+own_places scenario seen was now event lines waits courses follows plays goes = record {
+  kept = last_scans (with_own seen was event) now goes.holds.facts;
+  absent = absent_then scenario seen was now waits.rests waits.places courses event follows plays (kept_after scenario seen was now event waits.rests goes) goes;
 }

@@ -1,17 +1,14 @@
 -- A session between two entries of its backend, and right after one.
-use Rattle.std.specs.Prelude.{◌≡◌, ◌+◌, ℕ, true, false, Option, None, List, [], length, is_some}
+use Rattle.std.specs.Prelude.{◌≡◌, ℕ, true, false, Option, None, List, [], is_some}
 use Rattle.event_kinds.specs.declared.entry.Event.TheVariants as events
-use Rattle.inval_messages.specs.Lists.{cats_in, rels_in, lists_from}
-use Rattle.local_caches.specs.Kept.{nothing_kept, kept_with, kept_spared}
-use Rattle.history_model.specs.Log.{fetched_by}
-use Rattle.history_model.specs.Versions.{answer_of}
+use Rattle.history_model.specs.Lives.{last_event_of}
 use Rattle.history_model.specs.Transactions.{has_written}
 use Rattle.cacheless.specs.Answering.{PlacesFit}
 use Rattle.cacheless.specs.Facts.{facts_of}
 use Rattle.cacheless.specs.Holds.{Holds, Rests, HasNotStarted, HasEntered}
 use Rattle.cacheless.specs.Sessions.{session_of}
 use Rattle.cacheless.specs.Silently.{is_to_answer_at}
-use Rattle.cacheless.specs.State.{kept_at, lists_at, messages_in, session_at}
+use Rattle.cacheless.specs.State.{session_at}
 use Rattle.cacheless.specs.Telling.{Tells, AreLines, TellsNow}
 use Rattle.cacheless.specs.Types.{Scenario, Entry, Event, Line}
 use Rattle.cacheless.specs.declared.progress.Progress.{Progress}
@@ -19,6 +16,7 @@ use Rattle.cacheless.specs.declared.progress.Progress.{Progress}
 -- that of a backend without entries
 pub record HasNoEntry (scenario : Scenario) (seen : List Entry) (s : Progress) : Type 0 where
   pub waits : HasNotStarted scenario seen s
+  pub last : last_event_of seen s.id ≡ None
   pub session : session_of scenario seen s.id ≡ None
   pub facts : facts_of seen s.id ≡ facts_of [] s.id
   pub unwritten : (c : ℕ) → has_written seen s.id c ≡ false
@@ -38,15 +36,6 @@ pub record AnswersNow (scenario : Scenario) (seen : List Entry) (s : Progress) (
   pub tells : TellsNow scenario seen s holds
   pub lines_are : AreLines scenario seen s (session_at s holds.rest) lines
 
--- the scans that are kept after an event
-abbrev pub KeepsScans : List Entry → Progress → Event → Progress → Type 0
-KeepsScans seen was (events.Fetch count) now = kept_at now ≡ kept_spared (fetched_by seen was.id count) (kept_at was)
-KeepsScans seen was events.FetchReset now = kept_at now ≡ nothing_kept
-KeepsScans seen was (events.Scan scan count) now = kept_at now ≡ kept_with scan (answer_of seen was.id scan) (length seen + 1) (kept_at was)
-KeepsScans seen was (events.Write xid items) now = kept_at now ≡ kept_spared (messages_in seen was.id items) (kept_at was)
-KeepsScans seen was (events.Gone from) now = kept_at now ≡ kept_spared (rels_in (lists_from from (lists_at was))) (kept_spared (cats_in (lists_from from (lists_at was))) (kept_at was))
-KeepsScans seen was event now = kept_at now ≡ kept_at was
-
 -- the answer after an event: an entry of an end and the stop leave it, and after any other it is worked out anew
 abbrev pub answer_after : Event → Option (List ℕ) → Option (List ℕ)
 answer_after (events.Visible xid) answer = answer
@@ -59,5 +48,4 @@ answer_after event answer = None
 -- the session has taken an entry of its own
 pub record HasTaken (scenario : Scenario) (seen : List Entry) (was : Progress) (event : Event) (rests : Rests scenario seen was) (now : Progress) : Type 0 where
   pub goes : HasEntered scenario seen was event rests now
-  pub kept : KeepsScans seen was event now
   pub answer : now.answer ≡ answer_after event was.answer

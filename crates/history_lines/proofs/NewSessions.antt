@@ -16,7 +16,7 @@ pub new_session : (scenario : Scenario) (b : ℕ) (commands : List Command) (pro
     → IsSessionOf scenario [] b (record { progress = progress; is_started = false; lines = lines })
 new_session scenario b commands progress lines none new waits = record {
   id = new.number;
-  stands = record { none = record { waits = waits; session = refl; facts = refl; unwritten = λ c. refl }; lines_are = none };
+  stands = record { none = record { waits = waits; last = refl; session = refl; facts = refl; unwritten = λ c. refl }; lines_are = none };
 }
 
 -- so many sessions, each of which is that of its backend before the first entry

@@ -115,7 +115,7 @@ own_plays scenario seen was event rests next =
 -- what a session has to tell after an entry of its own, but for its stop
 own_now : (scenario : Scenario) (seen : List Entry) (was now : Progress) (event : Event) (lines : List Line) (waits : AwaitsEntry scenario seen was lines) → ComesNext scenario seen (entry_of was.id (was.finished + 1) event) → is_stop event ≡ false → HasTaken scenario seen was event waits.rests now → AnswersNow scenario (with_own seen was event) now lines
 own_now scenario seen was now event lines waits comes inside takes = own_answers scenario seen was now event lines waits comes.spelled comes.legal comes.plays comes.follows plays (λ is. both_ways _ inside (ap is_stop is)) takes.goes takes.answer
-    (own_places scenario seen was now event lines waits played.1 comes.follows plays takes)
+    (own_places scenario seen was now event lines waits played.1 comes.follows plays takes.goes)
   where
     plays : MayPlayIn (next_oid seen) (facts_of seen was.id) (slice_get was.commands was.finished) (session_at was waits.rests.holds.rest) event
     plays = own_plays scenario seen was event waits.rests comes.next

@@ -7,12 +7,11 @@ use Rattle.history_ledger.specs.Held.{Reads}
 use Rattle.inval_messages.specs.declared.message.Message.{Message}
 use Rattle.base_types.specs.declared.row.Row.{Row}
 use Rattle.base_types.specs.declared.scan.Purpose.{Purpose}
-use Rattle.local_caches.specs.Kept.{kept_with, kept_spared}
 use Rattle.cacheless.specs.Holds.{Holds, Rests, HasEntered}
 use Rattle.cacheless.specs.Rule.{may_come}
 use Rattle.cacheless.specs.May.{has_looked_at, is_next_at, may_play_now}
-use Rattle.cacheless.specs.State.{IsLockedIn, facts_at, work_at, kept_at}
-use Rattle.cacheless.specs.Awaiting.{HasTaken, KeepsScans, answer_after}
+use Rattle.cacheless.specs.State.{IsLockedIn, facts_at, work_at}
+use Rattle.cacheless.specs.Awaiting.{HasTaken, answer_after}
 use Rattle.history_lines.specs.Types.{Scenario, Command, Entry, Event, Ledger, Progress}
 
 -- of three tests that hold the middle one holds
@@ -30,25 +29,23 @@ scan_is_next next s scan count may = by_command (slice_get s.commands s.finished
     by_command None is = middle_of_three _ (is_next_at scan s) (has_looked_at s) is
 
 -- so many messages were fetched
-pub fetched_takes : (ledger : Ledger) (was now : Progress) (messages : List Message) (count : ℕ) → length messages ≡ count → ((seen : List Entry) → Reads seen ledger → messages ≡ fetched_by seen was.id count) → kept_at now ≡ kept_spared messages (kept_at was) → now.answer ≡ None
+pub fetched_takes : (ledger : Ledger) (was now : Progress) (messages : List Message) (count : ℕ) → length messages ≡ count → ((seen : List Entry) → Reads seen ledger → messages ≡ fetched_by seen was.id count) → now.answer ≡ None
     → ((scenario : Scenario) (seen : List Entry) (rests : Rests scenario seen was) → messages ≡ fetched_by seen was.id (length messages) → HasEntered scenario seen was (events.Fetch (length messages)) rests now)
     → (scenario : Scenario) (seen : List Entry) (rests : Rests scenario seen was) → Reads seen ledger → HasTaken scenario seen was (events.Fetch count) rests now
-fetched_takes ledger was now messages count same given kept none holds scenario seen rests reads = record {
+fetched_takes ledger was now messages count same given none holds scenario seen rests reads = record {
   goes = subst (λ n. HasEntered scenario seen was (events.Fetch n) rests now) same (holds scenario seen rests (given seen reads ∙ ap (fetched_by seen was.id) (sym same)));
-  kept = kept ∙ ap (λ l. kept_spared l (kept_at was)) (given seen reads);
   answer = none;
 }
 
 -- a scan gave rows
-pub scanned_takes : {E : Type 0} (result : Result (Unit {0}) E) (ledger : Ledger) (was now : Progress) (scan : Purpose) (rows : List Row) (at : ℕ) → ((seen : List Entry) → Reads seen ledger → rows ≡ answer_of seen was.id scan) → OnOk result (kept_at now ≡ kept_with scan rows at (kept_at was)) → OnOk result (now.answer ≡ None)
+pub scanned_takes : {E : Type 0} (result : Result (Unit {0}) E) (ledger : Ledger) (was now : Progress) (scan : Purpose) (rows : List Row) (at : ℕ) → ((seen : List Entry) → Reads seen ledger → rows ≡ answer_of seen was.id scan) → OnOk result (now.answer ≡ None)
     → OnOk result ((scenario : Scenario) (seen : List Entry) (count : ℕ) → (rests : Rests scenario seen was) → rows ≡ answer_of seen was.id scan → at ≡ length seen + 1 → HasEntered scenario seen was (events.Scan scan count) rests now)
     → OnOk result ((scenario : Scenario) (seen : List Entry) (count : ℕ) (rests : Rests scenario seen was) → Reads seen ledger → at ≡ length seen + 1 → HasTaken scenario seen was (events.Scan scan count) rests now)
-scanned_takes (Ok done) ledger was now scan rows at given kept none holds = λ scenario seen count rests reads place. record {
+scanned_takes (Ok done) ledger was now scan rows at given none holds = λ scenario seen count rests reads place. record {
   goes = holds scenario seen count rests (given seen reads) place;
-  kept = kept ∙ (λ i. kept_with scan (given seen reads i) (place i) (kept_at was));
   answer = none;
 }
-scanned_takes (Err e) ledger was now scan rows at given kept none holds = tt
+scanned_takes (Err e) ledger was now scan rows at given none holds = tt
 
 -- a session with this room for locks
 abbrev with_room : Progress → ℕ → Progress
@@ -89,7 +86,6 @@ room_takes : (scenario : Scenario) (seen : List Entry) (s : Progress) (room : �
 unfolding room_rests
 room_takes scenario seen s room event now rests takes = record {
   goes = record { holds = takes.goes.holds; session = takes.goes.session; moves = record { id = takes.goes.moves.id; commands = takes.goes.moves.commands; finished = takes.goes.moves.finished } };
-  kept = takes.kept;
   answer = takes.answer;
 }
 
@@ -98,9 +94,9 @@ pub reserved_takes : (scenario : Scenario) (seen : List Entry) (s p : Progress) 
 reserved_takes scenario seen s p event now same takes rests = room_takes scenario seen s p.locks.room event now rests (subst (λ x. (r : Rests scenario seen x) → HasTaken scenario seen x event r now) (room_same s p same) takes (room_rests scenario seen s p.locks.room rests))
 
 -- a call that enters an event takes it
-pub event_takes : (was now : Progress) (given event : Event) → given ≡ event → ((scenario : Scenario) (seen : List Entry) (rests : Rests scenario seen was) → HasEntered scenario seen was event rests now) → ((seen : List Entry) → KeepsScans seen was event now) → now.answer ≡ answer_after event was.answer
+pub event_takes : (was now : Progress) (given event : Event) → given ≡ event → ((scenario : Scenario) (seen : List Entry) (rests : Rests scenario seen was) → HasEntered scenario seen was event rests now) → now.answer ≡ answer_after event was.answer
     → (scenario : Scenario) (seen : List Entry) (rests : Rests scenario seen was) → HasTaken scenario seen was given rests now
-event_takes was now given event is goes kept answer scenario seen rests = subst (λ e. HasTaken scenario seen was e rests now) (sym is) (record { goes = goes scenario seen rests; kept = kept seen; answer = answer })
+event_takes was now given event is goes answer scenario seen rests = subst (λ e. HasTaken scenario seen was e rests now) (sym is) (record { goes = goes scenario seen rests; answer = answer })
 
 -- what was taken is the event that is given
 pub taken_as : (was now : Progress) (given event : Event) → given ≡ event → ((scenario : Scenario) (seen : List Entry) (rests : Rests scenario seen was) → HasTaken scenario seen was event rests now) → (scenario : Scenario) (seen : List Entry) (rests : Rests scenario seen was) → HasTaken scenario seen was given rests now
@@ -108,10 +104,10 @@ taken_as was now given event is takes scenario seen rests = subst (λ e. HasTake
 
 -- a release, which takes memory
 pub released_takes : {E : Type 0} (result : Result (Unit {0}) E) (ledger : Ledger) (at : ℕ) (was now : Progress) (given : Event) (from : ℕ) → given ≡ events.Release from
-    → OnOk result ((scenario : Scenario) (seen : List Entry) (rests : Rests scenario seen was) → HasEntered scenario seen was (events.Release from) rests now) → OnOk result (kept_at now ≡ kept_at was) → OnOk result (now.answer ≡ was.answer)
+    → OnOk result ((scenario : Scenario) (seen : List Entry) (rests : Rests scenario seen was) → HasEntered scenario seen was (events.Release from) rests now) → OnOk result (now.answer ≡ was.answer)
     → OnOk result ((scenario : Scenario) (seen : List Entry) (rests : Rests scenario seen was) → Reads seen ledger → at ≡ length seen + 1 → HasTaken scenario seen was given rests now)
-released_takes (Ok done) ledger at was now given from is goes kept answer = λ scenario seen rests reads place. event_takes was now given (events.Release from) is goes (λ before. kept) answer scenario seen rests
-released_takes (Err e) ledger at was now given from is goes kept answer = tt
+released_takes (Ok done) ledger at was now given from is goes answer = λ scenario seen rests reads place. event_takes was now given (events.Release from) is goes answer scenario seen rests
+released_takes (Err e) ledger at was now given from is goes answer = tt
 
 -- the event that a class takes is the one that is given
 pub takes_alone : {E : Type 0} (result : Result (Unit {0}) E) (ledger : Ledger) (at : ℕ) (was now : Progress) (given event : Event) → given ≡ event → OnOk result ((scenario : Scenario) (seen : List Entry) (rests : Rests scenario seen was) → HasTaken scenario seen was event rests now)

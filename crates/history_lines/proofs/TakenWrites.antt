@@ -12,10 +12,9 @@ use Rattle.history_ledger.specs.Held.{Reads}
 use Rattle.lock_modes.specs.Own.{has_lock, new_lock}
 use Rattle.lock_modes.specs.declared.own_lock.OwnLock.{OwnLock}
 use Rattle.inval_messages.specs.declared.message.Message.{Message}
-use Rattle.local_caches.specs.Kept.{kept_spared}
 use Rattle.cacheless.specs.Holds.{Rests, HasEntered}
 use Rattle.cacheless.specs.Locks.{locked_by}
-use Rattle.cacheless.specs.State.{IsLockedIn, kept_at, messages_in, locks_made}
+use Rattle.cacheless.specs.State.{IsLockedIn, messages_in, locks_made}
 use Rattle.base_types.specs.declared.ids.Oid.{Oid}
 use Rattle.base_types.specs.declared.ids.Xid.{Xid}
 use Rattle.cacheless.specs.Awaiting.{HasTaken}
@@ -24,15 +23,14 @@ use Rattle.history_lines.specs.Types.{Scenario, Entry, Ledger, Progress}
 use Rattle.history_lines.proofs.TakenEvents.{reserved_takes}
 
 -- a write with these messages, which makes this relation, if it makes one
-pub written_takes : {E : Type 0} (result : Result (Unit {0}) E) (was now : Progress) (xid : Xid) (messages : List Message) (made : Option Oid) → OnOk result (kept_at now ≡ kept_spared messages (kept_at was)) → OnOk result (now.answer ≡ None)
+pub written_takes : {E : Type 0} (result : Result (Unit {0}) E) (was now : Progress) (xid : Xid) (messages : List Message) (made : Option Oid) → OnOk result (now.answer ≡ None)
     → OnOk result ((scenario : Scenario) (seen : List Entry) (items : List Item) → (rests : Rests scenario seen was) → messages ≡ messages_in seen was.id items → flat_map (locked_by (was.finished + 1)) items ≡ locks_made (was.finished + 1) made → HasEntered scenario seen was (events.Write xid items) rests now)
     → OnOk result ((scenario : Scenario) (seen : List Entry) (items : List Item) (rests : Rests scenario seen was) → messages ≡ messages_in seen was.id items → flat_map (locked_by (was.finished + 1)) items ≡ locks_made (was.finished + 1) made → HasTaken scenario seen was (events.Write xid items) rests now)
-written_takes (Ok done) was now xid messages made kept none holds = λ scenario seen items rests is locks. record {
+written_takes (Ok done) was now xid messages made none holds = λ scenario seen items rests is locks. record {
   goes = holds scenario seen items rests is locks;
-  kept = kept ∙ ap (λ l. kept_spared l (kept_at was)) is;
   answer = none;
 }
-written_takes (Err e) was now xid messages made kept none holds = tt
+written_takes (Err e) was now xid messages made none holds = tt
 
 -- the locks of one more item come after those before
 locks_more : (command : ℕ) (items : List Item) (at : ℕ) (item : Item) → at < length items → item ≡ get_or items at item → flat_map (locked_by command) (take (at + 1) items) ≡ flat_map (locked_by command) (take at items) ++ locked_by command item

@@ -32,6 +32,7 @@ new_stands s x b few number new = subst (StandsAs s [] x) (sym new.life) (record
     facts = facts_none x.progress.id x.progress.commands x.progress own.progress;
   };
   new = own;
+  last = refl;
   session = refl;
   facts = refl;
   life = refl;

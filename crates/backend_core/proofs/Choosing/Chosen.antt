@@ -6,7 +6,7 @@ use Rattle.std.proofs.Math.Bool.{and-false}
 use Rattle.std.proofs.lemmas.Bool.{both_ways, eq-eqb, le-leb}
 use Rattle.event_kinds.specs.declared.entry.Event.TheVariants as events
 use Rattle.history_model.specs.Drawn.{next_oid}
-use Rattle.history_model.specs.MayFollow.{FollowsGone, AllowsEvent}
+use Rattle.history_model.specs.MayFollow.{AllowsEvent}
 use Rattle.history_model.specs.Transactions.{begun, is_visible}
 use Rattle.txn_blocks.specs.declared.transaction.RunningTransaction.{RunningTransaction as Running}
 use Rattle.history_model.specs.Changing.{is_empty}
@@ -81,11 +81,6 @@ gone_same (Some (events.Fetch count)) = by_full (count == 32)
 gone_same (Some (events.Look true)) = refl
 gone_same (Some (events.Look false)) = refl
 gone_same last = refl
-
--- where it took nothing back, whatever the backend does may follow
-pub follows_stand : (last : Option Event) (event : Event) → is_gone_due (due_last last) ≡ false → FollowsGone last event
-follows_stand (Some (events.Gone from)) event stands = absurd (cc stands)
-follows_stand last event stands = tt
 
 -- in a command that runs no end is on its way: nothing is published or released; scans for what is held may be missing where writes were taken back, and aren't made then
 pub data Busy (due : DueNext) (p : Progress) (command : Command) : Type 0 where

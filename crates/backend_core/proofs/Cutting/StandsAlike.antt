@@ -82,6 +82,7 @@ module _ (one two : Scenario) (seen : List Entry) where
       facts = before.waits.facts;
     };
     new = before.new;
+    last = before.last;
     session = sessions_alike one two s.progress.id alike.commands seen ∙ before.session;
     facts = before.facts;
     life = before.life;

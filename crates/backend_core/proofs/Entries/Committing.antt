@@ -21,7 +21,7 @@ use Rattle.cacheless.specs.Owed.{Owes, owed_after, owed_in}
 use Rattle.cacheless.specs.Plays.{MayPlayIn}
 use Rattle.cacheless.specs.Session.{Session, Well, outcome_of}
 use Rattle.cacheless.specs.Sessions.{ends_command}
-use Rattle.cacheless.specs.State.{kept_at, lists_at, unsent_at}
+use Rattle.cacheless.specs.State.{lists_at, unsent_at}
 use Rattle.cacheless.proofs.Allowed.Releases.{OwesNoScan, owes_no_scan}
 use Rattle.backend_core.specs.Types.{Xid, Command, Scenario, Entry, Event, Message, OwnLock, Progress, Backend, Frame}
 use Rattle.backend_core.specs.Agrees.{IsPlayed, command_at, AwaitsEntry}
@@ -148,9 +148,9 @@ module _ (scenario : Scenario) (old : List Entry) (was : Backend) (event : Event
 
 -- the state after its visibility step
 pub commit_enters : (scenario : Scenario) (old new : List Entry) (had has : ℕ → ℕ) (was : Backend) (xid : Xid) (p : Progress) (waits : AwaitsEntry scenario old was) → IsPlayed scenario old → AllOnCourse scenario old → EndsNext was (events.Visible xid)
-    → HasEntered scenario old was.progress (events.Visible xid) waits.rests p → kept_at p ≡ kept_at was.progress → p.answer ≡ was.progress.answer → Appends old new had has (entry_of was.progress.id (was.progress.finished + 1) (events.Visible xid)) → Enters scenario old new had has was (record was { progress = p })
-commit_enters scenario old new had has was xid p waits played courses next goes kept same appends =
-    end_enters scenario old new had has was event p was.frames waits refl played courses next goes kept same
+    → HasEntered scenario old was.progress (events.Visible xid) waits.rests p → p.answer ≡ was.progress.answer → Appends old new had has (entry_of was.progress.id (was.progress.finished + 1) (events.Visible xid)) → Enters scenario old new had has was (record was { progress = p })
+commit_enters scenario old new had has was xid p waits played courses next goes same appends =
+    end_enters scenario old new had has was event p was.frames waits refl played courses next goes same
     (commit_fits scenario old was event waits refl next now.commit (begun (was.progress.finished + 1) facts.running).published true _ (length old + 1) refl (λ from is. cc is)) appends
   where
     event : Event
@@ -165,10 +165,10 @@ commit_enters scenario old new had has was xid p waits played courses next goes 
 -- the state after a publish
 pub publish_enters : (scenario : Scenario) (old new : List Entry) (had has : ℕ → ℕ) (was : Backend) (messages : List Message) (p : Progress) (waits : AwaitsEntry scenario old was) → IsPlayed scenario old → AllOnCourse scenario old
     → EndsNext was (events.Publish (length (take 64 (unsent_at was.progress)))) → messages ≡ take 64 (unsent_at was.progress)
-    → HasEntered scenario old was.progress (events.Publish (length messages)) waits.rests p → kept_at p ≡ kept_at was.progress → p.answer ≡ was.progress.answer
+    → HasEntered scenario old was.progress (events.Publish (length messages)) waits.rests p → p.answer ≡ was.progress.answer
     → Appends old new had has (entry_of was.progress.id (was.progress.finished + 1) (events.Publish (length messages))) → Enters scenario old new had has was (record was { progress = p })
-publish_enters scenario old new had has was messages p waits played courses next is goes kept same appends =
-    end_enters scenario old new had has was event p was.frames waits refl played courses now_next goes kept same
+publish_enters scenario old new had has was messages p waits played courses next is goes same appends =
+    end_enters scenario old new had has was event p was.frames waits refl played courses now_next goes same
     (commit_fits scenario old was event waits refl now_next (publish_now scenario old was messages waits next is).commit ((begun (was.progress.finished + 1) facts.running).published + length messages) (begun (was.progress.finished + 1) facts.running).visible _ (length old + 1) refl (λ from same. cc same)) appends
   where
     event : Event

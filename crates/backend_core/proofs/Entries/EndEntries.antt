@@ -26,7 +26,7 @@ use Rattle.cacheless.specs.Sessions.{ends_command, entered}
 use Rattle.cacheless.specs.State.{facts_at, work_at, owed_after, has_write_since}
 use Rattle.cacheless.proofs.Deciding.{holds_decides}
 use Rattle.cacheless.proofs.Tests.{both_true}
-use Rattle.cacheless.specs.Awaiting.{KeepsScans, answer_after}
+use Rattle.cacheless.specs.Awaiting.{answer_after}
 use Rattle.backend_core.specs.Types.{Command, Scenario, Entry, Event, Progress, Frame, Backend}
 use Rattle.backend_core.specs.Agrees.{IsPlayed, command_at, AwaitsEntry}
 use Rattle.backend_core.specs.Fits.{Fits}
@@ -124,12 +124,12 @@ end_own scenario old was waits event ends next = let plain = is_plain scenario o
 
 -- after an entry of an end the backend agrees
 pub end_enters : (scenario : Scenario) (old new : List Entry) (had has : ℕ → ℕ) (was : Backend) (event : Event) (p : Progress) (frames : List Frame) (waits : AwaitsEntry scenario old was) → ends_command event ≡ true → IsPlayed scenario old → AllOnCourse scenario old → EndsNext was event
-    → HasEntered scenario old was.progress event waits.rests p → KeepsScans old was.progress event p → p.answer ≡ was.progress.answer
+    → HasEntered scenario old was.progress event waits.rests p → p.answer ≡ was.progress.answer
     → Fits (facts_by old was.progress.id (was.progress.finished + 1) event (facts_of old was.progress.id)) (command_at was)
     (entered (facts_of (with_own old was.progress event) was.progress.id) (drop was.progress.finished was.progress.commands) (length old + 1) (was.progress.finished + 1) event (waiting waits)) was.looked frames was.told
     → Appends old new had has (entry_of was.progress.id (was.progress.finished + 1) event) → Enters scenario old new had has was (record was { progress = p; frames = frames })
-end_enters scenario old new had has was event p frames waits ends played courses next goes kept same fits appends =
-    own_enters scenario old new had has was (record was { progress = p; frames = frames }) event waits played courses (end_own scenario old was waits event ends next) goes kept
+end_enters scenario old new had has was event p frames waits ends played courses next goes same fits appends =
+    own_enters scenario old new had has was (record was { progress = p; frames = frames }) event waits played courses (end_own scenario old was waits event ends next) goes
     (fits_at scenario old was event waits p goes was.looked frames was.told fits) refl plain.lives refl plain.on (same ∙ sym (plain.answers was.progress.answer)) appends
   where
     plain : IsPlain scenario old was.progress.id (was.progress.finished + 1) event

@@ -22,8 +22,8 @@ use Rattle.cacheless.specs.Plays.{MayPlayIn}
 use Rattle.cacheless.specs.Schedule.{LooksTruly}
 use Rattle.cacheless.specs.Session.{Session, Tally, number_of, outcome_of, is_settled}
 use Rattle.cacheless.specs.Sessions.{entered}
-use Rattle.cacheless.specs.State.{kept_at, clash_event, error_of, one_if}
-use Rattle.cacheless.specs.Awaiting.{KeepsScans, answer_after}
+use Rattle.cacheless.specs.State.{clash_event, error_of, one_if}
+use Rattle.cacheless.specs.Awaiting.{answer_after}
 use Rattle.backend_core.specs.Types.{Oid, Mode, Command, CommandError, Scenario, Entry, Event, Progress, Backend}
 use Rattle.backend_core.specs.Agrees.{IsPlayed, command_at, AwaitsEntry}
 use Rattle.backend_core.specs.Fits.{looks_due, LooksFit, TakesFit, FramesFit, is_lost, is_gone_due}
@@ -50,7 +50,6 @@ pub record ShowsError (scenario : Scenario) (old : List Entry) (was : Backend) (
   truly : LooksTruly old was.progress.id event
   queue : FetchesFrom scenario.size old was.progress.id event
   lives : life_by (was.progress.finished + 1) event ≡ Alive (was.progress.finished + 1)
-  keeps : (now : Progress) → kept_at now ≡ kept_at was.progress → KeepsScans old was.progress event now
   on : event ≢ events.Stop
   unanswered : (answer : Option (List ℕ)) → answer_after event answer ≡ None
   running : (later_of old was event).running ≡ Some (begun (was.progress.finished + 1) (facts_of old was.progress.id).running)
@@ -67,11 +66,11 @@ pub record ShowsError (scenario : Scenario) (old : List Entry) (was : Backend) (
   tally : (now_of old was event s).tally ≡ s.tally
 
 pub held_shows : (scenario : Scenario) (old : List Entry) (was : Backend) (s : Session) (rel : Oid) (mode : Mode) (holder : ℕ) (held : Mode) → ShowsError scenario old was s (events.LockHeld rel mode holder held) (errors.Locked rel holder held)
-held_shows scenario old was s rel mode holder held = record { truly = tt; queue = tt; lives = refl; keeps = λ now kept. kept; on = λ stop. cc stop; unanswered = λ answer. refl; running = refl; lists = refl; last = λ from is. cc is; owes = refl; blocks = refl; opens = refl; opened = refl; finished = refl; blocked = refl; ended = refl; left = refl; tally = refl }
+held_shows scenario old was s rel mode holder held = record { truly = tt; queue = tt; lives = refl; on = λ stop. cc stop; unanswered = λ answer. refl; running = refl; lists = refl; last = λ from is. cc is; owes = refl; blocks = refl; opens = refl; opened = refl; finished = refl; blocked = refl; ended = refl; left = refl; tally = refl }
 
 pub clash_shows : (scenario : Scenario) (old : List Entry) (was : Backend) (s : Session) (name : List ℕ) (clash : Clash) → ShowsError scenario old was s (clash_event name clash) (error_of name clash)
-clash_shows scenario old was s name (clashes.Row rel) = record { truly = tt; queue = tt; lives = refl; keeps = λ now kept. kept; on = λ stop. cc stop; unanswered = λ answer. refl; running = refl; lists = refl; last = λ from is. cc is; owes = refl; blocks = refl; opens = refl; opened = refl; finished = refl; blocked = refl; ended = refl; left = refl; tally = refl }
-clash_shows scenario old was s name (clashes.Running xid) = record { truly = tt; queue = tt; lives = refl; keeps = λ now kept. kept; on = λ stop. cc stop; unanswered = λ answer. refl; running = refl; lists = refl; last = λ from is. cc is; owes = refl; blocks = refl; opens = refl; opened = refl; finished = refl; blocked = refl; ended = refl; left = refl; tally = refl }
+clash_shows scenario old was s name (clashes.Row rel) = record { truly = tt; queue = tt; lives = refl; on = λ stop. cc stop; unanswered = λ answer. refl; running = refl; lists = refl; last = λ from is. cc is; owes = refl; blocks = refl; opens = refl; opened = refl; finished = refl; blocked = refl; ended = refl; left = refl; tally = refl }
+clash_shows scenario old was s name (clashes.Running xid) = record { truly = tt; queue = tt; lives = refl; on = λ stop. cc stop; unanswered = λ answer. refl; running = refl; lists = refl; last = λ from is. cc is; owes = refl; blocks = refl; opens = refl; opened = refl; finished = refl; blocked = refl; ended = refl; left = refl; tally = refl }
 
 -- a backend before such an entry: an act of its command comes next
 pub record IsActing (scenario : Scenario) (old : List Entry) (was : Backend) (command : Command) : Type 0 where
@@ -83,11 +82,10 @@ pub record IsActing (scenario : Scenario) (old : List Entry) (was : Backend) (co
 
 -- after it the backend agrees
 pub failed_enters : (scenario : Scenario) (old new : List Entry) (had has : ℕ → ℕ) (was : Backend) (p : Progress) (event : Event) (error : CommandError) (command : Command) (waits : AwaitsEntry scenario old was) → IsPlayed scenario old → AllOnCourse scenario old → IsActing scenario old was command
-    → (was.looked ≡ true → ⊥) → ShowsError scenario old was (waiting waits) event error → MayPlayIn (next_oid old) (facts_of old was.progress.id) (command_at was) (waiting waits) event → HasEntered scenario old was.progress event waits.rests p → kept_at p ≡ kept_at was.progress → p.answer ≡ None
+    → (was.looked ≡ true → ⊥) → ShowsError scenario old was (waiting waits) event error → MayPlayIn (next_oid old) (facts_of old was.progress.id) (command_at was) (waiting waits) event → HasEntered scenario old was.progress event waits.rests p → p.answer ≡ None
     → Appends old new had has (entry_of was.progress.id (was.progress.finished + 1) event) → Enters scenario old new had has was (record was { progress = p })
-failed_enters scenario old new had has was p event error command waits played courses acting unlooked shows plays goes kept none appends =
+failed_enters scenario old new had has was p event error command waits played courses acting unlooked shows plays goes none appends =
     own_enters scenario old new had has was (record was { progress = p }) event waits played courses (record { plays = plays; truly = shows.truly; queue = shows.queue }) goes
-    (shows.keeps p kept)
     (fits_at scenario old was event waits p goes was.looked was.frames was.told
     (inside_fits scenario old was waits courses command acting.at later now was.looked was.frames was.told same shows.lists shows.last
     (record { blocks = shows.blocks; opens = shows.opens; held = inl shows.opened; finished = ap length shows.finished; blocked = shows.blocked; ended = shows.ended; left = λ is there. absurd (both_ways _ acting.unsettled is) }) acting.runs (Acts acting.unsettled) looks rebuilds (λ made. absurd (unlooked made)) (subst (TakesFit (number_of now) now.locks now.taken) (sym shows.left) (takes_none now.taken))))

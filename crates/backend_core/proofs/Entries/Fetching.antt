@@ -27,12 +27,12 @@ use Rattle.cacheless.specs.Owed.{OwesFetch, owed_after, counts_full, scans_owed_
 use Rattle.cacheless.specs.Plays.{MayPlayIn}
 use Rattle.cacheless.specs.Session.{Session, Tally, number_of, Outcome, Well, Badly, Unsettled, outcome_of}
 use Rattle.cacheless.specs.Sessions.{resumed, placed_at, entered}
-use Rattle.cacheless.specs.State.{one_if, kept_at, nothing_kept, kept_spared, is_kept}
+use Rattle.cacheless.specs.State.{one_if, kept_at, nothing_kept, is_kept}
 use Rattle.cacheless.specs.Suspects.{lacks}
 use Rattle.cacheless.specs.Work.{work_of}
 use Rattle.cacheless.proofs.Entries.EnteredFetches.{is_kept-spared}
 use Rattle.cacheless.proofs.Lacking.{lacks_more}
-use Rattle.cacheless.specs.Awaiting.{KeepsScans, answer_after}
+use Rattle.cacheless.specs.Awaiting.{answer_after}
 use Rattle.backend_core.specs.Types.{Oid, Purpose, Command, Scenario, Entry, Event, Message, OwnLock, Progress, Backend, Opening, Frame}
 use Rattle.backend_core.specs.Agrees.{IsPlayed, command_at, AwaitsEntry}
 use Rattle.backend_core.specs.Fits.{looks_due, LooksFit, came_well, TakesFit, IsLookedFor, Lacks, Unfound, Said, lacks_scan, finds_no_name, Fits, FramesFit, IsUnheld, keeps_whole, looked_in, looked_on_top, told_owed, is_lost, is_gone_due}
@@ -230,11 +230,10 @@ record BringsBack (scenario : Scenario) (old : List Entry) (was : Backend) (even
 -- after either the backend agrees
 fetch_agrees : (scenario : Scenario) (old new : List Entry) (had has : ℕ → ℕ) (was : Backend) (p : Progress) (event : Event) (unfound marked : Bool) (frames : List Frame) (waits : AwaitsEntry scenario old was) → unfound ≡ finds_none was.progress → IsPlayed scenario old → AllOnCourse scenario old → was.progress.due ≡ dues.Fetch → (brings : BringsBack scenario old was event waits)
     → IsToldOf (facts_of old was.progress.id) (fetched_facts (facts_of old was.progress.id) (waiting waits) event brings.kept) (command_at was) (waiting waits) (entered (facts_of (with_own old was.progress event) was.progress.id) (drop was.progress.finished was.progress.commands) (length old + 1) (was.progress.finished + 1) event (waiting waits)) event was.looked was.frames was.told (looked_after was unfound marked) frames (told_after was unfound marked)
-    → HasEntered scenario old was.progress event waits.rests p → KeepsScans old was.progress event p → p.answer ≡ None → Appends old new had has (entry_of was.progress.id (was.progress.finished + 1) event)
+    → HasEntered scenario old was.progress event waits.rests p → p.answer ≡ None → Appends old new had has (entry_of was.progress.id (was.progress.finished + 1) event)
     → Enters scenario old new had has was (record was { progress = p; looked = looked_after was unfound marked; frames = frames; told = told_after was unfound marked })
-fetch_agrees scenario old new had has was p event unfound marked frames waits unfound_is played courses is_fetch brings tells goes kept none appends =
+fetch_agrees scenario old new had has was p event unfound marked frames waits unfound_is played courses is_fetch brings tells goes none appends =
     own_enters scenario old new had has was (record was { progress = p; looked = looked_after was unfound marked; frames = frames; told = told_after was unfound marked }) event waits played courses brings.own goes
-    kept
     (fits_at scenario old was event waits p goes (looked_after was unfound marked) frames (told_after was unfound marked) (subst (λ f. Fits f (command_at was) (entered (facts_of (with_own old was.progress event) b) (drop was.progress.finished was.progress.commands) (length old + 1) (was.progress.finished + 1) event s) (looked_after was unfound marked) frames (told_after was unfound marked)) (sym brings.facts)
     (fetch_fits (facts_of old b) (command_at was) s _ event brings.kept due.command was.looked was.frames was.told unfound marked frames (told_after was unfound marked) brings.spares (λ absent. unfound_is ∙ ap (λ t. t || is_unfound was.progress (plan_at was.progress.opens was.progress.exec)) absent) (λ finds. unfound_is ∙ ap (λ t. is_absent (plan_at was.progress.opens was.progress.exec) || t) (unfound_held (facts_of old b) was.progress (plan_at was.progress.opens was.progress.exec) waits.rests.holds.facts finds) ∙ or-true (is_absent (plan_at was.progress.opens was.progress.exec))) due.at waits.fits brings.fetched due.runs (hidden scenario old was waits due.command due.at due.busy) (over scenario old was waits courses due.command due.at) due.owed tells)))
     refl brings.lives refl brings.on (none ∙ sym (brings.unanswered was.progress.answer)) appends
@@ -604,12 +603,12 @@ reset_tells scenario old was unfound marked waits courses due lapped = record {
 -- the messages of a fetch
 pub messages_enter : (scenario : Scenario) (old new : List Entry) (had has : ℕ → ℕ) (was now : Backend) (count : ℕ) (taken given : List Message) (waits : AwaitsEntry scenario old was) → IsPlayed scenario old → AllOnCourse scenario old → was.progress.due ≡ dues.Fetch
     → Fetches scenario.size old new had has was.progress.id (was.progress.finished + 1) taken (fetches.Messages count) → given ≡ taken
-    → (given ≡ fetched_by old was.progress.id (length given) → HasEntered scenario old was.progress (events.Fetch (length given)) waits.rests now.progress) → kept_at now.progress ≡ kept_spared given (kept_at was.progress) → now.progress.answer ≡ None
+    → (given ≡ fetched_by old was.progress.id (length given) → HasEntered scenario old was.progress (events.Fetch (length given)) waits.rests now.progress) → now.progress.answer ≡ None
     → now ≡ record was { progress = now.progress; looked = looked_after was (finds_none was.progress) (marks_build was.progress given); frames = frames_given was given; told = told_after was (finds_none was.progress) (marks_build was.progress given) } → Enters scenario old new had has was now
-messages_enter scenario old new had has was now count taken given waits played courses due gives same goes kept none is =
+messages_enter scenario old new had has was now count taken given waits played courses due gives same goes none is =
     subst (Enters scenario old new had has was) (sym is)
     (fetch_agrees scenario old new had has was now.progress (events.Fetch (length given)) (finds_none was.progress) (marks_build was.progress given) (frames_given was given) waits refl played courses due (messages_bring scenario old was (length given) waits due gives.served)
-    (messages_tell scenario old was given (finds_none was.progress) (marks_build was.progress given) waits courses due gives.served are) (goes are) (kept ∙ ap (λ m. kept_spared m (kept_at was.progress)) are) none
+    (messages_tell scenario old was given (finds_none was.progress) (marks_build was.progress given) waits courses due gives.served are) (goes are) none
     (subst (λ n. Appends old new had has (entry_of was.progress.id (was.progress.finished + 1) (events.Fetch n))) counts gives.appends))
   where
     counts : count ≡ length given
@@ -625,12 +624,12 @@ messages_make scenario old new had has was count taken waits played courses due 
 
 -- a reset
 pub reset_enters : (scenario : Scenario) (old new : List Entry) (had has : ℕ → ℕ) (was now : Backend) (given : List Message) (waits : AwaitsEntry scenario old was) → IsPlayed scenario old → AllOnCourse scenario old → was.progress.due ≡ dues.Fetch
-    → Fetches scenario.size old new had has was.progress.id (was.progress.finished + 1) given fetches.Reset → HasEntered scenario old was.progress events.FetchReset waits.rests now.progress → kept_at now.progress ≡ nothing_kept → now.progress.answer ≡ None
+    → Fetches scenario.size old new had has was.progress.id (was.progress.finished + 1) given fetches.Reset → HasEntered scenario old was.progress events.FetchReset waits.rests now.progress → now.progress.answer ≡ None
     → now ≡ record was { progress = now.progress; looked = looked_after was (finds_none was.progress) (has_begun was.progress); frames = frames_reset_of was now.progress.opened; told = told_after was (finds_none was.progress) (has_begun was.progress) } → Enters scenario old new had has was now
-reset_enters scenario old new had has was now given waits played courses due gives goes kept none is =
+reset_enters scenario old new had has was now given waits played courses due gives goes none is =
     subst (Enters scenario old new had has was) (sym (is ∙ (λ i. record was { progress = now.progress; looked = looked_after was (finds_none was.progress) (has_begun was.progress); frames = frames_reset_of was (opened_same i); told = told_after was (finds_none was.progress) (has_begun was.progress) })))
     (fetch_agrees scenario old new had has was now.progress events.FetchReset (finds_none was.progress) (has_begun was.progress) (frames_reset_of was was.progress.opened) waits refl played courses due (reset_brings scenario old was waits due gives.lapped)
-    (reset_tells scenario old was (finds_none was.progress) (has_begun was.progress) waits courses due gives.lapped) goes kept none gives.appends)
+    (reset_tells scenario old was (finds_none was.progress) (has_begun was.progress) waits courses due gives.lapped) goes none gives.appends)
   where
     opened_same : now.progress.opened ≡ was.progress.opened
     opened_same = ap (λ (x : Session). x.opened) goes.session ∙ (is_resumed (waiting waits).left (waiting waits)).opened

@@ -5,9 +5,9 @@ use Rattle.event_kinds.specs.declared.entry.Event.TheVariants as events
 use Rattle.txn_blocks.specs.Blocks.{no_block}
 use Rattle.inval_messages.specs.Lists.{has_write_from}
 use Rattle.std.specs.Option.{option_map_or}
-use Rattle.history_model.specs.MayFollow.{MayFollow, FollowsVisible}
+use Rattle.history_model.specs.MayFollow.{MayFollow, FollowsVisible, FollowsGone}
 use Rattle.history_model.specs.MayFollow.{FollowsLife}
-use Rattle.history_model.specs.Lives.{life_of, last_event_of}
+use Rattle.history_model.specs.Lives.{life_of}
 use Rattle.history_model.specs.Transactions.{is_visible}
 use Rattle.txn_blocks.specs.declared.transaction.RunningTransaction.{RunningTransaction as Running}
 use Rattle.history_model.specs.Changing.{is_empty}
@@ -26,8 +26,7 @@ use Rattle.cacheless.proofs.OwnAnswers.{start_answers}
 use Rattle.backend_core.specs.Types.{Command, Scenario, Entry, Progress, Backend}
 use Rattle.backend_core.specs.declared.life.Life.TheVariants as lives
 use Rattle.backend_core.specs.Agrees.{IsPlayed, AgreesNow, HasNotJoined}
-use Rattle.backend_core.specs.Fits.{looks_due, is_gone_due, IsPast, Fits}
-use Rattle.backend_core.proofs.Choosing.Chosen.{follows_stand}
+use Rattle.backend_core.specs.Fits.{looks_due, IsPast, Fits}
 use Rattle.backend_core.specs.Halts.{AwaitsCommand, begins_at}
 use Rattle.backend_core.specs.Steps.{Enters}
 use Rattle.backend_core.proofs.Cutting.Before.{before_start, ends_start}
@@ -43,7 +42,7 @@ join_call scenario seen s before = record {
   follows = record {
     life = subst (λ l. FollowsLife l 0 events.Start) (sym before.life) refl;
     visible = subst (λ o. FollowsVisible (is_visible o) events.Start) (sym (ap (λ f. f.running) before.facts)) tt;
-    gone = follows_stand (last_event_of seen s.progress.id) events.Start (ap (λ f. is_gone_due f.due) before.facts);
+    gone = subst (λ o. FollowsGone o events.Start) (sym before.last) tt;
     event = tt;
   };
 }

@@ -15,12 +15,11 @@ use Rattle.cacheless.specs.Facts.{due_last, facts_of}
 use Rattle.cacheless.specs.Holds.{HasEntered}
 use Rattle.cacheless.specs.OnCourse.{AllOnCourse}
 use Rattle.cacheless.specs.Plays.{MayPlayIn}
-use Rattle.cacheless.specs.State.{kept_at}
 use Rattle.cacheless.proofs.OwnAnswers.{stop_lines}
-use Rattle.cacheless.proofs.OwnPlaces.{kept_stays}
+use Rattle.cacheless.proofs.OwnPlaces.{last_scans}
 use Rattle.backend_core.specs.Types.{Event, Scenario, Entry, Progress, Backend}
 use Rattle.backend_core.specs.declared.life.Life.TheVariants as lives
-use Rattle.backend_core.specs.Agrees.{IsPlayed, command_at, AreLastScans, AwaitsEntry, HasLeft}
+use Rattle.backend_core.specs.Agrees.{IsPlayed, command_at, AwaitsEntry, HasLeft}
 use Rattle.backend_core.specs.Coherent.{IsCoherent}
 use Rattle.backend_core.specs.Steps.{Steps}
 use Rattle.backend_core.proofs.Coherent.{stands_coherent}
@@ -52,8 +51,8 @@ leave_call scenario seen s waits none = record {
 
 -- the state after it
 pub leave_steps : (scenario : Scenario) (old new : List Entry) (had has : ℕ → ℕ) (was : Backend) (p : Progress) (waits : AwaitsEntry scenario old was) → IsPlayed scenario old → AllOnCourse scenario old → command_at was ≡ None → was.progress.running ≡ None
-    → HasEntered scenario old was.progress events.Stop waits.rests p → kept_at p ≡ kept_at was.progress → Appends old new had has (entry_of was.progress.id (was.progress.finished + 1) events.Stop) → Steps scenario old new had has was (record was { progress = p; life = lives.Stopped })
-leave_steps scenario old new had has was p waits played courses past none goes kept appends = record {
+    → HasEntered scenario old was.progress events.Stop waits.rests p → Appends old new had has (entry_of was.progress.id (was.progress.finished + 1) events.Stop) → Steps scenario old new had has was (record was { progress = p; life = lives.Stopped })
+leave_steps scenario old new had has was p waits played courses past none goes appends = record {
   makes = own_makes scenario old new had has was events.Stop waits played courses (record { plays = plays; truly = tt; queue = tt }) appends;
   id = goes.moves.id;
   stands = subst (λ h. HasLeft scenario h left) (sym appends.entries) has_left;
@@ -75,7 +74,7 @@ leave_steps scenario old new had has was p waits played courses past none goes k
     has_left : HasLeft scenario (old ++ e ∷ []) left
     has_left = record {
       holds = goes.holds;
-      kept = subst (λ k. AreLastScans (old ++ e ∷ []) k (kept_at p)) (sym goes.moves.id) (subst (AreLastScans (old ++ e ∷ []) b) (sym kept) (kept_stays old e b (kept_at was.progress) (λ scan. refl) waits.keeps.places.kept));
+      kept = last_scans (old ++ e ∷ []) p goes.holds.facts;
       life = ap (life_of (old ++ e ∷ [])) goes.moves.id ∙ life_of-own old e b (eq-eqb b b refl);
       lines = stop_lines scenario old was.progress p was.lines (session_waits waits) plays goes;
       past = (λ i. slice_get (goes.moves.commands i) (goes.moves.finished i)) ∙ past;

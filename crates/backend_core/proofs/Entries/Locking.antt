@@ -145,12 +145,11 @@ module _ (scenario : Scenario) (old : List Entry) (was : Backend) (waits : Await
   lock_drawn = keeping.lock_drawn old was.progress.id s next.command rel mode played.sound (follows scenario old was waits courses next.command next.free.at) asks.2
 
   -- a lock that is granted, to a backend that had the room for it made
-  module _ (first : Backend) (id : was.progress.id ≡ first.progress.id) (new : List Entry) (had has : ℕ → ℕ) (p : Progress) (kept : kept_at p ≡ kept_at was.progress) (none : p.answer ≡ None) where
+  module _ (first : Backend) (id : was.progress.id ≡ first.progress.id) (new : List Entry) (had has : ℕ → ℕ) (p : Progress) (none : p.answer ≡ None) where
     pub granted_enters : HasEntered scenario old was.progress (events.LockOk rel mode) waits.rests p
         → Appends old new had has (entry_of was.progress.id (was.progress.finished + 1) (events.LockOk rel mode)) → Enters scenario old new had has first (record was { progress = p; told = false })
     granted_enters goes appends = alike_enters scenario old new had has first was (record was { progress = p; told = false }) id (
         own_enters scenario old new had has was (record was { progress = p; told = false }) event waits played courses (record { plays = plays event next.may; truly = tt; queue = tt }) goes
-        kept
         (fits_at scenario old was event waits p goes was.looked was.frames false
         (inside_fits scenario old was waits courses next.command next.free.at later now was.looked was.frames false same refl (λ from is. cc is) (record { blocks = refl; opens = refl; held = inl refl; finished = refl; blocked = refl; ended = refl; left = λ is there. refl }) acting.runs (Acts acting.unsettled)
         (record { enough = omega (arith, before.enough, ap looks_due acting.owed, started); within = omega (arith, told_none was.told was.frames, before.within, ap looks_due acting.owed, started); once = omega (arith, before.once, started) })
@@ -175,4 +174,4 @@ module _ (scenario : Scenario) (old : List Entry) (was : Backend) (waits : Await
     pub refused_enters : (holder : ℕ) (held : Mode) → HasEntered scenario old was.progress (events.LockHeld rel mode holder held) waits.rests p
         → Appends old new had has (entry_of was.progress.id (was.progress.finished + 1) (events.LockHeld rel mode holder held)) → Enters scenario old new had has first (record was { progress = p })
     refused_enters holder held goes appends = alike_enters scenario old new had has first was (record was { progress = p }) id (failed_enters scenario old new had has was p (events.LockHeld rel mode holder held) (errors.Locked rel holder held) next.command waits played courses acting
-        (λ made. unlooked (waits.fits.sought made)) (held_shows scenario old was s rel mode holder held) (plays (events.LockHeld rel mode holder held) next.may) goes kept none appends)
+        (λ made. unlooked (waits.fits.sought made)) (held_shows scenario old was s rel mode holder held) (plays (events.LockHeld rel mode holder held) next.may) goes none appends)

@@ -212,11 +212,11 @@ module _ (scenario : Scenario) (old : List Entry) (was : Backend) (waits : Await
         (record { blocks = refl; opens = refl; held = inl refl; finished = refl; blocked = refl; ended = refl; left = λ is there. refl }) counts.goes hides (over scenario old was waits courses command at) looks_more rebuilds sought (takes_cleared _ (number_of s) s.locks s.taken s.left waits.fits.takes)))
 
     -- so after it the backend agrees
-    pub look_agrees : (p : Progress) → IsPlayed scenario old → MayFollow old (look_of was some_wait) → Busy (facts_of old was.progress.id).due was.progress command → FramesFit facts (command_at was) s frames → MadeFor → HasEntered scenario old was.progress event waits.rests p → kept_at p ≡ kept_at was.progress → p.answer ≡ None
+    pub look_agrees : (p : Progress) → IsPlayed scenario old → MayFollow old (look_of was some_wait) → Busy (facts_of old was.progress.id).due was.progress command → FramesFit facts (command_at was) s frames → MadeFor → HasEntered scenario old was.progress event waits.rests p → p.answer ≡ None
         → LooksWell scenario old was some_wait (record was { progress = p; looked = looked; frames = frames; told = told })
-    look_agrees p played follows busy rebuilds sought goes kept none = record {
+    look_agrees p played follows busy rebuilds sought goes none = record {
       next = plays_next scenario old was event waits plays;
-      agrees = own_agrees scenario old was (record was { progress = p; looked = looked; frames = frames; told = told }) event waits played courses plays follows goes kept
+      agrees = own_agrees scenario old was (record was { progress = p; looked = looked; frames = frames; told = told }) event waits played courses plays follows goes
           (fits_at scenario old was event waits p goes looked frames told (look_fits (hidden scenario old was waits command at busy) (look_rebuilds busy rebuilds) sought))
           refl refl refl (λ stop. cc stop) none;
       goes = entered_here scenario old (old ++ look_of was some_wait ∷ []) was.progress p event waits.rests goes refl;
@@ -229,11 +229,11 @@ module _ (scenario : Scenario) (old : List Entry) (was : Backend) (waits : Await
 
 -- the look that is owed
 pub look_well : (scenario : Scenario) (old : List Entry) (was : Backend) (p : Progress) (some_wait : Bool) (waits : AwaitsEntry scenario old was) → IsPlayed scenario old → AllOnCourse scenario old → OwesLookNow was.progress → MayFollow old (look_of was some_wait)
-    → HasEntered scenario old was.progress (events.Look some_wait) waits.rests p → kept_at p ≡ kept_at was.progress → p.answer ≡ None
+    → HasEntered scenario old was.progress (events.Look some_wait) waits.rests p → p.answer ≡ None
     → LooksWell scenario old was some_wait (record was { progress = p })
-look_well scenario old was p some_wait waits played courses next follows goes kept none =
+look_well scenario old was p some_wait waits played courses next follows goes none =
     look_agrees scenario old was waits courses next.command next.at some_wait was.looked was.frames was.told (by_side next.owes) p played follows (look_busy facts.due was.progress next) waits.fits.rebuilds
-    (λ made. (sought_looked facts (looked_facts facts (waiting waits) some_wait) was.frames (waiting waits).taken (waiting waits).left refl (looked_last some_wait) (waits.fits.sought made), waits.fits.unheld made)) goes kept none
+    (λ made. (sought_looked facts (looked_facts facts (waiting waits) some_wait) was.frames (waiting waits).taken (waiting waits).left refl (looked_last some_wait) (waits.fits.sought made), waits.fits.unheld made)) goes none
   where
     facts : Facts
     facts = facts_of old was.progress.id
@@ -314,9 +314,9 @@ opens_unheld scenario seen s waits courses command at busy bare lacking = by_pla
 
 -- the look before a scan
 pub look_before_well : (scenario : Scenario) (old : List Entry) (was : Backend) (p : Progress) (some_wait rebuilds : Bool) (waits : AwaitsEntry scenario old was) → IsPlayed scenario old → AllOnCourse scenario old → IsLookNext rebuilds was → MayFollow old (look_of was some_wait)
-    → HasEntered scenario old was.progress (events.Look some_wait) waits.rests p → kept_at p ≡ kept_at was.progress → p.answer ≡ None
+    → HasEntered scenario old was.progress (events.Look some_wait) waits.rests p → p.answer ≡ None
     → LooksWell scenario old was some_wait (record was { progress = p; looked = was.looked || not rebuilds; frames = frames_looked rebuilds was.frames })
-look_before_well scenario old was p some_wait rebuilds waits played courses next follows goes kept none = by_kind rebuilds next.next next.unlooked
+look_before_well scenario old was p some_wait rebuilds waits played courses next follows goes none = by_kind rebuilds next.next next.unlooked
   where
     facts : Facts
     facts = facts_of old was.progress.id
@@ -340,7 +340,7 @@ look_before_well scenario old was p some_wait rebuilds waits played courses next
         (subst (λ l. LookCounts facts (waiting waits) next.next.command was.looked l was.told was.looked (on_top with_look l) was.told) (sym on.parts.is)
         (subst (λ l. LookCounts facts (waiting waits) next.next.command was.looked (on.parts.under ++ on.parts.one ∷ []) was.told was.looked l was.told) (sym (on_top_push with_look on.parts.under on.parts.one))
         (counts_rebuild facts (waiting waits) next.next.command was.looked was.told on.parts.under on.parts.one owed runs (sym on.looked ∙ unlooked)))))
-        p played follows (scan_busy scenario old was next.scan rebuilds waits next.next) (look_fit facts (command_at was) (waiting waits) was.frames waits.fits.rebuilds) (stays scan) goes kept none
+        p played follows (scan_busy scenario old was next.scan rebuilds waits next.next) (look_fit facts (command_at was) (waiting waits) was.frames waits.fits.rebuilds) (stays scan) goes none
       where
         on : IsOnTop was next.scan
         on = on_top_of was next.scan scan.turn
@@ -351,7 +351,7 @@ look_before_well scenario old was p some_wait rebuilds waits played courses next
         (subst (λ l. LookCounts facts (waiting waits) next.next.command was.looked l was.told true l was.told) (sym scan.turn.0)
         (counts_act facts (waiting waits) next.next.command was.looked was.told owed runs unlooked)))
         p played follows (scan_busy scenario old was next.scan rebuilds waits next.next) waits.fits.rebuilds
-        (λ made. (Lacks lacking, opens_unheld scenario old was waits courses next.next.command next.next.free.at (scan_busy scenario old was next.scan rebuilds waits next.next) scan.turn.0 lacking)) goes kept none
+        (λ made. (Lacks lacking, opens_unheld scenario old was waits courses next.next.command next.next.free.at (scan_busy scenario old was next.scan rebuilds waits next.next) scan.turn.0 lacking)) goes none
       where
         lacking : lacks_scan facts (plan_at was.progress.opens was.progress.exec) ≡ true
         lacking = next_act facts was.progress next.scan waits.rests.holds.facts (plan_at was.progress.opens was.progress.exec) scan.turn.1
@@ -371,14 +371,14 @@ find_busy due p command (Says absent quiet) = Sought absent quiet
 
 -- the look of a lookup that has found no relation
 pub accept_well : (scenario : Scenario) (old : List Entry) (was : Backend) (p : Progress) (some_wait told : Bool) (waits : AwaitsEntry scenario old was) → IsPlayed scenario old → AllOnCourse scenario old → IsAcceptNext was → MayFollow old (look_of was some_wait) → told ≡ (was.told && not was.looked)
-    → HasEntered scenario old was.progress (events.Look some_wait) waits.rests p → kept_at p ≡ kept_at was.progress → p.answer ≡ None
+    → HasEntered scenario old was.progress (events.Look some_wait) waits.rests p → p.answer ≡ None
     → LooksWell scenario old was some_wait (record was { progress = p; looked = true; told = told })
-accept_well scenario old was p some_wait told waits played courses next follows told_is goes kept none =
+accept_well scenario old was p some_wait told waits played courses next follows told_is goes none =
     look_agrees scenario old was waits courses next.command next.free.at some_wait true was.frames told
     (subst (LookCounts facts (waiting waits) next.command was.looked was.frames was.told true was.frames) (sym told_is)
     (subst (λ l. LookCounts facts (waiting waits) next.command was.looked l was.told true l (was.told && not was.looked)) (sym (bare next.finds))
     (counts_accept facts (waiting waits) next.command was.looked was.told ((ap (λ f. owed_after f.due) waits.rests.holds.facts) ∙ next.free.due) runs next.unlooked)))
-    p played follows (find_busy (facts_of old was.progress.id).due was.progress next.command next.finds) waits.fits.rebuilds (λ made. by_side next.finds) goes kept none
+    p played follows (find_busy (facts_of old was.progress.id).due was.progress next.command next.finds) waits.fits.rebuilds (λ made. by_side next.finds) goes none
   where
     facts : Facts
     facts = facts_of old was.progress.id

@@ -216,7 +216,7 @@ pub release_enters : (scenario : Scenario) (old new : List Entry) (had has : ℕ
     → Appends old new had has (entry_of was.progress.id (was.progress.finished + 1) (events.Release from)) → Enters scenario old new had has was (record was { progress = p; frames = frames })
 release_enters scenario old new had has was from p frames waits played courses next goes kept same are appends =
     subst (λ l. Enters scenario old new had has was (record was { progress = p; frames = l })) (sym (are ∙ frames_are))
-    (end_enters scenario old new had has was (events.Release from) p (frames_now scenario old was from waits next) waits refl played courses next goes kept same (release_fits scenario old was from waits next _ (length old + 1)) appends)
+    (end_enters scenario old new had has was (events.Release from) p (frames_now scenario old was from waits next) waits refl played courses next goes same (release_fits scenario old was from waits next _ (length old + 1)) appends)
   where
     bare : was.frames ≡ []
     bare = end_bare scenario old was waits (events.Release from) refl next

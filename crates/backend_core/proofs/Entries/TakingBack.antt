@@ -4,7 +4,7 @@ use Rattle.std.specs.List.{cons_option}
 use Rattle.std.specs.Option.{option_map_or}
 use Rattle.std.proofs.lemmas.Bool.{both_ways, false_from_ne_true}
 use Rattle.event_kinds.specs.declared.entry.Event.TheVariants as events
-use Rattle.inval_messages.specs.Lists.{has_write_from, lists_from, cats_in, rels_in, sent_in}
+use Rattle.inval_messages.specs.Lists.{has_write_from, lists_from, sent_in}
 use Rattle.history_model.specs.MayFollow.{FollowsVisible, FollowsGone}
 use Rattle.history_model.specs.Transactions.{is_visible}
 use Rattle.txn_blocks.specs.declared.transaction.RunningTransaction.{RunningTransaction as Running}
@@ -20,7 +20,6 @@ use Rattle.cacheless.specs.Holds.{HasEntered}
 use Rattle.cacheless.specs.OnCourse.{AllOnCourse}
 use Rattle.cacheless.specs.Owed.{Owes, owed_after, owed_in, missing}
 use Rattle.cacheless.specs.Session.{Session, Well, Badly, Unsettled, outcome_of}
-use Rattle.cacheless.specs.State.{lists_at, kept_at, kept_spared}
 use Rattle.cacheless.proofs.Allowed.Releases.{ends_free}
 use Rattle.ddl_effect.specs.Plans.{Plan, Done, Do, left_rests_on, told_rests_on}
 use Rattle.backend_core.specs.Types.{Purpose, Command, Scenario, Entry, Event, OwnLock, Progress, Backend, Frame}
@@ -107,8 +106,8 @@ module _ (scenario : Scenario) (old : List Entry) (was : Backend) (from : ℕ) (
 
 -- the state after it
 pub take_back_enters : (scenario : Scenario) (old new : List Entry) (had has : ℕ → ℕ) (was : Backend) (from : ℕ) (p : Progress) (waits : AwaitsEntry scenario old was) → IsPlayed scenario old → AllOnCourse scenario old → EndsNext was (events.Gone from)
-    → HasEntered scenario old was.progress (events.Gone from) waits.rests p → kept_at p ≡ kept_spared (rels_in (lists_from from (lists_at was.progress))) (kept_spared (cats_in (lists_from from (lists_at was.progress))) (kept_at was.progress)) → p.answer ≡ was.progress.answer
+    → HasEntered scenario old was.progress (events.Gone from) waits.rests p → p.answer ≡ was.progress.answer
     → Appends old new had has (entry_of was.progress.id (was.progress.finished + 1) (events.Gone from)) → Enters scenario old new had has was (record was { progress = p })
-take_back_enters scenario old new had has was from p waits played courses next goes kept same appends =
-    end_enters scenario old new had has was (events.Gone from) p was.frames waits refl played courses next goes kept same
+take_back_enters scenario old new had has was from p waits played courses next goes same appends =
+    end_enters scenario old new had has was (events.Gone from) p was.frames waits refl played courses next goes same
     (take_back_fits scenario old was from waits next courses _ (length old + 1)) appends

@@ -20,7 +20,7 @@ use Rattle.cacheless.specs.Owed.{owed_in, started_in}
 use Rattle.cacheless.specs.Plays.{IsUnlock, MayPlayIn}
 use Rattle.cacheless.specs.Session.{Session, number_of, outcome_of, is_settled}
 use Rattle.cacheless.specs.Sessions.{entered}
-use Rattle.cacheless.specs.State.{kept_at, owed_after, is_absent}
+use Rattle.cacheless.specs.State.{owed_after, is_absent}
 use Rattle.cacheless.proofs.HeldLocks.{lock_of_command, locks_of, locks_are_held, Follows}
 use Rattle.cacheless.proofs.Allowed.NextKeeps.{nothing_owed}
 use Rattle.cacheless.proofs.Plans.SilentActs.{on_its_way}
@@ -142,11 +142,10 @@ module _ (scenario : Scenario) (old : List Entry) (was : Backend) (waits : Await
       (unlock_found facts s.taken s.left rel lookup.took) (ap is_absent lookup.is)
 
   -- after it the backend agrees
-  pub unlock_enters : (new : List Entry) (had has : ℕ → ℕ) (p : Progress) → HasEntered scenario old was.progress event waits.rests p → kept_at p ≡ kept_at was.progress → p.answer ≡ None
+  pub unlock_enters : (new : List Entry) (had has : ℕ → ℕ) (p : Progress) → HasEntered scenario old was.progress event waits.rests p → p.answer ≡ None
       → Appends old new had has (entry_of was.progress.id (was.progress.finished + 1) event) → Enters scenario old new had has was (record was { progress = p })
-  unlock_enters new had has p goes kept none appends =
+  unlock_enters new had has p goes none appends =
       own_enters scenario old new had has was (record was { progress = p }) event waits played courses (record { plays = plays; truly = tt; queue = tt }) goes
-      kept
       (fits_at scenario old was event waits p goes was.looked was.frames was.told
       (inside_fits scenario old was waits courses next.command next.free.at later now was.looked was.frames was.told same refl (λ from is. cc is) (record { blocks = refl; opens = refl; held = inl refl; finished = refl; blocked = refl; ended = refl; left = λ is there. refl }) acting.runs (Acts acting.unsettled)
       (record { enough = omega (arith, before.enough, ap looks_due acting.owed, started); within = omega (arith, before.within, ap looks_due acting.owed, started); once = omega (arith, before.once, started) })

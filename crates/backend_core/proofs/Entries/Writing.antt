@@ -194,11 +194,10 @@ module _ (scenario : Scenario) (old : List Entry) (was : Backend) (draft : Draft
   frames_wrote kept = frames_after kept (held_before s) (messages_in old was.progress.id (items_drawn old draft)) []
 
   -- after it the backend agrees
-  wrote_enters : (new : List Entry) (had has : ℕ → ℕ) (p : Progress) (kept_then : Purpose → Bool) (xid : Xid) → HasEntered scenario old was.progress (events.Write xid (items_drawn old draft)) waits.rests p → kept_at p ≡ kept_spared (messages_in old was.progress.id (items_drawn old draft)) (kept_at was.progress) → p.answer ≡ None
+  wrote_enters : (new : List Entry) (had has : ℕ → ℕ) (p : Progress) (kept_then : Purpose → Bool) (xid : Xid) → HasEntered scenario old was.progress (events.Write xid (items_drawn old draft)) waits.rests p → p.answer ≡ None
       → Appends old new had has (entry_of was.progress.id (was.progress.finished + 1) (events.Write xid (items_drawn old draft))) → Enters scenario old new had has was (record was { progress = p; frames = frames_wrote kept_then })
-  wrote_enters new had has p kept_then xid goes kept none appends =
+  wrote_enters new had has p kept_then xid goes none appends =
       own_enters scenario old new had has was (record was { progress = p; frames = frames_wrote kept_then }) event waits played courses (write_own xid) goes
-      kept
       (fits_at scenario old was event waits p goes was.looked (frames_wrote kept_then) was.told
       (entry_fits scenario old was waits courses next.command next.free.at later now was.looked (frames_wrote kept_then) was.told
       (record { runs = λ i. Some (record (begun (sym waits.rests.holds.count i + 1) facts.running) { xid = Some xid }); written = λ is. refl; last = λ from is. cc is })
@@ -253,14 +252,14 @@ module _ (scenario : Scenario) (old : List Entry) (was : Backend) (draft : Draft
       }
 
   -- so it does where no memory is refused, neither for it nor for the rebuilds
-  pub wrote_agrees : {D : Type 0} (first : Backend) → was.progress.id ≡ first.progress.id → (new : List Entry) (had has : ℕ → ℕ) (p : Progress) (kept_then : Purpose → Bool) (frames : List Frame) (result : Result (Unit {0}) D) (made : Made) (messages : List Message) (known : Option Oid) → known ≡ relation_made draft.changes made.first_oid → MakesWrite old new had has was.progress.id (was.progress.finished + 1) draft made → messages ≡ made.messages.items → kept_at p ≡ kept_spared messages (kept_at was.progress) → p.answer ≡ None
+  pub wrote_agrees : {D : Type 0} (first : Backend) → was.progress.id ≡ first.progress.id → (new : List Entry) (had has : ℕ → ℕ) (p : Progress) (kept_then : Purpose → Bool) (frames : List Frame) (result : Result (Unit {0}) D) (made : Made) (messages : List Message) (known : Option Oid) → known ≡ relation_made draft.changes made.first_oid → MakesWrite old new had has was.progress.id (was.progress.finished + 1) draft made → messages ≡ made.messages.items → p.answer ≡ None
       → ((scenario : Scenario) (seen : List Entry) (items : List Item) → (rests : Rests scenario seen was.progress) → messages ≡ messages_in seen was.progress.id items → flat_map (locked_by (was.progress.finished + 1)) items ≡ locks_made (was.progress.finished + 1) known → HasEntered scenario seen was.progress (events.Write made.xid items) rests p)
       → (held : List Opening) (given : List Message) → held ≡ p.opened → given ≡ made.messages.items → OnOk result (frames ≡ frames_after kept_then held given was.frames)
       → OnOk result (Enters scenario old new had has first (record was { progress = p; frames = frames }))
-  wrote_agrees first id new had has p kept_then frames (Err e) made messages known same makes are kept none goes held given opens gives told = tt
-  wrote_agrees first id new had has p kept_then frames (Ok x) made messages known same makes are kept none goes held given opens gives told = alike_enters scenario old new had has first was (record was { progress = p; frames = frames }) id
+  wrote_agrees first id new had has p kept_then frames (Err e) made messages known same makes are none goes held given opens gives told = tt
+  wrote_agrees first id new had has p kept_then frames (Ok x) made messages known same makes are none goes held given opens gives told = alike_enters scenario old new had has first was (record was { progress = p; frames = frames }) id
       (subst (λ l. Enters scenario old new had has was (record was { progress = p; frames = l })) (sym frames_are)
-      (wrote_enters new had has p kept_then made.xid entered_it (kept ∙ ap (λ m. kept_spared m (kept_at was.progress)) (are ∙ makes.messages)) none makes.appends))
+      (wrote_enters new had has p kept_then made.xid entered_it none makes.appends))
     where
       entered_it : HasEntered scenario old was.progress (events.Write made.xid (items_drawn old draft)) waits.rests p
       entered_it = goes scenario old (items_drawn old draft) waits.rests (are ∙ makes.messages) (suits.locks made.first_oid makes.first ∙ ap (locks_made (was.progress.finished + 1)) (sym same))
@@ -269,11 +268,11 @@ module _ (scenario : Scenario) (old : List Entry) (was : Backend) (draft : Draft
       frames_are = told ∙ (λ i. frames_after kept_then ((opens ∙ ap (λ (x : Session). x.opened) entered_it.session ∙ ap (λ q. (written q s).opened) at) i) ((gives ∙ makes.messages) i) (acting.bare i))
 
   -- and after one that is refused
-  pub clash_enters : (first : Backend) → was.progress.id ≡ first.progress.id → (new : List Entry) (had has : ℕ → ℕ) (p : Progress) (name : List ℕ) (clash : Clash) → HasEntered scenario old was.progress (clash_event name clash) waits.rests p → kept_at p ≡ kept_at was.progress → p.answer ≡ None
+  pub clash_enters : (first : Backend) → was.progress.id ≡ first.progress.id → (new : List Entry) (had has : ℕ → ℕ) (p : Progress) (name : List ℕ) (clash : Clash) → HasEntered scenario old was.progress (clash_event name clash) waits.rests p → p.answer ≡ None
       → Writes old new had has was.progress.id (was.progress.finished + 1) draft (Err (refusals.Clash name clash)) → Enters scenario old new had has first (record was { progress = p })
-  clash_enters first id new had has p name clash goes kept none writes = let refused = clashes_as old new had has was.progress.id (was.progress.finished + 1) draft name clash writes in alike_enters scenario old new had has first was (record was { progress = p }) id (failed_enters scenario old new had has was p (clash_event name clash) (error_of name clash) next.command waits played courses acting unlooked (clash_shows scenario old was s name clash)
+  clash_enters first id new had has p name clash goes none writes = let refused = clashes_as old new had has was.progress.id (was.progress.finished + 1) draft name clash writes in alike_enters scenario old new had has first was (record was { progress = p }) id (failed_enters scenario old new had has was p (clash_event name clash) (error_of name clash) next.command waits played courses acting unlooked (clash_shows scenario old was s name clash)
       (subst (λ o. MayPlayIn (next_oid old) facts o s (clash_event name clash)) (sym next.free.at)
-      (clash_plays (next_oid old) facts next.command s name clash owed_none (subst (λ p. IsClash facts p name) (sym at) (subst (λ l. list_any (bytes_eq name) l ≡ true) (all_names facts was.progress.opened (next_oid old) draft.new_oids draft.changes draft.forced (subst (PutsOpened was.progress.opened) at waits.rests.holds.puts).0) (suits.names read name refused.is_new))))) goes kept none refused.appends)
+      (clash_plays (next_oid old) facts next.command s name clash owed_none (subst (λ p. IsClash facts p name) (sym at) (subst (λ l. list_any (bytes_eq name) l ≡ true) (all_names facts was.progress.opened (next_oid old) draft.new_oids draft.changes draft.forced (subst (PutsOpened was.progress.opened) at waits.rests.holds.puts).0) (suits.names read name refused.is_new))))) goes none refused.appends)
 
   -- what is noted with it
   pub wrote_noted : {D : Type 0} (new : List Entry) (had has : ℕ → ℕ) (p : Progress) (frames : List Frame) (result : Result (Unit {0}) D) (made : Made) (messages : List Message) (known : Option Oid) → known ≡ relation_made draft.changes made.first_oid → MakesWrite old new had has was.progress.id (was.progress.finished + 1) draft made → messages ≡ made.messages.items → kept_at p ≡ kept_spared messages (kept_at was.progress)

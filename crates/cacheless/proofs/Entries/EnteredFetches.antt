@@ -1,10 +1,9 @@
 -- What a fetch of messages and a reset make of what the code holds.
-use Rattle.std.proofs.Common.{◌≡◌, ◌≤◌, ◌+◌, ◌∙◌, ◌&&◌, ℕ, Bool, true, false, Option, Some, None, IfSome, is_some, List, refl, sym, ap, subst, length, slice_get, arith, take, ◌-◌, if◌then◌else◌}
+use Rattle.std.proofs.Common.{◌≡◌, ◌≤◌, ◌+◌, ◌∙◌, ◌&&◌, ℕ, Bool, true, false, Option, Some, None, is_some, List, refl, sym, ap, subst, length, slice_get, arith, take, ◌-◌, if◌then◌else◌}
 use Rattle.event_kinds.specs.declared.entry.Event.TheVariants as events
 use Rattle.inval_messages.specs.Messages.{is_spared}
 use Rattle.lock_modes.specs.Rooms.{Roomy}
 use Rattle.local_caches.specs.Caches.{kept_of}
-use Rattle.local_caches.specs.Kept.{Read}
 use Rattle.local_caches.specs.declared.local_caches.LocalCaches.{LocalCaches}
 use Rattle.ddl_effect.specs.Plans.{Plan, Done, Fails, Absent, Do}
 use Rattle.ddl_effect.specs.Stages.{plan_at, plan_again, altered, altering_at, altering_again}
@@ -37,14 +36,6 @@ is_kept-spared messages kept scan = by_test (is_spared scan messages)
     by_test : (t : Bool) → is_some (if t then kept scan else None) ≡ (t && is_kept kept scan)
     by_test true = refl
     by_test false = refl
-
--- what holds of each scan that was kept holds of each that is kept still
-pub all-spared : (P : Purpose → Read → Type 0) (messages : List Message) (kept : Kept) → ((scan : Purpose) → IfSome (kept scan) (P scan)) → (scan : Purpose) → IfSome (kept_spared messages kept scan) (P scan)
-all-spared P messages kept holds scan = by_test (is_spared scan messages)
-  where
-    by_test : (t : Bool) → IfSome (if t then kept scan else None) (P scan)
-    by_test true = holds scan
-    by_test false = tt
 
 -- a search that is made anew has found nothing yet
 alters_seek : (opens : List OpenRelation) (altering : Altering) → is_absent (altering_again opens altering) ≡ false

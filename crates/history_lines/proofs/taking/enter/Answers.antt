@@ -52,7 +52,7 @@ pub returns-in-Write-clause-takes : goal.returns-in-Write-clause-takes
 returns-in-Write-clause-takes c = takes_reading c.write.result c.args.ledger.now c.args.at c.args.progress.now c.write.new.progress c.args.event.now (events.Write c.in-Write.xid c.in-Write.items) c.in-Write.is (written_as c.write.result c.args.ledger.now c.args.progress.now c.write.new.progress c.in-Write.xid c.as_slice.result.now c.in-Write.items c.as_slice.ensures c.write.ensures.takes)
 
 pub returns-in-Release-clause-takes : goal.returns-in-Release-clause-takes
-returns-in-Release-clause-takes c = released_takes c.enter_release.result c.args.ledger.now c.args.at c.args.progress.now c.enter_release.new.self c.args.event.now c.in-Release.from c.in-Release.is c.enter_release.ensures.holds c.enter_release.ensures.kept c.enter_release.ensures.answer
+returns-in-Release-clause-takes c = released_takes c.enter_release.result c.args.ledger.now c.args.at c.args.progress.now c.enter_release.new.self c.args.event.now c.in-Release.from c.in-Release.is c.enter_release.ensures.holds c.enter_release.ensures.answer
 
 pub returns-in_default-clause-takes : goal.returns-in_default-clause-takes
 returns-in_default-clause-takes c = takes_alone {E = NoMemory} (Ok tt) c.args.ledger.now c.args.at c.args.progress.now c.enter_alone.new.progress c.args.event.now c.args.event.now refl c.enter_alone.ensures.takes

@@ -7,7 +7,7 @@ use Rattle.history_lines.proofs.taking.lock.Goals as goal
 
 pub returns-clause-takes : goal.returns-clause-takes
 returns-clause-takes c = λ scenario seen. reserved_takes scenario seen c.args.progress.now c.reserve_lock.new.self (events.LockOk c.args.rel c.args.mode) c.enter_lock.new.self c.reserve_lock.ensures.same
-    (λ rests. record { goes = c.enter_lock.ensures.holds scenario seen rests; kept = c.enter_lock.ensures.kept; answer = c.enter_lock.ensures.answer })
+    (λ rests. record { goes = c.enter_lock.ensures.holds scenario seen rests; answer = c.enter_lock.ensures.answer })
 
 pub returns-clause-same : goal.returns-clause-same
 returns-clause-same c = c.enter_lock.ensures.same ∙ ap (λ (x : Progress). x.commands) c.reserve_lock.ensures.same.is

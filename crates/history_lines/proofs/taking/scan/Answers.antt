@@ -16,4 +16,4 @@ pub enter_scan-requires-clause-one : goal.enter_scan-requires-clause-one
 enter_scan-requires-clause-one c = λ keyed. subst (λ l. length l ≤ 1) (sym (c.in_ok-rows.ensures.answer c.requires.1.seen c.requires.1.reads)) (scan_one _ _ _ _ c.requires.1 keyed)
 
 pub returns-clause-takes : goal.returns-clause-takes
-returns-clause-takes c = scanned_takes c.enter_scan.result c.args.ledger.now c.args.progress.now c.enter_scan.new.self c.args.purpose.now c.in_ok-rows.rows.items c.args.at c.in_ok-rows.ensures.answer c.enter_scan.ensures.kept c.enter_scan.ensures.answer c.enter_scan.ensures.holds
+returns-clause-takes c = scanned_takes c.enter_scan.result c.args.ledger.now c.args.progress.now c.enter_scan.new.self c.args.purpose.now c.in_ok-rows.rows.items c.args.at c.in_ok-rows.ensures.answer c.enter_scan.ensures.answer c.enter_scan.ensures.holds

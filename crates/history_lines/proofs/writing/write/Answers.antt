@@ -10,7 +10,7 @@ use Rattle.history_lines.proofs.writing.write.Goals as goal
 pub returns-clause-takes : goal.returns-clause-takes
 returns-clause-takes c = write_takes c.enter_write.result c.args.ledger.now c.args.progress.now c.reserve_lock.new.self c.enter_write.new.self c.args.xid c.args.items.now c.deref.result.now c.relation_made.result c.reserve_lock.ensures.same
     (λ seen reads. c.deref.ensures.value ∙ c.in_ok-messages.ensures.written seen reads) c.relation_made.ensures
-    (written_takes c.enter_write.result c.reserve_lock.new.self c.enter_write.new.self c.args.xid c.deref.result.now c.relation_made.result c.enter_write.ensures.kept c.enter_write.ensures.answer c.enter_write.ensures.holds)
+    (written_takes c.enter_write.result c.reserve_lock.new.self c.enter_write.new.self c.args.xid c.deref.result.now c.relation_made.result c.enter_write.ensures.answer c.enter_write.ensures.holds)
 
 pub returns-clause-same : goal.returns-clause-same
 returns-clause-same c = commands_kept c.enter_write.result c.args.progress.now c.reserve_lock.new.self c.enter_write.new.self c.reserve_lock.ensures.same c.enter_write.ensures.same

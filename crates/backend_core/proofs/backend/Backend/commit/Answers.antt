@@ -11,7 +11,7 @@ pub enter_visible-requires : goal.enter_visible-requires
 enter_visible-requires g c = record { few = is_few _ _ c.args.self.now c.requires.ready.waits }
 
 pub returns-clause-enters : goal.returns-clause-enters
-returns-clause-enters g c = commit_enters _ _ _ _ _ c.args.self.now _ _ c.requires.ready.waits c.requires.ready.played c.requires.ready.course c.requires.next (c.enter_visible.ensures.holds _ _ c.requires.ready.waits.rests) c.enter_visible.ensures.kept c.enter_visible.ensures.answer c.visible.ensures.appends
+returns-clause-enters g c = commit_enters _ _ _ _ _ c.args.self.now _ _ c.requires.ready.waits c.requires.ready.played c.requires.ready.course c.requires.next (c.enter_visible.ensures.holds _ _ c.requires.ready.waits.rests) c.enter_visible.ensures.answer c.visible.ensures.appends
 
 pub returns-clause-noted : goal.returns-clause-noted
 returns-clause-noted g c = noted_with _ _ _ _ _ c.args.self.now _ _ _ _ (c.enter_visible.ensures.holds _ _ c.requires.ready.waits.rests) c.visible.ensures.appends refl refl

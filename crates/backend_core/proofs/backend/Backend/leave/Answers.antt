@@ -11,7 +11,7 @@ pub enter_stop-requires : goal.enter_stop-requires
 enter_stop-requires g c = record { few = is_few _ _ c.args.self.now c.requires.ready.waits }
 
 pub returns-clause-steps : goal.returns-clause-steps
-returns-clause-steps g c = leave_steps _ _ _ _ _ c.args.self.now _ c.requires.ready.waits c.requires.ready.played c.requires.ready.course c.requires.next.0 c.requires.next.1 (c.enter_stop.ensures.holds _ _ c.requires.ready.waits.rests) c.enter_stop.ensures.kept c.stop.ensures.appends
+returns-clause-steps g c = leave_steps _ _ _ _ _ c.args.self.now _ c.requires.ready.waits c.requires.ready.played c.requires.ready.course c.requires.next.0 c.requires.next.1 (c.enter_stop.ensures.holds _ _ c.requires.ready.waits.rests) c.stop.ensures.appends
 
 pub returns-clause-noted : goal.returns-clause-noted
 returns-clause-noted g c = noted_with _ _ _ _ _ c.args.self.now _ _ _ _ (c.enter_stop.ensures.holds _ _ c.requires.ready.waits.rests) c.stop.ensures.appends tt refl

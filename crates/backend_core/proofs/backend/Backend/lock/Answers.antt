@@ -28,11 +28,11 @@ enter_refused-requires g c = record { few = is_few _ _ _ (reserved_awaits _ _ c.
 
 pub returns-in-Ok-clause-enters : goal.returns-in-Ok-clause-enters
 returns-in-Ok-clause-enters g c = granted_enters _ _ _ (reserved_awaits _ _ c.args.self.now _ c.reserve_lock.ensures.same c.requires.ready.waits) c.requires.ready.played c.requires.ready.course _ _ (reserved_lock _ _ _ _ c.reserve_lock.ensures.same c.requires.next)
-    c.args.self.now (reserved_id _ _ c.reserve_lock.ensures.same) _ _ _ _ c.enter_lock.ensures.kept c.enter_lock.ensures.answer (c.enter_lock.ensures.holds _ _ _) c.in-Ok.ensures.locks
+    c.args.self.now (reserved_id _ _ c.reserve_lock.ensures.same) _ _ _ _ c.enter_lock.ensures.answer (c.enter_lock.ensures.holds _ _ _) c.in-Ok.ensures.locks
 
 pub returns-in-Err-Conflict-clause-enters : goal.returns-in-Err-Conflict-clause-enters
 returns-in-Err-Conflict-clause-enters g c = refused_enters _ _ _ (reserved_awaits _ _ c.args.self.now _ c.reserve_lock.ensures.same c.requires.ready.waits) c.requires.ready.played c.requires.ready.course _ _ (reserved_lock _ _ _ _ c.reserve_lock.ensures.same c.requires.next)
-    c.args.self.now (reserved_id _ _ c.reserve_lock.ensures.same) _ _ _ _ c.enter_refused.ensures.kept c.enter_refused.ensures.answer _ _ (c.enter_refused.ensures.holds _ _ _)
+    c.args.self.now (reserved_id _ _ c.reserve_lock.ensures.same) _ _ _ _ c.enter_refused.ensures.answer _ _ (c.enter_refused.ensures.holds _ _ _)
     (held_appends _ _ _ _ _ _ _ _ _ _ _ _ _ c.in-Err-Conflict.field-0-is c.in-Err-Conflict.holder-is c.in-Err-Conflict.held-is c.in-Err-Conflict.ensures.locks)
 
 pub returns-in-Ok-clause-noted : goal.returns-in-Ok-clause-noted

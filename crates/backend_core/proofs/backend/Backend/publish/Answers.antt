@@ -14,7 +14,7 @@ pub enter_publish-requires-clause-few : goal.enter_publish-requires-clause-few
 enter_publish-requires-clause-few g c = is_few _ _ c.args.self.now c.requires.ready.waits
 
 pub returns-clause-enters : goal.returns-clause-enters
-returns-clause-enters g c = publish_enters _ _ _ _ _ c.args.self.now _ _ c.requires.ready.waits c.requires.ready.played c.requires.ready.course c.requires.next c.unpublished-messages.ensures.next (c.enter_publish.ensures.holds _ _ c.requires.ready.waits.rests) c.enter_publish.ensures.kept c.enter_publish.ensures.answer c.publish.ensures.appends
+returns-clause-enters g c = publish_enters _ _ _ _ _ c.args.self.now _ _ c.requires.ready.waits c.requires.ready.played c.requires.ready.course c.requires.next c.unpublished-messages.ensures.next (c.enter_publish.ensures.holds _ _ c.requires.ready.waits.rests) c.enter_publish.ensures.answer c.publish.ensures.appends
 
 pub returns-clause-noted : goal.returns-clause-noted
 returns-clause-noted g c = noted_with _ _ _ _ _ c.args.self.now _ _ _ _ (c.enter_publish.ensures.holds _ _ c.requires.ready.waits.rests) c.publish.ensures.appends tt refl

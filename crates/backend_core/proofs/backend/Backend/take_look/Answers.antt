@@ -7,15 +7,15 @@ use Rattle.backend_core.proofs.backend.Backend.take_look.Goals as goal
 
 pub returns-in-Accept-clause-looks : goal.returns-in-Accept-clause-looks
 returns-in-Accept-clause-looks c = λ scenario seen ready follows. look_well scenario seen c.args.self.now _ c.args.some_wait ready.waits ready.played ready.course (subst (λ l. IsNextOf c.args.self.now (next_of_look l)) c.in-Accept.is c.requires.next) follows
-    (c.enter_look.ensures.holds scenario seen ready.waits.rests) c.enter_look.ensures.kept c.enter_look.ensures.answer
+    (c.enter_look.ensures.holds scenario seen ready.waits.rests) c.enter_look.ensures.answer
 
 pub returns-in-Scan-clause-looks : goal.returns-in-Scan-clause-looks
 returns-in-Scan-clause-looks c = subst (LooksWherever c.args.self.now c.args.some_wait) (sym c.note_look.ensures) (λ scenario seen ready follows. look_before_well scenario seen c.args.self.now _ c.args.some_wait c.in-Scan.rebuilds ready.waits ready.played ready.course
-    (subst (λ l. IsNextOf c.args.self.now (next_of_look l)) c.in-Scan.is c.requires.next) follows (c.enter_look.ensures.holds scenario seen ready.waits.rests) c.enter_look.ensures.kept c.enter_look.ensures.answer)
+    (subst (λ l. IsNextOf c.args.self.now (next_of_look l)) c.in-Scan.is c.requires.next) follows (c.enter_look.ensures.holds scenario seen ready.waits.rests) c.enter_look.ensures.answer)
 
 pub returns-in-Absent-clause-looks : goal.returns-in-Absent-clause-looks
 returns-in-Absent-clause-looks c = λ scenario seen ready follows. accept_well scenario seen c.args.self.now _ c.args.some_wait _ ready.waits ready.played ready.course (subst (λ l. IsNextOf c.args.self.now (next_of_look l)) c.in-Absent.is c.requires.next) follows
-    c.still_looked-self.ensures (c.enter_look.ensures.holds scenario seen ready.waits.rests) c.enter_look.ensures.kept c.enter_look.ensures.answer
+    c.still_looked-self.ensures (c.enter_look.ensures.holds scenario seen ready.waits.rests) c.enter_look.ensures.answer
 
 pub returns-in-Scan-clause-same : goal.returns-in-Scan-clause-same
 returns-in-Scan-clause-same c = ap (λ (s : Backend). s.progress.commands) c.note_look.ensures ∙ c.enter_look.ensures.same

@@ -17,7 +17,7 @@ pub enter_unlock-requires-clause-held : goal.enter_unlock-requires-clause-held
 enter_unlock-requires-clause-held g c = unlock_held _ _ c.args.self.now c.requires.ready.waits c.requires.ready.played c.requires.ready.course _ _ c.requires.next
 
 pub returns-clause-enters : goal.returns-clause-enters
-returns-clause-enters g c = unlock_enters _ _ c.args.self.now c.requires.ready.waits c.requires.ready.played c.requires.ready.course _ _ c.requires.next _ _ _ _ (c.enter_unlock.ensures.holds _ _ c.requires.ready.waits.rests) c.enter_unlock.ensures.kept c.enter_unlock.ensures.answer c.unlock.ensures.appends
+returns-clause-enters g c = unlock_enters _ _ c.args.self.now c.requires.ready.waits c.requires.ready.played c.requires.ready.course _ _ c.requires.next _ _ _ _ (c.enter_unlock.ensures.holds _ _ c.requires.ready.waits.rests) c.enter_unlock.ensures.answer c.unlock.ensures.appends
 
 pub returns-clause-noted : goal.returns-clause-noted
 returns-clause-noted g c = noted_with _ _ _ _ _ c.args.self.now _ _ _ _ (c.enter_unlock.ensures.holds _ _ c.requires.ready.waits.rests) c.unlock.ensures.appends (refl, refl) refl

@@ -23,7 +23,7 @@ enter_write-requires-clause-new g c = made_free _ _ _ c.in_ok-draft.draft refl (
 
 pub returns-in_ok-enter_write-in-Ok-clause-enters : goal.returns-in_ok-enter_write-in-Ok-clause-enters
 returns-in_ok-enter_write-in-Ok-clause-enters g c = wrote_agrees _ _ _ c.in_ok-draft.draft refl (drafted_awaits _ _ _ c.in_ok-draft.draft _ (search rules) (reserved_awaits _ _ c.args.self.now _ c.reserve_lock.ensures.same c.requires.ready.waits)) c.requires.ready.played c.requires.ready.course (drafted_write _ c.in_ok-draft.draft _ (search rules) (reserved_write _ _ c.reserve_lock.ensures.same c.requires.next))
-    c.args.self.now (reserved_id _ _ c.reserve_lock.ensures.same) _ _ _ _ (is_kept (kept_of c.enter_write.new.self.caches)) _ c.tell_each.result c.in-Ok.written _ _ c.relation_made-made.ensures c.in-Ok.ensures.writes c.as_slice.ensures.value c.in_ok-enter_write-in-Ok.ensures.kept c.in_ok-enter_write-in-Ok.ensures.answer c.in_ok-enter_write-in-Ok.ensures.holds _ _ refl c.as_slice-in-Ok.ensures.value c.tell_each.ensures
+    c.args.self.now (reserved_id _ _ c.reserve_lock.ensures.same) _ _ _ _ (is_kept (kept_of c.enter_write.new.self.caches)) _ c.tell_each.result c.in-Ok.written _ _ c.relation_made-made.ensures c.in-Ok.ensures.writes c.as_slice.ensures.value c.in_ok-enter_write-in-Ok.ensures.answer c.in_ok-enter_write-in-Ok.ensures.holds _ _ refl c.as_slice-in-Ok.ensures.value c.tell_each.ensures
 
 pub returns-in_ok-enter_write-in-Ok-clause-refused : goal.returns-in_ok-enter_write-in-Ok-clause-refused
 returns-in_ok-enter_write-in-Ok-clause-refused g c = wrote_refused _ _ _ c.in_ok-draft.draft refl (drafted_awaits _ _ _ c.in_ok-draft.draft c.reserve_lock.new.self.known (search rules) (reserved_awaits _ _ c.args.self.now _ c.reserve_lock.ensures.same c.requires.ready.waits)) c.requires.ready.played c.requires.ready.course (drafted_write _ c.in_ok-draft.draft c.reserve_lock.new.self.known (search rules) (reserved_write _ _ c.reserve_lock.ensures.same c.requires.next)) c.args.self.now (reserved_id _ _ c.reserve_lock.ensures.same) _ _ _ c.tell_each.result c.in-Ok.written c.in-Ok.ensures.writes
@@ -33,7 +33,7 @@ returns-in_err-enter_write-in-Ok-clause-refused g c = wrote_refused _ _ _ c.in_o
 
 pub returns-in-Clash-clause-enters : goal.returns-in-Clash-clause-enters
 returns-in-Clash-clause-enters g c = clash_enters _ _ _ c.in_ok-draft.draft refl (drafted_awaits _ _ _ c.in_ok-draft.draft _ (search rules) (reserved_awaits _ _ c.args.self.now _ c.reserve_lock.ensures.same c.requires.ready.waits)) c.requires.ready.played c.requires.ready.course (drafted_write _ c.in_ok-draft.draft _ (search rules) (reserved_write _ _ c.reserve_lock.ensures.same c.requires.next))
-    c.args.self.now (reserved_id _ _ c.reserve_lock.ensures.same) _ _ _ _ c.in-Clash.name c.in-Clash.clash (c.enter_clash.ensures.holds _ _ _) c.enter_clash.ensures.kept c.enter_clash.ensures.answer (rw c.in-Clash.is at c.in-Err.ensures.writes)
+    c.args.self.now (reserved_id _ _ c.reserve_lock.ensures.same) _ _ _ _ c.in-Clash.name c.in-Clash.clash (c.enter_clash.ensures.holds _ _ _) c.enter_clash.ensures.answer (rw c.in-Clash.is at c.in-Err.ensures.writes)
 
 pub returns-in_ok-enter_write-in-Ok-clause-noted : goal.returns-in_ok-enter_write-in-Ok-clause-noted
 returns-in_ok-enter_write-in-Ok-clause-noted g c = then_so c.tell_each.result (written_noted _ _ _ c.args.self.now _ _ _ _ c.reserve_lock.ensures.same) (wrote_noted _ _ _ c.in_ok-draft.draft refl (drafted_awaits _ _ _ c.in_ok-draft.draft _ (search rules) (reserved_awaits _ _ c.args.self.now _ c.reserve_lock.ensures.same c.requires.ready.waits)) c.requires.ready.played c.requires.ready.course (drafted_write _ c.in_ok-draft.draft _ (search rules) (reserved_write _ _ c.reserve_lock.ensures.same c.requires.next))
