@@ -164,15 +164,3 @@ closed_pins old new rel pinned left pins less changes other = by (same_or_other 
     by (inl same) =
         ap (λ o. pins_held (held_of new o)) same ∙ ap pins_held changes.at ∙ fewer (held_of old rel) (times rel left) (pins rel ∙ less.own) ∙ sym (ap (λ o. times o left) same)
     by (inr differs) = ap pins_held (changes.others other differs) ∙ pins other ∙ less.others other differs
-
--- it has the scans that it had
-pub closed_parts : (old new : RelCache (List Part)) (rel : Oid) → ChangesHeld old new rel (option_map closed_once (held_of old rel)) → (other : Oid) → parts_held (held_of new other) ≡ parts_held (held_of old other)
-closed_parts old new rel changes other = by (same_or_other other rel)
-  where
-    same : (o : Option (Held (List Part))) → parts_held (option_map closed_once o) ≡ parts_held o
-    same None = refl
-    same (Some h) = refl
-
-    by : (other ≡ rel) ⊎ (other ≢ rel) → parts_held (held_of new other) ≡ parts_held (held_of old other)
-    by (inl is) = ap (λ o. parts_held (held_of new o)) is ∙ ap parts_held changes.at ∙ same (held_of old rel) ∙ sym (ap (λ o. parts_held (held_of old o)) is)
-    by (inr differs) = ap parts_held (changes.others other differs)
