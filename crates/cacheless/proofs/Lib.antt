@@ -29,6 +29,7 @@ pub mod ReadsBuilds
 pub mod Same
 pub mod CommandEnds
 pub mod Resting
+pub mod Pinning
 pub mod Entries
 pub mod Passing
 pub mod Matching

@@ -6,12 +6,13 @@ use Rattle.std.specs.List.{cons_option}
 use Rattle.std.specs.Option.{option_map_or}
 use Rattle.base_types.specs.Scans.{selects}
 use Rattle.base_types.specs.declared.row.Row.TheVariants as rows
-use Rattle.local_caches.specs.Caches.{kept_of}
+use Rattle.local_caches.specs.Caches.{kept_of, is_pinned}
 use Rattle.local_caches.specs.declared.local_caches.LocalCaches.{LocalCaches}
 use Rattle.lock_modes.specs.Own.{has_lock}
 use Rattle.inval_messages.specs.Lists.{Written}
 use Rattle.txn_blocks.specs.Blocks.{Blocks}
 use Rattle.base_types.specs.declared.scan.Purpose.TheVariants as scans
+use Rattle.ddl_effect.specs.Opens.{has_open}
 use Rattle.ddl_effect.specs.Plans.{Plan, Act, Done, Fails, Absent, Do, Lookup, Open, Search, Read, Lock, Write, after_act}
 use Rattle.ddl_effect.specs.Stages.{plan_at, plan_again, acts_left, want_of, want_of_act}
 use Rattle.ddl_effect.specs.declared.want.Want.{Want}
@@ -30,12 +31,15 @@ use Rattle.cacheless.specs.declared.progress.Progress.{Progress}
 use Rattle.cacheless.specs.Facts.{Facts, facts_of}
 use Rattle.cacheless.specs.Session.{Session, held_in, first_of, plan_first, is_blocked}
 use Rattle.cacheless.specs.Settled.{next_session, blocks_after, opens_passed, opens_after, finished_as, if_locked, has_taken_no_other, opened_by, sought_by, act_done, settled, has_accepted_in, looked_up_in, gives_in, gives_left}
+use Rattle.cacheless.specs.Pins.{PinsMore, PinsOnly}
 use Rattle.cacheless.specs.Puts.{AreGivenBy, PutsOpened}
 use Rattle.cacheless.specs.State.{blocks_passed, lists_at, no_counts, kept_at, is_kept, rows_kept, builds_missing, act_missing, row_next, is_absent, is_out, rest_of, session_at, facts_at, work_at, owes_nothing}
 use Rattle.cacheless.specs.Silently.{is_finished_at, rows_for, rows_given, opened_for, Acts, Finishes}
 use Rattle.cacheless.specs.Holds.{FactsFit, Holds, HasActed, HasPassed}
 use Rattle.cacheless.proofs.Settling.{settled-act, settled-finish, acted-out}
 use Rattle.cacheless.proofs.Plans.SilentActs.{some_is}
+use Rattle.cacheless.proofs.Allowed.OpensKept.{IsOpenEach, IsHeldEach, held_each, after_each}
+use Rattle.cacheless.proofs.Pinning.{open_each, open_pinned, held_pinned, pins_left, pins_opened}
 use Rattle.cacheless.proofs.Tests.{and_true, right_none, not_both}
 use Rattle.cacheless.proofs.Resting.{first_left, left_command, cond_none, Free, free_now, lacks_none, here, finished_same}
 use Rattle.cacheless.proofs.Written.Putting.{puts_first}
@@ -96,9 +100,9 @@ out_of command s is = (and_true (is_out s) (is_none (end_left_in (facts_at s) co
 
 -- an act that needs no entry, whichever it is
 pub act_keeps : (scenario : Scenario) (seen : List Entry) (was : Progress) (exec : Exec) (opened : List Opening) (caches : LocalCaches) (suspects : Suspects) (known : AreKnown (is_kept (kept_of caches)) opened suspects) (command : Command) (act : Act) (plan : List Row → Plan) (gave : List Row) → Holds scenario seen was → slice_get was.commands was.finished ≡ Some command
-    → owes_nothing command was ≡ true → plan_at was.opens was.exec ≡ Do act plan → gives_in (facts_at was) (work_at was) act ≡ Some gave → plan_at was.opens exec ≡ plan gave → ((name : List ℕ) → plan_at was.opens exec ≡ Absent name → plan_again was.opens exec ≡ plan_at was.opens was.exec) → opened ≡ was.opened ++ opened_by act → kept_of caches ≡ kept_at was
+    → owes_nothing command was ≡ true → plan_at was.opens was.exec ≡ Do act plan → gives_in (facts_at was) (work_at was) act ≡ Some gave → plan_at was.opens exec ≡ plan gave → ((name : List ℕ) → plan_at was.opens exec ≡ Absent name → plan_again was.opens exec ≡ plan_at was.opens was.exec) → opened ≡ was.opened ++ opened_by act → kept_of caches ≡ kept_at was → PinsMore was.caches caches (opened_by act)
     → Holds scenario seen (record was { exec = exec; opened = opened; caches = caches; suspects = suspects; known = known; taken = None })
-act_keeps scenario seen was exec opened caches suspects known command act plan gave holds has owes at gives_it on again opens keeps = record {
+act_keeps scenario seen was exec opened caches suspects known command act plan gave holds has owes at gives_it on again opens keeps pinned = record {
   number = holds.number;
   commands = holds.commands;
   few = holds.few;
@@ -116,6 +120,7 @@ act_keeps scenario seen was exec opened caches suspects known command act plan g
   order = holds.order;
   sought = λ is. absent_or (plan_at was.opens exec) is (λ name missed. sought_is act plan name (session_at was holds.rest) (seeks name missed) ∙ sym (again name missed));
   puts = subst (λ p. PutsOpened opened p) (sym on) (subst (λ l. PutsOpened l (plan gave)) (sym opens) (gave_asked seen was.id was act plan gave holds.facts at none gives_it (subst (PutsOpened was.opened) at holds.puts)));
+  pins = pins_opened was caches opened (opened_by act) holds.pins pinned opens;
 }
   where
     facts : Facts
@@ -135,11 +140,11 @@ act_keeps scenario seen was exec opened caches suspects known command act plan g
 
 -- and its session is that after the act
 pub act_acts : (scenario : Scenario) (seen : List Entry) (was : Progress) (exec : Exec) (opened : List Opening) (caches : LocalCaches) (suspects : Suspects) (known : AreKnown (is_kept (kept_of caches)) opened suspects) (command : Command) (act : Act) (plan : List Row → Plan) (gave : List Row) (held : Holds scenario seen was) → slice_get was.commands was.finished ≡ Some command
-    → owes_nothing command was ≡ true → plan_at was.opens was.exec ≡ Do act plan → gives_in (facts_at was) (work_at was) act ≡ Some gave → plan_at was.opens exec ≡ plan gave → ((name : List ℕ) → plan_at was.opens exec ≡ Absent name → plan_again was.opens exec ≡ plan_at was.opens was.exec) → opened ≡ was.opened ++ opened_by act → kept_of caches ≡ kept_at was
+    → owes_nothing command was ≡ true → plan_at was.opens was.exec ≡ Do act plan → gives_in (facts_at was) (work_at was) act ≡ Some gave → plan_at was.opens exec ≡ plan gave → ((name : List ℕ) → plan_at was.opens exec ≡ Absent name → plan_again was.opens exec ≡ plan_at was.opens was.exec) → opened ≡ was.opened ++ opened_by act → kept_of caches ≡ kept_at was → PinsMore was.caches caches (opened_by act)
     → HasActed scenario seen was held (record was { exec = exec; opened = opened; caches = caches; suspects = suspects; known = known; taken = None })
 unfolding act_keeps
-act_acts scenario seen was exec opened caches suspects known command act plan gave held has owes at gives_it on again opens keeps = record {
-  holds = act_keeps scenario seen was exec opened caches suspects known command act plan gave held has owes at gives_it on again opens keeps;
+act_acts scenario seen was exec opened caches suspects known command act plan gave held has owes at gives_it on again opens keeps pinned = record {
+  holds = act_keeps scenario seen was exec opened caches suspects known command act plan gave held has owes at gives_it on again opens keeps pinned;
   command = command;
   at = has;
   free = free.first;
@@ -161,10 +166,10 @@ at_next was exec blocked blocks opens opened caches suspects known = record was 
 
 -- a finished command is passed over
 pub finish_keeps : (scenario : Scenario) (seen : List Entry) (was : Progress) (exec : Exec) (blocked : Bool) (blocks : Blocks) (opens : List OpenRelation) (opened : List Opening) (caches : LocalCaches) (suspects : Suspects) (known : AreKnown (is_kept (kept_of caches)) opened suspects) (command : Command) → Holds scenario seen was → slice_get was.commands was.finished ≡ Some command → is_finished_at command was ≡ true
-    → blocks ≡ blocks_passed (plan_at was.opens was.exec) (was.finished + 1) command was.blocks → opens ≡ opens_passed (plan_at was.opens was.exec) (was.finished + 1) command was.blocked was.blocks.levels was.opened was.opens → opened ≡ held_in blocks.block opens → kept_of caches ≡ kept_at was
+    → blocks ≡ blocks_passed (plan_at was.opens was.exec) (was.finished + 1) command was.blocks → opens ≡ opens_passed (plan_at was.opens was.exec) (was.finished + 1) command was.blocked was.blocks.levels was.opened was.opens → opened ≡ held_in blocks.block opens → kept_of caches ≡ kept_at was → PinsOnly was.caches caches opens
     → plan_at opens exec ≡ plan_first blocks opens (slice_get was.commands (was.finished + 1)) → blocked ≡ is_blocked blocks (slice_get was.commands (was.finished + 1))
     → Holds scenario seen (at_next was exec blocked blocks opens opened caches suspects known)
-finish_keeps scenario seen was exec blocked blocks opens opened caches suspects known command holds has finished passes after pinned keeps on refuses = record {
+finish_keeps scenario seen was exec blocked blocks opens opened caches suspects known command holds has finished passes after pinned keeps only on refuses = record {
   number = holds.number;
   commands = holds.commands;
   few = holds.few;
@@ -181,6 +186,9 @@ finish_keeps scenario seen was exec blocked blocks opens opened caches suspects 
   order = every-weaker (λ (list : Written). list.command ≤ was.finished + 1) (λ (list : Written). list.command ≤ was.finished + 1 + 1) (λ list low. omega (arith, low)) (lists_at was) holds.order;
   sought = λ is. absurd (not_both (is_absent (plan_at opens exec)) is found);
   puts = subst (PutsOpened opened) (sym on) (puts_first opened opens blocks (slice_get was.commands (was.finished + 1)));
+  pins = pins_left was.caches caches opens opened only
+      (subst (IsOpenEach (λ rel kind. is_pinned was.caches rel ≡ true)) opens_are (after_each (λ rel kind. is_pinned was.caches rel ≡ true) command (session_at was holds.rest) (open_pinned was holds.pins) (held_pinned was holds.pins)))
+      (subst (IsHeldEach (λ rel kind. has_open rel opens ≡ true)) (sym pinned) (held_each (λ rel kind. has_open rel opens ≡ true) blocks.block opens (open_each opens)));
 }
   where
     facts : Facts
@@ -210,12 +218,12 @@ finish_keeps scenario seen was exec blocked blocks opens opened caches suspects 
 
 -- and its session is that at the next command
 pub finish_passes : (scenario : Scenario) (seen : List Entry) (was : Progress) (exec : Exec) (blocked : Bool) (blocks : Blocks) (opens : List OpenRelation) (opened : List Opening) (caches : LocalCaches) (suspects : Suspects) (known : AreKnown (is_kept (kept_of caches)) opened suspects) (command : Command) (held : Holds scenario seen was) → slice_get was.commands was.finished ≡ Some command → is_finished_at command was ≡ true
-    → blocks ≡ blocks_passed (plan_at was.opens was.exec) (was.finished + 1) command was.blocks → opens ≡ opens_passed (plan_at was.opens was.exec) (was.finished + 1) command was.blocked was.blocks.levels was.opened was.opens → opened ≡ held_in blocks.block opens → kept_of caches ≡ kept_at was
+    → blocks ≡ blocks_passed (plan_at was.opens was.exec) (was.finished + 1) command was.blocks → opens ≡ opens_passed (plan_at was.opens was.exec) (was.finished + 1) command was.blocked was.blocks.levels was.opened was.opens → opened ≡ held_in blocks.block opens → kept_of caches ≡ kept_at was → PinsOnly was.caches caches opens
     → plan_at opens exec ≡ plan_first blocks opens (slice_get was.commands (was.finished + 1)) → blocked ≡ is_blocked blocks (slice_get was.commands (was.finished + 1))
     → HasPassed scenario seen was held (at_next was exec blocked blocks opens opened caches suspects known)
 unfolding finish_keeps
-finish_passes scenario seen was exec blocked blocks opens opened caches suspects known command held has finished passes after pinned keeps on refuses = record {
-  holds = finish_keeps scenario seen was exec blocked blocks opens opened caches suspects known command held has finished passes after pinned keeps on refuses;
+finish_passes scenario seen was exec blocked blocks opens opened caches suspects known command held has finished passes after pinned keeps only on refuses = record {
+  holds = finish_keeps scenario seen was exec blocked blocks opens opened caches suspects known command held has finished passes after pinned keeps only on refuses;
   command = command;
   at = has;
   over = finished_same (facts_of seen was.id) command was held.rest held.facts held.count ∙ finished;
@@ -303,9 +311,9 @@ act_is_left s acts = by_plan (plan_at s.opens s.exec) refl (and_true (owes_nothi
 
 -- the act that is done without an entry
 pub acted_keeps : (was : Progress) (exec : Exec) (opened : List Opening) (caches : LocalCaches) (suspects : Suspects) (known : AreKnown (is_kept (kept_of caches)) opened suspects) (want : Want) (acts : Acts was) → want ≡ want_of (plan_at was.opens was.exec)
-    → plan_at was.opens exec ≡ after_act (rows_given was want) (plan_at was.opens was.exec) → ((name : List ℕ) → 0 < acts_left was.exec → plan_at was.opens exec ≡ Absent name → plan_again was.opens exec ≡ plan_at was.opens was.exec) → opened ≡ was.opened ++ opened_for want → kept_of caches ≡ kept_at was
+    → plan_at was.opens exec ≡ after_act (rows_given was want) (plan_at was.opens was.exec) → ((name : List ℕ) → 0 < acts_left was.exec → plan_at was.opens exec ≡ Absent name → plan_again was.opens exec ≡ plan_at was.opens was.exec) → opened ≡ was.opened ++ opened_for want → kept_of caches ≡ kept_at was → PinsMore was.caches caches (opened_for want)
     → (scenario : Scenario) (seen : List Entry) (held : Holds scenario seen was) → HasActed scenario seen was held (record was { exec = exec; opened = opened; caches = caches; suspects = suspects; known = known; taken = None })
-acted_keeps was exec opened caches suspects known want acts wants on again opens keeps scenario seen held = by_plan (plan_at was.opens was.exec) refl (and_true (owes_nothing acts.command was) (gives_left (facts_at was) (work_at was) (plan_at was.opens was.exec)) acts.acts)
+acted_keeps was exec opened caches suspects known want acts wants on again opens keeps pinned scenario seen held = by_plan (plan_at was.opens was.exec) refl (and_true (owes_nothing acts.command was) (gives_left (facts_at was) (work_at was) (plan_at was.opens was.exec)) acts.acts)
   where
     by_plan : (p : Plan) → plan_at was.opens was.exec ≡ p → (owes_nothing acts.command was ≡ true) × (gives_left (facts_at was) (work_at was) (plan_at was.opens was.exec) ≡ true) → HasActed scenario seen was held (record was { exec = exec; opened = opened; caches = caches; suspects = suspects; known = known; taken = None })
     by_plan (Do act plan) at parts =
@@ -316,26 +324,27 @@ acted_keeps was exec opened caches suspects known want acts wants on again opens
         (λ name. again name (act_is_left was acts))
         (opens ∙ ap (λ w. was.opened ++ opened_for w) want_is ∙ ap (λ l. was.opened ++ l) (opened_is act plan))
         keeps
+        (subst (PinsMore was.caches caches) (ap opened_for want_is ∙ opened_is act plan) pinned)
     by_plan (Done told) at parts = absurd (let both : false ≡ true = sym (ap (gives_left (facts_at was) (work_at was)) at) ∙ parts.1 in cc)
     by_plan (Fails error) at parts = absurd (let both : false ≡ true = sym (ap (gives_left (facts_at was) (work_at was)) at) ∙ parts.1 in cc)
     by_plan (Absent name) at parts = absurd (let both : false ≡ true = sym (ap (gives_left (facts_at was) (work_at was)) at) ∙ parts.1 in cc)
 
 -- the same by the rows that the code gives, and by the relations that it goes by
 pub acted_code : (was : Progress) (exec : Exec) (opened : List Opening) (caches : LocalCaches) (suspects : Suspects) (known : AreKnown (is_kept (kept_of caches)) opened suspects) (want : Want) (opens : List OpenRelation) (given : List Row) (acts : Acts was) → want ≡ want_of (plan_at was.opens was.exec) → given ≡ rows_given was want → opens ≡ was.opens
-    → plan_at opens exec ≡ after_act given (plan_at opens was.exec) → ((name : List ℕ) → 0 < acts_left was.exec → plan_at opens exec ≡ Absent name → plan_again opens exec ≡ plan_at opens was.exec) → opened ≡ was.opened ++ opened_for want → kept_of caches ≡ kept_at was
+    → plan_at opens exec ≡ after_act given (plan_at opens was.exec) → ((name : List ℕ) → 0 < acts_left was.exec → plan_at opens exec ≡ Absent name → plan_again opens exec ≡ plan_at opens was.exec) → opened ≡ was.opened ++ opened_for want → kept_of caches ≡ kept_at was → PinsMore was.caches caches (opened_for want)
     → (scenario : Scenario) (seen : List Entry) (held : Holds scenario seen was) → HasActed scenario seen was held (record was { exec = exec; opened = opened; caches = caches; suspects = suspects; known = known; taken = None })
-acted_code was exec opened caches suspects known want opens given acts wants gives same on again pushes keeps = acted_keeps was exec opened caches suspects known want acts wants
+acted_code was exec opened caches suspects known want opens given acts wants gives same on again pushes keeps pinned = acted_keeps was exec opened caches suspects known want acts wants
     (subst (λ o. plan_at o exec ≡ after_act given (plan_at o was.exec)) same on ∙ ap (λ l. after_act l (plan_at was.opens was.exec)) gives)
-    (subst (λ o. (name : List ℕ) → 0 < acts_left was.exec → plan_at o exec ≡ Absent name → plan_again o exec ≡ plan_at o was.exec) same again) pushes keeps
+    (subst (λ o. (name : List ℕ) → 0 < acts_left was.exec → plan_at o exec ≡ Absent name → plan_again o exec ≡ plan_at o was.exec) same again) pushes keeps pinned
 
 -- the code's step to the next command
 pub finish_code : (was : Progress) (exec : Exec) (blocked : Bool) (blocks : Blocks) (tally : Counts) (opens : List OpenRelation) (opened : List Opening) (caches : LocalCaches) (suspects : Suspects) (known : AreKnown (is_kept (kept_of caches)) opened suspects) (answer : Option (List ℕ)) (were : List OpenRelation) (held_before : List Opening) (are : List OpenRelation) (commands : List Command) (command : Command) → Finishes was → slice_get was.commands was.finished ≡ Some command
-    → blocks ≡ blocks_passed (plan_at was.opens was.exec) (was.finished + 1) command was.blocks → were ≡ was.opens → held_before ≡ was.opened → opens ≡ opens_passed (plan_at were was.exec) (was.finished + 1) command was.blocked was.blocks.levels held_before were → commands ≡ was.commands → are ≡ opens → plan_at are exec ≡ plan_first blocks are (slice_get commands (was.finished + 1)) → blocked ≡ is_blocked blocks (slice_get commands (was.finished + 1)) → tally ≡ no_counts → opened ≡ held_in blocks.block opens → kept_of caches ≡ kept_at was → answer ≡ None
+    → blocks ≡ blocks_passed (plan_at was.opens was.exec) (was.finished + 1) command was.blocks → were ≡ was.opens → held_before ≡ was.opened → opens ≡ opens_passed (plan_at were was.exec) (was.finished + 1) command was.blocked was.blocks.levels held_before were → commands ≡ was.commands → are ≡ opens → plan_at are exec ≡ plan_first blocks are (slice_get commands (was.finished + 1)) → blocked ≡ is_blocked blocks (slice_get commands (was.finished + 1)) → tally ≡ no_counts → opened ≡ held_in blocks.block opens → kept_of caches ≡ kept_at was → PinsOnly was.caches caches opens → answer ≡ None
     → (scenario : Scenario) (seen : List Entry) (held : Holds scenario seen was)
     → HasPassed scenario seen was held (record was { finished = was.finished + 1; exec = exec; blocked = blocked; ended = false; tally = tally; blocks = blocks; opens = opens; taken = None; opened = opened; caches = caches; suspects = suspects; known = known; answer = answer })
-finish_code was exec blocked blocks tally opens opened caches suspects known answer were held_before are commands command finishes at passes was_open was_held after same is_open on refuses fresh pinned keeps taken scenario seen held =
+finish_code was exec blocked blocks tally opens opened caches suspects known answer were held_before are commands command finishes at passes was_open was_held after same is_open on refuses fresh pinned keeps only taken scenario seen held =
     subst (HasPassed scenario seen was held) (λ i. record (at_next was exec blocked blocks opens opened caches suspects known) { tally = sym fresh i; answer = sym taken i })
-    (finish_passes scenario seen was exec blocked blocks opens opened caches suspects known command held at (subst (λ c. is_finished_at c was ≡ true) one finishes.finished) passes (after ∙ (λ i. opens_passed (plan_at (was_open i) was.exec) (was.finished + 1) command was.blocked was.blocks.levels (was_held i) (was_open i))) pinned keeps
+    (finish_passes scenario seen was exec blocked blocks opens opened caches suspects known command held at (subst (λ c. is_finished_at c was ≡ true) one finishes.finished) passes (after ∙ (λ i. opens_passed (plan_at (was_open i) was.exec) (was.finished + 1) command was.blocked was.blocks.levels (was_held i) (was_open i))) pinned keeps only
     (subst (λ o. plan_at o exec ≡ plan_first blocks o (slice_get commands (was.finished + 1))) is_open on ∙ ap (λ l. plan_first blocks opens (slice_get l (was.finished + 1))) same) (refuses ∙ ap (λ l. is_blocked blocks (slice_get l (was.finished + 1))) same))
   where
     one : finishes.command ≡ command

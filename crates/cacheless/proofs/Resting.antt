@@ -49,10 +49,14 @@ pub record Free (facts : Facts) (command : Command) (s : Progress) (rest : Rest)
 pub first_same : (facts : Facts) (command : Command) (s : Progress) (rest : Rest) → FactsFit facts s → is_empty (owed_first_in facts command (work_of (session_at s rest)) ++ owed_after facts.due) ≡ is_empty (owed_first s command ++ owed_after s.due)
 first_same facts command s rest fits = ap (λ f. is_empty (owed_first_in f command (work_of (session_at s rest)) ++ owed_after f.due)) fits
 
+-- where nothing has to come before the next act, no scan is missing
+pub none_missing : (s : Progress) (command : Command) → owes_nothing command s ≡ true → scans_missing s ≡ []
+none_missing s command is = empty_is (scans_missing s) (sym (empty_map OwesScan (scans_missing s)) ∙ (and_true (is_empty (owed_first s command ++ owed_after s.due)) (is_empty (map OwesScan (scans_missing s))) (sym (empty_append (owed_first s command ++ owed_after s.due) (map OwesScan (scans_missing s))) ∙ is)).1)
+
 pub free_now : (facts : Facts) (command : Command) (s : Progress) (rest : Rest) → FactsFit facts s → owes_nothing command s ≡ true → Free facts command s rest
 free_now facts command s rest fits is = let parts = and_true (is_empty (owed_first s command ++ owed_after s.due)) (is_empty (map OwesScan (scans_missing s))) (sym (empty_append (owed_first s command ++ owed_after s.due) (map OwesScan (scans_missing s))) ∙ is) in record {
   first = first_same facts command s rest fits ∙ parts.0;
-  scans = empty_is (scans_missing s) (sym (empty_map OwesScan (scans_missing s)) ∙ parts.1);
+  scans = none_missing s command is;
 }
 
 -- no scan is missing before an act: so none of the act is
@@ -156,6 +160,7 @@ rests_reserved scenario seen s locks same rests = record {
     order = h.order;
     sought = h.sought;
     puts = h.puts;
+    pins = h.pins;
   };
   still = λ command here. let still = rests.still command here in (
     ap (λ (l : List OwnLock). is_free (facts_at s) command (record (work_at s) { locks = l }) && gives_left (facts_at s) (record (work_at s) { locks = l }) (plan_at s.opens s.exec)) same ∙ still.0,

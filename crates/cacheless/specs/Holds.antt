@@ -17,6 +17,7 @@ use Rattle.cacheless.specs.Work.{work_of}
 use Rattle.cacheless.specs.Owed.{owed_first_in, owed_after}
 use Rattle.cacheless.specs.Settled.{done_here, act_done, is_finished_in, next_session, settled}
 use Rattle.cacheless.specs.Sessions.{entered, session_of}
+use Rattle.cacheless.specs.Pins.{ArePinned}
 use Rattle.cacheless.specs.Puts.{PutsOpened}
 use Rattle.cacheless.specs.State.{facts_at, lists_at, is_absent, IsNew, Rest, session_at}
 use Rattle.cacheless.specs.Silently.{IsAtRest}
@@ -48,6 +49,7 @@ pub record Holds (scenario : Scenario) (seen : List Entry) (s : Progress) : Type
   pub order : AllByRecursion (λ list. list.command ≤ s.finished + 1) (lists_at s)
   pub sought : is_absent (plan_at s.opens s.exec) ≡ true → rest.sought ≡ plan_again s.opens s.exec
   pub puts : PutsOpened s.opened (plan_at s.opens s.exec)
+  pub pins : ArePinned s
 
 -- the same where nothing is left to be done without an entry
 pub record Rests (scenario : Scenario) (seen : List Entry) (s : Progress) : Type 0 where

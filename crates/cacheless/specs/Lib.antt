@@ -23,6 +23,7 @@ pub mod Told
 pub mod Judged
 pub mod OpenedReads
 pub mod Puts
+pub mod Pins
 pub mod SameItems
 pub mod Rule
 pub mod Nexts

@@ -28,7 +28,7 @@ pub use Rattle.cacheless.specs.Facts.{due_looked, due_fetched}
 use Rattle.cacheless.specs.Facts.{Facts}
 use Rattle.cacheless.specs.Owed.{Owes}
 use Rattle.cacheless.specs.Ends.{End, end_in}
-use Rattle.local_caches.specs.Caches.{kept_of}
+use Rattle.local_caches.specs.Caches.{kept_of, is_pinned}
 pub use Rattle.local_caches.specs.Kept.{Kept, nothing_kept, kept_with, kept_spared, is_kept, rows_kept, place_kept}
 use Rattle.cacheless.specs.declared.progress.Due.TheVariants as dues
 use Rattle.cacheless.specs.declared.progress.Counts.{Counts}
@@ -185,6 +185,7 @@ pub record IsNew (id : ℕ) (all : List Command) (s : Progress) : Type 0 where
   pub opened : s.opened ≡ []
   pub locks : s.locks.items ≡ []
   pub kept : kept_at s ≡ nothing_kept
+  pub pins : (rel : Oid) → is_pinned s.caches rel ≡ false
   pub answer : s.answer ≡ None
 
 -- what the code doesn't hold of its session

@@ -7,7 +7,7 @@ ghost use Rattle.cacheless.specs.State.{lists_left};
 ghost use Rattle.command_lists.specs.Lists.{all_lists};
 
 use crate::enter::accept;
-use crate::opens::{opened_before, openings_of, pin_anew};
+use crate::opens::{opened_before, openings_of, unpin_others};
 use crate::{Due, Progress};
 use base_types::{NoMemory, Xid};
 use command_lists::InvalLists;
@@ -102,7 +102,8 @@ impl Progress {
         self.locks.release(from);
         self.suspects.forget();
         self.opened = openings_of(alloc, left.as_slice())?;
-        pin_anew(&mut self.caches, left.as_slice())?;
+        // what this end closes counts as open until its command is passed
+        unpin_others(alloc, &mut self.caches, self.opens.as_slice())?;
         self.suspects.find(&self.caches, &self.opened);
         self.ended = true;
         self.due = Due::Nothing;

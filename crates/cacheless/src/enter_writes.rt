@@ -13,7 +13,7 @@ ghost use Rattle.cacheless.specs.Locks.{locked_by};
 ghost use Rattle.cacheless.specs.State.{messages_in, clash_event, error_of, locks_made};
 
 use crate::enter::accept;
-use crate::opens::{held_in, pin_anew};
+use crate::opens::{held_in, unpin_others};
 use crate::{Due, Progress};
 use base_types::{Listed, Name, NoMemory, Oid, Xid};
 use command_answers::CommandError;
@@ -62,7 +62,7 @@ impl Progress {
         self.due = Due::Nothing;
         self.exec.give(alloc, self.opens.as_slice(), &[])?;
         self.opened = held_in(alloc, &self.blocks, self.opens.as_slice())?;
-        pin_anew(&mut self.caches, self.opens.as_slice())?;
+        unpin_others(alloc, &mut self.caches, self.opens.as_slice())?;
         self.suspects.find(&self.caches, &self.opened);
         self.taken = None;
         let accepting = self.is_in_acceptance();

@@ -3,12 +3,13 @@
 ghost use Rattle.std.specs.Prelude.{◌≡◌, ◌≤◌, map, IfOk, OnOk, OnErr, Some, slice_get};
 ghost use Rattle.ddl_effect.specs.Opens.{opens_before};
 ghost use Rattle.ddl_effect.specs.Stages.{plan_at};
+ghost use Rattle.cacheless.specs.Pins.{PinsOnly};
 ghost use Rattle.cacheless.specs.Session.{opening_of, held_in as are_held};
 ghost use Rattle.cacheless.specs.Settled.{opens_with, opens_kept as kept_open, opens_well, opens_badly, opens_passed};
 ghost use Rattle.local_caches.specs.Caches.{kept_of};
 
 use crate::Opening;
-use base_types::{Command, Listed, Name, NoMemory};
+use base_types::{Command, Listed, Name, NoMemory, Oid};
 use ddl_effect::{Exec, OpenRelation, Want, without_latest};
 use local_caches::LocalCaches;
 use std::alloc::Global;
@@ -46,29 +47,29 @@ pub(crate) fn openings_of(
     Ok(openings)
 }
 
-// Lets go of all descriptors but those of these relations.
-pub(crate) fn pin_anew(caches: &mut LocalCaches, opens: &[OpenRelation]) -> Result<(), NoMemory>
-    ensures { kept_of caches.new ≡ kept_of caches.old }
+// Lets go of all descriptors but those of these relations. Out of memory, nothing changes.
+pub(crate) fn unpin_others(
+    alloc: Global,
+    caches: &mut LocalCaches,
+    opens: &[OpenRelation],
+) -> Result<(), NoMemory>
+    ensures kept { kept_of caches.new ≡ kept_of caches.old }
+    ensures pins { OnOk result (PinsOnly caches.old caches.new opens.now) }
 {
-    caches.unpin_all();
-    for o in opens {
-        caches.pin(o.rel)?;
-    }
+    let rels = relations_of(alloc, opens)?;
+    caches.unpin_others(rels.as_slice());
     Ok(())
 }
 
-// The same at the end of a command, where so many were held: those are these, if they are as many.
-pub(crate) fn pin_others(
-    caches: &mut LocalCaches,
-    opens: &[OpenRelation],
-    held: usize,
-) -> Result<(), NoMemory>
-    ensures { kept_of caches.new ≡ kept_of caches.old }
+// The oids of these.
+fn relations_of(alloc: Global, opens: &[OpenRelation]) -> Result<Listed<Oid>, NoMemory>
+    ensures { IfOk result (λ rels. rels ≡ map (λ o. o.rel) opens.now) }
 {
-    if held == opens.len() {
-        return Ok(());
+    let mut rels = Listed::new(alloc);
+    for o in opens {
+        rels.push(o.rel)?;
     }
-    pin_anew(caches, opens)
+    Ok(rels)
 }
 
 // The relations that are open after the running command, which has this number.

@@ -8,7 +8,7 @@ ghost use Rattle.cacheless.specs.Silently.{rows_for as gives_rows};
 ghost use Rattle.local_caches.specs.Caches.{kept_of};
 
 use crate::begun::begun;
-use crate::opens::{held_in, opens_after, pin_others};
+use crate::opens::{held_in, opens_after, unpin_others};
 use crate::{Counts, Due, Opening, Progress};
 use base_types::{Command, Kind, Listed, Mode, Name, NoMemory, Oid, Purpose, Row};
 use ddl_effect::{Exec, OpenRelation, Told, Want};
@@ -277,7 +277,6 @@ impl Progress {
         ensures same { OnOk result (self.new.commands ≡ self.old.commands) }
     {
         let number = self.finished + 1;
-        let held = self.opened.as_slice().len();
         let Some(command) = self.commands.as_slice().get(self.finished as usize) else {
             unreachable!()
         };
@@ -310,7 +309,7 @@ impl Progress {
         self.taken = None;
         let opened = held_in(alloc, &self.blocks, opens.as_slice())?;
         self.opens = opens;
-        pin_others(&mut self.caches, self.opens.as_slice(), held)?;
+        unpin_others(alloc, &mut self.caches, self.opens.as_slice())?;
         self.suspects
             .hold_others(&self.caches, &self.opened, &opened);
         self.opened = opened;

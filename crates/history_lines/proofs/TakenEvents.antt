@@ -74,6 +74,7 @@ room_holds scenario seen s room h = record {
   order = h.order;
   sought = h.sought;
   puts = h.puts;
+  pins = h.pins;
 }
 
 -- and rests where it did

@@ -6,3 +6,5 @@ pub mod Unpinned
 pub mod Texts
 mod Catalogs
 mod KeyedPuts
+pub mod Letting
+pub mod Executing

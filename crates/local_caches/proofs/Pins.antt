@@ -1,5 +1,7 @@
 -- How often the relations are pinned.
-use Rattle.std.proofs.Common.{◌≡◌, ◌≢◌, ◌<◌, ◌+◌, ◌∙◌, ◌⊎◌, inl, inr, ◌||◌, ℕ, Bool, true, false, Option, Some, None, IsSome, IsSomeAnd, List, [], ◌∷◌, ◌++◌, sym, ap, subst, refl, arith, if◌then◌else◌}
+use Rattle.std.proofs.Common.{◌≡◌, ◌≢◌, ◌<◌, ◌+◌, ◌∙◌, ◌⊎◌, inl, inr, ◌||◌, ℕ, Bool, true, false, Option, Some, None, IsSome, IsSomeAnd, List, [], ◌∷◌, ◌++◌, take, drop, slice_get, sym, ap, subst, refl, arith, if◌then◌else◌}
+use Rattle.std.proofs.lemmas.List.{drop_more, take-append-drop}
+use Rattle.std.proofs.lemmas.Option.{slice_get_within, get_or_from_slice_get}
 use Rattle.std.proofs.lemmas.Bool.{or_parts, eq-eqb, ne_eqb}
 use Rattle.std.specs.List.{list_any}
 use Rattle.std.specs.Option.{option_map}
@@ -13,7 +15,7 @@ use Rattle.rel_cache.proofs.Whole.{by_number}
 use Rattle.local_caches.specs.Types.{Oid, Held, RelCache}
 use Rattle.local_caches.specs.declared.part.Part.{Part}
 use Rattle.local_caches.specs.Parts.{parts_held, pins_held}
-use Rattle.local_caches.specs.Whole.{times, ArePinned}
+use Rattle.local_caches.specs.Whole.{times, ArePinned, is_one_of}
 use Rattle.local_caches.proofs.OfDescriptors.{same_or_other}
 
 -- a relation that isn't among these stands there never
@@ -106,31 +108,59 @@ opened_pins old new rel pinned now pins there changes is other = by (same_or_oth
         ap (λ o. pins_held (held_of new o)) same ∙ ap pins_held changes.at ∙ more (held_of old rel) there ∙ ap (λ n. n + 1) (pins rel) ∙ sym (times_own rel pinned) ∙ sym (ap (λ o. times o (pinned ++ rel ∷ [])) same)
     by (inr differs) = ap pins_held (changes.others other differs) ∙ pins other ∙ sym (times_other other rel pinned differs)
 
--- the last one that is pinned has a pin
-pub has_pin : (relations : RelCache (List Part)) (pinned left : List Oid) (rel : Oid) → ArePinned relations pinned → pinned ≡ left ++ rel ∷ [] → IsSomeAnd (held_of relations rel) (λ h. 0 < h.pins)
-has_pin relations pinned left rel pins is = by (held_of relations rel) (pins rel ∙ ap (times rel) is ∙ times_own rel left)
+-- these are those but for one, which is this relation
+pub record IsOneLess (rel : Oid) (pinned left : List Oid) : Type 0 where
+  pub own : times rel pinned ≡ times rel left + 1
+  pub others : (other : Oid) → other ≢ rel → times other pinned ≡ times other left
+
+-- so it is where the one at a place is taken out
+pub taken_out : (rel : Oid) (xs : List Oid) (at : ℕ) → slice_get xs at ≡ Some rel → IsOneLess rel xs (take at xs ++ drop (at + 1) xs)
+taken_out rel xs at is = record {
+  own = apart rel ∙ between rel (take at xs) (drop (at + 1) xs) ∙ ap (λ t. times rel (take at xs ++ drop (at + 1) xs) + (if t then 1 else 0)) (eq-eqb rel.0 rel.0 refl);
+  others = λ other differs. apart other ∙ between other (take at xs) (drop (at + 1) xs) ∙ ap (λ t. times other (take at xs ++ drop (at + 1) xs) + (if t then 1 else 0)) (ne_eqb rel.0 other.0 (λ same. differs (by_number other rel (sym same)))) ∙ nothing (times other (take at xs ++ drop (at + 1) xs));
+}
+  where
+    nothing : (n : ℕ) → n + 0 ≡ n
+    nothing n = omega arith
+
+    swap : (a b c : ℕ) → a + b + c ≡ a + c + b
+    swap a b c = omega arith
+
+    here : drop at xs ≡ rel ∷ drop (at + 1) xs
+    here = drop_more xs at rel (slice_get_within xs at rel is) ∙ ap (λ x. x ∷ drop (at + 1) xs) (get_or_from_slice_get xs at rel rel is)
+
+    apart : (other : Oid) → times other xs ≡ times other (take at xs ++ rel ∷ drop (at + 1) xs)
+    apart other = ap (times other) (sym (take-append-drop at xs) ∙ ap (λ l. take at xs ++ l) here)
+
+    between : (other : Oid) (front back : List Oid) → times other (front ++ rel ∷ back) ≡ times other (front ++ back) + (if same_oid rel other then 1 else 0)
+    between other [] back = refl
+    between other (x ∷ front) back = ap (λ n. n + (if same_oid x other then 1 else 0)) (between other front back) ∙ swap (times other (front ++ back)) (if same_oid rel other then 1 else 0) (if same_oid x other then 1 else 0)
+
+-- one that is pinned has a pin
+pub has_pin : (relations : RelCache (List Part)) (pinned left : List Oid) (rel : Oid) → ArePinned relations pinned → IsOneLess rel pinned left → IsSomeAnd (held_of relations rel) (λ h. 0 < h.pins)
+has_pin relations pinned left rel pins less = by (held_of relations rel) (pins rel ∙ less.own)
   where
     by : (o : Option (Held (List Part))) → pins_held o ≡ times rel left + 1 → IsSomeAnd o (λ h. 0 < h.pins)
     by None none = absurd (omega (arith, none))
     by (Some h) some = omega (arith, some)
 
 -- and is held
-pub is_held : (relations : RelCache (List Part)) (pinned left : List Oid) (rel : Oid) → ArePinned relations pinned → pinned ≡ left ++ rel ∷ [] → option_map (λ h. h.at) (held_of relations rel) ≡ None → ⊥
-is_held relations pinned left rel pins is gone = by (held_of relations rel) (has_pin relations pinned left rel pins is) gone
+pub is_held : (relations : RelCache (List Part)) (pinned left : List Oid) (rel : Oid) → ArePinned relations pinned → IsOneLess rel pinned left → option_map (λ h. h.at) (held_of relations rel) ≡ None → ⊥
+is_held relations pinned left rel pins less gone = by (held_of relations rel) (has_pin relations pinned left rel pins less) gone
   where
     by : (o : Option (Held (List Part))) → IsSomeAnd o (λ h. 0 < h.pins) → option_map (λ h. h.at) o ≡ None → ⊥
     by None some none = some
     by (Some h) some none = absurd (cc)
 
 -- and one pin less once it is closed
-pub closed_pins : (old new : RelCache (List Part)) (rel : Oid) (pinned left : List Oid) → ArePinned old pinned → pinned ≡ left ++ rel ∷ [] → ChangesHeld old new rel (option_map closed_once (held_of old rel)) → ArePinned new left
-closed_pins old new rel pinned left pins is changes other = by (same_or_other other rel)
+pub closed_pins : (old new : RelCache (List Part)) (rel : Oid) (pinned left : List Oid) → ArePinned old pinned → IsOneLess rel pinned left → ChangesHeld old new rel (option_map closed_once (held_of old rel)) → ArePinned new left
+closed_pins old new rel pinned left pins less changes other = by (same_or_other other rel)
   where
-    less : (o : Option (Held (List Part))) (n : ℕ) → pins_held o ≡ n + 1 → pins_held (option_map closed_once o) ≡ n
-    less None n none = absurd (omega (arith, none))
-    less (Some h) n some = omega (arith, some)
+    fewer : (o : Option (Held (List Part))) (n : ℕ) → pins_held o ≡ n + 1 → pins_held (option_map closed_once o) ≡ n
+    fewer None n none = absurd (omega (arith, none))
+    fewer (Some h) n some = omega (arith, some)
 
     by : (other ≡ rel) ⊎ (other ≢ rel) → pins_held (held_of new other) ≡ times other left
     by (inl same) =
-        ap (λ o. pins_held (held_of new o)) same ∙ ap pins_held changes.at ∙ less (held_of old rel) (times rel left) (pins rel ∙ ap (times rel) is ∙ times_own rel left) ∙ sym (ap (λ o. times o left) same)
-    by (inr differs) = ap pins_held (changes.others other differs) ∙ pins other ∙ ap (times other) is ∙ times_other other rel left differs
+        ap (λ o. pins_held (held_of new o)) same ∙ ap pins_held changes.at ∙ fewer (held_of old rel) (times rel left) (pins rel ∙ less.own) ∙ sym (ap (λ o. times o left) same)
+    by (inr differs) = ap pins_held (changes.others other differs) ∙ pins other ∙ less.others other differs

@@ -1,5 +1,6 @@
 -- What the caches keep to among themselves.
-use Rattle.std.specs.Prelude.{◌≡◌, ◌+◌, ℕ, List, [], ◌∷◌, if◌then◌else◌}
+use Rattle.std.specs.Prelude.{◌≡◌, ◌+◌, ℕ, Bool, List, [], ◌∷◌, if◌then◌else◌}
+use Rattle.std.specs.List.{list_any}
 use Rattle.std.specs.Option.{option_map_or}
 use Rattle.pin_pool.specs.declared.reference.Ref.{Ref}
 use Rattle.base_types.specs.Scans.{same_oid}
@@ -24,6 +25,10 @@ pub record AreUnpinned (names oids columns : CatCache) : Type 0 where
   pub names_are : IsUnpinned names
   pub oids_are : IsUnpinned oids
   pub columns_are : IsUnpinned columns
+
+-- a relation is one of these
+abbrev pub is_one_of : Oid → List Oid → Bool
+is_one_of rel rels = list_any (λ other. same_oid other rel) rels
 
 -- how often a relation stands among these
 abbrev pub times : Oid → List Oid → ℕ

@@ -1,13 +1,12 @@
-ghost use Rattle.std.specs.Prelude.{◌≡◌, ◌≢◌, ◌<◌, [], true, cond, IfOk, OnOk, OnErr};
+ghost use Rattle.std.specs.Prelude.{◌≡◌, ◌≢◌, ◌<◌, ◌+◌, ◌++◌, [], true, Some, cond, take, drop, slice_get, IfOk, OnOk, OnErr};
 ghost use Rattle.std.specs.Option.{option_copied, option_map};
-ghost use Rattle.std.specs.List.{list_any};
 ghost use Rattle.base_types.specs.Scans.{same_oid};
 ghost use Rattle.base_types.specs.Fields.{field_text, read_by as scan_for};
 ghost use Rattle.local_caches.specs.declared.home.Home.TheVariants as homes;
 ghost use Rattle.local_caches.specs.Homes.{home_of};
 ghost use Rattle.local_caches.specs.Reads.{given};
 ghost use Rattle.local_caches.specs.Parts.{part_kept, IsPartOf};
-ghost use Rattle.local_caches.specs.Whole.{ArePinned};
+ghost use Rattle.local_caches.specs.Whole.{ArePinned, is_one_of};
 
 use crate::given::Given;
 use crate::part::Part;
@@ -136,22 +135,48 @@ impl Descriptors {
         Ok(())
     }
 
-    // Lets go of all descriptors that are pinned. They stay, also without pins.
-    pub(crate) fn unpin_all(&mut self)
+    // Lets go of all descriptors that are pinned but those of these relations. They stay, also without pins.
+    pub(crate) fn unpin_others(&mut self, kept: &[Oid])
         ensures parts { HasParts self.old self.new }
-        ensures pins { (rel : _) → pins_of self.new rel ≡ 0 }
+        ensures pins { (rel : _) → pins_of self.new rel ≡ cond (is_one_of rel kept.now) (pins_of self.old rel) 0 }
     {
-        while let Some(rel) = self.pinned.pop() {
-            if let Some(r) = self.relations.reference(rel) {
-                self.relations.close(r);
+        let mut at = self.pinned.len();
+        while at > 0 {
+            at -= 1;
+            let rel = self.pinned[at];
+            if !is_among_at(kept, at, rel) {
+                self.unpin_at(at, rel);
             }
+        }
+    }
+
+    // Lets go of the relation at a place of those that are pinned.
+    fn unpin_at(&mut self, at: usize, rel: Oid)
+        requires { slice_get self.old.pinned.items at ≡ Some rel }
+        ensures parts { HasParts self.old self.new }
+        ensures left { self.new.pinned.items ≡ take at self.old.pinned.items ++ drop (at + 1) self.old.pinned.items }
+        ensures others { (other : _) → other ≢ rel → pins_of self.new other ≡ pins_of self.old other }
+    {
+        self.pinned.remove(at);
+        if let Some(r) = self.relations.reference(rel) {
+            self.relations.close(r);
         }
     }
 }
 
+// Whether a relation is among these, first at this place, where it stands in most lists.
+fn is_among_at(rels: &[Oid], at: usize, rel: Oid) -> bool
+    ensures { result ≡ is_one_of rel rels.now }
+{
+    if at < rels.len() && rels[at].0 == rel.0 {
+        return true;
+    }
+    is_among(rels, rel)
+}
+
 // Whether a relation is among these.
 fn is_among(rels: &[Oid], rel: Oid) -> bool
-    ensures { result ≡ list_any (λ other. same_oid other rel) rels.now }
+    ensures { result ≡ is_one_of rel rels.now }
 {
     rels.iter().any(|other| other.0 == rel.0)
 }

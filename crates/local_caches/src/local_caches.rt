@@ -1,9 +1,12 @@
-ghost use Rattle.std.specs.Prelude.{◌≡◌, ◌≤◌, ◌∷◌, [], true, None, not, length, IfOk, OnOk, OnErr};
+ghost use Rattle.std.specs.Prelude.{◌≡◌, ◌≢◌, ◌≤◌, ◌∷◌, ◌&&◌, [], true, false, None, not, length, IfOk, OnOk, OnErr};
 ghost use Rattle.std.specs.Option.{option_copied, option_map};
 ghost use Rattle.std.specs.List.{find};
 ghost use Rattle.base_types.specs.Scans.{build_scans};
 ghost use Rattle.base_types.specs.Fields.{field_text, read_by};
+ghost use Rattle.local_caches.specs.Homes.{home_of as home_at};
 ghost use Rattle.local_caches.specs.Reads.{given};
+ghost use Rattle.local_caches.specs.Whole.{is_one_of};
+ghost use Rattle.local_caches.specs.declared.home.Home.TheVariants as homes;
 
 use crate::cat_caches::CatCaches;
 use crate::descriptors::Descriptors;
@@ -18,7 +21,7 @@ use std::alloc::Global;
 /// All that a backend has cached of the catalogs: its catalog caches (`SysCache` in
 /// `src/backend/utils/cache/syscache.c`) and its relation cache (`RelationIdCache` in
 /// `src/backend/utils/cache/relcache.c`). Contracts see for each scan nothing, or what it gave and at which
-/// entry of the history.
+/// entry of the history, and of each relation whether its descriptor is pinned.
 pub struct LocalCaches {
     catalogs: CatCaches,
     descriptors: Descriptors,
@@ -34,15 +37,16 @@ impl Drop for LocalCaches {
     }
 }
 
-#[tactic(auto, unfolding(crate::specs::Caches::kept_of))]
+#[tactic(auto, unfolding(crate::specs::Caches::kept_of, crate::specs::Caches::is_pinned))]
 impl LocalCaches {
-    ghost use Rattle.local_caches.specs.Caches.{kept_of};
+    ghost use Rattle.local_caches.specs.Caches.{kept_of, is_pinned, KeepsPins};
     ghost use Rattle.local_caches.specs.Kept.{nothing_kept, kept_with, kept_spared, is_kept, is_keyed};
 
     /// Nothing is kept (`InitCatalogCache` in `src/backend/utils/cache/syscache.c`,
     /// `RelationCacheInitialize` in `src/backend/utils/cache/relcache.c`).
     pub fn new(alloc: Global) -> Result<LocalCaches, NoMemory>
-        ensures { IfOk result (λ caches. kept_of caches ≡ nothing_kept) }
+        ensures kept { IfOk result (λ caches. kept_of caches ≡ nothing_kept) }
+        ensures pins { IfOk result (λ caches. (rel : _) → is_pinned caches rel ≡ false) }
     {
         let catalogs = CatCaches::new(alloc)?;
         Ok(LocalCaches {
@@ -133,6 +137,7 @@ impl LocalCaches {
         requires one { is_keyed scan.now ≡ true → length rows.items ≤ 1 }
         ensures ok { OnOk result (kept_of self.new ≡ kept_with scan.now rows.items at (kept_of self.old)) }
         ensures err { OnErr result (kept_of self.new ≡ kept_of self.old) }
+        ensures pins { KeepsPins self.old self.new }
     {
         let rows = Listed::from_vec(rows);
         match home_of(scan) {
@@ -147,7 +152,8 @@ impl LocalCaches {
     /// Executes messages: of the scans that they cover nothing is kept any more
     /// (`LocalExecuteInvalidationMessage` in `src/backend/utils/cache/inval.c`).
     pub fn execute(&mut self, messages: &[Message])
-        ensures { kept_of self.new ≡ kept_spared messages.now (kept_of self.old) }
+        ensures kept { kept_of self.new ≡ kept_spared messages.now (kept_of self.old) }
+        ensures pins { KeepsPins self.old self.new }
     {
         for message in messages {
             self.execute_one(*message);
@@ -156,7 +162,8 @@ impl LocalCaches {
 
     // The same for one message.
     fn execute_one(&mut self, message: Message)
-        ensures { kept_of self.new ≡ kept_spared (message ∷ []) (kept_of self.old) }
+        ensures kept { kept_of self.new ≡ kept_spared (message ∷ []) (kept_of self.old) }
+        ensures pins { KeepsPins self.old self.new }
     {
         match message {
             Message::Cat { cache, hash } => self.catalogs.execute(cache, hash),
@@ -167,7 +174,8 @@ impl LocalCaches {
     /// A reset, after which nobody knows what has changed: nothing is kept any more
     /// (`InvalidateSystemCaches` in `src/backend/utils/cache/inval.c`).
     pub fn reset(&mut self)
-        ensures { kept_of self.new ≡ nothing_kept }
+        ensures kept { kept_of self.new ≡ nothing_kept }
+        ensures pins { KeepsPins self.old self.new }
     {
         self.catalogs.reset();
         self.descriptors.reset();
@@ -175,19 +183,23 @@ impl LocalCaches {
 
     /// Pins the descriptor of a relation, if there is one (`RelationIncrementReferenceCount` in
     /// `src/backend/utils/cache/relcache.c`): until it is let go, a message or a reset marks it to be built
-    /// anew and leaves it in its place. What is kept of scans is the same with a pin and without. One that is
-    /// pinned isn't pinned again. Out of memory, nothing changes.
+    /// anew and leaves it in its place. There is one where something is kept of a scan of it, and what is kept is
+    /// the same with a pin and without. One that is pinned isn't pinned again. Out of memory, nothing changes.
     pub fn pin(&mut self, rel: Oid) -> Result<(), NoMemory>
-        ensures { kept_of self.new ≡ kept_of self.old }
+        ensures kept { kept_of self.new ≡ kept_of self.old }
+        ensures pinned { OnOk result ((scan : _) → home_at scan ≡ homes.Rel rel → is_kept (kept_of self.old) scan ≡ true → is_pinned self.new rel ≡ true) }
+        ensures others { (other : _) → other ≢ rel → is_pinned self.new other ≡ is_pinned self.old other }
+        ensures err { OnErr result (KeepsPins self.old self.new) }
     {
         self.descriptors.pin(rel)
     }
 
-    /// Lets go of all descriptors that are pinned (`RelationDecrementReferenceCount` in
-    /// `src/backend/utils/cache/relcache.c`). They stay, also without pins.
-    pub fn unpin_all(&mut self)
-        ensures { kept_of self.new ≡ kept_of self.old }
+    /// Lets go of all descriptors that are pinned but those of these relations
+    /// (`RelationDecrementReferenceCount` in `src/backend/utils/cache/relcache.c`). They stay, also without pins.
+    pub fn unpin_others(&mut self, kept: &[Oid])
+        ensures kept { kept_of self.new ≡ kept_of self.old }
+        ensures pins { (rel : _) → is_pinned self.new rel ≡ (is_one_of rel kept.now && is_pinned self.old rel) }
     {
-        self.descriptors.unpin_all();
+        self.descriptors.unpin_others(kept);
     }
 }

@@ -129,6 +129,7 @@ module _ (scenario : Scenario) (seen : List Entry) (was : Backend) (awaits : Awa
     order = held.order;
     sought = λ absent. absurd (cc absent);
     puts = puts_first p.opened p.opens p.blocks None;
+    pins = held.pins;
   }
 
   halted_waits : (frames : List Frame) → frames ≡ [] → AwaitsEntry part seen (record was { progress = now; looked = false; frames = frames; told = false })

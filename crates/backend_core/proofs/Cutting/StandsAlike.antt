@@ -37,6 +37,7 @@ module _ (one two : Scenario) (seen : List Entry) where
     order = holds.order;
     sought = holds.sought;
     puts = holds.puts;
+    pins = holds.pins;
   }
 
   awaits_alike : (s : Backend) → IsAlike s.progress.id one two → AwaitsEntry one seen s → AwaitsEntry two seen s
@@ -56,6 +57,7 @@ module _ (one two : Scenario) (seen : List Entry) where
         order = holds.order;
         sought = holds.sought;
         puts = holds.puts;
+        pins = holds.pins;
       };
       still = waits.rests.still;
     };

@@ -42,6 +42,7 @@ module _ (scenario : Scenario) (seen : List Entry) (s : Backend) (exec : Exec) (
     order = h.order;
     sought = λ is. h.sought (ap is_absent (sym plan) ∙ is) ∙ again is;
     puts = subst (PutsOpened s.progress.opened) (sym plan) h.puts;
+    pins = h.pins;
   }
 
   alike_awaits : IsAtRest other.progress → (is_to_answer_at other.progress ≡ true → is_some s.progress.answer ≡ true) → AwaitsEntry scenario seen s → AwaitsEntry scenario seen other

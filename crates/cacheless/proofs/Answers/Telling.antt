@@ -178,6 +178,7 @@ answer_holds scenario seen s text holds = record {
   order = holds.order;
   sought = holds.sought;
   puts = holds.puts;
+  pins = holds.pins;
 }
 
 -- a command that isn't over is whole

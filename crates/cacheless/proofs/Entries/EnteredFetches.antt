@@ -3,7 +3,7 @@ use Rattle.std.proofs.Common.{◌≡◌, ◌≤◌, ◌+◌, ◌∙◌, ◌&&◌
 use Rattle.event_kinds.specs.declared.entry.Event.TheVariants as events
 use Rattle.inval_messages.specs.Messages.{is_spared}
 use Rattle.lock_modes.specs.Rooms.{Roomy}
-use Rattle.local_caches.specs.Caches.{kept_of}
+use Rattle.local_caches.specs.Caches.{kept_of, KeepsPins}
 use Rattle.local_caches.specs.declared.local_caches.LocalCaches.{LocalCaches}
 use Rattle.ddl_effect.specs.Plans.{Plan, Done, Fails, Absent, Do}
 use Rattle.ddl_effect.specs.Stages.{plan_at, plan_again, altered, altering_at, altering_again}
@@ -114,10 +114,10 @@ one_at_most : (t : Bool) → one_if t ≤ 1
 one_at_most true = omega arith
 one_at_most false = omega arith
 
-pub fetch_holds : (scenario : Scenario) (old : List Entry) (was : Progress) (count : ℕ) (messages : List Message) (caches : LocalCaches) (suspects : Suspects) (known : AreKnown (is_kept (kept_of caches)) was.opened suspects) (exec : Exec) (locks : Roomy OwnLock) (rests : Rests scenario old was) → messages ≡ fetched_by old was.id count → kept_of caches ≡ kept_spared messages (kept_at was) → plan_at was.opens exec ≡ plan_again was.opens was.exec
+pub fetch_holds : (scenario : Scenario) (old : List Entry) (was : Progress) (count : ℕ) (messages : List Message) (caches : LocalCaches) (suspects : Suspects) (known : AreKnown (is_kept (kept_of caches)) was.opened suspects) (exec : Exec) (locks : Roomy OwnLock) (rests : Rests scenario old was) → messages ≡ fetched_by old was.id count → kept_of caches ≡ kept_spared messages (kept_at was) → KeepsPins was.caches caches → plan_at was.opens exec ≡ plan_again was.opens was.exec
     → locks.items ≡ locks_accepted (is_in_accept (fetched was count caches suspects known exec) (slice_get was.commands was.finished)) was.locks.items
     → HasEntered scenario old was (events.Fetch count) rests (with_locks (fetched was count caches suspects known exec) locks)
-fetch_holds scenario old was count messages caches suspects known exec locks rests are keeps again items = own_entered scenario old was now event locks rests (record { session = λ _ _ _ _ _ _. refl; finished = λ s. ends_same s.left s }) (record {
+fetch_holds scenario old was count messages caches suspects known exec locks rests are keeps pinned again items = own_entered scenario old was now event locks rests (record { session = λ _ _ _ _ _ _. refl; finished = λ s. ends_same s.left s }) (record {
   moves = record { id = refl; commands = refl; finished = refl };
   session = whole ∙ sym (ap (λ t. session_at now (rest_of t)) whole);
   facts = fits;
@@ -125,6 +125,7 @@ fetch_holds scenario old was count messages caches suspects known exec locks res
   order = rests.holds.order;
   sought = λ is. absurd (not_both (is_absent (plan_at was.opens exec)) is (ap is_absent again ∙ never_absent was.opens was.exec));
   puts = subst (PutsOpened was.opened) (sym again) (puts_again was.opened was.opens was.exec rests.holds.puts);
+  pins = λ rel. pinned rel ∙ rests.holds.pins rel;
 }) items
   where
     ends_same : (p : Plan) (s : Session) → (resumed p s).finished ≡ s.finished
@@ -177,10 +178,10 @@ was_reset was caches suspects known exec = record was {
   answer = None;
 }
 
-pub reset_holds : (scenario : Scenario) (old : List Entry) (was : Progress) (caches : LocalCaches) (suspects : Suspects) (known : AreKnown (is_kept (kept_of caches)) was.opened suspects) (exec : Exec) (locks : Roomy OwnLock) (rests : Rests scenario old was) → kept_of caches ≡ nothing_kept → plan_at was.opens exec ≡ plan_again was.opens was.exec
+pub reset_holds : (scenario : Scenario) (old : List Entry) (was : Progress) (caches : LocalCaches) (suspects : Suspects) (known : AreKnown (is_kept (kept_of caches)) was.opened suspects) (exec : Exec) (locks : Roomy OwnLock) (rests : Rests scenario old was) → kept_of caches ≡ nothing_kept → KeepsPins was.caches caches → plan_at was.opens exec ≡ plan_again was.opens was.exec
     → locks.items ≡ locks_accepted (is_in_accept (was_reset was caches suspects known exec) (slice_get was.commands was.finished)) was.locks.items
     → HasEntered scenario old was events.FetchReset rests (with_locks (was_reset was caches suspects known exec) locks)
-reset_holds scenario old was caches suspects known exec locks rests keeps again items = own_entered scenario old was now event locks rests (record { session = λ _ _ _ _ _ _. refl; finished = λ s. ends_same s.left s }) (record {
+reset_holds scenario old was caches suspects known exec locks rests keeps pinned again items = own_entered scenario old was now event locks rests (record { session = λ _ _ _ _ _ _. refl; finished = λ s. ends_same s.left s }) (record {
   moves = record { id = refl; commands = refl; finished = refl };
   session = whole ∙ sym (ap (λ t. session_at now (rest_of t)) whole);
   facts = let f = rests.holds.facts in λ i. record { due = dues.Nothing; running = Some (runs_begun (was.finished + 1) was f i); lists = (f i).lists; kept = sym keeps i };
@@ -188,6 +189,7 @@ reset_holds scenario old was caches suspects known exec locks rests keeps again 
   order = rests.holds.order;
   sought = λ is. absurd (not_both (is_absent (plan_at was.opens exec)) is (ap is_absent again ∙ never_absent was.opens was.exec));
   puts = subst (PutsOpened was.opened) (sym again) (puts_again was.opened was.opens was.exec rests.holds.puts);
+  pins = λ rel. pinned rel ∙ rests.holds.pins rel;
 }) items
   where
     ends_same : (p : Plan) (s : Session) → (resumed p s).finished ≡ s.finished

@@ -43,6 +43,7 @@ granted_holds scenario old was rel mode locks rests items = own_entered scenario
   order = rests.holds.order;
   sought = rests.holds.sought;
   puts = rests.holds.puts;
+  pins = rests.holds.pins;
 }) (ap (λ t. locks_accepted t locks.items) (sym (accepts_on (granted was rel locks) (slice_get was.commands was.finished) refl)))
 
 -- the state after a lock is given back
@@ -60,6 +61,7 @@ unlock_holds scenario old was rel mode left locks rests stay items = own_entered
   order = rests.holds.order;
   sought = rests.holds.sought;
   puts = rests.holds.puts;
+  pins = rests.holds.pins;
 }) items
 
 -- the event shows an error that ends the command, and does nothing else
@@ -86,6 +88,7 @@ fails_holds event error fails scenario old was locks rests items = own_entered s
   order = rests.holds.order;
   sought = λ is. absurd (cc);
   puts = tt;
+  pins = rests.holds.pins;
 }) (items ∙ ap (λ t. locks_accepted t was.locks.items) (sym (accepts_none error was (slice_get was.commands was.finished))))
 
 -- a lock that is refused

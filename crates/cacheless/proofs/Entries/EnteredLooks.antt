@@ -1,5 +1,5 @@
 -- What a start, a look and a stop make of what the code holds.
-use Rattle.std.proofs.Common.{◌≡◌, ◌≤◌, ◌+◌, ◌∙◌, ◌==◌, Bool, true, false, Option, Some, None, List, [], ◌∷◌, ◌++◌, refl, sym, ap, subst, length, drop, slice_get, arith}
+use Rattle.std.proofs.Common.{◌≡◌, ◌≤◌, ◌+◌, ◌∙◌, ◌==◌, ◌||◌, Bool, true, false, Option, Some, None, List, [], ◌∷◌, ◌++◌, refl, sym, ap, subst, length, drop, slice_get, arith}
 use Rattle.std.proofs.lemmas.Bool.{eq-eqb}
 use Rattle.std.specs.List.{AllByRecursion}
 use Rattle.command_lists.specs.Lists.{all_lists}
@@ -7,6 +7,7 @@ use Rattle.event_kinds.specs.declared.entry.Event.TheVariants as events
 use Rattle.lock_modes.specs.Rooms.{Roomy}
 use Rattle.txn_blocks.specs.Blocks.{Blocks, no_block, refused_by}
 use Rattle.ddl_effect.specs.Commands.{plan_of}
+use Rattle.ddl_effect.specs.Opens.{has_open}
 use Rattle.ddl_effect.specs.declared.told.Told.TheVariants as tells
 use Rattle.ddl_effect.specs.Plans.{Done}
 use Rattle.ddl_effect.specs.Stages.{plan_at}
@@ -16,7 +17,7 @@ use Rattle.cacheless.specs.declared.progress.Progress.{Progress}
 use Rattle.cacheless.specs.Facts.{Facts, facts_of, facts_by}
 use Rattle.cacheless.specs.Session.{none_open, plan_admitted, plan_first, refused_first, at_command, first_of}
 use Rattle.cacheless.specs.Settled.{settled}
-use Rattle.cacheless.specs.Puts.{PutsOpened}
+use Rattle.cacheless.specs.Puts.{PutsOpened, is_opened}
 use Rattle.txn_blocks.specs.Transactions.{begun_own}
 use Rattle.cacheless.specs.State.{due_looked, is_absent, is_in_accept, locks_accepted, IsNew, Rest, tally_at, session_at}
 use Rattle.cacheless.specs.Holds.{CountsFit, Holds, Rests, HasNotStarted, entry_of, HasEntered, HasStarted}
@@ -43,6 +44,7 @@ look_holds scenario old was some_wait locks rests items = own_entered scenario o
   order = rests.holds.order;
   sought = rests.holds.sought;
   puts = rests.holds.puts;
+  pins = rests.holds.pins;
 }) items
 
 -- the state after a stop
@@ -60,6 +62,7 @@ stop_holds scenario old was locks rests items = own_entered scenario old was (st
   order = rests.holds.order;
   sought = rests.holds.sought;
   puts = rests.holds.puts;
+  pins = rests.holds.pins;
 }) items
 
 -- a command begins by no lookup that has found nothing
@@ -94,6 +97,7 @@ start_holds scenario old was waits = record {
   order = subst (AllByRecursion (λ list. list.command ≤ was.finished + 1)) (sym (ap all_lists new.lists)) tt;
   sought = λ is. absurd (not_both (is_absent (plan_at was.opens was.exec)) is found);
   puts = subst (PutsOpened was.opened) (sym new.plan) (puts_first was.opened none_open no_block first);
+  pins = λ rel. new.pins rel ∙ sym (λ i. has_open rel (new.opens i) || is_opened (new.opened i) rel);
 }
   where
     new : IsNew was.id was.commands was

@@ -5,7 +5,7 @@ use Rattle.std.specs.Option.{option_map_or}
 use Rattle.base_types.specs.Scans.{same_scan, build_scans, is_build_scan}
 use Rattle.base_types.specs.declared.scan.Purpose.TheVariants as scans
 use Rattle.base_types.proofs.SameScan.{same_scan-true}
-use Rattle.local_caches.specs.Caches.{kept_of}
+use Rattle.local_caches.specs.Caches.{kept_of, KeepsPins}
 use Rattle.local_caches.specs.Kept.{Read}
 use Rattle.local_caches.specs.declared.local_caches.LocalCaches.{LocalCaches}
 use Rattle.event_kinds.specs.declared.entry.Event.TheVariants as events
@@ -71,10 +71,10 @@ abbrev pub built_scan : (was : Progress) (caches : LocalCaches) (suspects : Susp
 built_scan was caches suspects known = record was { due = dues.Nothing; running = Some (begun_own (was.finished + 1) was.running); tally = record was.tally { scans = was.tally.scans + 1 }; caches = caches; suspects = suspects; known = known; answer = None }
 
 pub built_holds : (scenario : Scenario) (old : List Entry) (was : Progress) (scan : Purpose) (count : ℕ) (given : List Row) (at : ℕ) (caches : LocalCaches) (suspects : Suspects) (known : AreKnown (is_kept (kept_of caches)) was.opened suspects) (locks : Roomy OwnLock) (rests : Rests scenario old was)
-    → given ≡ answer_of old was.id scan → at ≡ length old + 1 → kept_of caches ≡ kept_with scan given at (kept_at was)
+    → given ≡ answer_of old was.id scan → at ≡ length old + 1 → kept_of caches ≡ kept_with scan given at (kept_at was) → KeepsPins was.caches caches
     → locks.items ≡ locks_accepted (is_in_accept (built_scan was caches suspects known) (slice_get was.commands was.finished)) was.locks.items
     → HasEntered scenario old was (events.Scan scan count) rests (with_locks (built_scan was caches suspects known) locks)
-built_holds scenario old was scan count given at caches suspects known locks rests are placed pushed items = own_entered scenario old was (built_scan was caches suspects known) event locks rests (record { session = λ _ _ _ _ _ _. refl; finished = λ _. refl }) (record {
+built_holds scenario old was scan count given at caches suspects known locks rests are placed pushed pinned items = own_entered scenario old was (built_scan was caches suspects known) event locks rests (record { session = λ _ _ _ _ _ _. refl; finished = λ _. refl }) (record {
   moves = record { id = refl; commands = refl; finished = refl };
   session = refl;
   facts = let f = rests.holds.facts in λ i. record { due = dues.Nothing; running = Some (runs_begun (was.finished + 1) was f i); lists = (f i).lists; kept = (ap (λ g. kept_with scan (answer_of old was.id scan) (length old + 1) g.kept) f ∙ (λ j. kept_with scan (sym are j) (sym placed j) (kept_at was)) ∙ sym pushed) i };
@@ -82,6 +82,7 @@ built_holds scenario old was scan count given at caches suspects known locks res
   order = rests.holds.order;
   sought = rests.holds.sought;
   puts = rests.holds.puts;
+  pins = λ rel. pinned rel ∙ rests.holds.pins rel;
 }) items
   where
     event : Event

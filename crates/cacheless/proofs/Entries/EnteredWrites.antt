@@ -13,6 +13,7 @@ use Rattle.command_lists.proofs.Writes.{with-changes}
 use Rattle.local_caches.specs.Caches.{kept_of}
 use Rattle.local_caches.specs.declared.local_caches.LocalCaches.{LocalCaches}
 use Rattle.ddl_effect.specs.declared.told.Told.TheVariants as tells
+use Rattle.ddl_effect.specs.Opens.{has_open}
 use Rattle.ddl_effect.specs.Plans.{Plan, Done, Fails, Absent, Do, Lookup, Open, Search, Read, Lock, Write, after_act}
 use Rattle.ddl_effect.specs.Stages.{plan_at, altered, altering_at, want_of}
 use Rattle.cacheless.proofs.ReadsBuilds.{opened_begins, begins_unwritten}
@@ -32,10 +33,13 @@ use Rattle.cacheless.specs.Facts.{Facts}
 use Rattle.cacheless.specs.Locks.{locked_by}
 use Rattle.cacheless.specs.Session.{Session, held_in, held_before}
 use Rattle.cacheless.specs.Sessions.{written}
+use Rattle.cacheless.specs.Pins.{PinsOnly}
 use Rattle.cacheless.specs.Puts.{PutsOpened}
 use Rattle.txn_blocks.specs.Transactions.{begun_own}
 use Rattle.cacheless.specs.State.{lists_at, kept_at, kept_spared, is_kept, is_absent, is_in_accept, locks_accepted, messages_in, rest_of, session_at, locks_made}
 use Rattle.cacheless.specs.Holds.{Rests, HasEntered}
+use Rattle.cacheless.proofs.Allowed.OpensKept.{held_each}
+use Rattle.cacheless.proofs.Pinning.{open_each, open_pinned, pins_left}
 use Rattle.cacheless.proofs.Tests.{not_both}
 use Rattle.cacheless.proofs.Written.WrittenMessages.{any_once}
 use Rattle.cacheless.proofs.Entries.Entering.{facts_after, noted_after, with_locks, own_entered, runs_begun, counts_stay}
@@ -115,10 +119,10 @@ wrote was xid caches suspects known lists exec locks = record was {
 
 pub write_holds : (scenario : Scenario) (old : List Entry) (was : Progress) (xid : Xid) (items : List Item) (messages : List Message) (made : Option Oid) (caches : LocalCaches) (suspects : Suspects) (known : AreKnown (is_kept (kept_of caches)) (held_in was.blocks.block was.opens) suspects) (lists : Held) (exec : Exec) (locked locks : Roomy OwnLock) (rests : Rests scenario old was)
     → want_of (plan_at was.opens was.exec) ≡ wants.Write → messages ≡ messages_in old was.id items → flat_map (locked_by (was.finished + 1)) items ≡ locks_made (was.finished + 1) made
-    → all_lists lists.lists ≡ lists_at was ++ with_messages messages (new_list (was.finished + 1)) ∷ [] → kept_of caches ≡ kept_spared messages (kept_at was) → plan_at was.opens exec ≡ after_act [] (plan_at was.opens was.exec) → locked.items ≡ was.locks.items ++ locks_made (was.finished + 1) made
+    → all_lists lists.lists ≡ lists_at was ++ with_messages messages (new_list (was.finished + 1)) ∷ [] → kept_of caches ≡ kept_spared messages (kept_at was) → PinsOnly was.caches caches was.opens → plan_at was.opens exec ≡ after_act [] (plan_at was.opens was.exec) → locked.items ≡ was.locks.items ++ locks_made (was.finished + 1) made
     → locks.items ≡ locks_accepted (is_in_accept (wrote was xid caches suspects known lists exec locked) (slice_get was.commands was.finished)) locked.items
     → HasEntered scenario old was (events.Write xid items) rests (with_locks (wrote was xid caches suspects known lists exec locked) locks)
-write_holds scenario old was xid items messages made caches suspects known lists exec locked locks rests wants_it are makes pushed keeps goes held accepts = own_entered scenario old was now event locks rests (record { session = λ _ _ _ _ _ _. refl; finished = λ s. ends_same s.left s }) (record {
+write_holds scenario old was xid items messages made caches suspects known lists exec locked locks rests wants_it are makes pushed keeps pinned goes held accepts = own_entered scenario old was now event locks rests (record { session = λ _ _ _ _ _ _. refl; finished = λ s. ends_same s.left s }) (record {
   moves = record { id = refl; commands = refl; finished = refl };
   session = whole ∙ sym (ap (λ t. session_at now (rest_of t)) whole);
   facts = let f = rests.holds.facts in λ i. record { due = dues.Nothing; running = Some (record (runs_begun (was.finished + 1) was f i) { xid = Some xid }); lists = (ap (λ l. l ++ written_by old was.id (was.finished + 1) items ∷ []) (ap (λ g. g.lists) f) ∙ sym listed) i; kept = (ap (λ g. kept_spared (messages_written old was.id items) g.kept) f ∙ kept_alike (kept_at was) ∙ ap (λ l. kept_spared l (kept_at was)) (sym are) ∙ sym keeps) i };
@@ -127,6 +131,7 @@ write_holds scenario old was xid items messages made caches suspects known lists
       (every-append (λ (list : Written). list.command ≤ was.finished + 1) (lists_at was) (written_by old was.id (was.finished + 1) items ∷ []) rests.holds.order (omega arith, tt));
   sought = λ is. absurd (not_both (is_absent (plan_at was.opens exec)) is (ap is_absent done));
   puts = subst (PutsOpened (held_in was.blocks.block was.opens)) (sym done) tt;
+  pins = pins_left was.caches caches was.opens (held_in was.blocks.block was.opens) pinned (open_pinned was rests.holds.pins) (held_each (λ rel kind. has_open rel was.opens ≡ true) was.blocks.block was.opens (open_each was.opens));
 }) accepts
   where
     ends_same : (p : Plan) (s : Session) → (written p s).finished ≡ s.finished

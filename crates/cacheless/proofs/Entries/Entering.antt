@@ -19,6 +19,7 @@ use Rattle.cacheless.specs.Facts.{Facts, facts_of, facts_by}
 use Rattle.cacheless.specs.Session.{Session, first_of}
 use Rattle.cacheless.specs.Settled.{settled}
 use Rattle.cacheless.specs.Sessions.{noted, placed_at, counted, accepted, entered, commands_left, session_by, session_of}
+use Rattle.cacheless.specs.Pins.{ArePinned}
 use Rattle.cacheless.specs.Puts.{PutsOpened}
 use Rattle.txn_blocks.specs.Transactions.{begun_own, ends_own}
 use Rattle.cacheless.specs.State.{lists_at, is_absent, is_in_accept, locks_accepted, Rest, rest_of, session_at}
@@ -53,6 +54,7 @@ pub record Enters (old : List Entry) (was now : Progress) (event : Event) (rest 
   pub order : AllByRecursion (λ list. list.command ≤ now.finished + 1) (lists_at now)
   pub sought : is_absent (plan_at now.opens now.exec) ≡ true → (rest_after old was event rest).sought ≡ plan_again now.opens now.exec
   pub puts : PutsOpened now.opened (plan_at now.opens now.exec)
+  pub pins : ArePinned now
 
 -- a full fetch is counted in the tally alone
 counted_tally : (facts : Facts) (event : Event) (s : Session) → counted facts event s ≡ record s { tally = (counted facts event s).tally }
@@ -91,6 +93,7 @@ own_holds scenario old was now event locks rests on enters items = record {
   order = enters.order;
   sought = enters.sought;
   puts = enters.puts;
+  pins = enters.pins;
 }
   where
     holds : Holds scenario old was

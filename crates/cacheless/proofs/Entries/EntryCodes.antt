@@ -7,7 +7,7 @@ use Rattle.lock_modes.specs.Own.{is_own}
 use Rattle.lock_modes.specs.Rooms.{Roomy}
 use Rattle.inval_messages.specs.Lists.{cats_in, rels_in, lists_from, lists_before}
 use Rattle.command_lists.specs.Lists.{Held, all_lists, new_list, with_messages}
-use Rattle.local_caches.specs.Caches.{kept_of}
+use Rattle.local_caches.specs.Caches.{kept_of, KeepsPins}
 use Rattle.local_caches.specs.declared.local_caches.LocalCaches.{LocalCaches}
 use Rattle.ddl_effect.specs.Opens.{opens_before}
 use Rattle.ddl_effect.specs.Plans.{after_act}
@@ -19,6 +19,7 @@ use Rattle.cacheless.specs.Types.{Oid, Xid, Mode, Message, Row, Purpose, Command
 use Rattle.cacheless.specs.declared.progress.Due.{Due}
 use Rattle.cacheless.specs.declared.progress.Due.TheVariants as dues
 use Rattle.txn_blocks.specs.declared.transaction.RunningTransaction.{RunningTransaction}
+use Rattle.cacheless.specs.Pins.{PinsOnly}
 use Rattle.cacheless.specs.Suspects.{AreKnown}
 use Rattle.cacheless.specs.declared.suspects.Suspects.{Suspects}
 use Rattle.cacheless.specs.declared.progress.Progress.{Progress}
@@ -62,11 +63,11 @@ abbrev pub fetched_more : Progress → ℕ → Roomy OwnLock → Progress
 fetched_more s full locks = record s { tally = record s.tally { fetches = s.tally.fetches + 1; full = s.tally.full + full }; locks = locks }
 
 pub fetch_code : (was : Progress) (messages : List Message) (count : ℕ) (own : RunningTransaction) (caches : LocalCaches) (suspects : Suspects) (known : AreKnown (is_kept (kept_of caches)) was.opened suspects) (due : Due) (mid : Progress) (full : ℕ) (locks : Roomy OwnLock) (last : AreKnown (is_kept (kept_of mid.caches)) mid.opened mid.suspects) → count ≡ length messages → own ≡ begun_own (was.finished + 1) was.running
-    → kept_of caches ≡ kept_spared messages (kept_at was) → due ≡ due_fetched count → SearchesAgain (record was { running = Some own; caches = caches; suspects = suspects; known = known; due = due }) mid
+    → kept_of caches ≡ kept_spared messages (kept_at was) → KeepsPins was.caches caches → due ≡ due_fetched count → SearchesAgain (record was { running = Some own; caches = caches; suspects = suspects; known = known; due = due }) mid
     → full ≡ one_if (is_full count (fetched_once mid))
     → locks.items ≡ locks_accepted (is_in_accept (fetched_more mid full mid.locks) (slice_get mid.commands mid.finished)) mid.locks.items
     → (scenario : Scenario) (seen : List Entry) → (rests : Rests scenario seen was) → messages ≡ fetched_by seen was.id (length messages) → HasEntered scenario seen was (events.Fetch (length messages)) rests (record (fetched_more mid full locks) { answer = None; known = last })
-fetch_code was messages count own caches suspects known due mid full locks last counted begins keeps dues again counts items scenario seen rests are =
+fetch_code was messages count own caches suspects known due mid full locks last counted begins keeps pinned dues again counts items scenario seen rests are =
     with_known (HasEntered scenario seen was (events.Fetch (length messages)) rests) (record (fetched_more mid full locks) { answer = None }) last (subst Goal (sym state) canonical counts items)
   where
     n : ℕ
@@ -80,13 +81,13 @@ fetch_code was messages count own caches suspects known due mid full locks last 
 
     canonical : Goal (searched was n caches suspects known mid.exec)
     canonical f l = subst (HasEntered scenario seen was (events.Fetch n) rests) (λ i. record (fetched was n caches suspects known mid.exec) { tally = record was.tally { fetches = was.tally.fetches + 1; full = was.tally.full + sym (f ∙ ap (λ c. one_if (is_full c (fetched_first was n caches suspects known mid.exec))) counted) i }; locks = locks })
-        (fetch_holds scenario seen was n messages caches suspects known mid.exec locks rests are keeps again.plan l)
+        (fetch_holds scenario seen was n messages caches suspects known mid.exec locks rests are keeps pinned again.plan l)
 
-pub reset_code : (was : Progress) (own : RunningTransaction) (caches : LocalCaches) (suspects : Suspects) (known : AreKnown (is_kept (kept_of caches)) was.opened suspects) (mid : Progress) (locks : Roomy OwnLock) (last : AreKnown (is_kept (kept_of mid.caches)) mid.opened mid.suspects) → own ≡ begun_own (was.finished + 1) was.running → kept_of caches ≡ nothing_kept → SearchesAgain (record was { running = Some own; caches = caches; suspects = suspects; known = known; due = dues.Nothing }) mid
+pub reset_code : (was : Progress) (own : RunningTransaction) (caches : LocalCaches) (suspects : Suspects) (known : AreKnown (is_kept (kept_of caches)) was.opened suspects) (mid : Progress) (locks : Roomy OwnLock) (last : AreKnown (is_kept (kept_of mid.caches)) mid.opened mid.suspects) → own ≡ begun_own (was.finished + 1) was.running → kept_of caches ≡ nothing_kept → KeepsPins was.caches caches → SearchesAgain (record was { running = Some own; caches = caches; suspects = suspects; known = known; due = dues.Nothing }) mid
     → locks.items ≡ locks_accepted (is_in_accept (fetched_once mid) (slice_get mid.commands mid.finished)) mid.locks.items
     → (scenario : Scenario) (seen : List Entry) → (rests : Rests scenario seen was) → HasEntered scenario seen was events.FetchReset rests (record (fetched_once mid) { locks = locks; answer = None; known = last })
-reset_code was own caches suspects known mid locks last begins keeps again items scenario seen rests =
-    with_known (HasEntered scenario seen was events.FetchReset rests) (record (fetched_once mid) { locks = locks; answer = None }) last (subst Goal (sym state) (λ l. reset_holds scenario seen was caches suspects known mid.exec locks rests keeps again.plan l) items)
+reset_code was own caches suspects known mid locks last begins keeps pinned again items scenario seen rests =
+    with_known (HasEntered scenario seen was events.FetchReset rests) (record (fetched_once mid) { locks = locks; answer = None }) last (subst Goal (sym state) (λ l. reset_holds scenario seen was caches suspects known mid.exec locks rests keeps pinned again.plan l) items)
   where
     Goal : Progress → Type 0
     Goal m = locks.items ≡ locks_accepted (is_in_accept (fetched_once m) (slice_get m.commands m.finished)) m.locks.items → HasEntered scenario seen was events.FetchReset rests (record (fetched_once m) { locks = locks; answer = None })
@@ -118,21 +119,21 @@ pub clash_code : (was now : Progress) (name : List ℕ) (clash : Clash) (error :
 clash_code was now name clash error is fails scenario seen rests = subst (HasEntered scenario seen was (clash_event name clash) rests) (sym (fails.is ∙ ap (λ e. record (failed_with e was) { locks = now.locks }) is)) (clash_holds scenario seen was name clash now.locks rests fails.locks)
 
 pub built_code : (was : Progress) (scan : Purpose) (rows : Vec Row Global) (at : ℕ) (own : RunningTransaction) (caches : LocalCaches) (suspects : Suspects) (known : AreKnown (is_kept (kept_of caches)) was.opened suspects) (locks : Roomy OwnLock) → own ≡ begun_own (was.finished + 1) was.running
-    → kept_of caches ≡ kept_with scan rows.items at (kept_at was)
+    → kept_of caches ≡ kept_with scan rows.items at (kept_at was) → KeepsPins was.caches caches
     → locks.items ≡ locks_accepted (is_in_accept (record was { caches = caches; suspects = suspects; known = known; running = Some own; due = dues.Nothing }) (slice_get was.commands was.finished)) was.locks.items
     → (scenario : Scenario) (seen : List Entry) (count : ℕ) → (rests : Rests scenario seen was) → rows.items ≡ answer_of seen was.id scan → at ≡ length seen + 1
     → HasEntered scenario seen was (events.Scan scan count) rests (record was { due = dues.Nothing; running = Some own; tally = record was.tally { scans = was.tally.scans + 1 }; caches = caches; suspects = suspects; known = known; locks = locks; answer = None })
-built_code was scan rows at own caches suspects known locks begins pushed items scenario seen count rests are placed =
+built_code was scan rows at own caches suspects known locks begins pushed pinned items scenario seen count rests are placed =
     subst (HasEntered scenario seen was (events.Scan scan count) rests) (λ i. record (built_scan was caches suspects known) { running = Some (sym begins i); locks = locks })
-    (built_holds scenario seen was scan count rows.items at caches suspects known locks rests are placed pushed items)
+    (built_holds scenario seen was scan count rows.items at caches suspects known locks rests are placed pushed pinned items)
 
 pub write_code : (was : Progress) (xid : Xid) (messages : List Message) (made : Option Oid) (own : RunningTransaction) (lists : Held) (caches : LocalCaches) (suspects : Suspects) (exec : Exec) (open_now : List OpenRelation) (opened : List Opening) (known : AreKnown (is_kept (kept_of caches)) opened suspects) (locked locks : Roomy OwnLock)
     → own ≡ record (begun_own (was.finished + 1) was.running) { xid = Some xid } → want_of (plan_at was.opens was.exec) ≡ wants.Write → all_lists lists.lists ≡ lists_at was ++ with_messages messages (new_list (was.finished + 1)) ∷ []
-    → kept_of caches ≡ kept_spared messages (kept_at was) → open_now ≡ was.opens → plan_at open_now exec ≡ after_act [] (plan_at open_now was.exec) → opened ≡ held_in was.blocks.block was.opens → locked.items ≡ was.locks.items ++ locks_made (was.finished + 1) made
+    → kept_of caches ≡ kept_spared messages (kept_at was) → PinsOnly was.caches caches was.opens → open_now ≡ was.opens → plan_at open_now exec ≡ after_act [] (plan_at open_now was.exec) → opened ≡ held_in was.blocks.block was.opens → locked.items ≡ was.locks.items ++ locks_made (was.finished + 1) made
     → locks.items ≡ locks_accepted (is_in_accept (record was { lists = lists; caches = caches; suspects = suspects; known = known; running = Some own; due = dues.Nothing; exec = exec; opened = opened; taken = None; locks = locked }) (slice_get was.commands was.finished)) locked.items
     → (scenario : Scenario) (seen : List Entry) (items : List Item) → (rests : Rests scenario seen was) → messages ≡ messages_in seen was.id items → flat_map (locked_by (was.finished + 1)) items ≡ locks_made (was.finished + 1) made
     → HasEntered scenario seen was (events.Write xid items) rests (record was { lists = lists; caches = caches; suspects = suspects; known = known; running = Some own; due = dues.Nothing; exec = exec; opened = opened; taken = None; locks = locks; answer = None })
-write_code was xid messages made own lists caches suspects exec open_now opened known locked locks begins wants_it pushed keeps same goes opens held accepts scenario seen items rests are makes =
+write_code was xid messages made own lists caches suspects exec open_now opened known locked locks begins wants_it pushed keeps pinned same goes opens held accepts scenario seen items rests are makes =
     subst (λ o. (k : AreKnown (is_kept (kept_of caches)) o suspects) → locks.items ≡ accepted_in o k → HasEntered scenario seen was (events.Write xid items) rests (entered o k own)) (sym opens) direct known accepts
   where
     entered : (o : List Opening) → AreKnown (is_kept (kept_of caches)) o suspects → RunningTransaction → Progress
@@ -143,7 +144,7 @@ write_code was xid messages made own lists caches suspects exec open_now opened 
 
     direct : (k : AreKnown (is_kept (kept_of caches)) (held_in was.blocks.block was.opens) suspects) → locks.items ≡ accepted_in (held_in was.blocks.block was.opens) k → HasEntered scenario seen was (events.Write xid items) rests (entered (held_in was.blocks.block was.opens) k own)
     direct k accepted = subst (HasEntered scenario seen was (events.Write xid items) rests) (λ i. record (wrote was xid caches suspects k lists exec locks) { running = Some (sym begins i) })
-        (write_holds scenario seen was xid items messages made caches suspects k lists exec locked locks rests wants_it are makes pushed keeps (subst (λ o. plan_at o exec ≡ after_act [] (plan_at o was.exec)) same goes) held accepted)
+        (write_holds scenario seen was xid items messages made caches suspects k lists exec locked locks rests wants_it are makes pushed keeps pinned (subst (λ o. plan_at o exec ≡ after_act [] (plan_at o was.exec)) same goes) held accepted)
 
 pub visible_code : (was : Progress) (xid : Xid) (own : RunningTransaction) (locks : Roomy OwnLock) (known : AreKnown (is_kept (kept_of was.caches)) was.opened was.suspects) → own ≡ begun_own (was.finished + 1) was.running
     → locks.items ≡ locks_accepted (is_in_accept (record was { running = Some (record own { visible = true }); due = dues.Nothing }) (slice_get was.commands was.finished)) was.locks.items
@@ -159,19 +160,19 @@ publish_code was count own locks known begins items scenario seen rests =
 
 pub gone_code : (was : Progress) (from : ℕ) (own : RunningTransaction) (cats rels : List Message) (caches_first : LocalCaches) (caches : LocalCaches) (suspects : Suspects) (known : AreKnown (is_kept (kept_of caches)) was.opened suspects) (lists : Held) (locks : Roomy OwnLock) → own ≡ begun_own (was.finished + 1) was.running
     → cats ≡ cats_in (lists_from from (lists_at was)) → rels ≡ rels_in (lists_from from (lists_at was))
-    → kept_of caches_first ≡ kept_spared cats (kept_at was) → kept_of caches ≡ kept_spared rels (kept_of caches_first)
+    → kept_of caches_first ≡ kept_spared cats (kept_at was) → kept_of caches ≡ kept_spared rels (kept_of caches_first) → KeepsPins was.caches caches_first → KeepsPins caches_first caches
     → all_lists lists.lists ≡ lists_before from (lists_at was)
     → locks.items ≡ locks_accepted (is_in_accept (record was { running = Some own; caches = caches; suspects = suspects; known = known; lists = lists; due = dues.Gone from }) (slice_get was.commands was.finished)) was.locks.items
     → (scenario : Scenario) (seen : List Entry) → (rests : Rests scenario seen was) → HasEntered scenario seen was (events.Gone from) rests (record was { due = dues.Gone from; running = Some own; caches = caches; suspects = suspects; known = known; lists = lists; locks = locks })
-gone_code was from own cats rels caches_first caches suspects known lists locks begins cats_are rels_are first keeps before items scenario seen rests =
+gone_code was from own cats rels caches_first caches suspects known lists locks begins cats_are rels_are first keeps stay pinned before items scenario seen rests =
     subst (HasEntered scenario seen was (events.Gone from) rests) (λ i. record (taken_back was from caches suspects known lists) { running = Some (sym begins i); locks = locks })
-    (gone_holds scenario seen was from cats rels caches suspects known lists locks rests cats_are rels_are (keeps ∙ ap (kept_spared rels) first) before items)
+    (gone_holds scenario seen was from cats rels caches suspects known lists locks rests cats_are rels_are (keeps ∙ ap (kept_spared rels) first) (λ rel. pinned rel ∙ stay rel) before items)
 
 pub release_code : (was : Progress) (from : ℕ) (first : Bool) (begun : RunningTransaction) (own : Option RunningTransaction) (lists : Held) (opened : List Opening) (caches : LocalCaches) (suspects : Suspects) (known : AreKnown (is_kept (kept_of caches)) opened suspects) (held locks : Roomy OwnLock) → is_out was ≡ true → first ≡ ends_own from was.running → begun ≡ begun_own (was.finished + 1) was.running → own ≡ released_own from begun
-    → all_lists lists.lists ≡ lists_left first (lists_at was) → held.items ≡ filter (λ lock. nat_lt lock.command from) was.locks.items → opened ≡ map opening_of (opens_before from was.opens) → kept_of caches ≡ kept_at was
+    → all_lists lists.lists ≡ lists_left first (lists_at was) → held.items ≡ filter (λ lock. nat_lt lock.command from) was.locks.items → opened ≡ map opening_of (opens_before from was.opens) → kept_of caches ≡ kept_at was → PinsOnly was.caches caches was.opens
     → locks.items ≡ locks_accepted (is_in_accept (record was { lists = lists; running = own; locks = held; opened = opened; caches = caches; suspects = suspects; known = known; ended = true; due = dues.Nothing }) (slice_get was.commands was.finished)) held.items
     → (scenario : Scenario) (seen : List Entry) → (rests : Rests scenario seen was) → HasEntered scenario seen was (events.Release from) rests (record was { due = dues.Nothing; ended = true; running = own; lists = lists; opened = opened; caches = caches; suspects = suspects; known = known; locks = locks })
-release_code was from first begun own lists opened caches suspects known held locks out ends begins is left stay none keeps items scenario seen rests =
+release_code was from first begun own lists opened caches suspects known held locks out ends begins is left stay none keeps pinned items scenario seen rests =
     subst (λ o. (k : AreKnown (is_kept (kept_of caches)) o suspects) → locks.items ≡ accepted_in o k → HasEntered scenario seen was (events.Release from) rests (entered o k)) (sym none) direct known items
   where
     own_is : own ≡ released_own from (begun_own (was.finished + 1) was.running)
@@ -185,5 +186,5 @@ release_code was from first begun own lists opened caches suspects known held lo
 
     direct : (k : AreKnown (is_kept (kept_of caches)) (map opening_of (opens_before from was.opens)) suspects) → locks.items ≡ accepted_in (map opening_of (opens_before from was.opens)) k → HasEntered scenario seen was (events.Release from) rests (entered (map opening_of (opens_before from was.opens)) k)
     direct k accepted = subst (HasEntered scenario seen was (events.Release from) rests) (λ i. record (let_go was from caches suspects k lists locks) { running = sym own_is i })
-        (release_holds scenario seen was from caches suspects k lists held locks rests out keeps (left ∙ ap (λ t. lists_left t (lists_at was)) ends) stay
+        (release_holds scenario seen was from caches suspects k lists held locks rests out keeps pinned (left ∙ ap (λ t. lists_left t (lists_at was)) ends) stay
         (accepted ∙ (λ i. locks_accepted (is_in_accept (record was { lists = lists; running = own_is i; locks = held; opened = map opening_of (opens_before from was.opens); caches = caches; suspects = suspects; known = k; ended = true; due = dues.Nothing }) (slice_get was.commands was.finished)) held.items)))

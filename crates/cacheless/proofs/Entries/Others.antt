@@ -23,6 +23,7 @@ holds-other scenario seen e s other holds = record {
   order = holds.order;
   sought = holds.sought;
   puts = holds.puts;
+  pins = holds.pins;
 }
 
 pub rests-other : (scenario : Scenario) (seen : List Entry) (e : Entry) (s : Progress) → (e.backend == s.id) ≡ false → Rests scenario seen s → Rests scenario (seen ++ e ∷ []) s

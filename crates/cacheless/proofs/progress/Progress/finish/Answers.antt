@@ -1,8 +1,9 @@
-use Rattle.std.proofs.Common.{◌≡◌, ◌∙◌, ◌+◌, true, false, ℕ, Some, None, List, ap, sym, refl, is_some, arith}
+use Rattle.std.proofs.Common.{◌≡◌, ◌∙◌, ◌+◌, ◌&&◌, true, false, ℕ, Some, None, List, ap, sym, refl, is_some, arith}
 use Rattle.std.specs.Option.{option_map}
 use Rattle.std.proofs.lemmas.Option.{slice_get_within}
 use Rattle.history_model.proofs.ListSteps.{given_at, none_at}
-use Rattle.local_caches.specs.Caches.{kept_of}
+use Rattle.local_caches.specs.Caches.{kept_of, is_pinned}
+use Rattle.ddl_effect.specs.Opens.{has_open}
 use Rattle.cacheless.specs.Types.{Line}
 use Rattle.cacheless.specs.Session.{held_in}
 use Rattle.cacheless.proofs.Lacking.{same_known}
@@ -12,7 +13,7 @@ use Rattle.cacheless.proofs.progress.Progress.finish.Goals as goal
 pub returns-clause-passes : goal.returns-clause-passes
 returns-clause-passes c = finish_code c.args.self.now _ _ _ _ _ _ _ _ _ _ c.as_slice-3.result.now c.as_slice-2.result.now c.as_slice-4.result.now c.as_slice-5.result.now c.in-Some.command.now c.requires.finishes
     (given_at c.args.self.now.commands c.as_slice.result.now c.args.self.now.finished c.in-Some.command.now c.as_slice.ensures (c.in-Some.ensures.lookup.3).0 c.in-Some.ensures.lookup.1)
-    (c.in_ok-pass.ensures c.args.self.now.opens) c.as_slice-3.ensures c.as_slice-2.ensures c.in_ok-opens.ensures c.as_slice-5.ensures c.as_slice-4.ensures c.in_ok-next.ensures.plan c.in_ok-next.ensures.blocked c.none-self.ensures (c.in_ok-opened.ensures ∙ ap (held_in _) c.as_slice-6.ensures) c.in_ok-pin_others.ensures c.take.ensures.after
+    (c.in_ok-pass.ensures c.args.self.now.opens) c.as_slice-3.ensures c.as_slice-2.ensures c.in_ok-opens.ensures c.as_slice-5.ensures c.as_slice-4.ensures c.in_ok-next.ensures.plan c.in_ok-next.ensures.blocked c.none-self.ensures (c.in_ok-opened.ensures ∙ ap (held_in _) c.as_slice-6.ensures) c.in_ok-unpin_others.ensures.kept (λ rel. c.in_ok-unpin_others.ensures.pins rel ∙ (λ i. has_open rel (c.as_slice-7.ensures i) && is_pinned c.args.self.now.caches rel)) c.take.ensures.after
 
 pub returns-clause-less : goal.returns-clause-less
 returns-clause-less c =
@@ -26,10 +27,10 @@ pub overflow_add-number : goal.overflow_add-number
 overflow_add-number c = omega (arith, c.requires.few, slice_get_within c.args.self.now.commands c.args.self.now.finished c.requires.finishes.command c.requires.finishes.at)
 
 pub invariant_of-self-2 : goal.invariant_of-self-2
-invariant_of-self-2 c = record { known = c.hold_others.ensures (same_known (kept_of c.args.self.now.caches) (kept_of c.pin_others.new.caches) c.args.self.now.opened c.args.self.now.opened c.args.self.now.suspects c.in_ok-pin_others.ensures refl c.args.self.now.known) }
+invariant_of-self-2 c = record { known = c.hold_others.ensures (same_known (kept_of c.args.self.now.caches) (kept_of c.unpin_others.new.caches) c.args.self.now.opened c.args.self.now.opened c.args.self.now.suspects c.in_ok-unpin_others.ensures.kept refl c.args.self.now.known) }
 
 pub invariant_of-self-in-Break-branch-5 : goal.invariant_of-self-in-Break-branch-5
-invariant_of-self-in-Break-branch-5 c = record { known = same_known (kept_of c.args.self.now.caches) (kept_of c.pin_others.new.caches) c.args.self.now.opened c.args.self.now.opened c.args.self.now.suspects c.in_err-pin_others.ensures refl c.args.self.now.known }
+invariant_of-self-in-Break-branch-5 c = record { known = same_known (kept_of c.args.self.now.caches) (kept_of c.unpin_others.new.caches) c.args.self.now.opened c.args.self.now.opened c.args.self.now.suspects c.in_err-unpin_others.ensures.kept refl c.args.self.now.known }
 
 pub invariant_of-self-in-Break-branch-4 : goal.invariant_of-self-in-Break-branch-4
 invariant_of-self-in-Break-branch-4 c = record { known = c.args.self.now.known }

@@ -8,5 +8,8 @@ use Rattle.local_caches.proofs.local_caches.LocalCaches.execute.Goals as goal
 pub loop-message-preserved : goal.loop-message-preserved
 loop-message-preserved c =
     let first : Message = Cat RelName 0 in
-    c.execute_one.ensures ∙ ap (kept_spared (get_or c.args.messages.now c.loop-message.message-index first ∷ [])) c.loop-message.invariant
-    ∙ spared_more (kept_of c.args.self.now) c.args.messages.now c.loop-message.message-index first c.loop-message-test.true
+    record {
+      kept = c.execute_one.ensures.kept ∙ ap (kept_spared (get_or c.args.messages.now c.loop-message.message-index first ∷ [])) c.loop-message.invariant.kept
+          ∙ spared_more (kept_of c.args.self.now) c.args.messages.now c.loop-message.message-index first c.loop-message-test.true;
+      pins = λ rel. c.execute_one.ensures.pins rel ∙ c.loop-message.invariant.pins rel;
+    }

@@ -1,8 +1,7 @@
-use Rattle.std.proofs.Common.{◌≡◌, take}
-use Rattle.local_caches.specs.Caches.{kept_of}
-use Rattle.local_caches.specs.Kept.{kept_spared}
+use Rattle.std.proofs.Common.{take}
 use Rattle.local_caches.proofs.local_caches.LocalCaches.execute.Given as goal
+use Rattle.local_caches.proofs.Executing.{HasExecuted}
 
 -- the messages so far are executed
 abbrev pub invariant-loop-message : goal.invariant-loop-message
-invariant-loop-message l = kept_of l.self ≡ kept_spared (take l.message-index l.messages) (kept_of l.fn.self)
+invariant-loop-message l = HasExecuted l.fn.self l.self (take l.message-index l.messages)

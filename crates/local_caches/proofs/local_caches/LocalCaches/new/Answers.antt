@@ -6,9 +6,9 @@ use Rattle.local_caches.specs.Homes.{home_of}
 use Rattle.local_caches.specs.declared.home.Home.TheVariants as homes
 use Rattle.local_caches.proofs.local_caches.LocalCaches.new.Goals as goal
 
-pub returns : goal.returns
+pub returns-clause-kept : goal.returns-clause-kept
 unfolding kept_of
-returns c = λ i scan. by_home scan (home_of scan) i
+returns-clause-kept c = λ i scan. by_home scan (home_of scan) i
   where
     by_home : (scan : Purpose) (home : Home) → read_at (record { catalogs = c.in_ok-catalogs.catalogs; descriptors = c.new-2.result }) scan home ≡ None
     by_home scan (homes.Cat lookup) = c.in_ok-catalogs.ensures lookup
