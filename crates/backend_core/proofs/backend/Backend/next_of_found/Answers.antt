@@ -5,8 +5,8 @@ use Rattle.backend_core.proofs.backend.Backend.next_of_found.Goals as goal
 pub unreachable-requires : goal.unreachable-requires
 unreachable-requires c = locked_ends c.args.self.now _ c.requires.still c.requires.chosen c.requires.free c.args.name c.args.mode c.requires.want c.requires.owes c.args.rel _ c.requires.found c.in-Some.is (eq-eqb _ _ c.if-taken-rel.true)
 
-pub returns-in-None : goal.returns-in-None
-returns-in-None c = lock_next c.args.self.now _ c.requires.still c.requires.chosen c.requires.free c.args.name c.args.mode c.requires.want c.requires.owes c.args.rel c.requires.found c.in-None.is
+pub returns-in-None-clause-next : goal.returns-in-None-clause-next
+returns-in-None-clause-next c = lock_next c.args.self.now _ c.requires.still c.requires.chosen c.requires.free c.args.name c.args.mode c.requires.want c.requires.owes c.args.rel c.requires.found c.in-None.is
 
-pub returns-else-taken-rel : goal.returns-else-taken-rel
-returns-else-taken-rel c = unlock_other c.args.self.now _ c.requires.still c.requires.chosen c.requires.free c.args.name c.args.mode c.requires.want c.requires.owes c.args.rel _ c.requires.found c.in-Some.is (ne_eqb _ _ c.if-taken-rel.false)
+pub returns-else-taken-rel-clause-next : goal.returns-else-taken-rel-clause-next
+returns-else-taken-rel-clause-next c = unlock_other c.args.self.now _ c.requires.still c.requires.chosen c.requires.free c.args.name c.args.mode c.requires.want c.requires.owes c.args.rel _ c.requires.found c.in-Some.is (ne_eqb _ _ c.if-taken-rel.false)

@@ -14,5 +14,5 @@ next_of_going-requires-clause-free c = free_of c.args.self.now.progress c.args.c
 pub next_of_going-requires-clause-want : goal.next_of_going-requires-clause-want
 next_of_going-requires-clause-want c = sym (c.next.ensures c.args.self.now.progress.opens)
 
-pub returns-then-accepts_again : goal.returns-then-accepts_again
-returns-then-accepts_again c = once_more c.args.self.now c.args.command.now (free_of c.args.self.now.progress c.args.command.now _ c.requires.at c.requires.due c.owes_first_look.ensures c.if-owes_first_look.false) (sym c.accepts_again.ensures ∙ c.if-accepts_again.true)
+pub returns-then-accepts_again-clause-next : goal.returns-then-accepts_again-clause-next
+returns-then-accepts_again-clause-next c = once_more c.args.self.now c.args.command.now (free_of c.args.self.now.progress c.args.command.now _ c.requires.at c.requires.due c.owes_first_look.ensures c.if-owes_first_look.false) (sym c.accepts_again.ensures ∙ c.if-accepts_again.true)

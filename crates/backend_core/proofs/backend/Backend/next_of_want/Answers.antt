@@ -19,8 +19,8 @@ unreachable-requires-in-Read c = elim c.in-Read.is [
 pub next_of_end-requires-clause-accepted : goal.next_of_end-requires-clause-accepted
 next_of_end-requires-clause-accepted c = done_accepted c.args.self.now _ (c.requires.want ∙ c.in-Done.is)
 
-pub returns-in-Lock : goal.returns-in-Lock
-returns-in-Lock c =
+pub returns-in-Lock-clause-next : goal.returns-in-Lock-clause-next
+returns-in-Lock-clause-next c =
     further_lock c.args.self.now c.args.command.now c.requires.still c.requires.chosen c.requires.free (whole_of _ _ _ c.requires.whole (c.requires.want ∙ c.in-Lock.is) refl) c.in-Lock.rel c.in-Lock.mode (c.requires.want ∙ c.in-Lock.is)
 
 pub next_of_lookup-requires-clause-want : goal.next_of_lookup-requires-clause-want
@@ -35,5 +35,5 @@ next_of_act-requires-in-Done-Some c =
     let want = c.requires.want ∙ c.in-Done-Some.is ∙ ap wants.Done held in
     record { next = rests_next c.args.self.now _ c.requires.still c.requires.free c.requires.bare (whole_of _ _ _ c.requires.whole want refl) _ want (sym c.owes_nothing.ensures ∙ c.if-not-owes_nothing.true) }
 
-pub returns-in-Write : goal.returns-in-Write
-returns-in-Write c = write_next c.args.self.now c.args.command.now c.requires.still c.requires.free c.requires.bare (whole_of _ _ _ c.requires.whole (c.requires.want ∙ c.in-Write.is) refl) (c.requires.want ∙ c.in-Write.is)
+pub returns-in-Write-clause-next : goal.returns-in-Write-clause-next
+returns-in-Write-clause-next c = write_next c.args.self.now c.args.command.now c.requires.still c.requires.free c.requires.bare (whole_of _ _ _ c.requires.whole (c.requires.want ∙ c.in-Write.is) refl) (c.requires.want ∙ c.in-Write.is)
