@@ -1,5 +1,5 @@
 -- Steps and walks that are noted, of which two are one: where two backends are as far, and which entry comes of what comes next.
-use Rattle.std.specs.Prelude.{◌≡◌, ◌==◌, ◌++◌, ◌∷◌, ℕ, Bool, true, false, Option, Some, None, IfSome, List, [], min, length, slice_get}
+use Rattle.std.specs.Prelude.{◌≡◌, ◌==◌, ◌++◌, ◌∷◌, ℕ, Bool, true, false, Option, Some, None, IfSome, List, [], ⊤, min, length}
 use Rattle.std.specs.List.{AllByRecursion}
 use Rattle.event_kinds.specs.declared.entry.Event.TheVariants as events
 use Rattle.ddl_effect.specs.Commands.{commands_of}
@@ -15,7 +15,6 @@ use Rattle.history_model.specs.Types.{Grant}
 use Rattle.history_model.specs.Versions.{answer_of}
 use Rattle.seg_calls.specs.Calls.{due_to}
 use Rattle.cacheless.specs.Plays.{drafted}
-use Rattle.cacheless.specs.Schedule.{turns_left}
 use Rattle.cacheless.specs.State.{facts_at, work_at}
 use Rattle.backend_core.specs.Types.{Oid, Mode, Item, Scenario, Entry, Event, Next, Progress, Backend}
 use Rattle.backend_core.specs.declared.next.Next.TheVariants as nexts
@@ -79,18 +78,17 @@ pub record MakesStep (scenario : Scenario) (before : List Entry) (was : Backend)
 abbrev pub with_at : (ℕ → Option Backend) → ℕ → Backend → ℕ → Option Backend
 with_at were b now = λ a. elim (a == b) [ true ↦ Some now | false ↦ were a ]
 
--- the next entry of a walk: a step of the backend whose turn it is, after which the walk goes on so
+-- the next entry of a walk: a step of its backend, after which the walk goes on so
 pub record WalksOn (scenario : Scenario) (before : List Entry) (were : ℕ → Option Backend) (e : Entry) (Further : (ℕ → Option Backend) → Type 0) : Type 0 where
-  pub turn : slice_get (turns_left scenario before) 0 ≡ Some e.backend
   pub was : Backend
   pub is : were e.backend ≡ Some was
   pub now : Backend
   pub step : MakesStep scenario before was e now
   pub further : Further (with_at were e.backend now)
 
--- a walk of a script from these backends on, the one of each number, to the end of all turns
+-- a walk from these backends on, the one of each number: each entry is such a step
 abbrev pub Walks : Scenario → List Entry → (ℕ → Option Backend) → List Entry → Type 0
-Walks scenario before were [] = turns_left scenario before ≡ []
+Walks scenario before were [] = ⊤
 Walks scenario before were (e ∷ rest) = WalksOn scenario before were e (λ are. Walks scenario (before ++ e ∷ []) are rest)
 
 -- a walk of new backends

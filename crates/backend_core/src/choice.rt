@@ -10,7 +10,7 @@ ghost use Rattle.cacheless.specs.State.{owed_after, is_out, row_sought, facts_at
 ghost use Rattle.cacheless.specs.May.{has_failed, lacks_opened, owes_nothing};
 ghost use Rattle.backend_core.specs.Frames.{top};
 ghost use Rattle.backend_core.specs.Words.{relation_named};
-ghost use Rattle.backend_core.specs.Choice.{accepts_again as accepts_once_more, noted_of, look_or_scan, next_by_name, as_next, next_by_end, next_by_want, next_on_top, next_if_going, next_if_free, next_after_last, next_of as choice_of, next_at};
+ghost use Rattle.backend_core.specs.Choice.{accepts_again as accepts_once_more, noted_of, look_or_scan, next_by_name, as_next, next_by_end, next_by_want, next_on_top, next_if_going, next_after_last, next_of as choice_of, next_at};
 ghost use Rattle.backend_core.specs.Steps.{IsNextOf, IsChoiceSound, IsFree, IsWhole, WaitsForNone, IsScanNext};
 
 use crate::{Backend, Frame, Next};
@@ -80,7 +80,7 @@ impl Backend {
         requires at { slice_get self.now.progress.commands self.now.progress.finished ≡ Some command.now }
         requires due { owed_after self.now.progress.due ≡ [] }
         ensures next { IsNextOf self.now result }
-        ensures is { next_if_free (facts_at self.now.progress) command.now (work_at self.now.progress) (noted_of self.now) ≡ Some result }
+        ensures is { choice_of (facts_at self.now.progress) (Some command.now) (work_at self.now.progress) (noted_of self.now) ≡ Some result }
     {
         if self.progress.owes_first_look(command) {
             return Next::Look;

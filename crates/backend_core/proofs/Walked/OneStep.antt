@@ -62,8 +62,7 @@ module _ (scenario : Scenario) (before : List Entry) (was now : Backend) (e : En
   rests = let goes = notes.made.noted.goes in rests_standing scenario (before ++ e ∷ []) now _ step.steps.stands (ap (session_of scenario (before ++ e ∷ [])) (step.steps.id ∙ sym goes.moves.id) ∙ goes.holds.is)
 
 -- so two such steps are one
-module _ (scenario : Scenario) (before : List Entry) (one two now done : Backend) (e f : Entry) (a : MakesStep scenario before one e now) (b : MakesStep scenario before two f done) (id : one.progress.id ≡ two.progress.id) (noted : noted_of one ≡ noted_of two) (plain : is_refusal e.event ≡ false) (also : is_refusal f.event ≡ false)
-  (wait : AwaitsEntry scenario before one) (waits : AwaitsEntry scenario before two) (c : NotesStep scenario before (before ++ e ∷ []) one now) (d : NotesStep scenario before (before ++ f ∷ []) two done) where
+module _ (scenario : Scenario) (before : List Entry) (one two now done : Backend) (e f : Entry) (a : MakesStep scenario before one e now) (b : MakesStep scenario before two f done) (id : one.progress.id ≡ two.progress.id) (noted : noted_of one ≡ noted_of two) (plain : is_refusal e.event ≡ false) (also : is_refusal f.event ≡ false) (wait : AwaitsEntry scenario before one) (waits : AwaitsEntry scenario before two) (c : NotesStep scenario before (before ++ e ∷ []) one now) (d : NotesStep scenario before (before ++ f ∷ []) two done) where
   far : IsAsFar one.progress two.progress
   far = far_at_rest scenario before one.progress two.progress wait.rests waits.rests id
 
