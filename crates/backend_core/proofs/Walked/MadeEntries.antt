@@ -28,9 +28,12 @@ looks_so before b true allows truly = sym allows
 looks_so before b false allows truly = sym truly
 
 -- a refused lock names the first grant that conflicts
+held_alike : (rel : Oid) (mode : Mode) (x y : ℕ × Mode) → x ≡ y → events.LockHeld rel mode y.0 y.1 ≡ events.LockHeld rel mode x.0 x.1
+held_alike rel mode x y same = ap (λ (p : ℕ × Mode). events.LockHeld rel mode p.0 p.1) (sym same)
+
 held_so : (rel : Oid) (mode : Mode) (holder : ℕ) (held : Mode) (o : Option Grant) → option_map {U = ℕ × Mode} (λ g. (g.backend, g.mode)) o ≡ Some (holder, held) → events.LockHeld rel mode holder held ≡ lock_made rel mode o
 held_so rel mode holder held None is = absurd (cc is)
-held_so rel mode holder held (Some g) is = let both : (g.backend, g.mode) ≡ (holder, held) = cc is in sym (λ i. events.LockHeld rel mode (both i).0 (both i).1)
+held_so rel mode holder held (Some g) is = held_alike rel mode (g.backend, g.mode) (holder, held) (cc is)
 
 -- what is written is what is left of the plan
 written_so : (next : ℕ) (plan : Plan) (items : List Item) → IsWrite next plan items → items ≡ items_left next plan
