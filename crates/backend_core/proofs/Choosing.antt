@@ -1,5 +1,6 @@
 -- What comes next.
 pub mod EndsNow
+pub mod ByChoice
 pub mod Nexting
 pub mod NextActs
 pub mod Chosen

@@ -17,3 +17,4 @@ pub mod Apart
 pub mod HeldLooks
 pub mod CommitPlaces
 pub mod Cutting
+pub mod Walked

@@ -5,9 +5,11 @@ pub mod Fits
 pub mod Cuts
 pub mod Agrees
 pub mod Fields
+pub mod Choice
 pub mod Coherent
 pub mod Steps
 pub mod Noted
+pub mod Walked
 pub mod Looks
 pub mod Places
 pub mod Apart

@@ -10,23 +10,16 @@ use Rattle.cacheless.specs.Holds.{Holds, IsWhere}
 use Rattle.cacheless.specs.May.{has_failed}
 use Rattle.cacheless.specs.Session.{Session, opening_of, held_in}
 use Rattle.cacheless.specs.Sessions.{session_of, entered as session_after}
+use Rattle.cacheless.specs.Silently.{Acts as MayAct}
 use Rattle.cacheless.specs.State.{kept_at, kept_spared, is_kept, is_absent, session_at}
 use Rattle.backend_core.specs.Types.{Scenario, Message, Entry, Event, Frame, Next, Progress, Backend}
 use Rattle.backend_core.specs.declared.life.Life.TheVariants as lives
 use Rattle.backend_core.specs.declared.next.Next.TheVariants as nexts
+pub use Rattle.backend_core.specs.Choice.{Noted, noted_of}
+use Rattle.backend_core.specs.Choice.{next_at}
 use Rattle.backend_core.specs.Frames.{unless, with_rest, frames_after}
 use Rattle.backend_core.specs.Steps.{IsNextOf}
 use Rattle.backend_core.specs.Words.{finds_none, has_begun, marks_build, looked_after, told_after, frames_given, frames_reset_of, frames_looked, frames_with_scan}
-
--- what is noted
-pub record Noted : Type 0 where
-  pub looked : Bool
-  pub frames : List Frame
-  pub told : Bool
-
--- by a backend
-abbrev pub noted_of : Backend → Noted
-noted_of s = record { looked = s.looked; frames = s.frames; told = s.told }
 
 -- nothing, as at the beginning of a command
 abbrev pub nothing_noted : Noted
@@ -105,8 +98,9 @@ pub record IsNoted (scenario : Scenario) (old new : List Entry) (was : Backend) 
   pub goes : IsEntered scenario old new was.progress event now.progress
   pub noted : noted_of now ≡ noted_by old was next event
 
--- acts are done: fewer are left, and none comes after that of a lookup which has found no relation
+-- acts are done: the first needed no entry, fewer are left, and none comes after that of a lookup which has found no relation
 pub record DoesActs (was now : Progress) : Type 0 where
+  pub first : MayAct was
   pub number : now.finished ≡ was.finished
   pub fewer : acts_left now.exec < acts_left was.exec
   pub lost : finds_none was ≡ true → is_absent (plan_at now.opens now.exec) ≡ true
@@ -117,10 +111,11 @@ pub data Settles (was now : Backend) : Type 0 where
   Acts : DoesActs was.progress now.progress → noted_of now ≡ record (noted_of was) { told = was.told && finds_none was.progress } → Settles was now
   Passes : was.progress.finished < now.progress.finished → noted_of now ≡ nothing_noted → Settles was now
 
--- an entry notes what it makes of it, whichever comes next
+-- an entry notes what it makes of it: the one of the choice, with all that it needs
 pub record NotesEntry (scenario : Scenario) (old new : List Entry) (was now : Backend) : Type 0 where
   pub next : Next
-  pub chosen : IsNextOf was next
+  pub chosen : next_at was ≡ Some next
+  pub needs : IsNextOf was next
   pub noted : IsNoted scenario old new was next now
 
 -- a step makes its entry, and then goes on

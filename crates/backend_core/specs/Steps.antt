@@ -6,7 +6,7 @@ use Rattle.ddl_effect.specs.Stages.{plan_at, want_of}
 use Rattle.ddl_effect.specs.declared.want.Want.TheVariants as wants
 use Rattle.seg_calls.specs.Calls.{IsUnchanged}
 use Rattle.cacheless.specs.declared.progress.Due.TheVariants as dues
-use Rattle.cacheless.specs.May.{is_next_at, is_next_of_act, has_failed, lacks_opened, lacks_any, owes_nothing, may_lock_at, may_unlock_at, may_end_at, is_next_of_end, is_next_of_commit, is_next_of_back}
+use Rattle.cacheless.specs.May.{is_next_at, is_next_of_act, has_failed, lacks_opened, lacks_any, owes_nothing, may_lock_at, may_unlock_at, may_end_at, is_next_of_end}
 use Rattle.cacheless.specs.MayEnter.{MayEnter}
 use Rattle.cacheless.specs.Silently.{has_accepted_at}
 use Rattle.cacheless.specs.State.{owed_after, is_quiet, is_absent, is_kept, kept_at, owed_first, unsent_at, is_out, end_at, facts_at}
@@ -18,7 +18,8 @@ use Rattle.backend_core.specs.Agrees.{AgreesNow, Stands}
 use Rattle.backend_core.specs.Coherent.{IsCoherent}
 use Rattle.backend_core.specs.Fits.{TakesFit}
 use Rattle.backend_core.specs.Frames.{top, IsRebuilt}
-use Rattle.backend_core.specs.Words.{is_unfound, scan_on_top, is_looked_for, accepts_again}
+use Rattle.backend_core.specs.Choice.{accepts_again}
+use Rattle.backend_core.specs.Words.{is_unfound, scan_on_top, is_looked_for}
 
 -- one entry of the backend is appended, which the history and the script allow; of the places that are promised it takes at most one, of its own, and none is promised
 pub record MakesEntry (scenario : Scenario) (old new : List Entry) (had has : ℕ → ℕ) (b : ℕ) : Type 0 where
@@ -163,11 +164,3 @@ IsNextOf s (nexts.Unlock rel mode) = IsUnlockNext s.progress rel mode
 IsNextOf s nexts.Write = IsWriteNext s.progress
 IsNextOf s nexts.Leave = (slice_get s.progress.commands s.progress.finished ≡ None) × (s.progress.running ≡ None)
 IsNextOf s next = IsSomeAnd (end_event s.progress next) (EndsNext s)
-
--- the next entry of a commit of the transaction with this first command
-abbrev pub ComesOfCommit : ℕ → Progress → Next → Type 0
-ComesOfCommit first s next = IsSomeAnd (end_event s next) (λ event. is_next_of_commit first s event ≡ true)
-
--- the next entry of taking back the commands from this one on
-abbrev pub ComesOfBack : ℕ → Progress → Next → Type 0
-ComesOfBack from s next = IsSomeAnd (end_event s next) (λ event. is_next_of_back from s event ≡ true)

@@ -8,7 +8,7 @@ use Rattle.base_types.specs.declared.scan.Purpose.TheVariants as scans
 use Rattle.inval_messages.specs.Messages.{covers}
 use Rattle.ddl_effect.specs.Plans.{Plan, Fails, Do, Lookup, Open}
 use Rattle.ddl_effect.specs.Stages.{plan_at}
-use Rattle.cacheless.specs.State.{kept_at, is_kept, is_absent, is_quiet, row_sought}
+use Rattle.cacheless.specs.State.{kept_at, is_kept, is_absent, row_sought}
 use Rattle.backend_core.specs.Types.{Oid, Message, Purpose, Row, Opening, Life, Frame, Progress, Backend}
 use Rattle.backend_core.specs.Frames.{unless, top, on_top, with_look, frames_fetched, frames_reset, frames_scanned}
 use Rattle.backend_core.specs.declared.life.Life.TheVariants as lives
@@ -91,7 +91,3 @@ frames_with_scan rebuilds scan s = frames_noted rebuilds (λ other. same_scan sc
 -- the next scan of the rebuild on top
 abbrev pub scan_on_top : Backend → Option Purpose
 scan_on_top s = elim (top s.frames) [ Some f ↦ find (λ scan. not (is_kept (kept_at s.progress) scan)) (build_scans f.opening.kind f.opening.rel) | None ↦ None ]
-
--- it has found no relation, but messages came since the lookup began, or since it looked whether some wait: it looks once more before it says so
-abbrev pub accepts_again : Backend → Bool
-accepts_again s = is_absent (plan_at s.progress.opens s.progress.exec) && is_quiet s.progress.due && (not s.looked || s.told)

@@ -5,11 +5,13 @@ ghost use Rattle.std.specs.Prelude.{◌≡◌, ◌≤◌, [], None, Some, true, 
 ghost use Rattle.ddl_effect.specs.Stages.{plan_at, want_of};
 ghost use Rattle.cacheless.specs.OpenedReads.{ReadsOpened};
 ghost use Rattle.cacheless.specs.Silently.{IsAtRest};
-ghost use Rattle.cacheless.specs.State.{owed_after, is_out, row_sought};
+ghost use Rattle.cacheless.specs.Ends.{next_of_commit as commit_next, next_of_taking_back as back_next};
+ghost use Rattle.cacheless.specs.State.{owed_after, is_out, row_sought, facts_at, work_at};
 ghost use Rattle.cacheless.specs.May.{has_failed, lacks_opened, owes_nothing};
 ghost use Rattle.backend_core.specs.Frames.{top};
-ghost use Rattle.backend_core.specs.Words.{relation_named, accepts_again as accepts_once_more};
-ghost use Rattle.backend_core.specs.Steps.{IsNextOf, IsChoiceSound, IsFree, IsWhole, WaitsForNone, IsScanNext, ComesOfBack, ComesOfCommit};
+ghost use Rattle.backend_core.specs.Words.{relation_named};
+ghost use Rattle.backend_core.specs.Choice.{accepts_again as accepts_once_more, noted_of, look_or_scan, next_by_name, as_next, next_by_end, next_by_want, next_on_top, next_if_going, next_after_last, next_of as choice_of, next_at};
+ghost use Rattle.backend_core.specs.Steps.{IsNextOf, IsChoiceSound, IsFree, IsWhole, WaitsForNone, IsScanNext};
 
 use crate::{Backend, Frame, Next};
 use base_types::{Command, Mode, Name, Oid, Purpose, Row, Xid};
@@ -26,7 +28,8 @@ impl Backend {
         requires still { IsAtRest self.now.progress }
         requires chosen { IsChoiceSound self.now }
         requires reads { ReadsOpened self.now.progress.opened (plan_at self.now.progress.opens self.now.progress.exec) }
-        ensures { IsNextOf self.now result }
+        ensures next { IsNextOf self.now result }
+        ensures is { next_at self.now ≡ Some result }
     {
         match self
             .progress
@@ -42,7 +45,8 @@ impl Backend {
     // After the last command: it takes back what its transaction holds still, and leaves.
     fn next_after_all(&self) -> Next
         requires none { slice_get self.now.progress.commands self.now.progress.finished ≡ None }
-        ensures { IsNextOf self.now result }
+        ensures next { IsNextOf self.now result }
+        ensures is { next_after_last (facts_at self.now.progress) ≡ Some result }
     {
         match self.progress.running {
             None => Next::Leave,
@@ -57,7 +61,8 @@ impl Backend {
         requires chosen { IsChoiceSound self.now }
         requires reads { ReadsOpened self.now.progress.opened (plan_at self.now.progress.opens self.now.progress.exec) }
         requires at { slice_get self.now.progress.commands self.now.progress.finished ≡ Some command.now }
-        ensures { IsNextOf self.now result }
+        ensures next { IsNextOf self.now result }
+        ensures is { choice_of (facts_at self.now.progress) (Some command.now) (work_at self.now.progress) (noted_of self.now) ≡ Some result }
     {
         match self.progress.due {
             Due::Look => Next::Look,
@@ -74,7 +79,8 @@ impl Backend {
         requires reads { ReadsOpened self.now.progress.opened (plan_at self.now.progress.opens self.now.progress.exec) }
         requires at { slice_get self.now.progress.commands self.now.progress.finished ≡ Some command.now }
         requires due { owed_after self.now.progress.due ≡ [] }
-        ensures { IsNextOf self.now result }
+        ensures next { IsNextOf self.now result }
+        ensures is { choice_of (facts_at self.now.progress) (Some command.now) (work_at self.now.progress) (noted_of self.now) ≡ Some result }
     {
         if self.progress.owes_first_look(command) {
             return Next::Look;
@@ -105,7 +111,8 @@ impl Backend {
         requires free { IsFree self.now.progress command.now }
         requires want { want_of (plan_at self.now.progress.opens self.now.progress.exec) ≡ want.now }
         requires goes { has_failed self.now.progress ≡ false }
-        ensures { IsNextOf self.now result }
+        ensures next { IsNextOf self.now result }
+        ensures is { next_if_going (facts_at self.now.progress) command.now (work_at self.now.progress) (noted_of self.now) ≡ Some result }
     {
         match self.frames.top() {
             Some(frame) => self.next_of_rebuild(command, &frame),
@@ -119,7 +126,8 @@ impl Backend {
         requires free { IsFree self.now.progress command.now }
         requires goes { has_failed self.now.progress ≡ false }
         requires top { top self.now.frames ≡ Some frame.now }
-        ensures { IsNextOf self.now result }
+        ensures next { IsNextOf self.now result }
+        ensures is { next_on_top (facts_at self.now.progress) frame.now ≡ Some result }
     {
         if !frame.looked {
             return Next::LookBeforeScan { rebuilds: true };
@@ -145,7 +153,8 @@ impl Backend {
         requires goes { has_failed self.now.progress ≡ false }
         requires bare { self.now.frames ≡ [] }
         requires whole { IsWhole self.now command.now }
-        ensures { IsNextOf self.now result }
+        ensures next { IsNextOf self.now result }
+        ensures is { next_by_want (facts_at self.now.progress) command.now (work_at self.now.progress) self.now.looked want.now ≡ Some result }
     {
         match want {
             Want::Lookup { name, mode } => self.next_of_lookup(command, *name, *mode),
@@ -170,7 +179,8 @@ impl Backend {
     // A scan that the act lacks, which has a look of its own before it.
     fn next_of_act(&self, scan: Purpose) -> Next
         requires next { IsScanNext self.now scan false }
-        ensures { IsNextOf self.now result }
+        ensures next { IsNextOf self.now result }
+        ensures is { result ≡ look_or_scan false self.now.looked scan }
     {
         if self.looked {
             Next::Scan {
@@ -190,7 +200,8 @@ impl Backend {
         requires want { want_of (plan_at self.now.progress.opens self.now.progress.exec) ≡ Want.Lookup name mode }
         requires bare { self.now.frames ≡ [] }
         requires whole { lacks_opened (kept_at self.now.progress) self.now.progress.opened ≡ false }
-        ensures { IsNextOf self.now result }
+        ensures next { IsNextOf self.now result }
+        ensures is { next_by_want (facts_at self.now.progress) command.now (work_at self.now.progress) self.now.looked (Want.Lookup name mode) ≡ Some result }
     {
         if !self.progress.owes_nothing(command) {
             return self.next_of_act(Purpose::RelName(name));
@@ -209,7 +220,8 @@ impl Backend {
         requires want { want_of (plan_at self.now.progress.opens self.now.progress.exec) ≡ Want.Lookup name mode }
         requires owes { owes_nothing command.now self.now.progress ≡ true }
         requires found { relation_named (row_sought self.now.progress name) ≡ Some rel }
-        ensures { IsNextOf self.now result }
+        ensures next { IsNextOf self.now result }
+        ensures is { result ≡ next_by_name self.now.progress.taken (Some rel) mode }
     {
         match self.progress.taken {
             None => Next::Lock { rel, mode },
@@ -230,7 +242,8 @@ impl Backend {
         requires want { want_of (plan_at self.now.progress.opens self.now.progress.exec) ≡ Want.Lookup name mode }
         requires owes { owes_nothing command.now self.now.progress ≡ true }
         requires unfound { relation_named (row_sought self.now.progress name) ≡ None }
-        ensures { IsNextOf self.now result }
+        ensures next { IsNextOf self.now result }
+        ensures is { result ≡ next_by_name self.now.progress.taken None mode }
     {
         match self.progress.taken {
             Some(taken) => Next::Unlock { rel: taken, mode },
@@ -251,7 +264,8 @@ impl Backend {
         requires out { is_out self.now.progress ≡ true }
         requires whole { WaitsForNone self.now command.now }
         requires accepted { accepts_once_more self.now ≡ false }
-        ensures { IsNextOf self.now result }
+        ensures next { IsNextOf self.now result }
+        ensures is { next_by_end (facts_at self.now.progress) command.now (work_at self.now.progress) ≡ Some result }
     {
         match self.progress.end(command) {
             Ending::Ends => unreachable!(),
@@ -262,7 +276,7 @@ impl Backend {
 
     // The next entry of a commit: the visibility step if it has a write, the publishes, the release.
     fn next_of_commit(&self, first: u32) -> Next
-        ensures { ComesOfCommit first self.now.progress result }
+        ensures { as_next (commit_next (facts_at self.now.progress) first) ≡ Some result }
     {
         if !self.progress.has_write_since(first) {
             return Next::Release { from: first };
@@ -281,7 +295,7 @@ impl Backend {
     // The next entry of taking back: that the commands from this one on are gone, if one has written, and
     // the release.
     fn next_of_back(&self, from: u32) -> Next
-        ensures { ComesOfBack from self.now.progress result }
+        ensures { as_next (back_next (facts_at self.now.progress) from) ≡ Some result }
     {
         if self.progress.has_write_since(from) {
             Next::TakeBack { from }

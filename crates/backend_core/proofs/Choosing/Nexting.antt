@@ -1,9 +1,9 @@
 -- What a backend does next.
-use Rattle.std.proofs.Common.{◌≡◌, ◌∙◌, ◌⊎◌, inl, inr, ℕ, Bool, true, false, not, ◌&&◌, ◌||◌, Option, Some, None, List, [], ◌∷◌, ◌++◌, refl, sym, ap, subst, append_assoc, is_some, slice_get, length, take, ◌==◌}
+use Rattle.std.proofs.Common.{◌≡◌, ◌∙◌, ◌⊎◌, inl, inr, ℕ, zero, suc, Bool, true, false, not, ◌&&◌, ◌||◌, Option, Some, None, List, [], ◌∷◌, ◌++◌, refl, sym, ap, subst, append_assoc, is_some, slice_get, length, take, min, ◌==◌}
 use Rattle.std.specs.List.{find, list_any}
-use Rattle.std.specs.Option.{IsSomeAnd, option_map_or}
+use Rattle.std.specs.Option.{IsSomeAnd, option_map, option_map_or, option_and_then}
 use Rattle.std.proofs.lemmas.Bool.{both_ways, and_parts, eq-eqb}
-use Rattle.std.proofs.lemmas.List.{append-nil}
+use Rattle.std.proofs.lemmas.List.{append-nil, length-take}
 use Rattle.base_types.specs.Scans.{same_scan, build_scans}
 use Rattle.base_types.proofs.SameScan.{same_scan-itself}
 use Rattle.txn_blocks.specs.Blocks.{refused_by}
@@ -13,30 +13,33 @@ use Rattle.ddl_effect.specs.Stages.{plan_at, want_of}
 use Rattle.ddl_effect.specs.declared.want.Want.TheVariants as wants
 use Rattle.event_kinds.specs.declared.entry.Event.TheVariants as events
 use Rattle.history_model.specs.Transactions.{is_visible}
+use Rattle.history_model.specs.Sent.{unsent_in}
+use Rattle.txn_blocks.specs.declared.transaction.RunningTransaction.{RunningTransaction as Running}
 use Rattle.history_model.specs.Changing.{is_empty}
 use Rattle.cacheless.specs.ActsDone.{reached, made_in, opening_by}
-use Rattle.cacheless.specs.Ends.{End, Ends, Commits, TakesBack, next_of_end, end_left_in}
+use Rattle.cacheless.specs.Ends.{End, Ends, Commits, TakesBack, xid_of, next_sent, next_of_commit, next_of_taking_back, next_of_end, end_of_all, end_left_in}
 use Rattle.cacheless.specs.Rule.{same_end, comes_next}
-use Rattle.cacheless.proofs.CommandEnds.{publishes_next}
+use Rattle.cacheless.proofs.CommandEnds.{publishes_next, unsent_same, least_64}
 use Rattle.cacheless.proofs.Resting.{over_is}
 use Rattle.cacheless.proofs.Same.{free_is, next_is}
 use Rattle.ddl_effect.specs.declared.want.Want.{Want}
-use Rattle.cacheless.specs.May.{owes_no_end, has_failed, is_first_missing, is_next_of_act, lacks_opened, lacks_any, owes_nothing, is_next_of_commit, is_next_of_end, may_end_at}
+use Rattle.cacheless.specs.May.{owes_no_end, has_failed, is_first_missing, is_next_of_act, lacks_opened, lacks_any, owes_nothing}
 use Rattle.cacheless.specs.OnCourse.{Way, Begun, Wrote, Over, FollowsPlan, IsOnCourse, AllOnCourse}
 use Rattle.cacheless.specs.OpenedReads.{ReadsOpened}
 use Rattle.cacheless.specs.Settled.{opened_by}
 use Rattle.cacheless.specs.Session.{held_before, plan_admitted}
 use Rattle.cacheless.specs.Silently.{is_ends, IsAtRest}
-use Rattle.cacheless.specs.State.{facts_at, work_at, has_write_since, unsent_at, kept_at, is_kept, is_absent, is_quiet, act_missing, is_out, end_at, owed_after, owed_first}
+use Rattle.cacheless.specs.State.{facts_at, work_at, lists_at, has_write_since, unsent_at, kept_at, is_kept, is_absent, is_quiet, act_missing, is_out, end_at, owed_after, owed_first}
 use Rattle.cacheless.specs.Suspects.{lacks}
 use Rattle.cacheless.proofs.Answers.OpenedReads.{reads_out, reads_first, reads_after}
 use Rattle.cacheless.proofs.Tests.{both_true, not_both, empty_is}
 use Rattle.backend_core.specs.Types.{Event, Message, Row, Purpose, Command, CommandError, Opening, Scenario, Entry, Next, Frame, Progress, Backend}
 use Rattle.backend_core.specs.declared.next.Next.TheVariants as nexts
 use Rattle.backend_core.specs.Agrees.{command_at, AwaitsEntry}
-use Rattle.backend_core.specs.Steps.{IsWhole, WaitsForNone, IsFree, IsScanNext, IsLookNext, IsChoiceSound, Says, IsAcceptNext, EndsNext, InCommand, end_event, IsNextOf, ComesOfCommit, ComesOfBack}
+use Rattle.backend_core.specs.Steps.{IsWhole, WaitsForNone, IsFree, IsScanNext, IsLookNext, IsChoiceSound, Says, IsAcceptNext, EndsNext, InCommand, AfterAll, end_event, IsNextOf}
 use Rattle.backend_core.specs.Frames.{top, IsRebuilt}
-use Rattle.backend_core.specs.Words.{is_looked_for, accepts_again}
+use Rattle.backend_core.specs.Choice.{look_or_scan, next_on_top, as_next, next_by_end, next_after_last, accepts_again}
+use Rattle.backend_core.specs.Words.{is_looked_for}
 use Rattle.backend_core.proofs.Fitting.Rebuilding.{kept_lacks}
 use Rattle.backend_core.proofs.Own.{waiting, waiting_course}
 
@@ -53,9 +56,41 @@ ends_next s nexts.Write ends = absurd ends
 ends_next s nexts.Leave ends = absurd ends
 ends_next s next ends = ends
 
-some_weaker : (o : Option Event) (P Q : Event → Type 0) → ((event : Event) → P event → Q event) → IsSomeAnd o P → IsSomeAnd o Q
-some_weaker None P Q all some = some
-some_weaker (Some event) P Q all some = all event some
+-- an entry of an end is itself
+same_itself : (event : Event) (next : Next) → as_next event ≡ Some next → same_end event event ≡ true
+same_itself (events.Visible xid) next is = eq-eqb xid.0 xid.0 refl
+same_itself (events.Publish count) next is = eq-eqb count count refl
+same_itself (events.Gone from) next is = eq-eqb from from refl
+same_itself (events.Release from) next is = eq-eqb from from refl
+same_itself event next is = absurd (cc is)
+
+-- the next entry of a commit, as what comes next
+commit_event : (p : Progress) (first : ℕ) (next : Next) → as_next (next_of_commit (facts_at p) first) ≡ Some next → end_event p next ≡ Some (next_of_commit (facts_at p) first)
+commit_event p first next = by_written (has_write_since first p)
+  where
+    Comes : Event → Type 0
+    Comes event = as_next event ≡ Some next → end_event p next ≡ Some event
+
+    by_unsent : (n : ℕ) → length (unsent_in (lists_at p) p.running) ≡ n → is_visible p.running ≡ true → Comes (next_sent first n)
+    by_unsent zero none shown is = let one : nexts.Release first ≡ next = cc is in ap (end_event p) (sym one)
+    by_unsent (suc n) some shown is = let one : nexts.Publish ≡ next = cc is in ap (end_event p) (sym one)
+        ∙ ap (λ k. Some (events.Publish k)) (length-take 64 (unsent_at p) ∙ ap (λ l. min 64 (length l)) (sym (unsent_same p.running (lists_at p) shown)) ∙ ap (min 64) some ∙ sym (least_64 (suc n)))
+
+    by_visible : (t : Bool) → is_visible p.running ≡ t → Comes (elim t as (λ x. Event) [ true ↦ next_sent first (length (unsent_in (lists_at p) p.running)) | false ↦ events.Visible (record { 0 = xid_of (facts_at p) }) ])
+    by_visible true shown is = by_unsent (length (unsent_in (lists_at p) p.running)) refl shown is
+    by_visible false hidden is = let one : nexts.Commit (record { 0 = xid_of (facts_at p) }) ≡ next = cc is in ap (end_event p) (sym one)
+
+    by_written : (t : Bool) → Comes (elim t as (λ x. Event) [ true ↦ elim (is_visible p.running) [ true ↦ next_sent first (length (unsent_in (lists_at p) p.running)) | false ↦ events.Visible (record { 0 = xid_of (facts_at p) }) ] | false ↦ events.Release first ])
+    by_written true is = by_visible (is_visible p.running) refl is
+    by_written false is = let one : nexts.Release first ≡ next = cc is in ap (end_event p) (sym one)
+
+-- and that of taking back
+back_event : (p : Progress) (from : ℕ) (next : Next) → as_next (next_of_taking_back (facts_at p) from) ≡ Some next → end_event p next ≡ Some (next_of_taking_back (facts_at p) from)
+back_event p from next = by_written (has_write_since from p)
+  where
+    by_written : (t : Bool) → as_next (elim t as (λ x. Event) [ true ↦ events.Gone from | false ↦ events.Release from ]) ≡ Some next → end_event p next ≡ Some (elim t as (λ x. Event) [ true ↦ events.Gone from | false ↦ events.Release from ])
+    by_written true is = let one : nexts.TakeBack from ≡ next = cc is in ap (end_event p) (sym one)
+    by_written false is = let one : nexts.Release from ≡ next = cc is in ap (end_event p) (sym one)
 
 -- a command that owes no first look, and whose last entry asks for nothing
 pub free_of : (p : Progress) (command : Command) (owes : Bool) → slice_get p.commands p.finished ≡ Some command → owed_after p.due ≡ [] → not owes ≡ is_empty (owed_first p command) → owes ≡ false → IsFree p command
@@ -99,29 +134,48 @@ once_more s command free again = record { command = command; free = free; finds 
     by_noted false told is = inl refl
     by_noted true told is = inr is
 
--- so the entry of its end may come
-may_now : (p : Progress) (command : Command) (event : Event) (end : End) → p.ended ≡ false → end_at p command ≡ end → owes_no_end command p end ≡ true → is_next_of_end p event end ≡ true → may_end_at command p event ≡ true
-may_now p command event end going is free comes = both_true (owes_no_end command p (end_at p command)) (comes_next (end_left_in (facts_at p) command (work_at p)) event) (ap (owes_no_end command p) is ∙ free)
-    (ap (λ t. comes_next (elim t as (λ x. Option Event) [ true ↦ None | false ↦ next_of_end (facts_at p) (end_at p command) ]) event) going ∙ ap (is_next_of_end p event) is ∙ comes)
+-- so the next entry of its end comes next
+ends_now : (s : Backend) (command : Command) (next : Next) (end : End) (event : Event) → IsFree s.progress command → is_out s.progress ≡ true → (owes_nothing command s.progress ≡ true) ⊎ (s.frames ≡ []) → accepts_again s ≡ false → s.progress.ended ≡ false → end_at s.progress command ≡ end → owes_no_end command s.progress end ≡ true
+    → next_of_end (facts_at s.progress) end ≡ Some event → as_next event ≡ Some next → end_event s.progress next ≡ Some event → IsNextOf s next × (next_by_end (facts_at s.progress) command (work_at s.progress) ≡ Some next)
+ends_now s command next end event free out owes accepted going is rests comes named same = (
+  ends_next s next (subst (λ o. IsSomeAnd o (EndsNext s)) (sym same) (InCommand command free out owes accepted (both_true (owes_no_end command s.progress (end_at s.progress command)) (comes_next (end_left_in (facts_at s.progress) command (work_at s.progress)) event)
+      (ap (owes_no_end command s.progress) is ∙ rests) (ap (λ o. comes_next o event) left ∙ same_itself event next named)))),
+  ap (option_and_then as_next) left ∙ named,
+)
+  where
+    left : end_left_in (facts_at s.progress) command (work_at s.progress) ≡ Some event
+    left = ap (λ t. elim t as (λ x. Option Event) [ true ↦ None | false ↦ next_of_end (facts_at s.progress) (end_at s.progress command) ]) going ∙ ap (next_of_end (facts_at s.progress)) is ∙ comes
 
-pub commits_next : (s : Backend) (command : Command) (next : Next) (first : ℕ) → IsAtRest s.progress → IsFree s.progress command → is_out s.progress ≡ true → WaitsForNone s command → accepts_again s ≡ false → end_at s.progress command ≡ Commits first → ComesOfCommit first s.progress next → IsNextOf s next
-commits_next s command next first still free out (inl lacks) accepted end comes = ends_next s next (some_weaker (end_event s.progress next) _ (EndsNext s) (λ event is. InCommand command free out (inl (out_owes s.progress command free lacks)) accepted
-    (may_now s.progress command event (Commits first) (end_is s.progress command (Commits first) still free out lacks end).0 end (out_owes s.progress command free lacks) is)) comes)
+pub commits_next : (s : Backend) (command : Command) (next : Next) (first : ℕ) → IsAtRest s.progress → IsFree s.progress command → is_out s.progress ≡ true → WaitsForNone s command → accepts_again s ≡ false → end_at s.progress command ≡ Commits first → as_next (next_of_commit (facts_at s.progress) first) ≡ Some next
+    → IsNextOf s next × (next_by_end (facts_at s.progress) command (work_at s.progress) ≡ Some next)
+commits_next s command next first still free out (inl lacks) accepted end comes = ends_now s command next (Commits first) (next_of_commit (facts_at s.progress) first) free out (inl (out_owes s.progress command free lacks)) accepted
+    (end_is s.progress command (Commits first) still free out lacks end).0 end (out_owes s.progress command free lacks) refl comes (commit_event s.progress first next comes)
 commits_next s command next first still free out (inr gone) accepted end comes = absurd (let no : Commits first ≡ TakesBack gone.from = sym end ∙ gone.end in cc no)
 
-pub takes_back_next : (s : Backend) (command : Command) (next : Next) (from : ℕ) → IsAtRest s.progress → IsFree s.progress command → is_out s.progress ≡ true → WaitsForNone s command → accepts_again s ≡ false → end_at s.progress command ≡ TakesBack from → ComesOfBack from s.progress next → IsNextOf s next
-takes_back_next s command next from still free out ready accepted end comes = ends_next s next (some_weaker (end_event s.progress next) _ (EndsNext s) (λ event is. InCommand command free out (by_ready ready).1 accepted
-    (may_now s.progress command event (TakesBack from) (by_ready ready).0 end (ap is_empty free.due) is)) comes)
+pub takes_back_next : (s : Backend) (command : Command) (next : Next) (from : ℕ) → IsAtRest s.progress → IsFree s.progress command → is_out s.progress ≡ true → WaitsForNone s command → accepts_again s ≡ false → end_at s.progress command ≡ TakesBack from → as_next (next_of_taking_back (facts_at s.progress) from) ≡ Some next
+    → IsNextOf s next × (next_by_end (facts_at s.progress) command (work_at s.progress) ≡ Some next)
+takes_back_next s command next from still free out ready accepted end comes = ends_now s command next (TakesBack from) (next_of_taking_back (facts_at s.progress) from) free out (by_ready ready).1 accepted (by_ready ready).0 end (ap is_empty free.due) refl comes (back_event s.progress from next comes)
   where
     by_ready : WaitsForNone s command → (s.progress.ended ≡ false) × ((owes_nothing command s.progress ≡ true) ⊎ (s.frames ≡ []))
     by_ready (inl lacks) = ((end_is s.progress command (TakesBack from) still free out lacks end).0, inl (out_owes s.progress command free lacks))
     by_ready (inr gone) = (gone.going, inr gone.bare)
 
+-- after the last command what still runs is taken back
+pub after_last : (s : Backend) (t : Running) (next : Next) → command_at s ≡ None → s.progress.running ≡ Some t → as_next (next_of_taking_back (facts_at s.progress) t.first) ≡ Some next → IsNextOf s next × (next_after_last (facts_at s.progress) ≡ Some next)
+after_last s t next past runs comes = (
+  ends_next s next (subst (λ o. IsSomeAnd o (EndsNext s)) (sym (back_event s.progress t.first next comes)) (AfterAll past (ap (λ o. comes_next o event) left ∙ same_itself event next comes))),
+  ap (λ o. elim o as (λ x. Option Next) [ Some e ↦ as_next e | None ↦ Some nexts.Leave ]) left ∙ comes,
+)
+  where
+    event : Event
+    event = next_of_taking_back (facts_at s.progress) t.first
+
+    left : next_of_end (facts_at s.progress) (end_of_all (facts_at s.progress)) ≡ Some event
+    left = ap (λ r. next_of_end (facts_at s.progress) (option_map_or (λ (x : Running). TakesBack x.first) r Ends)) runs
+
 -- a publish comes next of a commit that is visible, where a message is unsent
-pub publish_comes : (p : Progress) (first : ℕ) (unsent : List Message) → has_write_since first p ≡ true → is_visible p.running ≡ true → unsent ≡ take 64 (unsent_at p) → (length unsent == 0) ≡ false → is_next_of_commit first p (events.Publish (length (take 64 (unsent_at p)))) ≡ true
-publish_comes p first unsent has shown are some = ap (λ l. is_next_of_commit first p (events.Publish (length l))) (sym are)
-    ∙ ap (λ e. same_end e (events.Publish (length unsent))) (sym (publishes_next p first unsent has shown are (λ none. both_ways _ some (eq-eqb (length unsent) 0 none))))
-    ∙ eq-eqb (length unsent) (length unsent) refl
+pub publish_comes : (p : Progress) (first : ℕ) (unsent : List Message) → has_write_since first p ≡ true → is_visible p.running ≡ true → unsent ≡ take 64 (unsent_at p) → (length unsent == 0) ≡ false → as_next (next_of_commit (facts_at p) first) ≡ Some nexts.Publish
+publish_comes p first unsent has shown are some = ap as_next (sym (publishes_next p first unsent has shown are (λ none. both_ways _ some (eq-eqb (length unsent) 0 none))))
 
 -- a backend at rest has not come to an end without an entry
 pub never_ends : (s : Backend) (command : Command) → IsAtRest s.progress → IsFree s.progress command → is_out s.progress ≡ true → WaitsForNone s command → end_at s.progress command ≡ Ends → ⊥
@@ -228,3 +282,10 @@ module _ (s : Backend) (command : Command) (f : Frame) (sound : IsChoiceSound s)
 
   pub rebuild_scan : f.looked ≡ true → (scan : Purpose) → find (λ d. not (is_kept (kept_at s.progress) d)) (build_scans f.opening.kind f.opening.rel) ≡ Some scan → IsScanNext s scan true × (is_looked_for true s ≡ true)
   rebuild_scan looked scan is = (rebuild_next scan is, ap (λ o. option_map_or (λ (g : Frame). g.looked) o false) on ∙ looked)
+
+  -- just these are chosen
+  pub rebuild_look_is : f.looked ≡ false → next_on_top (facts_at s.progress) f ≡ Some (nexts.LookBeforeScan true)
+  rebuild_look_is unlooked = λ i. option_map (look_or_scan true (unlooked i)) (lacked.1 i)
+
+  pub rebuild_scan_is : f.looked ≡ true → (scan : Purpose) → find (λ d. not (is_kept (kept_at s.progress) d)) (build_scans f.opening.kind f.opening.rel) ≡ Some scan → next_on_top (facts_at s.progress) f ≡ Some (nexts.Scan scan true)
+  rebuild_scan_is looked scan is = λ i. option_map (look_or_scan true (looked i)) (is i)

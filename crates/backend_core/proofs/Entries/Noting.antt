@@ -4,7 +4,7 @@ use Rattle.event_kinds.specs.declared.entry.Event.TheVariants as events
 use Rattle.lock_modes.specs.Rooms.{Roomy}
 use Rattle.seg_calls.specs.Calls.{Appends, entry_of}
 use Rattle.cacheless.specs.Holds.{Holds, Rests, HasEntered, HasActed, HasPassed}
-use Rattle.cacheless.specs.Silently.{HasAnswered, left_of, unanswered}
+use Rattle.cacheless.specs.Silently.{Acts as MayAct, HasAnswered, left_of, unanswered}
 use Rattle.cacheless.specs.State.{kept_at, is_kept, IsLockedIn, is_absent}
 use Rattle.cacheless.specs.Suspects.{AreKnown}
 use Rattle.cacheless.proofs.Lacking.{another_known}
@@ -60,10 +60,10 @@ acts_fewer : (was now : Progress) → left_of now < left_of was → now.commands
 acts_fewer was now less commands number answer = omega (arith, less, ap (λ l. length l) commands, number, ap (λ (x : Option (List ℕ)). unanswered (record was { answer = x })) answer)
 
 -- it does an act
-pub act_settles : (was : Backend) (p : Progress) (told : Bool) → told ≡ was.told && is_absent (plan_at p.opens p.exec) → ((scenario : Scenario) (seen : List Entry) (held : Holds scenario seen was.progress) → HasActed scenario seen was.progress held p)
+pub act_settles : (was : Backend) (p : Progress) (told : Bool) → MayAct was.progress → told ≡ was.told && is_absent (plan_at p.opens p.exec) → ((scenario : Scenario) (seen : List Entry) (held : Holds scenario seen was.progress) → HasActed scenario seen was.progress held p)
     → left_of p < left_of was.progress → p.answer ≡ was.progress.answer → (scenario : Scenario) (seen : List Entry) → AgreesNow scenario seen was → Settles was (record was { progress = p; told = told })
-act_settles was p told is acts less answer scenario seen agrees = Acts
-    (record { number = acted.moves.finished; fewer = acts_fewer was.progress p less acted.moves.commands acted.moves.finished answer; lost = λ none. sym finds ∙ none })
+act_settles was p told may is acts less answer scenario seen agrees = Acts
+    (record { first = may; number = acted.moves.finished; fewer = acts_fewer was.progress p less acted.moves.commands acted.moves.finished answer; lost = λ none. sym finds ∙ none })
     (λ i. record { looked = was.looked; frames = was.frames; told = (is ∙ ap (λ t. was.told && t) (sym finds)) i })
   where
     acted : HasActed scenario seen was.progress agrees.holds p
@@ -103,17 +103,21 @@ told_once true true again lost = lost refl
 told_once true false again lost = refl
 told_once false first again lost = refl
 
+-- nor whether an act is done without an entry
+may_answered : (s : Progress) (answer : Option (List ℕ)) → MayAct (record s { answer = answer }) → MayAct s
+may_answered s answer may = record { command = may.command; at = may.at; acts = may.acts }
+
 -- one after another
 pub settles_on : (first was now : Backend) → Settles first was → Settles was now → Settles first now
 settles_on first was now (Stays same noted) (Stays still on) = Stays (still ∙ ap (λ (x : Progress). record x { answer = now.progress.answer }) same) (on ∙ noted)
 settles_on first was now (Stays same noted) (Acts does on) = Acts
-    (record { number = does.number ∙ ap (λ (x : Progress). x.finished) same; fewer = subst (λ e. acts_left now.progress.exec < acts_left e) (ap (λ (x : Progress). x.exec) same) does.fewer; lost = λ none. does.lost (finds_answered first.progress was.progress same ∙ none) })
+    (record { first = may_answered first.progress was.progress.answer (subst MayAct same does.first); number = does.number ∙ ap (λ (x : Progress). x.finished) same; fewer = subst (λ e. acts_left now.progress.exec < acts_left e) (ap (λ (x : Progress). x.exec) same) does.fewer; lost = λ none. does.lost (finds_answered first.progress was.progress same ∙ none) })
     (on ∙ (λ i. after_act (noted i) (finds_answered first.progress was.progress same i)))
 settles_on first was now (Acts does noted) (Stays still on) = Acts
-    (record { number = ap (λ (x : Progress). x.finished) still ∙ does.number; fewer = subst (λ e. acts_left e < acts_left first.progress.exec) (sym (ap (λ (x : Progress). x.exec) still)) does.fewer; lost = λ none. ap (λ (x : Progress). is_absent (plan_at x.opens x.exec)) still ∙ does.lost none })
+    (record { first = does.first; number = ap (λ (x : Progress). x.finished) still ∙ does.number; fewer = subst (λ e. acts_left e < acts_left first.progress.exec) (sym (ap (λ (x : Progress). x.exec) still)) does.fewer; lost = λ none. ap (λ (x : Progress). is_absent (plan_at x.opens x.exec)) still ∙ does.lost none })
     (on ∙ noted)
 settles_on first was now (Acts does noted) (Acts more on) = Acts
-    (record { number = more.number ∙ does.number; fewer = omega (arith, more.fewer, does.fewer); lost = λ none. more.lost (again none) })
+    (record { first = does.first; number = more.number ∙ does.number; fewer = omega (arith, more.fewer, does.fewer); lost = λ none. more.lost (again none) })
     (on ∙ ap (λ x. after_act x (finds_none was.progress)) noted ∙ (λ i. record { looked = first.looked; frames = first.frames; told = told_once first.told (finds_none first.progress) (finds_none was.progress) again i }))
   where
     again : finds_none first.progress ≡ true → finds_none was.progress ≡ true

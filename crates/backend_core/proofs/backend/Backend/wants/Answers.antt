@@ -19,4 +19,4 @@ pub next-requires-clause-reads : goal.next-requires-clause-reads
 next-requires-clause-reads c = let ready = right_ready c.args.self.now c.requires.right c.in-Alive.is in reads_now _ _ c.args.self.now ready.waits ready.course
 
 pub returns-in-Alive : goal.returns-in-Alive
-returns-in-Alive c = subst (Wants c.args.self.now) (sym c.want.ensures) (wants_next c.args.self.now c.next.result c.in-Alive.is c.next.ensures)
+returns-in-Alive c = subst (Wants c.args.self.now) (sym c.want.ensures) (wants_next c.args.self.now c.next.result c.in-Alive.is c.next.ensures.next)
