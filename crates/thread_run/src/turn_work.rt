@@ -214,6 +214,7 @@ fn step_in_turn<L: Seg>(
     ensures id { OnOk result (backend.new.progress.id ≡ b) }
     ensures stands { OnOk result (Stands (L.script seg.new) (L.history seg.new) backend.new) }
 {
-    renew(seg, b, backend.places_wanted(), FOR_ENTRY)?;
+    let wanted = backend.places_wanted();
+    renew(seg, b, wanted, FOR_ENTRY)?;
     backend.step(alloc, seg)
 }
