@@ -1,5 +1,5 @@
 -- What a gate is asked, step after step.
-use Rattle.std.proofs.Common.{◌≡◌, ◌∙◌, ◌+◌, ◌≤◌, ℕ, zero, suc, Bool, true, false, List, [], ◌∷◌, ◌++◌, refl, sym, ap, subst, append_assoc, append-nil, length, arith, Result, Ok, Err, IfOk, OnOk}
+use Rattle.std.proofs.Common.{◌≡◌, ◌∙◌, ◌+◌, ◌≤◌, ◌<◌, get_or, ℕ, zero, suc, Bool, true, false, List, [], ◌∷◌, ◌++◌, refl, sym, ap, subst, append_assoc, append-nil, length, arith, Result, Ok, Err, IfOk, OnOk}
 use Rattle.std.proofs.lemmas.Bool.{both_ways}
 use Rattle.std.specs.List.{AllByRecursion}
 use Rattle.base_types.specs.Scenario.{Scenario}
@@ -9,9 +9,11 @@ use Rattle.cacheless.specs.State.{one_if}
 use Rattle.backend_core.specs.declared.backend.Backend.{Backend}
 use Rattle.backend_core.specs.Looks.{IsOnItsWay, GoesWherever}
 use Rattle.backend_core.specs.Words.{has_joined, has_left}
-use Rattle.thread_run.specs.Asks.{ask_of, asks_after, AsksTo, AsksSome, asked_before, GoesAsked, AsksOwn}
+use Rattle.thread_run.specs.Asks.{ask_of, asks_after, AsksTo, AsksSome, asked_before, GoesAsked, AsksOwn, AskedEach}
+use Rattle.thread_run.specs.declared.seats.Seat.{Seat}
+use Rattle.thread_run.specs.Seats.{from_last, number_of, AskedTogether}
 use Rattle.thread_run.specs.Turns.{HasTakenTurn}
-use Rattle.thread_run.proofs.Lists.{all_more}
+use Rattle.thread_run.proofs.Lists.{all_more, length_from_last}
 use Rattle.thread_run.proofs.Workers.{AgreesWherever}
 
 -- nothing is asked
@@ -104,3 +106,44 @@ turned_asked scenario b history was now (Ok over) taken number = record {
 pub asked_id : {E : Type 0} (b n : ℕ) (was now : Backend) (result : Result Bool E) → n ≡ b → IfOk result (λ over. GoesAsked n over was now) → OnOk result (now.progress.id ≡ b)
 asked_id b n was now (Err e) same goes = tt
 asked_id b n was now (Ok over) same goes = goes.id ∙ same
+
+-- the gates of all, one more behind
+each_more : (ns : List ℕ) (xs ys : List (List Asked)) (n : ℕ) (a b : List Asked) → length xs ≡ length ns → AskedEach ns xs ys → AsksOwn n a b → AskedEach (ns ++ n ∷ []) (xs ++ a ∷ []) (ys ++ b ∷ [])
+each_more [] [] [] n a b len each own = (own, refl)
+each_more [] [] (y ∷ ys) n a b len each own = absurd (cc each)
+each_more [] (x ∷ xs) ys n a b len each own = absurd (omega (arith, len))
+each_more (m ∷ ns) [] ys n a b len each own = absurd each
+each_more (m ∷ ns) (x ∷ xs) [] n a b len each own = absurd each
+each_more (m ∷ ns) (x ∷ xs) (y ∷ ys) n a b len each own = (each.0, each_more ns xs ys n a b (omega (arith, len)) each.1 own)
+
+-- those that weren't lent come after them
+pub each_beside : (ns : List ℕ) (xs ys others : List (List Asked)) → length xs ≡ length ns → AskedEach ns xs ys → AskedEach ns (xs ++ others) (ys ++ others)
+each_beside [] xs ys others len each = ap (λ l. l ++ others) each
+each_beside (m ∷ ns) [] ys others len each = absurd each
+each_beside (m ∷ ns) (x ∷ xs) [] others len each = absurd each
+each_beside (m ∷ ns) (x ∷ xs) (y ∷ ys) others len each = (each.0, each_beside ns xs ys others (omega (arith, len)) each.1)
+
+-- nothing was asked
+pub each_none : (ns : List ℕ) (xs : List (List Asked)) → length ns ≤ length xs → AskedEach ns xs xs
+each_none [] xs few = refl
+each_none (m ∷ ns) [] few = absurd (omega (arith, few))
+each_none (m ∷ ns) (x ∷ xs) few = (owns_none m x, each_none ns xs (omega (arith, few)))
+
+-- as the seats say, from the last on
+pub each_together : {G : Type 0} (asked : G → List Asked) (xs ys : List (Seat G)) → AskedTogether asked xs ys → AskedEach (from_last number_of xs) (from_last (λ s. asked s.gate) xs) (from_last (λ s. asked s.gate) ys)
+each_together asked [] [] together = refl
+each_together asked [] (y ∷ ys) together = absurd together
+each_together asked (x ∷ xs) [] together = absurd together
+each_together asked (x ∷ xs) (y ∷ ys) together = each_more (from_last number_of xs) (from_last (λ s. asked s.gate) xs) (from_last (λ s. asked s.gate) ys) (number_of x) (asked x.gate) (asked y.gate)
+    (length_from_last (λ s. asked s.gate) xs ∙ sym (length_from_last number_of xs)) (each_together asked xs ys together.1) together.0
+
+-- the gates' questions, place by place
+pub asked_together : {G : Type 0} (asked : G → List Asked) (xs ys : List (Seat G)) → length ys ≡ length xs → ((i : ℕ) (d : Seat G) → i < length xs → AsksOwn (number_of (get_or xs i d)) (asked (get_or xs i d).gate) (asked (get_or ys i d).gate)) → AskedTogether asked xs ys
+asked_together asked [] [] len each = tt
+asked_together asked [] (y ∷ ys) len each = absurd (omega (arith, len))
+asked_together asked (x ∷ xs) [] len each = absurd (omega (arith, len))
+asked_together asked (x ∷ xs) (y ∷ ys) len each = (each zero x (omega arith), asked_together asked xs ys (omega (arith, len)) (λ k d h. each (suc k) d (omega arith)))
+
+-- the gate of one seat, as it was lent and as it came back
+pub asked_seen : {G : Type 0} (asked : G → List Asked) (lent back x y : Seat G) → lent ≡ x → back ≡ y → AsksOwn (number_of lent) (asked lent.gate) (asked back.gate) → AsksOwn (number_of x) (asked x.gate) (asked y.gate)
+asked_seen asked lent back x y was now seen = subst (λ s. AsksOwn (number_of x) (asked x.gate) (asked s.gate)) now (subst (λ s. AsksOwn (number_of s) (asked s.gate) (asked back.gate)) was seen)

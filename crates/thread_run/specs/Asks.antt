@@ -1,5 +1,5 @@
 -- What a gate is asked for its backend: before each of its commands, and after the last one, with the number of that command.
-use Rattle.std.specs.Prelude.{◌≡◌, ◌+◌, ℕ, zero, suc, Bool, true, false, List, [], ◌∷◌, ◌++◌}
+use Rattle.std.specs.Prelude.{◌≡◌, ⊥, ◌+◌, ℕ, zero, suc, Bool, true, false, List, [], ◌∷◌, ◌++◌}
 use Rattle.std.specs.List.{AllByRecursion}
 use Rattle.edge_io.specs.declared.gates.Asked.{Asked}
 use Rattle.backend_core.specs.declared.backend.Backend.{Backend}
@@ -41,3 +41,9 @@ pub record AsksOwn (b : ℕ) (old new : List Asked) : Type 0 where
   pub more : List Asked
   pub own : AllByRecursion (λ a. a.backend ≡ b) more
   pub asked : new ≡ old ++ more
+
+-- of the gates of backends with these numbers, in order, each was asked for its own alone, and those after them nothing
+abbrev pub AskedEach : List ℕ → List (List Asked) → List (List Asked) → Type 0
+AskedEach [] xs ys = ys ≡ xs
+AskedEach (n ∷ ns) (x ∷ xs) (y ∷ ys) = AsksOwn n x y × AskedEach ns xs ys
+AskedEach ns xs ys = ⊥
