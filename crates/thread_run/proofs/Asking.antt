@@ -76,7 +76,7 @@ asked_within false s now is = asks_none s.progress.id (s.progress.finished + 1) 
 pub asked_next : (over : Bool) (was now later : Backend) (first c : ℕ) (old mid new : List Asked) → IsOnItsWay was → AgreesWherever was now → GoesWherever over now later → over ≡ true → c ≡ later.progress.finished + 1
     → AsksTo was.progress.id first (now.progress.finished + 1) old mid → new ≡ mid ++ ask_of later.progress.id c ∷ [] → AsksTo was.progress.id first (later.progress.finished + 1) old new
 asked_next true was now later first c old mid new way agrees goes is number asks one =
-    let at = agrees way.scenario way.seen way.agrees in let on = goes way.scenario way.seen at.0 in let went = on.number in
+    let at = agrees way.scenario way.seen way.agrees in let on = goes way.scenario way.seen at.0 in let went : later.progress.finished ≡ now.progress.finished + 1 = on.number in
     asks_one was.progress.id first (now.progress.finished + 1) later.progress.id c (later.progress.finished + 1) old mid new asks (on.id ∙ at.1) (omega (arith, number, went)) (omega (arith, went)) one
 asked_next false was now later first c old mid new way agrees goes is number asks one = absurd (cc is)
 
@@ -85,13 +85,13 @@ pub asked_far : (over : Bool) (was now later : Backend) (first : ℕ) (old new :
     → AsksTo was.progress.id first (now.progress.finished + 1) old new → AsksTo was.progress.id first (later.progress.finished + 1) old new
 asked_far true was now later first old new way agrees goes is asks = absurd (cc is)
 asked_far false was now later first old new way agrees goes is asks =
-    let at = agrees way.scenario way.seen way.agrees in let on = goes way.scenario way.seen at.0 in let went = on.number in
+    let at = agrees way.scenario way.seen way.agrees in let on = goes way.scenario way.seen at.0 in let went : later.progress.finished ≡ now.progress.finished + 0 = on.number in
     asks_as was.progress.id was.progress.id first (now.progress.finished + 1) (later.progress.finished + 1) old new refl (omega (arith, went)) asks
 
 -- what a turn leaves, by the number of its command
 turned_number : (over : Bool) (was now : Backend) → now.progress.finished ≡ was.progress.finished + one_if over → asked_before over now ≡ was.progress.finished + 1
 turned_number true was now same = same
-turned_number false was now same = omega (arith, same)
+turned_number false was now same = let stays : now.progress.finished ≡ was.progress.finished + 0 = same in omega (arith, stays)
 
 pub turned_asked : {E : Type 0} (scenario : Scenario) (b : ℕ) (history : List Entry) (was now : Backend) (result : Result Bool E) → IfOk result (λ over. HasTakenTurn scenario b history over now) → IfOk result (λ over. has_joined was.life ≡ true → now.progress.finished ≡ was.progress.finished + one_if over)
     → IfOk result (λ over. GoesAsked b over was now)

@@ -1,5 +1,5 @@
 -- What a gate is asked for its backend: before each of its commands, and after the last one, with the number of that command.
-use Rattle.std.specs.Prelude.{◌≡◌, ⊥, ◌+◌, ℕ, zero, suc, Bool, true, false, List, [], ◌∷◌, ◌++◌}
+use Rattle.std.specs.Prelude.{◌≡◌, ◌+◌, ℕ, zero, suc, Bool, true, false, List, [], ◌∷◌, ◌++◌}
 use Rattle.std.specs.List.{AllByRecursion}
 use Rattle.edge_io.specs.declared.gates.Asked.{Asked}
 use Rattle.backend_core.specs.declared.backend.Backend.{Backend}

@@ -6,10 +6,10 @@ use Rattle.thread_run.proofs.Workers.{on_its_way, goes_over, goes_far, comes_ove
 use Rattle.thread_run.proofs.worker.go_on.Goals as goal
 
 pub ask_at-requires-clause-few : goal.ask_at-requires-clause-few
-ask_at-requires-clause-few g c = way_few c.args.backend.now c.requires.right
+ask_at-requires-clause-few g c κs within = way_few c.args.backend.now c.requires.right
 
 pub ask_at-requires-clause-count : goal.ask_at-requires-clause-count
-ask_at-requires-clause-count g c = way_counted c.args.backend.now c.requires.right
+ask_at-requires-clause-count g c κs within = way_counted c.args.backend.now c.requires.right
 
 pub returns-in_err-ask_at-clause-command : goal.returns-in_err-ask_at-clause-command
 returns-in_err-ask_at-clause-command g c = λ is. inl (c.in_err-ask_at.ensures.command, refl)
@@ -37,7 +37,7 @@ pub returns-then-not-branch-clause-some : goal.returns-then-not-branch-clause-so
 returns-then-not-branch-clause-some g c = record { upto = c.going.backend.progress.finished + 1; asks = c.going.invariant.asks }
 
 pub ask-requires-clause-few : goal.ask-requires-clause-few
-ask-requires-clause-few g c = way_few c.go_to_command.new.self (on_its_way c.args.backend.now c.go_to_command.new.self (goes_over c.in_ok-go_to_command.field-0 c.args.backend.now c.going.backend c.go_to_command.new.self c.going.invariant.agrees c.in_ok-go_to_command.ensures) c.requires.right)
+ask-requires-clause-few g c κs within = way_few c.go_to_command.new.self (on_its_way c.args.backend.now c.go_to_command.new.self (goes_over c.in_ok-go_to_command.field-0 c.args.backend.now c.going.backend c.go_to_command.new.self c.going.invariant.agrees c.in_ok-go_to_command.ensures) c.requires.right)
 
 pub going-preserved : goal.going-preserved
 going-preserved g c = let now = c.go_to_command.new.self in let over = c.in_ok-go_to_command.field-0 in

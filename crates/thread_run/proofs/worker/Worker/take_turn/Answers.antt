@@ -5,7 +5,7 @@ use Rattle.history_model.specs.Log.{is_waiting}
 use Rattle.turn_table.specs.Passes.{start_of, seen_by, room_of, was_told, words_of}
 use Rattle.turn_table.specs.Words.{TellExactly}
 use Rattle.thread_run.specs.Scripts.{Play, commands_left}
-use Rattle.thread_run.proofs.Workers.{turn_backend, turn_holds, turned_ok, extends_turn, rooms_kept, left_same, whole_kept, all_kept, on_ok, entered_here}
+use Rattle.thread_run.proofs.Workers.{turn_backend, turn_holds, turned_ok, extends_turn, rooms_kept, left_same, whole_kept, all_kept, takes_ok}
 use Rattle.thread_run.proofs.Asking.{turned_asked}
 use Rattle.thread_run.proofs.worker.Worker.take_turn.Goals as goal
 
@@ -48,13 +48,8 @@ returns-clause-underway g c = turned_ok (start_of c.args.table.now).whole c.valu
     (c.close-pass.ensures.seen ∙ ap (λ (v : Play). v.shared.history) c.tell.ensures.kept.0) c.clear.ensures c.work-done.ensures.works
 
 pub returns-clause-takes : goal.returns-clause-takes
-returns-clause-takes g c = on_ok _ _ c.work-done.result (λ entered. record {
-  opened = c.open-turn.result.opened.value.shared.history;
-  seen = c.open-turn.ensures.seen;
-  enters_in = entered_here c.args.enters c.args.self.pass.number c.args.self.held.items c.as_slice.result.now c.open-turn.result.opened.value.shared.history c.value.result.now.shared.history c.work-done.new.self.shared.history (seen_by c.close-pass.result)
-      c.as_slice.ensures.value (ap (λ (v : Play). v.shared.history) (c.value.ensures.value ∙ c.open-turn.ensures.value)) (c.close-pass.ensures.seen ∙ ap (λ (v : Play). v.shared.history) c.tell.ensures.kept.0) entered;
-  held = c.clear.ensures;
-}) c.work-done.ensures.enters
+returns-clause-takes g c = takes_ok c.args.enters c.args.self _ c.work-done.result c.as_slice.result.now c.open-turn.result.opened.value.shared.history c.value.result.now.shared.history c.work-done.new.self.shared.history
+    c.open-turn.ensures.seen c.as_slice.ensures.value (ap (λ (v : Play). v.shared.history) (c.value.ensures.value ∙ c.open-turn.ensures.value)) (c.close-pass.ensures.seen ∙ ap (λ (v : Play). v.shared.history) c.tell.ensures.kept.0) c.clear.ensures c.work-done.ensures.enters
 
 pub returns-clause-asked : goal.returns-clause-asked
 returns-clause-asked g c = turned_asked c.work-done.new.self.shared.script c.args.self.pass.number c.work-done.new.self.shared.history c.args.self.backend c.work-done.new.backend c.work-done.result c.work-done.ensures.works c.work-done.ensures.number
