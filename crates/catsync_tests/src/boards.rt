@@ -1,9 +1,10 @@
 // Gates that note on a board what they are asked, and go by what is on it.
 
-ghost use Rattle.std.specs.Prelude.{◌≡◌, ℕ};
+ghost use Rattle.std.specs.Prelude.{◌≡◌, ℕ, [], ◌∷◌, ◌++◌};
 
 use base_types::NoMemory;
-use edge_io::{Gate, Go};
+use edge_io::{Asked as Question, Gate, Go};
+use ghost_list::GhostList;
 use std::alloc::Global;
 use std::sync::{Condvar, Mutex, Wait};
 
@@ -104,6 +105,7 @@ pub(crate) struct BoardGate<'a> {
     number: u32,
     plan: Plan,
     stops: u32,
+    questions: GhostList<Question>,
 }
 
 impl BoardGate<'_> {
@@ -151,9 +153,13 @@ impl Gate for BoardGate<'_> {
 
     ghost stops = { λ gate. gate.stops };
 
+    ghost asked = { λ gate. gate.questions.items };
+
     fn pass<R: Wait>(&mut self, rt: &R, backend: u32, command: u32) -> Go
         ensures cause { StopHasCause self.old.stops self.new.stops result }
+        ensures asked { self.new.questions.items ≡ self.old.questions.items ++ record { backend = backend; command = command } ∷ [] }
     {
+        self.questions.push(&Question { backend, command });
         let asked = Asked {
             gate: self.number,
             backend,
@@ -186,6 +192,7 @@ pub(crate) fn gates_on<'a>(
             number,
             plan: *plan,
             stops: 0,
+            questions: GhostList::new(),
         })?;
     }
     Ok(gates)

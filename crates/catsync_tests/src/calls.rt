@@ -6,7 +6,7 @@ use crate::inputs::{Calls, STEADY, sink_of, source_of};
 use backend_core::Backend;
 use base_types::NoMemory;
 use catsync_top::{MOST_BACKENDS, Status, catsync};
-use edge_io::{Gate, MemorySink, MemorySource, OpenGate};
+use edge_io::{Gate, MemorySink, MemorySource, OpenGate, open_gates};
 use std::alloc::Global;
 use std::sync::Wait;
 use std::thread::Threads;
@@ -102,7 +102,7 @@ fn ended<R: Threads + Wait + Sync, G: Gate>(
 fn gates_of(alloc: Global) -> Result<Vec<OpenGate>, NoMemory>
     ensures { IfOk result (λ gates. MOST_BACKENDS ≤ length gates.items) }
 {
-    Ok(vec![in alloc; OpenGate; MOST_BACKENDS as usize]?)
+    Ok(open_gates(alloc, MOST_BACKENDS as usize)?)
 }
 
 fn arguments_of(alloc: Global, words: &[&str]) -> Result<Vec<String>, NoMemory> {

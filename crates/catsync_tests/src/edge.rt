@@ -196,5 +196,6 @@ fn a_gate_stops_at_its_pass(rt: HostRuntime) {
     for stops in [false, true, false].iter() {
         assert!(rt; matches!(gate.pass(&rt, 1, 1), Go::Stop) == *stops);
     }
-    assert!(rt; matches!(OpenGate.pass(&rt, 1, 1), Go::On));
+    let mut open = OpenGate::new();
+    assert!(rt; matches!(open.pass(&rt, 1, 1), Go::On));
 }

@@ -1,7 +1,7 @@
 use crate::boards::{Board, Plan, gates_on};
 use crate::inputs::script_of;
 use base_types::NoMemory;
-use edge_io::{Gate, OpenGate, StopGate};
+use edge_io::{Gate, StopGate, open_gates};
 use event_kinds::{Entry, Event};
 use std::alloc::Global;
 use std::sync::Wait;
@@ -40,7 +40,7 @@ fn ran<R: Threads + Wait + Sync, G: Gate>(
 
 #[test]
 fn each_backend_of_a_run_answers_all_its_commands(rt: HostRuntime) -> Result<(), Fail> {
-    let mut gates = vec![in rt.alloc(); OpenGate; 3]?;
+    let mut gates = open_gates(rt.alloc(), 3)?;
     let made = ran(&rt, rt.alloc(), TWO, &mut gates)?;
     assert!(rt; gates.len() == 3 && made.is_some());
     if let Some(ran) = made {

@@ -4,7 +4,8 @@
 //! command whether a backend goes on. Each has a count that never falls: faults of a source or a
 //! sink, stops of a gate. A call answers `Failed` or `Stop` only where its count rose, and a call
 //! that answers otherwise leaves the count as it was. So whoever is told that a run failed can look
-//! at the count, and whoever is told that it succeeded knows that nothing failed on the way.
+//! at the count, and whoever is told that it succeeded knows that nothing failed on the way. Of a
+//! gate contracts also see what it was asked, in order.
 //!
 //! A source may tell which bytes it has left, and a sink which bytes it has taken. Everything above
 //! is proved against what these tell; where they tell nothing, it says nothing of the bytes. The
@@ -45,7 +46,7 @@ mod sources;
 mod writing;
 
 pub use fault::Failed;
-pub use gates::{Gate, Go, OpenGate, StopGate};
+pub use gates::{Asked, Gate, Go, OpenGate, StopGate, open_gates};
 pub use gathered::GatheringSink;
 pub use memory_sinks::{MEMORY_SINK_ROOM, MemorySink, SteadySink};
 pub use memory_sources::{MemorySource, SteadySource};

@@ -7,6 +7,7 @@ pub mod Counted
 pub mod Halting
 pub mod Between
 pub mod Workers
+pub mod Asking
 pub mod Stopping
 pub mod Seating
 pub mod Gates

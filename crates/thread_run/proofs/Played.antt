@@ -1,5 +1,5 @@
 -- What is shared, after looks and after entries of a backend.
-use Rattle.std.proofs.Common.{◌≡◌, ◌≢◌, ◌≤◌, ◌<◌, ◌+◌, ◌∙◌, ◌^◌, ◌⊎◌, inl, inr, ◌==◌, ℕ, zero, suc, Bool, true, false, not, List, [], ◌∷◌, ◌++◌, refl, sym, ap, subst, append_assoc, append-nil, length, Result, Ok, Err, OnOk, OnErr, IfOk, arith}
+use Rattle.std.proofs.Common.{◌≡◌, ◌≢◌, ◌≤◌, ◌<◌, ◌+◌, ◌∙◌, ◌^◌, ◌⊎◌, inl, inr, ◌==◌, ℕ, zero, suc, Bool, true, false, not, List, [], ◌∷◌, ◌++◌, refl, sym, ap, subst, append_assoc, append-nil, length, max, Result, Ok, Err, OnOk, OnErr, IfOk, arith}
 use Rattle.std.proofs.lemmas.Bool.{both_ways}
 use Rattle.std.proofs.lemmas.List.{length-append}
 use Rattle.std.proofs.lemmas.Bool.Decides.{eqb_tells}
@@ -29,7 +29,8 @@ use Rattle.backend_core.proofs.Played.{IsPlayed-more}
 use Rattle.backend_core.proofs.Stepped.{awaits_stands}
 use Rattle.thread_run.specs.Runs.{IsRunSoFar}
 use Rattle.thread_run.specs.Turns.{backend_of, HasMore, EntersInTurn, HasTakenTurn}
-use Rattle.thread_run.specs.Entering.{MayEnterNext, PlaysOn, ComesTo}
+use Rattle.backend_core.specs.Places.{WantsPlaces}
+use Rattle.thread_run.specs.Entering.{MayEnterNext, PlaysOn, PromisesWanted, ComesTo}
 
 -- what holds of each entry holds of looks that come after
 pub each_looked : (P : List Entry → Entry → Type 0) (history : List Entry) (b : ℕ) (held : List HeldLook) → ((before : List Entry) (look : HeldLook) → P before (entry_held b look)) → EachEntry P history → EachEntry P (history ++ entries_of b held)
@@ -185,6 +186,17 @@ entry_refused same is may others then refused = plays_then (plays_same same is m
 -- one that was made
 pub entry_plays : {b : ℕ} {scenario later last : Scenario} {old now new : List Entry} {first had has : ℕ → ℕ} {was s : Backend} → later ≡ scenario → now ≡ old → MayEnterNext scenario b old was → ((a : ℕ) → a ≢ b → had a ≡ first a) → last ≡ later → MakesNext later now new had has was s → PlaysOn b scenario last old new first has
 entry_plays same is may others then makes = entry_refused same is may others then (After (next_made makes))
+
+-- before it the places that it wants were promised, and no more
+pub promised_wanted : {b n : ℕ} {scenario later : Scenario} {old now new : List Entry} {was : Backend} (first had has : ℕ → ℕ) → MayEnterNext scenario b old was → WantsPlaces was n → n ≤ had b → had b ≤ max (first b) (max n 48) → MakesEntry later now new had has was.progress.id → PromisesWanted was (first b) (has b)
+promised_wanted {b} {n} first had has may wants enough most makes = let place = makes.place in let fewer = makes.most in let one = ap had may.id in let two = ap has may.id in record { places = n; wants = wants; enough = omega (arith, enough, place, one, two); most = omega (arith, most, fewer, one, two) }
+
+pub promised_next : {b n : ℕ} {scenario later : Scenario} {old now new : List Entry} {was s : Backend} (first had has : ℕ → ℕ) → MayEnterNext scenario b old was → WantsPlaces was n → n ≤ had b → had b ≤ max (first b) (max n 48) → MakesNext later now new had has was s → PromisesWanted was (first b) (has b)
+promised_next first had has may wants enough most makes = promised_wanted first had has may wants enough most (next_made makes)
+
+pub promised_step : {E : Type 0} {b n : ℕ} {scenario later : Scenario} {old now new : List Entry} {was s : Backend} (first had has : ℕ → ℕ) (result : Result (Unit {0}) E) → MayEnterNext scenario b old was → WantsPlaces was n → n ≤ had b → had b ≤ max (first b) (max n 48) → OnOk result (Steps later now new had has was s) → OnOk result (PromisesWanted was (first b) (has b))
+promised_step first had has (Ok x) may wants enough most steps = promised_wanted first had has may wants enough most steps.makes
+promised_step first had has (Err e) may wants enough most steps = tt
 
 -- by which at most one entry came
 pub refused_few : {scenario : Scenario} {first old new : List Entry} {had has : ℕ → ℕ} {b : ℕ} → old ≡ first → IsRefused scenario old new had has b → length new ≤ length first + 1
@@ -351,6 +363,9 @@ renewed_calls {n} {b} {scenario} {later} {old} {new} held same is id calls = sub
 -- there are places for them, and for as many after them
 pub looks_fit : {n b count : ℕ} (had : ℕ → ℕ) → n ≡ b → count ≤ 16 → 32 ≤ had b → count ≤ had n
 looks_fit {n} {b} {count} had id few some = let same = ap had id in omega (arith, same, few, some)
+
+pub looks_promised : {n b count : ℕ} {had has : ℕ → ℕ} (first : ℕ) → n ≡ b → had b ≤ max first 48 → TakesPlaces had has n count → has b ≤ max first 48
+looks_promised {n} {b} {count} {had} {has} first id most takes = let fewer = takes.most in let one = ap had id in let two = ap has id in omega (arith, most, fewer, one, two)
 
 pub looks_left : {n b count : ℕ} {had has : ℕ → ℕ} → n ≡ b → count ≤ 16 → 32 ≤ had b → TakesPlaces had has n count → 16 ≤ has b
 looks_left {n} {b} {count} {had} {has} id few some takes = let own = takes.own in let one = ap had id in let two = ap has id in omega (arith, own, one, two, few, some)

@@ -3,6 +3,7 @@ use Rattle.std.proofs.Common.{◌≡◌, ◌≢◌, ◌∙◌, ◌==◌, ◌⊎�
 use Rattle.std.proofs.lemmas.Bool.Decides.{eqb_tells}
 use Rattle.base_types.specs.Scenario.{Scenario, IsBackend}
 use Rattle.event_kinds.specs.declared.entry.Entry.{Entry}
+use Rattle.shared_seg.specs.Kept.{places_in}
 use Rattle.turn_table.specs.Histories.{Grew}
 use Rattle.ddl_effect.specs.Commands.{commands_of}
 use Rattle.backend_core.specs.declared.backend.Backend.{Backend}
@@ -31,6 +32,10 @@ halts_inside k now b n held s is left run halts = subst (λ (x : Play). IsLeft x
 -- and the other way round, of how the history grew
 pub grew_outside : (k now : Play) (b : ℕ) (new : List Entry) → k ≡ now → Grew backend_of b k.shared.history new → Grew backend_of b now.shared.history new
 grew_outside k now b new is grew = subst (λ (x : Play). Grew backend_of b x.shared.history new) is grew
+
+-- and of what is promised to somebody
+pub promises_outside : (k now : Play) (a n : ℕ) → k ≡ now → n ≡ places_in k.shared a → n ≡ places_in now.shared a
+promises_outside k now a n is same = same ∙ ap (λ (x : Play). places_in x.shared a) is
 
 -- a script that is cut has all commands of the others
 pub others_keep : (k now : Play) (b n a : ℕ) (part : Scenario) → k ≡ now → part ≡ cut b n k.shared.script → a ≢ b → length (commands_of part a) ≡ commands_left now a

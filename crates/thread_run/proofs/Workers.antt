@@ -1,5 +1,5 @@
 -- A worker from step to step.
-use Rattle.std.proofs.Common.{◌≡◌, ◌≤◌, ◌∙◌, ℕ, Bool, true, false, List, [], ◌++◌, refl, sym, ap, subst, append_assoc, append-nil, length, Result, Ok, Err, IfOk, OnOk, arith}
+use Rattle.std.proofs.Common.{◌≡◌, ◌≤◌, ◌∙◌, ℕ, Bool, true, false, List, [], ◌++◌, refl, sym, ap, subst, append_assoc, append-nil, length, Result, Ok, Err, IfOk, OnOk, OnErr, arith}
 use Rattle.base_types.specs.Scenario.{Scenario, IsBackend}
 use Rattle.ddl_effect.specs.Commands.{commands_of}
 use Rattle.event_kinds.specs.declared.entry.Entry.{Entry}
@@ -18,8 +18,8 @@ use Rattle.thread_run.specs.declared.refusal.RunRefusal.{RunRefusal}
 use Rattle.thread_run.specs.declared.worker.Worker.{Worker}
 use Rattle.thread_run.specs.Scripts.{Play, HasAll, IsLeft, commands_left}
 use Rattle.thread_run.specs.Stops.{StopsBy}
-use Rattle.thread_run.specs.Turns.{backend_of, right_before, HasTakenTurn, MayTakeTurn, MayHalt, IsHalting, IsBetween, WaitsWherever, ComesWherever, IsAtCommand, IsUnderway}
-use Rattle.thread_run.specs.Workers.{Table, IsAt, Extends, Goes}
+use Rattle.thread_run.specs.Turns.{backend_of, right_before, EntersInTurn, HasTakenTurn, MayTakeTurn, MayHalt, IsHalting, IsBetween, WaitsWherever, ComesWherever, IsAtCommand, IsUnderway}
+use Rattle.thread_run.specs.Workers.{Table, IsAt, Extends, Goes, TakesTurn}
 use Rattle.thread_run.proofs.Between.{turned}
 use Rattle.thread_run.proofs.Scripts.{left_alike}
 
@@ -187,3 +187,17 @@ module _ {E : Type 0} (whole : Scenario) (b : ℕ) (seen : List Entry) (held : L
   -- where a gate stops it at a command, it may be halted
   pub stopped_may : (at : Backend) → stopped ≡ false → IsAtCommand over s at → (now : Backend) → HaltsWherever at now → MayHalt whole b (length at.lines) seen held now
   stopped_may at stays is now halts = underway.halts (sym told ∙ stays) at now is halts
+
+pub any_err : {T E : Type 0} {P : Type 0} (result : Result T E) → P → OnErr result P
+any_err (Ok x) here = tt
+any_err (Err e) here = here
+
+-- what a turn entered, by what the pass saw of it
+entered_here : (enters : Bool) (b : ℕ) (held looks : List HeldLook) (opened at new seen : List Entry) → looks ≡ held → at ≡ opened → seen ≡ new → EntersInTurn enters b looks at new → EntersInTurn enters b held opened seen
+entered_here enters b held looks opened at new seen what begun ended entered =
+    subst (λ (h : List Entry). EntersInTurn enters b held opened h) (sym ended) (subst (λ (h : List Entry). EntersInTurn enters b held h new) begun (subst (λ (l : List HeldLook). EntersInTurn enters b l at new) what entered))
+
+pub takes_ok : {E : Type 0} (enters : Bool) (was now : Worker) (result : Result Bool E) (looks : List HeldLook) (opened at new : List Entry) → Follows backend_of was.pass.number (seen_by was.pass) opened → looks ≡ was.held.items → at ≡ opened → seen_by now.pass ≡ new → now.held.items ≡ []
+    → OnOk result (EntersInTurn enters was.pass.number looks at new) → OnOk result (TakesTurn enters was now)
+takes_ok enters was now (Err e) looks opened at new follows what begun ended none entered = tt
+takes_ok enters was now (Ok over) looks opened at new follows what begun ended none entered = record { opened = opened; seen = follows; enters_in = entered_here enters was.pass.number was.held.items looks opened at new (seen_by now.pass) what begun ended entered; held = none }

@@ -1,11 +1,12 @@
 -- What a backend makes in its turn, entry by entry.
-use Rattle.std.specs.Prelude.{◌≡◌, ◌≢◌, ◌+◌, ℕ, Bool, true, false, List}
+use Rattle.std.specs.Prelude.{◌≡◌, ◌≢◌, ◌≤◌, ◌+◌, ℕ, Bool, true, false, List, max}
 use Rattle.base_types.specs.Scenario.{Scenario, IsBackend}
 use Rattle.event_kinds.specs.declared.entry.Entry.{Entry}
 use Rattle.turn_table.specs.Histories.{Grew}
 use Rattle.cacheless.specs.State.{one_if}
 use Rattle.backend_core.specs.declared.backend.Backend.{Backend}
 use Rattle.backend_core.specs.Agrees.{Stands}
+use Rattle.backend_core.specs.Places.{WantsPlaces}
 use Rattle.backend_core.specs.Words.{has_joined, has_left}
 use Rattle.thread_run.specs.Runs.{IsRunSoFar}
 use Rattle.thread_run.specs.Turns.{backend_of, HasTakenTurn}
@@ -24,6 +25,13 @@ pub record PlaysOn (b : ℕ) (scenario later : Scenario) (old new : List Entry) 
   pub run : IsRunSoFar later new
   pub grew : Grew backend_of b old new
   pub others : (a : ℕ) → a ≢ b → has a ≡ had a
+
+-- before its entry, which takes one at most, it was promised the places that it wants, and no more than these, those that are promised always or those that it had
+pub record PromisesWanted (was : Backend) (had has : ℕ) : Type 0 where
+  pub places : ℕ
+  pub wants : WantsPlaces was places
+  pub enough : places ≤ has + 1
+  pub most : has ≤ max had (max places 48)
 
 -- what its entries leave in a turn, where it went on to its next command at most, and says whether it did; one that joins is at its first command
 pub record ComesTo (scenario : Scenario) (b : ℕ) (history : List Entry) (over : Bool) (was now : Backend) : Type 0 where

@@ -2,6 +2,7 @@ pub mod Runs
 pub mod CutScripts
 pub mod Scripts
 pub mod Stops
+pub mod Asks
 pub mod Turns
 pub mod Entering
 pub mod Workers

@@ -5,6 +5,7 @@ use Rattle.backend_core.specs.Agrees.{Stands}
 use Rattle.backend_core.specs.Words.{has_left}
 use Rattle.event_kinds.specs.declared.entry.Entry.{Entry}
 use Rattle.base_types.specs.Scenario.{Scenario, IsBackend}
+use Rattle.edge_io.specs.declared.gates.Asked.{Asked}
 use Rattle.turn_table.specs.declared.pass.Pass.{Pass}
 use Rattle.turn_table.specs.declared.turned.Turned.{Ghosts}
 use Rattle.turn_table.specs.Passes.{IsPassOf, start_of, seen_by, room_of}
@@ -12,6 +13,7 @@ use Rattle.thread_run.specs.declared.refusal.RunRefusal.{RunRefusal}
 use Rattle.thread_run.specs.declared.refusal.RunRefusal.TheVariants as refusals
 use Rattle.thread_run.specs.declared.worker.Worker.{Worker}
 use Rattle.thread_run.specs.declared.seats.Seat.{Seat}
+use Rattle.thread_run.specs.Asks.{AsksOwn}
 use Rattle.thread_run.specs.Runs.{IsRunSoFar}
 use Rattle.thread_run.specs.Scripts.{Play, HasAll}
 use Rattle.thread_run.specs.Stops.{StopsBy}
@@ -84,3 +86,9 @@ abbrev pub StopsTogether : {G : Type 0} → (G → ℕ) → List (Seat G) → Li
 StopsTogether stops [] [] = ⊤
 StopsTogether stops (x ∷ xs) (y ∷ ys) = StopsBy (stops x.gate) (stops y.gate) y.end × StopsTogether stops xs ys
 StopsTogether stops xs ys = ⊥
+
+-- each gate was asked for the backend of its seat alone
+abbrev pub AskedTogether : {G : Type 0} → (G → List Asked) → List (Seat G) → List (Seat G) → Type 0
+AskedTogether asked [] [] = ⊤
+AskedTogether asked (x ∷ xs) (y ∷ ys) = AsksOwn (number_of x) (asked x.gate) (asked y.gate) × AskedTogether asked xs ys
+AskedTogether asked xs ys = ⊥

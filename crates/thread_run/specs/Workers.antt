@@ -1,14 +1,24 @@
 -- A worker at its table.
-use Rattle.std.specs.Prelude.{◌≡◌, ◌≤◌, ◌+◌, ◌++◌, ◌^◌, false, List, [], length}
+use Rattle.std.specs.Prelude.{◌≡◌, ◌≤◌, ◌<◌, ◌+◌, ◌++◌, ◌^◌, ◌⊎◌, Bool, true, false, List, [], ◌∷◌, length, Result, Ok, OnOk, IfOk}
 use Rattle.base_types.specs.Scenario.{Scenario, IsBackend}
+use Rattle.base_types.specs.declared.memory.NoMemory.{NoMemory}
+use Rattle.edge_io.specs.declared.gates.Asked.{Asked}
 use Rattle.event_kinds.specs.declared.entry.Entry.{Entry}
+use Rattle.history_model.specs.Log.{is_waiting}
 use Rattle.thread_run.specs.Scripts.{Play, HasAll}
 use Rattle.turn_table.specs.declared.table.TurnTable.{TurnTable}
-use Rattle.turn_table.specs.Passes.{IsPassOf, start_of, seen_by, room_of}
+use Rattle.turn_table.specs.Histories.{Follows}
+use Rattle.turn_table.specs.Passes.{IsPassOf, start_of, seen_by, room_of, was_told}
+use Rattle.backend_core.specs.declared.backend.Backend.{Backend}
+use Rattle.backend_core.specs.declared.look_for.LookFor.{LookFor}
+use Rattle.backend_core.specs.declared.want.Want.TheVariants as wants
 use Rattle.backend_core.specs.Agrees.{Stands}
+use Rattle.backend_core.specs.Looks.{held_look, MakesLook, NeedsTurn, Wants}
 use Rattle.backend_core.specs.Words.{has_left}
 use Rattle.thread_run.specs.declared.worker.Worker.{Worker}
+use Rattle.thread_run.specs.Asks.{AsksTo, asked_before, GoesAsked}
 use Rattle.thread_run.specs.Runs.{IsRunSoFar}
+use Rattle.thread_run.specs.Turns.{backend_of, EntersInTurn}
 
 abbrev pub Table : Type 0
 Table = TurnTable Play Entry Scenario
@@ -42,3 +52,42 @@ pub record Goes (table : Table) (was now : Worker) : Type 0 where
   pub at : IsAt table now
   pub number : now.pass.number ≡ was.pass.number
   pub seen : Extends (seen_by was.pass) (seen_by now.pass)
+
+-- it has looked by its word, and has taken no turn: the look says what the word said of a history that it has seen with it, which has no entry of its own more; it is held back after the others; and whether they are to be handed over, as it said yes, or no more than they can be held back
+pub record HasLooked (was now : Worker) (hands_over : Bool) : Type 0 where
+  pub some_wait : Bool
+  pub number : now.pass.number ≡ was.pass.number
+  pub room : room_of now.pass ≡ room_of was.pass
+  pub seen : Follows backend_of was.pass.number (seen_by was.pass) (seen_by now.pass)
+  pub told : was_told now.pass ≡ some_wait
+  pub no : some_wait ≡ false → is_waiting (seen_by now.pass) was.pass.number ≡ false
+  pub makes : MakesLook was.backend some_wait now.backend
+  pub stays : some_wait ≡ false → (now.backend.progress.finished ≡ was.backend.progress.finished) × (now.backend.progress.id ≡ was.pass.number)
+  pub held : now.held.items ≡ was.held.items ++ held_look was.backend some_wait ∷ []
+  pub hands : hands_over ≡ true → (some_wait ≡ true) ⊎ (length was.held.items + 1 ≡ 16)
+  pub keeps : hands_over ≡ false → (some_wait ≡ false) × (length was.held.items + 1 < 16)
+
+-- it has taken a turn, of which it enters no more than it had to, and holds no look back
+pub record TakesTurn (enters : Bool) (was now : Worker) : Type 0 where
+  pub opened : List Entry
+  pub seen : Follows backend_of was.pass.number (seen_by was.pass) opened
+  pub enters_in : EntersInTurn enters was.pass.number was.held.items opened (seen_by now.pass)
+  pub held : now.held.items ≡ []
+
+-- a look: it takes no turn for it, unless the looks are to be handed over, and then enters these and nothing else
+pub data MakesALook (was now : Worker) (result : Result Bool NoMemory) : Type 0 where
+  HoldsBack : HasLooked was now false → result ≡ Ok false → MakesALook was now result
+  HandsOver : (looked : Worker) → HasLooked was looked true → OnOk result (TakesTurn false looked now) → IfOk result (λ over. GoesAsked looked.pass.number over looked.backend now.backend) → MakesALook was now result
+
+-- what it does next: a look, which takes no turn of itself; or a turn, where it needs one, which leaves it at its next command or in the same one; or it has left
+pub data DoesNext (was now : Worker) (result : Result Bool NoMemory) : Type 0 where
+  Looks : (look : LookFor) → Wants was.backend (wants.Look look) → MakesALook was now result → DoesNext was now result
+  Turns : NeedsTurn was.backend → OnOk result (TakesTurn true was now) → IfOk result (λ over. GoesAsked was.pass.number over was.backend now.backend) → DoesNext was now result
+  HasLeft : has_left was.backend.life ≡ true → now ≡ was → DoesNext was now result
+
+-- in a step the gate of its backend was asked for each command that this came to after its look or its turn, up to that which it is in then
+pub record AsksOn (was : Worker) (now : Backend) (old new : List Asked) : Type 0 where
+  pub after : Worker
+  pub over : Bool
+  pub does : DoesNext was after (Ok over)
+  pub asks : AsksTo was.pass.number (asked_before over after.backend) (now.progress.finished + 1) old new

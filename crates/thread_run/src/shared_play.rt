@@ -126,6 +126,7 @@ impl SharedPlay {
         ensures script { self.new.shared.script ≡ self.old.shared.script }
         ensures left { IsLeft self.new.whole self.new.shared.script }
         ensures grew { Grew backend_of b self.old.shared.history self.new.shared.history }
+        ensures promises { (a : ℕ) → a ≢ b → places_in self.new.shared a ≡ places_in self.old.shared a }
         ensures few { length self.new.shared.history ≤ length self.old.shared.history + length looks.now + (1 + most) }
         ensures enters { OnOk result (EntersInTurn enters b looks.now self.old.shared.history self.new.shared.history) }
         ensures works { IfOk result (λ over. HasTakenTurn self.new.shared.script b self.new.shared.history over backend.new) }
@@ -150,6 +151,7 @@ impl SharedPlay {
         requires halts { IsLeft self.old.whole self.old.shared.script → IsPlayed self.old.shared.script self.old.shared.history → IsHalting self.old.shared.script at.now.backend at.now.commands self.old.shared.history looks.now backend.old }
         ensures whole { self.new.whole ≡ self.old.whole }
         ensures others { (a : ℕ) → a ≢ at.now.backend → commands_left self.new a ≡ commands_left self.old a }
+        ensures promises { (a : ℕ) → a ≢ at.now.backend → places_in self.new.shared a ≡ places_in self.old.shared a }
         ensures grew { Grew backend_of at.now.backend self.old.shared.history self.new.shared.history }
         ensures left { OnOk result (has_left backend.new.life ≡ true) }
         ensures stands { OnOk result (Stands self.new.shared.script self.new.shared.history backend.new) }

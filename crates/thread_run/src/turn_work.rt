@@ -1,6 +1,6 @@
 //! What a backend does in its turn, on any segment.
 
-ghost use Rattle.std.specs.Prelude.{◌≡◌, ◌≢◌, ◌≤◌, ◌+◌, ◌++◌, ℕ, true, false, length, IfOk, OnOk, OnErr};
+ghost use Rattle.std.specs.Prelude.{◌≡◌, ◌≢◌, ◌≤◌, ◌+◌, ◌++◌, ℕ, true, false, length, max, IfOk, OnOk, OnErr};
 ghost use Rattle.base_types.specs.Scenario.{IsBackend};
 ghost use Rattle.turn_table.specs.Histories.{Grew};
 ghost use Rattle.cacheless.specs.State.{one_if};
@@ -10,7 +10,7 @@ ghost use Rattle.backend_core.specs.Looks.{entries_of, MayCallAll};
 ghost use Rattle.backend_core.specs.Words.{has_left, has_joined};
 ghost use Rattle.thread_run.specs.Runs.{IsRunSoFar};
 ghost use Rattle.thread_run.specs.Turns.{backend_of, right_before, HasMore, EntersInTurn, HasTakenTurn};
-ghost use Rattle.thread_run.specs.Entering.{MayEnterNext, PlaysOn, ComesTo};
+ghost use Rattle.thread_run.specs.Entering.{MayEnterNext, PlaysOn, PromisesWanted, ComesTo};
 
 use backend_core::{Backend, HeldLook, PLACES};
 use base_types::NoMemory;
@@ -75,6 +75,7 @@ pub(crate) fn hand_over<L: Seg>(
     ensures script { L.script seg.new ≡ L.script seg.old }
     ensures hands { OnOk result (L.history seg.new ≡ L.history seg.old ++ entries_of b looks.now) }
     ensures room { OnOk result (16 ≤ L.promised seg.new b) }
+    ensures most { OnOk result (L.promised seg.new b ≤ max (L.promised seg.old b) 48) }
     ensures refused { OnErr result (L.history seg.new ≡ L.history seg.old) }
     ensures others { (a : ℕ) → a ≢ b → L.promised seg.new a ≡ L.promised seg.old a }
 {
@@ -92,6 +93,7 @@ fn renew<L: Seg>(seg: &mut L, b: u32, wanted: u32, enough: u32) -> Result<(), No
     ensures history { L.history seg.new ≡ L.history seg.old }
     ensures room { OnOk result (enough ≤ L.promised seg.new b) }
     ensures wanted { OnOk result (wanted ≤ L.promised seg.new b) }
+    ensures most { OnOk result (L.promised seg.new b ≤ max (L.promised seg.old b) (max wanted 48)) }
     ensures others { (a : ℕ) → a ≢ b → L.promised seg.new a ≡ L.promised seg.old a }
 {
     if wanted == 0 && enough <= seg.promised(b) {
@@ -131,6 +133,7 @@ fn enter_one<L: Seg>(
     requires may { MayEnterNext (L.script seg.old) b (L.history seg.old) backend.old }
     ensures plays { PlaysOn b (L.script seg.old) (L.script seg.new) (L.history seg.old) (L.history seg.new) (L.promised seg.old) (L.promised seg.new) }
     ensures few { length (L.history seg.new) ≤ length (L.history seg.old) + 1 }
+    ensures promises { OnOk result (PromisesWanted backend.old (L.promised seg.old b) (L.promised seg.new b)) }
     ensures more { OnOk result (HasMore b (L.history seg.old) (L.history seg.new)) }
     ensures comes { IfOk result (λ over. ComesTo (L.script seg.new) b (L.history seg.new) over backend.old backend.new) }
 {
@@ -206,10 +209,12 @@ fn step_in_turn<L: Seg>(
 ) -> Result<(), NoMemory>
     requires may { MayEnterNext (L.script seg.old) b (L.history seg.old) backend.old }
     ensures plays { PlaysOn b (L.script seg.old) (L.script seg.new) (L.history seg.old) (L.history seg.new) (L.promised seg.old) (L.promised seg.new) }
+    ensures promises { OnOk result (PromisesWanted backend.old (L.promised seg.old b) (L.promised seg.new b)) }
     ensures more { OnOk result (HasMore b (L.history seg.old) (L.history seg.new)) }
     ensures id { OnOk result (backend.new.progress.id ≡ b) }
     ensures stands { OnOk result (Stands (L.script seg.new) (L.history seg.new) backend.new) }
 {
-    renew(seg, b, backend.places_wanted(), FOR_ENTRY)?;
+    let wanted = backend.places_wanted();
+    renew(seg, b, wanted, FOR_ENTRY)?;
     backend.step(alloc, seg)
 }

@@ -1,7 +1,8 @@
-ghost use Rattle.std.specs.Prelude.{◌≡◌, ◌≤◌, ◌<◌, ℕ, [], true, false, length, IfOk, OnOk};
+ghost use Rattle.std.specs.Prelude.{◌≡◌, ◌≤◌, ◌<◌, ◌+◌, ◌++◌, ℕ, [], ◌∷◌, true, false, length, IfOk, OnOk, OnErr};
 ghost use Rattle.backend_core.specs.Looks.{IsOnItsWay};
 ghost use Rattle.thread_run.specs.Turns.{WaitsWherever, IsAtCommand};
 ghost use Rattle.thread_run.specs.Stops.{StopsBy};
+ghost use Rattle.thread_run.specs.Asks.{ask_of, AsksTo, AsksSome, asked_before};
 
 use crate::RunRefusal;
 use crate::halted_at::HaltedAt;
@@ -48,7 +49,8 @@ impl Worker {
     ghost use Rattle.backend_core.specs.Words.{has_left};
     ghost use Rattle.backend_core.specs.Halts.{HaltsWherever};
     ghost use Rattle.turn_table.specs.Passes.{start_of, seen_by, was_told};
-    ghost use Rattle.thread_run.specs.Workers.{IsAt, IsNewAt, HasAllAt, Goes};
+    ghost use Rattle.thread_run.specs.Workers.{IsAt, IsNewAt, HasAllAt, Goes, HasLooked, TakesTurn, MakesALook, DoesNext, AsksOn};
+    ghost use Rattle.thread_run.specs.Asks.{GoesAsked, AsksOwn};
     ghost use Rattle.thread_run.specs.Turns.{MayTakeTurn, MayHalt, IsBetween, IsUnderway, HasEnded};
 
     /// A backend with its pass, before its first turn.
@@ -80,6 +82,7 @@ impl Worker {
         ensures ended { OnOk result.1 (HasEnded (start_of table.now).whole self.pass.number (seen_by result.0.pass) result.0.backend × HasAllAt table.now result.0) }
         ensures halted { result.1 ≡ Err RunRefusal.Stopped → result.0.halt_refused ≡ false → has_left result.0.backend.life ≡ true }
         ensures stops { StopsBy (G.stops gate.old) (G.stops gate.new) result.1 }
+        ensures own { AsksOwn self.pass.number (G.asked gate.old) (G.asked gate.new) }
     {
         let mut worker = self;
         'working: for _ in rt.forever() {
@@ -111,6 +114,8 @@ impl Worker {
         ensures between { OnOk result.1 (IsBetween (start_of table.now).whole self.pass.number (seen_by result.0.pass) result.0.held.items result.0.backend) }
         ensures halted { result.1 ≡ Err RunRefusal.Stopped → result.0.halt_refused ≡ false → has_left result.0.backend.life ≡ true }
         ensures stops { StopsBy (G.stops gate.old) (G.stops gate.new) result.1 }
+        ensures asks { OnOk result.1 (has_left result.0.backend.life ≡ false → AsksOn self result.0.backend (G.asked gate.old) (G.asked gate.new)) }
+        ensures own { AsksOwn self.pass.number (G.asked gate.old) (G.asked gate.new) }
     {
         let (mut worker, made) = self.next(rt, alloc, table);
         let Ok(over) = made else {
@@ -141,17 +146,19 @@ impl Worker {
         ensures goes { Goes table.now self result.0 }
         ensures all { OnOk result.1 (HasAllAt table.now result.0) }
         ensures underway { IfOk result.1 (λ over. IsUnderway (start_of table.now).whole self.pass.number (seen_by result.0.pass) result.0.held.items over result.0.backend) }
+        ensures does { DoesNext self result.0 result.1 }
+        ensures id { OnOk result.1 (result.0.backend.progress.id ≡ self.pass.number) }
     {
         match self.backend.wants() {
-            Want::Look(look) => self.look(rt, alloc, table, look),
+            Want::Look(look) => self.make_look(rt, alloc, table, look),
             Want::Turn => self.take_turn(rt, alloc, table, true),
             Want::Ended => (self, Ok(false)),
         }
     }
 
-    // Looks by its word. Only where that says yes, or where it would hold back too many looks, a turn comes
-    // of it, in which it hands them over.
-    fn look<R: Wait>(
+    // A look. Only where that says yes, or where it would hold back too many looks, a turn comes of it, in which it
+    // hands them over.
+    fn make_look<R: Wait>(
         self,
         rt: &R,
         alloc: Global,
@@ -165,6 +172,24 @@ impl Worker {
         ensures goes { Goes table.now self result.0 }
         ensures all { OnOk result.1 (HasAllAt table.now result.0) }
         ensures underway { IfOk result.1 (λ over. IsUnderway (start_of table.now).whole self.pass.number (seen_by result.0.pass) result.0.held.items over result.0.backend) }
+        ensures looks { MakesALook self result.0 result.1 }
+        ensures id { OnOk result.1 (result.0.backend.progress.id ≡ self.pass.number) }
+    {
+        let (worker, hands_over) = self.look(table, look);
+        if hands_over {
+            return worker.take_turn(rt, alloc, table, false);
+        }
+        (worker, Ok(false))
+    }
+
+    // Looks by its word, and holds the look back: whether its looks are to be handed over. It takes no turn, and waits for
+    // nobody.
+    fn look(self, table: &TurnTable<SharedPlay>, look: LookFor) -> (Worker, bool)
+        requires at { IsAt table.now self }
+        requires between { IsBetween (start_of table.now).whole self.pass.number (seen_by self.pass) self.held.items self.backend }
+        requires wants { Wants self.backend (Want.Look look) }
+        ensures goes { Goes table.now self result.0 }
+        ensures looked { HasLooked self result.0 result.1 }
     {
         let Worker {
             mut pass,
@@ -183,10 +208,7 @@ impl Worker {
             turns,
             halt_refused,
         };
-        if hands_over {
-            return worker.take_turn(rt, alloc, table, false);
-        }
-        (worker, Ok(false))
+        (worker, hands_over)
     }
 
     // Takes a turn: hands over the looks that it holds back and, where it `enters`, makes its next entry and maybe more.
@@ -203,6 +225,8 @@ impl Worker {
         ensures goes { Goes table.now self result.0 }
         ensures all { HasAllAt table.now result.0 }
         ensures underway { IfOk result.1 (λ over. IsUnderway (start_of table.now).whole self.pass.number (seen_by result.0.pass) result.0.held.items over result.0.backend) }
+        ensures takes { OnOk result.1 (TakesTurn enters self result.0) }
+        ensures asked { IfOk result.1 (λ over. GoesAsked self.pass.number over self.backend result.0.backend) }
     {
         let Worker {
             pass,
@@ -300,10 +324,10 @@ fn go_on<R: Wait, G: Gate>(
     ensures waits { OnOk result (WaitsWherever backend.old backend.new) }
     ensures command { result ≡ Err RunRefusal.Stopped → IsAtCommand over backend.old backend.new }
     ensures stops { StopsBy (G.stops gate.old) (G.stops gate.new) result }
+    ensures asks { OnOk result (AsksTo backend.old.progress.id (asked_before over backend.old) (backend.new.progress.finished + 1) (G.asked gate.old) (G.asked gate.new)) }
+    ensures some { AsksSome backend.old.progress.id (asked_before over backend.old) (G.asked gate.old) (G.asked gate.new) }
 {
-    if over {
-        ask(rt, gate, backend)?;
-    }
+    ask_at(rt, gate, backend, over)?;
     'going: for _ in rt.forever() {
         if !backend.go_to_command(alloc)? {
             return Ok(());
@@ -313,12 +337,33 @@ fn go_on<R: Wait, G: Gate>(
     unreachable!()
 }
 
+// Asks the gate where the backend is at its next command.
+fn ask_at<R: Wait, G: Gate>(
+    rt: &R,
+    gate: &mut G,
+    backend: &Backend,
+    over: bool,
+) -> Result<(), RunRefusal>
+    requires few { length backend.now.lines ≤ 20000 }
+    requires count { length backend.now.lines ≡ backend.now.progress.finished }
+    ensures stops { StopsBy (G.stops gate.old) (G.stops gate.new) result }
+    ensures command { OnErr result (over ≡ true) }
+    ensures asks { AsksTo backend.now.progress.id (asked_before over backend.now) (backend.now.progress.finished + 1) (G.asked gate.old) (G.asked gate.new) }
+{
+    if over {
+        return ask(rt, gate, backend);
+    }
+    Ok(())
+}
+
 // Asks the gate whether the backend goes on to its next command.
 fn ask<R: Wait, G: Gate>(rt: &R, gate: &mut G, backend: &Backend) -> Result<(), RunRefusal>
+    requires few { length backend.now.lines ≤ 20000 }
     ensures stops { StopsBy (G.stops gate.old) (G.stops gate.new) result }
+    ensures asked { G.asked gate.new ≡ G.asked gate.old ++ ask_of backend.now.progress.id (length backend.now.lines + 1) ∷ [] }
 {
-    let finished = u32::try_from(backend.transcript().len()).unwrap_or(u32::MAX);
-    match gate.pass(rt, backend.id(), finished.saturating_add(1)) {
+    let finished = backend.transcript().len() as u32;
+    match gate.pass(rt, backend.id(), finished + 1) {
         Go::On => Ok(()),
         Go::Stop => Err(RunRefusal::Stopped),
     }

@@ -1,6 +1,11 @@
-use Rattle.std.proofs.Common.{◌∙◌, map, sym, ap, arith}
+use lib.ListN.{length-map}
+use Rattle.std.proofs.Common.{◌∙◌, map, sym, ap, subst, arith}
+use Rattle.std.proofs.lemmas.List.FromFn.{length-range_with_len}
+use Rattle.std.specs.List.{range_with_len}
 use Rattle.std.proofs.lemmas.Result.{IfOk-from_err}
 use Rattle.script_backends.specs.Sessions.{transcripts_of}
+use Rattle.thread_run.specs.Asks.{AskedEach}
+use Rattle.thread_run.proofs.Asking.{each_none}
 use Rattle.thread_run.proofs.Ends.{all_of, all_seats, all_ended, run_is, run_sessions, run_stands, run_coherent}
 use Rattle.thread_run.proofs.Stopping.{none_fell_same, refused_so}
 use Rattle.thread_run.proofs.running.run.Goals as goal
@@ -80,3 +85,16 @@ returns-clause-coherent g c =
     let ended = all_ended c.args.script.now c.in-Ok.table c.in-Ok.passes.items c.run_backends.new.passes.items c.in-Ok.backends.items c.run_backends.new.backends.items c.from_vec-3.result c.finish.result c.from_vec.result
     c.in-Ok.ensures c.in_ok-run_backends.ensures.done c.in_ok-run_backends.ensures.numbers c.finish.ensures.fixed c.finish.ensures.seen c.finish.ensures.room (c.from_vec.ensures ∙ c.into_history-entries.ensures.history) c.from_vec-3.ensures c.into_history-entries.ensures.run c.into_history-entries.ensures.left in
     run_coherent c.args.script.now c.from_vec.result c.from_vec-3.result ended
+
+pub returns-in_default-clause-asked : goal.returns-in_default-clause-asked
+returns-in_default-clause-asked g c = let gates = c.requires.gates in
+    each_none (range_with_len 1 c.args.script.now.backends) (map g.G.Gate.asked c.args.gates.now.items) (omega (arith, gates, length-range_with_len 1 c.args.script.now.backends, length-map c.args.gates.now.items g.G.Gate.asked))
+
+pub returns-in_err-run_backends-clause-asked : goal.returns-in_err-run_backends-clause-asked
+returns-in_err-run_backends-clause-asked g c = subst (λ l. AskedEach l (map g.G.Gate.asked c.args.gates.now.items) (map g.G.Gate.asked c.run_backends.new.gates.items)) c.in-Ok.ensures.numbers c.run_backends.ensures.asked
+
+pub returns-in_default-all_lines-clause-asked : goal.returns-in_default-all_lines-clause-asked
+returns-in_default-all_lines-clause-asked g c = subst (λ l. AskedEach l (map g.G.Gate.asked c.args.gates.now.items) (map g.G.Gate.asked c.run_backends.new.gates.items)) c.in-Ok.ensures.numbers c.run_backends.ensures.asked
+
+pub returns-clause-asked : goal.returns-clause-asked
+returns-clause-asked g c = subst (λ l. AskedEach l (map g.G.Gate.asked c.args.gates.now.items) (map g.G.Gate.asked c.run_backends.new.gates.items)) c.in-Ok.ensures.numbers c.run_backends.ensures.asked

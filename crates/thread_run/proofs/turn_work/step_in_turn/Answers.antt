@@ -1,9 +1,9 @@
 use Rattle.history_model.proofs.Sound.{sound_is_legal}
-use Rattle.thread_run.proofs.Played.{plays_same, renewed_may, enters_right, has_place, step_plays, step_more, step_id, step_stands}
+use Rattle.thread_run.proofs.Played.{plays_same, renewed_may, enters_right, has_place, step_plays, step_more, step_id, step_stands, promised_step}
 use Rattle.thread_run.proofs.turn_work.step_in_turn.Goals as goal
 
-pub places_wanted-requires : goal.places_wanted-requires
-places_wanted-requires g c = record { right = enters_right (g.L.Seg.promised c.args.seg.now) (g.met.L.Seg.short c.args.seg.now) c.requires.may }
+pub places_wanted-wanted-requires : goal.places_wanted-wanted-requires
+places_wanted-wanted-requires g c = record { right = enters_right (g.L.Seg.promised c.args.seg.now) (g.met.L.Seg.short c.args.seg.now) c.requires.may }
 
 pub renew-requires-clause-backend : goal.renew-requires-clause-backend
 renew-requires-clause-backend g c = c.requires.may.backend
@@ -40,3 +40,6 @@ returns-clause-id g c = step_id (g.L.Seg.script c.renew.new.seg) (g.L.Seg.histor
 
 pub returns-clause-stands : goal.returns-clause-stands
 returns-clause-stands g c = step_stands (g.L.Seg.history c.renew.new.seg) (g.L.Seg.history c.step.new.seg) (g.L.Seg.promised c.renew.new.seg) (g.L.Seg.promised c.step.new.seg) c.args.backend.now c.step.new.self c.step.result c.step.ensures.script c.step.ensures.steps
+
+pub returns-clause-promises : goal.returns-clause-promises
+returns-clause-promises g c = promised_step (g.L.Seg.promised c.args.seg.now) (g.L.Seg.promised c.renew.new.seg) (g.L.Seg.promised c.step.new.seg) c.step.result c.requires.may c.places_wanted-wanted.ensures c.in_ok-renew.ensures.wanted c.in_ok-renew.ensures.most c.step.ensures.steps

@@ -1,9 +1,10 @@
 use Rattle.std.proofs.Common.{◌∙◌, ap}
+use Rattle.shared_seg.specs.Places.{promised_in}
 use Rattle.backend_core.specs.Cuts.{cut}
 use Rattle.thread_run.proofs.CutRuns.{run_halted, stands_halted}
 use Rattle.thread_run.proofs.Played.{grew_looked, grew_then}
 use Rattle.thread_run.proofs.Scripts.{left_less}
-use Rattle.thread_run.proofs.SharedPlays.{backend_inside, backend_cut, halts_inside, grew_outside, others_keep}
+use Rattle.thread_run.proofs.SharedPlays.{backend_inside, backend_cut, halts_inside, grew_outside, promises_outside, others_keep}
 use Rattle.thread_run.proofs.shared_play.SharedPlay.stop.Goals as goal
 
 pub hand_over-requires-clause-backend : goal.hand_over-requires-clause-backend
@@ -46,3 +47,9 @@ pub returns-clause-grew : goal.returns-clause-grew
 returns-clause-grew g c =
     let b = c.args.at.now.backend in let was = c.self.inside.shared.history in let then = c.retell.new.self.history in let now = c.stop_in_turn.new.seg.history in
     grew_outside _ _ b now c.self.view_is (grew_then b was then now (grew_looked b was then c.args.looks.now (c.retell.ensures.history ∙ c.in_ok-hand_over.ensures.hands)) c.stop_in_turn.ensures.grew)
+
+pub returns-in_err-hand_over-clause-promises : goal.returns-in_err-hand_over-clause-promises
+returns-in_err-hand_over-clause-promises g c = λ a apart. promises_outside _ _ a _ c.self.view_is (c.in_err-hand_over.ensures.others a apart)
+
+pub returns-clause-promises : goal.returns-clause-promises
+returns-clause-promises g c = λ a apart. promises_outside _ _ a _ c.self.view_is (c.stop_in_turn.ensures.others a apart ∙ ap (λ p. promised_in p a) c.retell.ensures.promised ∙ c.in_ok-hand_over.ensures.others a apart)

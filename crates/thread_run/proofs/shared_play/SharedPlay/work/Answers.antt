@@ -1,5 +1,8 @@
-use Rattle.thread_run.proofs.SharedPlays.{backend_inside}
+use Rattle.thread_run.proofs.SharedPlays.{backend_inside, promises_outside}
 use Rattle.thread_run.proofs.shared_play.SharedPlay.work.Goals as goal
 
 pub work_in_turn-requires-clause-backend : goal.work_in_turn-requires-clause-backend
 work_in_turn-requires-clause-backend c = backend_inside _ _ c.args.b c.self.view_is c.self.invariant.1 c.requires.backend
+
+pub returns-clause-promises : goal.returns-clause-promises
+returns-clause-promises c = λ a apart. promises_outside _ _ a _ c.self.view_is (c.work_in_turn.ensures.others a apart)

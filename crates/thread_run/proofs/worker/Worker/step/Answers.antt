@@ -1,9 +1,12 @@
-use Rattle.std.proofs.Common.{sym, subst, length}
+use Rattle.std.proofs.Common.{◌∙◌, ◌≡◌, ◌+◌, refl, sym, subst, length}
+use Rattle.std.proofs.lemmas.Bool.{both_ways}
 use Rattle.turn_table.specs.Passes.{start_of, seen_by}
 use Rattle.thread_run.specs.declared.refusal.RunRefusal.TheVariants as refusals
+use Rattle.thread_run.specs.Asks.{asked_before}
 use Rattle.thread_run.specs.Stops.{StopsBy}
 use Rattle.thread_run.specs.Turns.{MayHalt}
-use Rattle.thread_run.specs.Workers.{HasAllAt}
+use Rattle.thread_run.specs.Workers.{HasAllAt, DoesNext}
+use Rattle.thread_run.proofs.Asking.{asks_as, owns_none, owns_then}
 use Rattle.thread_run.proofs.Workers.{at_kept, goes_kept, goes_then, where_ok, was_refused, gone_between, stays_right, went_between, stopped_may}
 use Rattle.thread_run.proofs.worker.Worker.step.Goals as goal
 
@@ -79,3 +82,33 @@ returns-in-Err-Stopped-clause-halted g c = λ is well. c.halt.ensures.left well
 pub returns-in-Err-Stopped-clause-stops : goal.returns-in-Err-Stopped-clause-stops
 returns-in-Err-Stopped-clause-stops g c = let e = c.in-Err-Stopped in
     subst (StopsBy (g.G.Gate.stops c.args.gate.now) (g.G.Gate.stops c.go_on.new.gate)) (was_refused c.go_on.result e.field-0 refusals.Stopped e.is e.field-0-is) c.go_on.ensures.stops
+
+pub returns-in_default-clause-own : goal.returns-in_default-clause-own
+returns-in_default-clause-own g c = owns_none c.args.self.pass.number (g.G.Gate.asked c.args.gate.now)
+
+pub returns-then-is_stopped-clause-asks : goal.returns-then-is_stopped-clause-asks
+returns-then-is_stopped-clause-asks g c = λ stays. absurd (both_ways _ stays (sym c.is_stopped.ensures ∙ c.if-is_stopped.true))
+
+pub returns-then-is_stopped-clause-own : goal.returns-then-is_stopped-clause-own
+returns-then-is_stopped-clause-own g c = owns_none c.args.self.pass.number (g.G.Gate.asked c.args.gate.now)
+
+pub returns-in-Ok-go_on-clause-asks : goal.returns-in-Ok-go_on-clause-asks
+returns-in-Ok-go_on-clause-asks g c = let worker = c.next-worker.result.0 in λ stays. record {
+  after = worker;
+  over = c.in-Ok.over;
+  does = subst (DoesNext c.args.self worker) c.in-Ok.is c.next-worker.ensures.does;
+  asks = asks_as worker.backend.progress.id c.args.self.pass.number (asked_before c.in-Ok.over worker.backend) (c.go_on.new.backend.progress.finished + 1) (c.go_on.new.backend.progress.finished + 1) (g.G.Gate.asked c.args.gate.now) (g.G.Gate.asked c.go_on.new.gate)
+      (where_ok (worker.backend.progress.id ≡ c.args.self.pass.number) c.next-worker.result.1 c.in-Ok.over c.in-Ok.is c.next-worker.ensures.id) refl c.in-Ok-go_on.ensures.asks;
+}
+
+pub returns-in-Ok-go_on-clause-own : goal.returns-in-Ok-go_on-clause-own
+returns-in-Ok-go_on-clause-own g c = owns_then c.args.self.pass.number c.next-worker.result.0.backend.progress.id (asked_before c.in-Ok.over c.next-worker.result.0.backend) c.go_on.ensures.some.upto (g.G.Gate.asked c.args.gate.now) (g.G.Gate.asked c.args.gate.now) (g.G.Gate.asked c.go_on.new.gate)
+    (where_ok (c.next-worker.result.0.backend.progress.id ≡ c.args.self.pass.number) c.next-worker.result.1 c.in-Ok.over c.in-Ok.is c.next-worker.ensures.id) (owns_none c.args.self.pass.number (g.G.Gate.asked c.args.gate.now)) c.go_on.ensures.some.asks
+
+pub returns-in-Err-NoMemory-clause-own : goal.returns-in-Err-NoMemory-clause-own
+returns-in-Err-NoMemory-clause-own g c = owns_then c.args.self.pass.number c.next-worker.result.0.backend.progress.id (asked_before c.in-Ok.over c.next-worker.result.0.backend) c.go_on.ensures.some.upto (g.G.Gate.asked c.args.gate.now) (g.G.Gate.asked c.args.gate.now) (g.G.Gate.asked c.go_on.new.gate)
+    (where_ok (c.next-worker.result.0.backend.progress.id ≡ c.args.self.pass.number) c.next-worker.result.1 c.in-Ok.over c.in-Ok.is c.next-worker.ensures.id) (owns_none c.args.self.pass.number (g.G.Gate.asked c.args.gate.now)) c.go_on.ensures.some.asks
+
+pub returns-in-Err-Stopped-clause-own : goal.returns-in-Err-Stopped-clause-own
+returns-in-Err-Stopped-clause-own g c = owns_then c.args.self.pass.number c.next-worker.result.0.backend.progress.id (asked_before c.in-Ok.over c.next-worker.result.0.backend) c.go_on.ensures.some.upto (g.G.Gate.asked c.args.gate.now) (g.G.Gate.asked c.args.gate.now) (g.G.Gate.asked c.go_on.new.gate)
+    (where_ok (c.next-worker.result.0.backend.progress.id ≡ c.args.self.pass.number) c.next-worker.result.1 c.in-Ok.over c.in-Ok.is c.next-worker.ensures.id) (owns_none c.args.self.pass.number (g.G.Gate.asked c.args.gate.now)) c.go_on.ensures.some.asks

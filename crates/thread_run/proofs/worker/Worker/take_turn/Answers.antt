@@ -5,7 +5,8 @@ use Rattle.history_model.specs.Log.{is_waiting}
 use Rattle.turn_table.specs.Passes.{start_of, seen_by, room_of, was_told, words_of}
 use Rattle.turn_table.specs.Words.{TellExactly}
 use Rattle.thread_run.specs.Scripts.{Play, commands_left}
-use Rattle.thread_run.proofs.Workers.{turn_backend, turn_holds, turned_ok, extends_turn, rooms_kept, left_same, whole_kept, all_kept}
+use Rattle.thread_run.proofs.Workers.{turn_backend, turn_holds, turned_ok, extends_turn, rooms_kept, left_same, whole_kept, all_kept, takes_ok}
+use Rattle.thread_run.proofs.Asking.{turned_asked}
 use Rattle.thread_run.proofs.worker.Worker.take_turn.Goals as goal
 
 pub work-done-requires-clause-backend : goal.work-done-requires-clause-backend
@@ -45,3 +46,10 @@ returns-clause-underway g c = turned_ok (start_of c.args.table.now).whole c.valu
     (ap (λ (v : Play). v.whole) (c.value.ensures.value ∙ c.open-turn.ensures.value) ∙ c.open-turn.ensures.fixed) c.work-done.ensures.whole c.work-done.ensures.script c.work-done.ensures.left c.requires.all
     (subst (λ (v : Play). room_of c.args.self.pass ≤ commands_left v c.args.self.pass.number) (sym (c.value.ensures.value ∙ c.open-turn.ensures.value)) c.open-turn.ensures.room)
     (c.close-pass.ensures.seen ∙ ap (λ (v : Play). v.shared.history) c.tell.ensures.kept.0) c.clear.ensures c.work-done.ensures.works
+
+pub returns-clause-takes : goal.returns-clause-takes
+returns-clause-takes g c = takes_ok c.args.enters c.args.self _ c.work-done.result c.as_slice.result.now c.open-turn.result.opened.value.shared.history c.value.result.now.shared.history c.work-done.new.self.shared.history
+    c.open-turn.ensures.seen c.as_slice.ensures.value (ap (λ (v : Play). v.shared.history) (c.value.ensures.value ∙ c.open-turn.ensures.value)) (c.close-pass.ensures.seen ∙ ap (λ (v : Play). v.shared.history) c.tell.ensures.kept.0) c.clear.ensures c.work-done.ensures.enters
+
+pub returns-clause-asked : goal.returns-clause-asked
+returns-clause-asked g c = turned_asked c.work-done.new.self.shared.script c.args.self.pass.number c.work-done.new.self.shared.history c.args.self.backend c.work-done.new.backend c.work-done.result c.work-done.ensures.works c.work-done.ensures.number

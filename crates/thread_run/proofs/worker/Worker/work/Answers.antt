@@ -2,6 +2,7 @@ use Rattle.std.proofs.Common.{◌∙◌, refl, sym, subst}
 use Rattle.turn_table.specs.Passes.{start_of, seen_by}
 use Rattle.thread_run.specs.Turns.{IsBetween}
 use Rattle.thread_run.specs.Workers.{HasAllAt}
+use Rattle.thread_run.proofs.Asking.{owns_none, owns_more}
 use Rattle.thread_run.proofs.Between.{between_new, between_ended}
 use Rattle.thread_run.proofs.Workers.{goes_nowhere, goes_then, stops_then, stops_ok, not_ok, where_ok, between_ok}
 use Rattle.thread_run.proofs.worker.Worker.work.Goals as goal
@@ -12,6 +13,7 @@ working-init g c = let new = c.requires.new in record {
   all = new.all;
   between = between_new (start_of c.args.table.now).whole c.args.self.pass.number (seen_by c.args.self.pass) c.args.self.held.items c.args.self.backend new.id new.held new.run new.short new.stands;
   steady = refl;
+  own = owns_none c.args.self.pass.number (g.G.Gate.asked c.args.gate.now);
 }
 
 pub returns-then-is_stopped-clause-goes : goal.returns-then-is_stopped-clause-goes
@@ -39,6 +41,7 @@ working-preserved g c = let i = c.working.invariant in let next = c.step-next.re
   all = where_ok (HasAllAt c.args.table.now next) c.step-next.result.1 c.in-Ok.field-0 c.in-Ok.is c.step-next.ensures.all;
   between = between_ok (start_of c.args.table.now).whole c.working.worker.pass.number c.args.self.pass.number (seen_by next.pass) next.held.items next.backend c.step-next.result.1 c.in-Ok.field-0 i.goes.number c.in-Ok.is c.step-next.ensures.between;
   steady = stops_ok (stops c.working.gate) (stops c.step-next.new.gate) c.step-next.result.1 c.in-Ok.field-0 c.in-Ok.is c.step-next.ensures.stops ∙ i.steady;
+  own = owns_more c.args.self.pass.number c.working.worker.pass.number (g.G.Gate.asked c.args.gate.now) (g.G.Gate.asked c.working.gate) (g.G.Gate.asked c.step-next.new.gate) i.goes.number i.own c.step-next.ensures.own;
 }
 
 pub returns-in_default-clause-goes : goal.returns-in_default-clause-goes
@@ -50,3 +53,9 @@ returns-in_default-clause-ended g c = not_ok _ c.step-next.result.1 c.in_default
 pub returns-in_default-clause-stops : goal.returns-in_default-clause-stops
 returns-in_default-clause-stops g c = let stops = g.G.Gate.stops in
     stops_then (stops c.args.gate.now) (stops c.working.gate) (stops c.step-next.new.gate) c.step-next.result.1 c.working.invariant.steady c.step-next.ensures.stops
+
+pub returns-then-is_stopped-clause-own : goal.returns-then-is_stopped-clause-own
+returns-then-is_stopped-clause-own g c = c.working.invariant.own
+
+pub returns-in_default-clause-own : goal.returns-in_default-clause-own
+returns-in_default-clause-own g c = owns_more c.args.self.pass.number c.working.worker.pass.number (g.G.Gate.asked c.args.gate.now) (g.G.Gate.asked c.working.gate) (g.G.Gate.asked c.step-next.new.gate) c.working.invariant.goes.number c.working.invariant.own c.step-next.ensures.own
