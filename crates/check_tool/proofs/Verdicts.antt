@@ -5,7 +5,7 @@ use Rattle.std.proofs.lemmas.List.{take_all, take-take, length-take-le, append_a
 use Rattle.std.proofs.Math.Dec.{leb}
 use Rattle.std.proofs.lemmas.Bool.Decides.{leb_tells}
 use Rattle.std.proofs.lemmas.List.Elements.{All-from_recursion}
-use Rattle.base_types.specs.Scenario.{IsBackend}
+use Rattle.base_types.specs.Scenario.{IsBackend, IsScript}
 use Rattle.event_kinds.specs.Entries.{IsLine}
 use Rattle.event_kinds.specs.Texts.{entries_text, lines_text}
 use Rattle.history_ledger.specs.Longest.{IsLongest}
@@ -13,10 +13,11 @@ use Rattle.history_model.specs.Prefixes.{EachFrom}
 use Rattle.history_model.proofs.Prefixes.{EachEntry-prefix}
 use Rattle.history_model.proofs.Sound.{sound_is_orderly}
 use Rattle.cacheless.specs.Lines.{lines_of}
-use Rattle.cacheless.specs.Output.{IsAllowed, IsInterleaved, HasAllCome}
-use Rattle.cacheless.specs.Played.{AreSpelled}
+use Rattle.cacheless.specs.Output.{IsAllowed, IsInterleaved, HasAllCome, IsOutput}
 use Rattle.cacheless.specs.Plays.{IsNext}
+use Rattle.cacheless.specs.Typed.{IsCountable}
 use Rattle.cacheless.proofs.Allowed.AllowedHistories.{allowed_sound}
+use Rattle.cacheless.proofs.Allowed.TypedHistories.{output_typed}
 use Rattle.cacheless.proofs.PlacesUsable.{places_usable}
 use Rattle.history_lines.specs.Answered.{IsAnswered}
 use Rattle.check_tool.specs.Types.{CheckKind, Scenario, Entry, Line}
@@ -50,10 +51,10 @@ allowed_backends scenario history backends same allowed =
     subst (λ n. All (λ e. IsBackend n e.backend) history) (sym same) (All-from_recursion (λ e. IsBackend scenario.backends e.backend) history (backends_from scenario [] history allowed.plays))
 
 -- of what the script allows it is judged how the entries come
-pub reached_far : (kind : CheckKind) (scenario : Scenario) (entries : List Entry) (allowed far : ℕ) (lines : List Line) (due : Option ℕ) → AreSpelled scenario → IsAnswered scenario entries allowed lines → AreInterleaved kind scenario (take allowed entries) far due
+pub reached_far : (kind : CheckKind) (scenario : Scenario) (entries : List Entry) (allowed far : ℕ) (lines : List Line) (due : Option ℕ) → IsScript scenario → IsAnswered scenario entries allowed lines → AreInterleaved kind scenario (take allowed entries) far due
     → HaveReached kind scenario entries far due lines
-reached_far kind scenario entries allowed far lines due spelled answered come = record {
-  spelled = spelled;
+reached_far kind scenario entries allowed far lines due script answered come = record {
+  script = script;
   longest = record { within = longest.within; holds = record { allowed = longest.holds.0; interleaved = longest.holds.1 }; most = λ less more. longest.most less (more.allowed, more.interleaved) };
   due_is = ap (λ seen. slice_get (due_after kind scenario seen) 0) (sym (take-take far allowed entries fewer)) ∙ come.due_is;
   lines_are = λ last. answered.lines_are ∙ ap (lines_of scenario) (take_all allowed entries (omega (arith, last, fewer)));
@@ -92,9 +93,9 @@ is_output kind scenario text entries rest count due lines leads far end typed sa
         };
         entries = leads.entries_are;
       };
-      orderly = sound_is_orderly entries (allowed_sound scenario entries far.spelled reached.allowed);
-      commands = far.spelled;
-      places = places_usable scenario entries far.spelled reached.allowed;
+      orderly = sound_is_orderly entries (allowed_sound scenario entries far.script.spelled reached.allowed);
+      commands = far.script.spelled;
+      places = places_usable scenario entries far.script.spelled reached.allowed;
       answers = subst (All IsLine) (far.lines_are end.0) typed;
       count_is = end.0;
     }
@@ -108,22 +109,22 @@ all_of kind scenario entries count longest reached = by_order (leb_tells (count 
         absurd (longest.most (omega (arith, less.1)) (holds_shorter (MayBeReached kind scenario) (reached-prefix kind scenario) entries (length entries) (count + 1) less.1 (subst (MayBeReached kind scenario) (sym (take_all (length entries) entries (omega arith))) reached)))
     by_order (inr more) = omega (arith, more.1, longest.within)
 
--- an output would have ended so
-no_output : (kind : CheckKind) (scenario : Scenario) (text : List ℕ) (entries : List Entry) (rest : List ℕ) (count : ℕ) (due : Option ℕ) (lines : List Line) → Leads text entries rest → HaveReached kind scenario entries count due lines
-    → ((count ≡ length entries) × (due ≡ None) → rest ≡ lines_text lines ++ codes "end\n" → ⊥) → IsTypedOutput kind scenario text → ⊥
-no_output kind scenario text entries rest count due lines leads far never o =
-    let parts = output_parts kind scenario text entries rest leads o in
-    let reached : MayBeReached kind scenario entries = subst (MayBeReached kind scenario) (sym parts.0) (record { allowed = o.is.allowed; interleaved = o.is.interleaved }) in
+-- an output would have ended so: it is short enough for each of its entries to have a text
+no_output : (kind : CheckKind) (scenario : Scenario) (text : List ℕ) (entries : List Entry) (rest : List ℕ) (count : ℕ) (due : Option ℕ) (lines : List Line) → Leads text entries rest → HaveReached kind scenario entries count due lines → IsCountable text
+    → ((count ≡ length entries) × (due ≡ None) → rest ≡ lines_text lines ++ codes "end\n" → ⊥) → IsOutput kind scenario text → ⊥
+no_output kind scenario text entries rest count due lines leads far short never o =
+    let parts = output_parts kind scenario text entries rest leads (record { is = o; entries = output_typed kind scenario text o far.script short }) in
+    let reached : MayBeReached kind scenario entries = subst (MayBeReached kind scenario) (sym parts.0) (record { allowed = o.allowed; interleaved = o.interleaved }) in
     let last : count ≡ length entries = all_of kind scenario entries count far.longest reached in
     let all : take count entries ≡ entries = take_all count entries (omega (arith, last)) in
-    never (last, (none_due kind scenario (take count entries) due far.due_is).1 (subst (HasAllCome kind scenario) (sym parts.0 ∙ sym all) o.is.complete))
+    never (last, (none_due kind scenario (take count entries) due far.due_is).1 (subst (HasAllCome kind scenario) (sym parts.0 ∙ sym all) o.complete))
     (parts.1 ∙ ap (λ h. lines_text (lines_of scenario h) ++ codes "end\n") (sym parts.0) ∙ ap (λ ls. lines_text ls ++ codes "end\n") (sym (far.lines_are last)))
 
 -- something is missing
-pub differs_at : (kind : CheckKind) (scenario : Scenario) (text : List ℕ) (entries : List Entry) (rest : List ℕ) (count : ℕ) (due : Option ℕ) (lines : List Line) → Leads text entries rest → HaveReached kind scenario entries count due lines
+pub differs_at : (kind : CheckKind) (scenario : Scenario) (text : List ℕ) (entries : List Entry) (rest : List ℕ) (count : ℕ) (due : Option ℕ) (lines : List Line) → Leads text entries rest → HaveReached kind scenario entries count due lines → IsCountable text
     → ((count ≡ length entries) × (due ≡ None) → rest ≡ lines_text lines ++ codes "end\n" → ⊥) → DiffersAt kind scenario text (count + 1)
-differs_at kind scenario text entries rest count due lines leads far never = record {
-  differs = no_output kind scenario text entries rest count due lines leads far never;
+differs_at kind scenario text entries rest count due lines leads far short never = record {
+  differs = no_output kind scenario text entries rest count due lines leads far short never;
   entries = entries;
   rest = rest;
   leads = leads;

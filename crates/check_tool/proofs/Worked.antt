@@ -1,10 +1,12 @@
 -- Worked examples: one backend without commands, and what a check finds of some texts.
 use Rattle.std.specs.Fmt.{digits}
-use Rattle.std.proofs.Common.{◌≤◌, ◌<◌, ℕ, Some, None, List, [], ◌∷◌, codes, refl, arith}
+use Rattle.std.proofs.Common.{◌≤◌, ◌<◌, ℕ, Some, None, List, [], ◌∷◌, codes, length, refl, arith}
 use Rattle.std.proofs.lemmas.List.Elements.{All-from_recursion}
+use Rattle.base_types.specs.Scenario.{IsScript}
 use Rattle.event_kinds.specs.declared.entry.Event.TheVariants.{Start, Stop}
 use Rattle.event_kinds.specs.Entries.{IsEntry, IsLine}
 use Rattle.history_model.proofs.Allows.{legal_by}
+use Rattle.cacheless.specs.Typed.{IsCountable}
 use Rattle.cacheless.specs.declared.check_kind.CheckKind.TheVariants.{Walk}
 use Rattle.check_tool.specs.Leading.{Leads}
 use Rattle.check_tool.specs.Types.{Scenario, Entry, Event}
@@ -19,6 +21,13 @@ entry b c event = record { backend = b; command = c; event = event }
 -- backend 1, which has no command and stops at once
 abbrev pub idle : Scenario
 idle = record { size = 64; from = 0; backends = 1; commands = []; steps = [] }
+
+idle_script : IsScript idle
+idle_script = record { size = record { power = 6; is = refl; least = omega arith }; from = omega arith; backends = (omega arith, omega arith); commands = omega arith; placed = tt; spelled = tt; turns = tt; steps = omega arith }
+
+-- so few bytes can be counted
+counted : (text : List ℕ) → length text ≤ 30 → IsCountable text
+counted text few = omega (arith, few)
 
 abbrev pub started : List Entry
 started = entry 1 0 Start ∷ []
@@ -63,7 +72,7 @@ stopped_leads = record { text_is = refl; entries_are = All-from_recursion IsEntr
 
 stopped_far : HaveReached Walk idle stopped 2 None []
 stopped_far = record {
-  spelled = tt;
+  script = idle_script;
   longest = record { within = omega arith; holds = stopped_walked; most = λ less more. absurd (omega (arith, less)) };
   due_is = refl;
   lines_are = λ all. refl;
@@ -79,7 +88,7 @@ blank_leads = record { text_is = refl; entries_are = All-from_recursion IsEntry 
 
 -- a blank after it
 pub something_follows : DiffersAt Walk idle (codes "h 1 0 start\nh 1 1 stop\nend\n ") 3
-something_follows = differs_at Walk idle (codes "h 1 0 start\nh 1 1 stop\nend\n ") stopped (codes "end\n ") 2 None [] blank_leads stopped_far (λ all same. absurd cc)
+something_follows = differs_at Walk idle (codes "h 1 0 start\nh 1 1 stop\nend\n ") stopped (codes "end\n ") 2 None [] blank_leads stopped_far (counted (codes "h 1 0 start\nh 1 1 stop\nend\n ") (omega arith)) (λ all same. absurd cc)
 
 -- ---- the stop is cut off in its middle
 
@@ -89,7 +98,7 @@ cut_leads = record { text_is = refl; entries_are = All-from_recursion IsEntry st
 
 started_far : HaveReached Walk idle started 1 (Some 1) []
 started_far = record {
-  spelled = tt;
+  script = idle_script;
   longest = record { within = omega arith; holds = started_walked; most = λ less more. absurd (omega (arith, less)) };
   due_is = refl;
   lines_are = λ all. refl;
@@ -97,13 +106,13 @@ started_far = record {
 
 -- the second entry is missing
 pub cut_off : DiffersAt Walk idle (codes "h 1 0 start\nh 1 1 sto") 2
-cut_off = differs_at Walk idle (codes "h 1 0 start\nh 1 1 sto") started (codes "h 1 1 sto") 1 (Some 1) [] cut_leads started_far (λ all same. let never = all.1 in absurd cc)
+cut_off = differs_at Walk idle (codes "h 1 0 start\nh 1 1 sto") started (codes "h 1 1 sto") 1 (Some 1) [] cut_leads started_far (counted (codes "h 1 0 start\nh 1 1 sto") (omega arith)) (λ all same. let never = all.1 in absurd cc)
 
 -- nothing at all
 pub empty_output : DiffersAt Walk idle [] 1
 empty_output = differs_at Walk idle [] [] [] 0 (Some 1) [] (record { text_is = refl; entries_are = All-from_recursion IsEntry [] tt; ends = λ e more is same. absurd cc }) (record {
-  spelled = tt;
+  script = idle_script;
   longest = record { within = omega arith; holds = record { allowed = record { legal = tt; queue = tt; plays = tt; economical = tt }; interleaved = record { follows = tt; looks = tt } }; most = λ less more. absurd (omega (arith, less)) };
   due_is = refl;
   lines_are = λ all. refl;
-}) (λ all same. let never = all.1 in absurd cc)
+}) (counted [] (omega arith)) (λ all same. let never = all.1 in absurd cc)

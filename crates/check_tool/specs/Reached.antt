@@ -1,7 +1,7 @@
 -- How far `walk` or `run` of a script may have made the entries of a list.
 use Rattle.std.specs.Prelude.{◌≡◌, ℕ, not, Option, List, filter, length, take, slice_get}
-use Rattle.std.specs.List.{AllByRecursion, range_with_len}
-use Rattle.base_types.specs.Commands.{IsCommand}
+use Rattle.std.specs.List.{range_with_len}
+use Rattle.base_types.specs.Scenario.{IsScript}
 use Rattle.history_ledger.specs.Longest.{IsLongest}
 use Rattle.cacheless.specs.Lines.{lines_of}
 use Rattle.cacheless.specs.Output.{IsAllowed, IsInterleaved}
@@ -29,9 +29,9 @@ pub record AreInterleaved (kind : CheckKind) (scenario : Scenario) (entries : Li
   pub longest : IsLongest (IsInterleaved kind scenario) entries count
   pub due_is : slice_get (due_after kind scenario (take count entries)) 0 ≡ due
 
--- `walk` or `run` may have come to so many entries, from the first on; the first backend whose entry is still to come after these, and none where nothing is left to come; and the lines, where that is all entries. The script's commands have forms that lines may have
+-- `walk` or `run` may have come to so many entries, from the first on; the first backend whose entry is still to come after these, and none where nothing is left to come; and the lines, where that is all entries. The script has the ranges and limits of one
 pub record HaveReached (kind : CheckKind) (scenario : Scenario) (entries : List Entry) (count : ℕ) (due : Option ℕ) (lines : List Line) : Type 0 where
-  pub spelled : AllByRecursion (λ p. IsCommand p.command) scenario.commands
+  pub script : IsScript scenario
   pub longest : IsLongest (MayBeReached kind scenario) entries count
   pub due_is : slice_get (due_after kind scenario (take count entries)) 0 ≡ due
   pub lines_are : count ≡ length entries → lines ≡ lines_of scenario entries

@@ -30,7 +30,7 @@ pub record IsOutputOf (kind : CheckKind) (scenario : Scenario) (text : List ℕ)
 
 -- no output of the script; its `walk` or `run` may have come to the entries before this one of those that the text begins with, and not to one more
 pub record DiffersAt (kind : CheckKind) (scenario : Scenario) (text : List ℕ) (entry : ℕ) : Type 0 where
-  pub differs : IsTypedOutput kind scenario text → ⊥
+  pub differs : IsOutput kind scenario text → ⊥
   pub entries : List Entry
   pub rest : List ℕ
   pub leads : Leads text entries rest

@@ -5,24 +5,27 @@ ghost use Rattle.check_tool.specs.Verdicts.{IsVerdict};
 use crate::answer_lines::are_lines;
 use crate::leading::leading_entries;
 use crate::reached::{Reached, reached_prefix};
-use base_types::NoMemory;
+use base_types::{FIRST_OID, NoMemory};
 use cacheless::CheckKind;
 use script_text::Script;
 use std::alloc::Global;
+
+// The most bytes of an output whose oids surely have four bytes each: they are drawn from the first on, and no more
+// of them than it has bytes.
+const MOST_BYTES: usize = (u32::MAX - FIRST_OID) as usize;
 
 /// What a check finds.
 #[derive(Clone, Copy, Debug)]
 pub enum Checked {
     /// An output of the script, with so many entries.
     Output { entries: u64 },
-    /// No output whose entries have texts. The number, from 1, of the first of its leading entries that may not come
-    /// there; the number after the last where all of them may, and one is missing or what follows them differs.
+    /// No output of the script. The number, from 1, of the first of its leading entries that may not come there; the
+    /// number after the last where all of them may, and one is missing or what follows them differs.
     Differs { entry: u64 },
 }
 
-/// Whether the bytes are an output of `walk` or of `run` for the script. Outputs are meant whose entries have texts,
-/// as all that the program writes do: numbers of four bytes, names as they may be, and at least one change in a
-/// write. `NoMemory` comes where memory is short, or a number can't be counted.
+/// Whether the bytes are an output of `walk` or of `run` for the script. `NoMemory` comes where memory is short, or a
+/// number can't be counted: so of more than 4,294,950,911 bytes, whose oids may be larger than four bytes hold.
 pub fn check(
     alloc: Global,
     script: &Script,
@@ -31,6 +34,9 @@ pub fn check(
 ) -> Result<Checked, NoMemory>
     ensures { IfOk result (IsVerdict kind script.now output.now) }
 {
+    if output.len() > MOST_BYTES {
+        return Err(NoMemory);
+    }
     let leading = leading_entries(alloc, output)?;
     let far = reached_prefix(alloc, script, kind, &leading.entries)?;
     let rest = &output[leading.size..];

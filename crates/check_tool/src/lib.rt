@@ -6,8 +6,8 @@
 //! schedule, for `run` no backend that hasn't stopped. What follows the entries has to be the answer lines of the
 //! history and the line `end`, byte for byte.
 //!
-//! The promise: `Output` comes exactly where the bytes are an output of the script of that kind (`IsTypedOutput`),
-//! with the number of its entries. Else the answer names one entry: the first of the leading ones that may not
+//! The promise: `Output` comes exactly where the bytes are an output of the script of that kind (`IsOutput`), with
+//! the number of its entries. Else the answer names one entry: the first of the leading ones that may not
 //! come there, or the one after the last where all of them are right.
 //!
 //! ```text

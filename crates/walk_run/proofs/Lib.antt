@@ -1,3 +1,4 @@
 pub mod ScheduleSteps
 pub mod OneAfterAnother
+pub mod Leaving
 pub mod Walks

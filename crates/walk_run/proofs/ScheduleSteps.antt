@@ -26,7 +26,7 @@ use Rattle.script_backends.proofs.Sessions.{stopped_as}
 use Rattle.walk_run.specs.Walks.{AllStand, IsDue, Goes, HasSchedule, IsRunning, Makes}
 
 -- the history of one step more
-entered_more : (s : Scenario) (h h' : List Entry) (had has : ℕ → ℕ) (b : ℕ) → EachEntry (MayEnter s) h → MakesEntry s h h' had has b → EachEntry (MayEnter s) h'
+pub entered_more : (s : Scenario) (h h' : List Entry) (had has : ℕ → ℕ) (b : ℕ) → EachEntry (MayEnter s) h → MakesEntry s h h' had has b → EachEntry (MayEnter s) h'
 entered_more s h h' had has b entered makes = subst (EachEntry (MayEnter s)) (sym makes.is) (EachEntry-more (MayEnter s) h makes.entry entered makes.may)
 
 -- the backends alone

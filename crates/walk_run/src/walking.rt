@@ -1,10 +1,10 @@
-ghost use Rattle.std.specs.Prelude.{◌≡◌, ◌-◌, [], ◌∷◌, replicate, OnOk, IfOk};
+ghost use Rattle.std.specs.Prelude.{◌≡◌, ◌≢◌, ◌-◌, ℕ, [], ◌∷◌, replicate, OnOk, IfOk};
 ghost use Rattle.std.specs.List.{All, AllByRecursion};
 ghost use Rattle.base_types.specs.Scenario.{IsBackend, AreTurns, turns_of, schedule_of};
 ghost use Rattle.backend_core.specs.Agrees.{Stands};
 ghost use Rattle.backend_core.specs.Coherent.{IsCoherent};
 ghost use Rattle.script_backends.specs.Sessions.{transcripts_of, AreSessions};
-ghost use Rattle.walk_run.specs.Walks.{IsWalk};
+ghost use Rattle.walk_run.specs.Walks.{IsWalk, LeavesWell};
 
 use backend_core::Backend;
 use base_types::{Listed, NoMemory, Turns};
@@ -47,7 +47,8 @@ pub fn walk(alloc: Global, script: &Script) -> Result<World, NoMemory>
 }
 
 /// The walk of a script on a segment: the backends that were run, in order of their numbers.
-/// Conditions: the segment was made for the script, and its history is empty.
+/// Conditions: the segment was made for the script, and its history is empty. Out of memory too, the segment's
+/// history is one that the script plays so far, and promises to others than the script's backends are as they were.
 pub fn walk_on<L: Seg>(
     alloc: Global,
     script: &Script,
@@ -56,6 +57,7 @@ pub fn walk_on<L: Seg>(
     requires script { L.script seg.old ≡ script.now }
     requires start { L.history seg.old ≡ [] }
     ensures script { L.script seg.new ≡ L.script seg.old }
+    ensures leaves { LeavesWell script.now (L.history seg.new) (L.promised seg.old) (L.promised seg.new) }
     ensures walk { IfOk result (λ backends. IsWalk script.now (L.history seg.new) (transcripts_of backends.items)) }
     ensures sessions { IfOk result (λ backends. AreSessions script.now (L.history seg.new) (transcripts_of backends.items) backends.items) }
     ensures stand { IfOk result (λ backends. All (Stands script.now (L.history seg.new)) backends.items) }
@@ -93,6 +95,7 @@ impl Walker {
         requires backend { IsBackend (L.script seg.old).backends b }
         requires stand { AllStand (L.script seg.old) (L.history seg.old) self.old.backends.items }
         ensures script { L.script seg.new ≡ L.script seg.old }
+        ensures leaves { LeavesWell (L.script seg.old) (L.history seg.new) (L.promised seg.old) (L.promised seg.new) }
         ensures goes { OnOk result (Goes (L.script seg.old) (L.history seg.old) (L.history seg.new) self.new.backends.items (b ∷ [])) }
     {
         if self.backends[b as usize - 1].is_stopped() {
@@ -107,6 +110,8 @@ impl Walker {
         requires stand { AllStand (L.script seg.old) (L.history seg.old) self.old.backends.items }
         requires running { IsRunning self.old.backends.items b }
         ensures script { L.script seg.new ≡ L.script seg.old }
+        ensures leaves { LeavesWell (L.script seg.old) (L.history seg.new) (L.promised seg.old) (L.promised seg.new) }
+        ensures others { (a : ℕ) → a ≢ b → L.promised seg.new a ≡ L.promised seg.old a }
         ensures makes { OnOk result (Makes (L.script seg.old) (L.history seg.old) (L.history seg.new) self.old.backends.items self.new.backends.items b) }
     {
         seg.promise(b, PLACES)?;
@@ -119,6 +124,7 @@ impl Walker {
         requires turns { AreTurns (L.script seg.old).backends turns }
         requires stand { AllStand (L.script seg.old) (L.history seg.old) self.old.backends.items }
         ensures script { L.script seg.new ≡ L.script seg.old }
+        ensures leaves { LeavesWell (L.script seg.old) (L.history seg.new) (L.promised seg.old) (L.promised seg.new) }
         ensures goes { OnOk result (Goes (L.script seg.old) (L.history seg.old) (L.history seg.new) self.new.backends.items (replicate turns.count turns.backend)) }
     {
         'steps: for _step in 0..turns.count {
@@ -132,6 +138,7 @@ impl Walker {
         requires turns { AllByRecursion (AreTurns (L.script seg.old).backends) line.now }
         requires stand { AllStand (L.script seg.old) (L.history seg.old) self.old.backends.items }
         ensures script { L.script seg.new ≡ L.script seg.old }
+        ensures leaves { LeavesWell (L.script seg.old) (L.history seg.new) (L.promised seg.old) (L.promised seg.new) }
         ensures goes { OnOk result (Goes (L.script seg.old) (L.history seg.old) (L.history seg.new) self.new.backends.items (turns_of line.now)) }
     {
         for turns in line {
@@ -145,6 +152,7 @@ impl Walker {
         requires script { L.script seg.old ≡ script.now }
         requires stand { AllStand script.now (L.history seg.old) self.old.backends.items }
         ensures script { L.script seg.new ≡ L.script seg.old }
+        ensures leaves { LeavesWell script.now (L.history seg.new) (L.promised seg.old) (L.promised seg.new) }
         ensures goes { OnOk result (Goes script.now (L.history seg.old) (L.history seg.new) self.new.backends.items (schedule_of script.now)) }
     {
         let lines = script.steps();
@@ -159,6 +167,7 @@ impl Walker {
         requires script { L.script seg.old ≡ script.now }
         requires stand { AllStand script.now (L.history seg.old) self.old.backends.items }
         ensures script { L.script seg.new ≡ L.script seg.old }
+        ensures leaves { LeavesWell script.now (L.history seg.new) (L.promised seg.old) (L.promised seg.new) }
         ensures goes { OnOk result (GoesOn script.now (L.history seg.old) 0 (L.history seg.new) self.new.backends.items script.now.backends) }
     {
         for number in 0..script.backends() {
@@ -172,6 +181,7 @@ impl Walker {
         requires backend { IsBackend (L.script seg.old).backends b }
         requires stand { AllStand (L.script seg.old) (L.history seg.old) self.old.backends.items }
         ensures script { L.script seg.new ≡ L.script seg.old }
+        ensures leaves { LeavesWell (L.script seg.old) (L.history seg.new) (L.promised seg.old) (L.promised seg.new) }
         ensures goes { OnOk result (GoesOn (L.script seg.old) (L.history seg.old) (b - 1) (L.history seg.new) self.new.backends.items b) }
     {
         'running: while !self.backends[b as usize - 1].is_stopped() {

@@ -8,4 +8,4 @@ interleaved_prefix-requires-clause-backends c = allowed_backends c.args.script.n
 pub returns : goal.returns
 returns c =
     reached_far c.args.kind c.args.script.now c.args.entries.now c.in_ok-answered.answered.entries c.in_ok-far.far.entries c.in_ok-answered.answered.lines c.in_ok-far.far.due
-    c.in_ok-far.ensures.kept.spelled c.in_ok-answered.ensures c.in_ok-far.ensures.come
+    c.in_ok-far.ensures.kept c.in_ok-answered.ensures c.in_ok-far.ensures.come

@@ -1,4 +1,5 @@
 use Rattle.std.proofs.Common.{◌∙◌, sym}
+use Rattle.walk_run.proofs.Leaving.{leaves_then}
 use Rattle.walk_run.proofs.ScheduleSteps.{read_running}
 use Rattle.walk_run.proofs.OneAfterAnother.{goes_on_step, goes_on_stopped}
 use Rattle.walk_run.proofs.walking.Walker.to_its_stop.Goals as goal
@@ -11,6 +12,8 @@ running-preserved g c = record {
       c.running.invariant.script c.requires.backend c.running.invariant.goes
       (read_running (g.L.Seg.script c.args.seg.now) (g.L.Seg.history c.running.seg) c.running.self.backends.items c.args.b c.index.result.now c.requires.backend c.running.invariant.goes.stand c.index.ensures (sym c.running-test.ensures))
       c.in_ok-make_step.ensures.makes;
+  leaves = leaves_then (g.L.Seg.script c.args.seg.now) (g.L.Seg.script c.running.seg) (g.L.Seg.history c.running.seg) (g.L.Seg.history c.make_step.new.seg) (g.L.Seg.promised c.args.seg.now) (g.L.Seg.promised c.running.seg) (g.L.Seg.promised c.make_step.new.seg)
+      c.running.invariant.script c.running.invariant.leaves c.in_ok-make_step.ensures.leaves;
 }
 
 pub returns-clause-goes : goal.returns-clause-goes
