@@ -1,3 +1,4 @@
+pub mod NotedWalks
 pub mod ScheduleSteps
 pub mod OneAfterAnother
 pub mod Leaving
