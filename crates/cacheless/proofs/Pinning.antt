@@ -1,5 +1,5 @@
 -- What is pinned where a descriptor is opened, and where others are let go.
-use Rattle.std.proofs.Common.{◌≡◌, ◌≢◌, ◌∙◌, ◌&&◌, ◌||◌, ◌⊎◌, inl, inr, Bool, true, false, not, List, [], ◌∷◌, ◌++◌, cond, map, refl, sym, ap, subst, eqb-true}
+use Rattle.std.proofs.Common.{◌≡◌, ◌≢◌, ◌∙◌, ◌&&◌, ◌||◌, Bool, true, false, not, List, [], ◌∷◌, ◌++◌, cond, map, refl, sym, ap, subst, eqb-true}
 use Rattle.std.proofs.lemmas.Bool.{eq-eqb, or_right}
 use Rattle.std.proofs.lemmas.List.Folds.{list_any-append}
 use Rattle.std.specs.List.{AllByRecursion, list_any}
@@ -7,15 +7,13 @@ use Rattle.base_types.specs.Scans.{same_oid, build_scans}
 use Rattle.base_types.specs.declared.kind.Kind.TheVariants.{Table, Index}
 use Rattle.base_types.specs.declared.scan.Purpose.TheVariants as scans
 use Rattle.ddl_effect.specs.Opens.{has_open}
-use Rattle.ddl_effect.specs.Plans.{Plan, Act, Done, Fails, Absent, Do, Lookup, Open, Search, Read, Lock, Write}
+use Rattle.ddl_effect.specs.Plans.{Plan, Done, Fails, Absent, Do, Lookup, Open, Search, Read, Lock, Write}
 use Rattle.ddl_effect.specs.Stages.{plan_at, want_of}
 use Rattle.ddl_effect.specs.declared.want.Want.{Want}
 use Rattle.ddl_effect.specs.declared.want.Want.TheVariants as wants
 use Rattle.local_caches.specs.Caches.{is_pinned}
-use Rattle.local_caches.specs.Homes.{home_of}
 use Rattle.local_caches.specs.Kept.{Kept}
 use Rattle.local_caches.specs.Whole.{is_one_of}
-use Rattle.local_caches.specs.declared.home.Home.TheVariants as homes
 use Rattle.local_caches.specs.declared.local_caches.LocalCaches.{LocalCaches}
 use Rattle.cacheless.specs.Types.{Oid, Kind, Purpose, OpenRelation, Opening}
 use Rattle.cacheless.specs.declared.progress.Progress.{Progress}
@@ -107,7 +105,7 @@ row_kept kept kind rel none = by_kind kind none
     by_kind Index lacks = first _ (is_kept kept (scans.Class rel)) refl lacks
 
 -- so it is pinned where it is opened
-pub opens_pinned : (s : Progress) (new : LocalCaches) (rel : Oid) (kind : Kind) → Acts s → want_of (plan_at s.opens s.exec) ≡ wants.Open rel kind → ((scan : Purpose) → home_of scan ≡ homes.Rel rel → is_kept (kept_at s) scan ≡ true → is_pinned new rel ≡ true) → ((other : Oid) → other ≢ rel → is_pinned new other ≡ is_pinned s.caches other) → PinsMore s.caches new (record { rel = rel; kind = kind } ∷ [])
+pub opens_pinned : (s : Progress) (new : LocalCaches) (rel : Oid) (kind : Kind) → Acts s → want_of (plan_at s.opens s.exec) ≡ wants.Open rel kind → (is_kept (kept_at s) (scans.Class rel) ≡ true → is_pinned new rel ≡ true) → ((other : Oid) → other ≢ rel → is_pinned new other ≡ is_pinned s.caches other) → PinsMore s.caches new (record { rel = rel; kind = kind } ∷ [])
 opens_pinned s new rel kind acts wants_it pinned others other = by (same_oid rel other) refl
   where
     free : scans_missing s ≡ []
@@ -129,7 +127,7 @@ opens_pinned s new rel kind acts wants_it pinned others other = by (same_oid rel
     whole (Absent name) at wanted = absurd (cc)
 
     is : is_pinned new rel ≡ true
-    is = pinned (scans.Class rel) refl (row_kept (kept_at s) kind rel (whole (plan_at s.opens s.exec) refl wants_it))
+    is = pinned (row_kept (kept_at s) kind rel (whole (plan_at s.opens s.exec) refl wants_it))
 
     last : (t : Bool) → t ≡ (t || false)
     last true = refl
