@@ -332,11 +332,19 @@ class Reports(unittest.TestCase):
 
     def test_refused_set_up(self):
         """In a set-up nothing comes after what a server refuses."""
-        for sql, why in self.REFUSED[0], self.REFUSED[5], (self.TAKEN[0], None):
+        for sql, why in self.REFUSED[0], (self.TAKEN[0], None):
             with self.subTest(sql):
                 status, shown = self.run_spec(self.OF_REFUSED % ("ALTER TABLE t %s;" % sql, "", "permutation r"))
                 ends = [line.split("; here")[0] for line in shown.split("\n") if line.startswith("# it ends here")]
                 self.assertEqual((status, ends), (1, ["# it ends here: a set-up or a teardown fails in a server: there " + why]) if why else (0, []))
+
+    def test_refused_inside(self):
+        """All orders of the steps inside have the same words."""
+        status, shown = self.run_spec(self.OF_REFUSED % ("ALTER TABLE t ALTER a SET DEFAULT 'x';", "step d { ALTER TABLE t ADD CHECK (nope > 1); }",
+                                                         "permutation d"), "--explore")
+        self.assertEqual((status, [line.split("; here")[0] for line in shown.split("\n") if line.startswith("# ")]), (0, [
+            "# differs from the server: the set-up: there " + self.REFUSED[0][1],
+            "# differs from the server: step d: there " + self.REFUSED[5][1]]))
 
     def test_refused_by_what_holds(self):
         """Whether a check's columns are there is told by the step at which it comes."""

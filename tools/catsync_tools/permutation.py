@@ -3,9 +3,8 @@ import re
 from typing import Dict, List, NamedTuple, Optional, Set
 
 from .isolation import ONCE, Placed, Spec
-from .known import Facts
 from .outputs import PLACE
-from .refused import refusal
+from .refused import refusals
 from .statements import Rows, Sayer, Statement, is_silent
 from .waits import Play
 from .wording import message_of, warning_of
@@ -217,20 +216,13 @@ class Permutation:
         if statement.commands[:1] in (("commit",), ("rollback",)):
             self.in_block[active.backend] = active.is_implicit = False
         self.filled |= {statement.fills} if statement.fills else set()
-        for how in self.refusals(active, statement):
+        for how in ([statement.differs] if statement.differs else []) + refusals(
+                self.play.steps, active.backend, statement.claims):
             active.refusals.append(how)
             self.differs.setdefault(how, []).append(active.place)
         if statement.shows:
             rows = self.rows(active, statement.rows) if statement.rows else None
             active.items.append(Item(ROWS if rows else UNKNOWN, rows or statement.text, name, active.alone))
-
-    def refusals(self, active: Active, statement: Statement):
-        """How a server refuses a statement that was done here."""
-        facts = Facts()
-        for step in self.play.steps if statement.claims else ():
-            facts.take(*step)
-        found = [statement.differs] + [refusal(claim, facts, active.backend) for claim in statement.claims]
-        return [how for how in found if how]
 
     def rows(self, active: Active, rows: Rows):
         """The result of a query of a table without rows, as isolationtester prints it, or None where it can't be said."""

@@ -1,7 +1,9 @@
 """Defaults and checks that a server reads and refuses, and that are done here, where neither is read (docs/PROFILE.md). What isn't
 told from the text alone, as the type of a function's value, is taken for right."""
 import re
-from typing import List, NamedTuple, Optional, Tuple
+from typing import List, NamedTuple, Optional, Sequence, Tuple
+
+from .known import Facts
 
 NAME = "[a-z_][a-z0-9_]*"
 INTEGERS = ("int2", "int4", "int8")
@@ -58,8 +60,16 @@ def condition_of(tokens) -> List[str]:
     return []
 
 
-def refusal(claim: Claim, facts, backend) -> Optional[str]:
-    """How a server refuses a default or a check that was done here, or None; `facts` has what holds here (known.py)."""
+def refusals(steps, backend, claims: Sequence[Claim]) -> List[str]:
+    """How a server refuses these defaults and checks, which a backend has made by the last of these steps."""
+    facts = Facts()
+    for step in steps if claims else ():
+        facts.take(*step)
+    return [how for how in (refusal(claim, facts, backend) for claim in claims) if how]
+
+
+def refusal(claim: Claim, facts: Facts, backend) -> Optional[str]:
+    """How a server refuses a default or a check that was done here, or None."""
     rel = facts.named(backend, claim.table)
     if rel is None:
         return None
