@@ -16,6 +16,7 @@ from testing import HAS_PROGRAM, NO_PROGRAM, PROGRAM, TOP, call, content_of
 from catsync_tools.faults import Fault
 from catsync_tools.isolation import Blocker, all_permutations, read_spec
 from catsync_tools.postgres import Server, folder_of_programs
+from catsync_tools.refused import condition_of, why_no_check
 from catsync_tools.statements import Rows, Sayer, statements_in
 from catsync_tools.wording import message_of, warning_of
 
@@ -337,6 +338,18 @@ class Reports(unittest.TestCase):
                 status, shown = self.run_spec(self.OF_REFUSED % ("ALTER TABLE t %s;" % sql, "", "permutation r"))
                 ends = [line.split("; here")[0] for line in shown.split("\n") if line.startswith("# it ends here")]
                 self.assertEqual((status, ends), (1, ["# it ends here: a set-up or a teardown fails in a server: there " + why]) if why else (0, []))
+
+    def test_words_of_checks(self):
+        """What in a check names no column."""
+        for text in ("a > 1e3", "a::double precision > 0", "cast(a as double precision) > 0", "d > timestamp with time zone '2024-01-01'",
+                     "d - d < interval '1' day", "substring(b from 1 for 2) = 'x'", "trim(both 'x' from b) = ''", "b::character varying = 'x'",
+                     "extract(year from d) > 1", "t IS NOT NULL", "tableoid > 5", "b COLLATE \"C\" > 'a'", "(t).a > 1", "n > 1"):
+            with self.subTest(text):
+                (claim,) = said("ALTER TABLE t ADD CHECK (%s)" % text, "CREATE TABLE t (a int)")[-1].claims
+                self.assertIsNone(why_no_check(condition_of(claim.tokens), {"a": "int4", "b": "text", "d": "date", "n": ""}, "t"))
+        (claim,) = said("ALTER TABLE t ADD CHECK (a > 1e3 AND day > 0)", "CREATE TABLE t (a int)")[-1].claims
+        self.assertEqual(why_no_check(condition_of(claim.tokens), {"a": "int4"}, "t"), ("names 'day', which is no column", "42703"))
+        self.assertEqual(said("ALTER TABLE t ADD CHECK (b > 0)", "CREATE TABLE t (a int)", "ALTER TABLE t ALTER a TYPE text")[-1].claims, ())
 
     def test_refused_inside(self):
         """All orders of the steps inside have the same words."""

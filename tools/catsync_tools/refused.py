@@ -23,7 +23,7 @@ WORDS = frozenset("""
     and or not is null true false in like ilike similar to between symmetric asymmetric distinct from unknown isnull notnull case when
     then else end cast as collate any all some array row escape overlaps at time zone interval current_date current_time
     current_timestamp localtime localtimestamp current_user current_role session_user user current_catalog current_schema operator
-    normalized document json of default
+    normalized document json of default precision varying with without for both leading trailing placing
     """.split())
 # The spellings that a type reads.
 READS = {"int": r"\s*[-+]?[0-9][0-9a-z_]*\s*", "number": r"\s*[-+]?(?:[0-9.][0-9a-z_.+-]*|nan|inf|infinity)\s*",
@@ -33,7 +33,7 @@ READS = {"int": r"\s*[-+]?[0-9][0-9a-z_]*\s*", "number": r"\s*[-+]?(?:[0-9.][0-9
 
 class Claim(NamedTuple):
     """A default of a column of a table, or, without a column, a check: its tokens; and the types that the spec gave the table's
-    columns, where they have none of the same name here."""
+    columns, since `text` here stands for others too."""
     table: str
     column: Optional[str]
     tokens: Tuple[str, ...]
@@ -73,8 +73,8 @@ def refusal(claim: Claim, facts: Facts, backend) -> Optional[str]:
     rel = facts.named(backend, claim.table)
     if rel is None:
         return None
-    types = {name: columns[3] for name, columns in facts.columns(backend, rel).items()}
-    types.update((name, kind) for name, kind in claim.types if types.get(name) == "text")
+    given = dict(claim.types)
+    types = {name: given.get(name, "") if columns[3] == "text" else columns[3] for name, columns in facts.columns(backend, rel).items()}
     if claim.column is None:
         why = why_no_check(condition_of(claim.tokens), types, claim.table)
         return OF_CHECK % why if why else None
@@ -127,13 +127,20 @@ def why_no_default(tokens, kind):
     return None
 
 
+def names_column(tokens, at, table):
+    """Whether a token of a check names a column: no word of expressions, function, type or further part of a number."""
+    token, before, following = tokens[at], tokens[at - 1] if at else "", tokens[at + 1] if at + 1 < len(tokens) else ""
+    if re.fullmatch(NAME, token) is None or token in WORDS or is_text(before) or is_number(before) or is_text(following):
+        return False
+    if following in ("(", ".", "with", "without", "precision", "varying") or before in ("::", "as", "collate"):
+        return False
+    return before != "." or tokens[at - 2:at - 1] == [table]
+
+
 def why_no_check(tokens, types, table):
     """Why a check isn't one of a table with columns of these types, and the SQLSTATE; None where it may be."""
     for at, token in enumerate(tokens):
-        before, following = tokens[at - 1:at], tokens[at + 1:at + 2]
-        is_column = re.fullmatch(NAME, token) and token not in WORDS and following not in (["("], ["."]) and not (
-            following and is_text(following[0])) and before not in (["::"], ["as"], ["collate"])
-        if not is_column or before == ["."] and tokens[at - 2:at - 1] != [table] or "extract" in tokens:
+        if not names_column(tokens, at, table) or "extract" in tokens:
             continue
         if token in SYSTEM_COLUMNS:
             return "names the system column '%s'" % token, "42P10"

@@ -203,6 +203,7 @@ class Sayer:
         self.keys: Dict[str, str] = {}          # of tables: the column of the primary key
         self.of_keys: Set[str] = set()          # the indexes of keys
         self.types: Dict[str, Dict[str, str]] = {}      # of tables and their columns, in the spec's words
+        self.retypes = False                    # whether a column gets another type
         self.claims: List[Claim] = []           # of the statement that is said
 
     def note(self, sql):
@@ -219,6 +220,7 @@ class Sayer:
             renamed = re.fullmatch("alter (?:table|index) .* rename to (%s)" % NAME, text)
             self.known |= {renamed.group(1)} if renamed else set()
             self.renames |= renamed is not None
+            self.retypes |= re.match("alter table .* (?:type|set data type) ", text) is not None
 
     def step(self, sql) -> List[Statement]:
         """The statements of a step."""
@@ -435,8 +437,9 @@ class Sayer:
         return "alter table %s alter column %s set default %s" % (table, column, word_of(words))
 
     def claim(self, table, column, words):
-        """Takes down a default, or a check, of which a server says whether it is one."""
-        self.claims.append(Claim(table, column, tuple(words), tuple(self.types.get(table, {}).items())))
+        """Takes down a default, or a check, of which a server says whether it is one; none where types change, which isn't followed."""
+        if not self.retypes:
+            self.claims.append(Claim(table, column, tuple(words), tuple(self.types.get(table, {}).items())))
 
     def check(self, table, name, words, more):
         """A check."""
