@@ -22,7 +22,7 @@ from catsync_tools.program import Program
 from catsync_tools.progress import Progress
 from catsync_tools.sources import read_source
 from catsync_tools.trial import UNDECIDED, results_of
-from catsync_tools.vacuous import doubt_of
+from catsync_tools.vacuous import doubt_of, doubt_of_order, doubt_of_pairs
 
 RACES = os.path.join(TOP, "examples", "races")
 SCRIPTS = sorted(glob.glob(os.path.join(RACES, "*.script")))
@@ -120,10 +120,10 @@ class Expectations(unittest.TestCase):
 
 
 class Doubts(unittest.TestCase):
-    """Expectations that no answer can break."""
+    """Expectations of what no answer can have."""
 
-    def test_never(self):
-        """What is said never to come, and why no answer can have it, where that can be seen."""
+    def test_texts(self):
+        """Why no answer can have what is expected, where that can be seen."""
         shown = "2.1, 'show t columns', "
         for text, doubt in (
                 ("2.1 columns zz:int4", "no command names 'zz'"), ("2.2 columns a:int4 and 2.2 name zz", "no command names 'zz'"),
@@ -145,7 +145,39 @@ class Doubts(unittest.TestCase):
             with self.subTest(text):
                 source = read_source(ALTERED % b"expect never %s\n" % text.encode())
                 self.assertEqual(doubt_of(source.expected[0], source), doubt)
-                self.assertIsNone(doubt_of(source.expected[0]._replace(runs="some"), source))
+
+    def test_contradictions(self):
+        """Two values of one answer, and fields that don't come one after the other in one."""
+        both = "no answer of 2.2 has both '%s' and '%s'"
+        for one, other, is_told in (
+                ("columns a:int4", "columns a:int4 b:text", True), ("columns a:int4 ..", "columns a:int4 b:text", False),
+                ("columns a:int4 b:text ..", "columns a:int4", True), ("columns a:int4 ..", "columns b:text ..", True),
+                ("columns a:int4 ..", "columns a:int4 b:text ..", False), ("statistics 1:-1;", "statistics -", True),
+                ("columns a:int4; defaults -", "defaults -; statistics 1:-1", False), ("name t", "name tt", True), ("name t", "NAME T;", False),
+                ("ok", "columns a:int4", True), ("rolled back", "back", False), ("no answer", "error 42P01", True), ("no answer", "no answer", False),
+                ("error 42P01", "triggers -", True), ("error 42809", "columns", False), ("error 22023", "of range", False),
+                ("error 55P03", "name t", False), ("error 42P01", "error 42P01 relation t", False), ("a:int4", "columns b:text", False)):
+            for texts in ((one, other), (other, one)):
+                with self.subTest(texts):
+                    source = read_source(ALTERED % b"expect never 2.2 %s and 2.2 %s\n" % tuple(text.encode() for text in texts))
+                    self.assertEqual(doubt_of_pairs(source.expected[0].parts), both % texts if is_told else None)
+        after = "no answer has '%s' right after '%s': join texts of one answer by 'and'"
+        for text, doubt in (("columns a:int4; statistics 1:-1", after % ("statistics", "columns")), ("columns -; defaults -; statistics -", None),
+                            ("triggers -; name t", after % ("name", "triggers")), ("table 16384; name t; columns -", None), ("columns -; columns -",
+                             after % ("columns", "columns")), ("name i; of 16384:1; valid v", None), ("a:int4 b:text; defaults -", None)):
+            with self.subTest(text):
+                self.assertEqual(doubt_of_order(text), doubt)
+
+    @unittest.skipUnless(HAS_PROGRAM, NO_PROGRAM)
+    def test_contradictions_are_told(self):
+        """Of an expectation that is met and says nothing, and of one that can't be met; not of one that is as it should be."""
+        both = b"2.2 columns a:int4 b:text and 2.2 columns a:int4"
+        status, printed, said = call("expect", "--program", PROGRAM, given=ALTERED % (
+            b"expect never %s\nexpect %s\nexpect some %s\nexpect never 1.2 ok and 2.1 error\n" % ((both,) * 3)))
+        self.assertEqual((status, said), (1, ""))
+        why = "no answer of 2.2 has both 'columns a:int4 b:text' and 'columns a:int4'\n"
+        self.assertEqual([line.strip() + "\n" for line in printed.decode().split("\n") if "both" in line], [
+            "says nothing: " + why, "can't be met: " + why, "can't be met: " + why])
 
     def test_no_doubts(self):
         """Of what the examples expect there are none, whichever runs are meant."""
@@ -259,7 +291,7 @@ $""")
         given = ALTERED % b"expect some 1.2 no answer and 2.1 ok and 2.2 columns -\n"
         shown = [self.expect("--jobs", jobs, given=given) for jobs in ("1", "3")]
         self.assertEqual(shown[0], shown[1])
-        self.assertRegex(shown[0][1], "orders has it\n(    [+] 1.2 .*\n){5}    [+] [.][.]\n0 passed, 1 failed\n$")
+        self.assertRegex(shown[0][1], "orders has it\n(    [+] 1.2 .*\n){5}    [+] [.][.]\n    can't be met: .*\n0 passed, 1 failed\n$")
         lines = re.findall("[+] 1.2 .*", shown[0][1])
         self.assertEqual(len(set(lines)), 5)
 

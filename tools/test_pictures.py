@@ -833,9 +833,6 @@ OTHER_SCRIPTS = (
     (TWICE, "2: show t\n", "line 14 of the output is of command 2 of backend 2, which the script hasn't"),
     (TWICE, TWICE + "2: show t\n", "backend 2 has 3 commands there, and stops in line 33 after 2"),
     ("(a int4)", "(b int4)", "line 3 can't be of '1: create table t .b int4.'"), ("(a int4)", "(a text)", "line 3 can't be of "),
-    ("1*4 2*6", "1*5 2*5", "its steps have backend 1 in line 5, and not h 2 0 start"),
-    ("2*20 1\n", "2*19\n", "its steps end before line 33: h 2 3 stop"),
-    ("steps 1*4 2*6 1*3 2*20 1\n", "", "its steps have backend 1 in line 5, and not h 2 0 start"),
 )
 
 
@@ -905,19 +902,38 @@ class FaultyOutputs(unittest.TestCase):
                     check_script("other", read_source(given.replace(old, new, 1).encode()), output)
 
     def test_output_of_run(self):
-        """Where all lines can be the script's and only their order can't, and all backends stop, it may be an output of `run`: that
-        is said, and only there."""
-        folder, hint = os.path.join(TOP, "examples"), "; if it is an output of run: leave --script out"
+        """Where all lines can be the script's and only their order can't, and all backends stop, it may be an output of `run`: it is
+        drawn, and that is said. Where one doesn't stop it is no output of the script."""
+        folder = os.path.join(TOP, "examples")
         given = content_of(os.path.join(folder, "two_backends.script"))
         data = content_of(os.path.join(folder, "two_backends.output"))
-        early = [line for line in data.split(b"\n") if not line.endswith(b" stop")]
-        for script, shown, is_said in (
-                (given.replace(b"1*4 2*6", b"1*5 2*5"), data, True), (given.replace(b"steps 1*4 2*6 1*3 2*20 1\n", b""), data, True),
-                (given.replace(b"1*4 2*6", b"1*5 2*5"), b"\n".join(early), False),
-                (given.replace(b"(a int4)", b"(b int4)"), data, False)):
-            with self.subTest(script), self.assertRaises(Fault) as raised:
-                check_script("own", read_source(script), read_output(shown))
-            self.assertEqual(str(raised.exception).endswith(hint), is_said, str(raised.exception))
+        early = b"\n".join(line for line in data.split(b"\n") if not line.endswith(b" stop"))
+        turn = "not the script of this output: its steps have backend 1 in line 5, and not h 2 0 start"
+        for script, shown, fault in (
+                (given.replace(b"1*4 2*6", b"1*5 2*5"), data, None), (given.replace(b"steps 1*4 2*6 1*3 2*20 1\n", b""), data, None),
+                (given.replace(b"2*20 1\n", b"2*19\n"), data, None), (given.replace(b"1*4 2*6", b"1*5 2*5"), early, turn),
+                (given.replace(b"2*20 1\n", b"2*18\n"), early, "not the script of this output: its steps end before line 31"),
+                (given.replace(b"(a int4)", b"(b int4)"), data, "not the script of this output: line 3 can't be of")):
+            with self.subTest(script), tempfile.NamedTemporaryFile(suffix=".script") as file:
+                file.write(script)
+                file.flush()
+                status, drawn, told = call("picture", "--html", "--script", file.name, given=shown)
+                if fault:
+                    self.assertEqual((status, drawn), (2, b""))
+                    self.assertIn(fault, told)
+                    continue
+                self.assertEqual((status, told), (0, "picture: %s: the steps aren't in the order of its schedule: drawn as an output of "
+                                                  "run\n" % file.name))
+                self.assertIn(b"create table t (a int4)", drawn)
+
+    def test_looks_of_a_run(self):
+        """A look of a run may miss what came since its backend's entry before."""
+        lines = content_of(os.path.join(TOP, "examples", "two_backends.output")).decode().split("\n")
+        at = next(at for at, line in enumerate(lines) if line.startswith("h 2 ") and line.endswith(" look yes"))
+        lines[at:at + 2] = ["h 2 2 look no"]
+        story = story_of(read_output("\n".join(lines[:at + 1] + ["end", ""]).encode()))
+        self.assertRegex(plain(sentences_of(story)[at]), "and sees none, as at its entry before: since then came [0-9]+ "
+                         "messages? of ")
 
     def test_answers_of_commands(self):
         """Which answers a command can have."""

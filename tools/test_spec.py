@@ -16,6 +16,7 @@ from testing import HAS_PROGRAM, NO_PROGRAM, PROGRAM, TOP, call, content_of
 from catsync_tools.faults import Fault
 from catsync_tools.isolation import Blocker, all_permutations, read_spec
 from catsync_tools.postgres import Server, folder_of_programs
+from catsync_tools.refused import condition_of, why_no_check
 from catsync_tools.statements import Rows, Sayer, statements_in
 from catsync_tools.wording import message_of, warning_of
 
@@ -300,6 +301,72 @@ class Reports(unittest.TestCase):
                 status, shown = self.run_spec(text % steps)
                 self.assertEqual((status, [line for line in shown.split("\n") if line.startswith("# ")]), (0, expected))
                 self.assertEqual(self.run_spec(text % steps, expected=shown)[1].split("\n")[1:-1], expected)
+
+    REFUSED = (("ALTER a SET DEFAULT 'x'", "the default 'x' is no int4 (22P02)"),
+               ("ALTER COLUMN a SET DEFAULT true", "the default true is of another type than its column, int4 (42804)"),
+               ("ALTER a SET DEFAULT b", "the default names 'b', and no column may be named there (0A000)"),
+               ("ALTER n SET DEFAULT 'y'", "the default 'y' is no numeric (22P02)"),
+               ("ALTER f SET DEFAULT 1", "the default 1 is of another type than its column, bool (42804)"),
+               ("ADD CHECK (nope > 1)", "the check names 'nope', which is no column (42703)"),
+               ("ADD CONSTRAINT k CHECK (a > 0 AND (t.z > 1 OR f)) NOT VALID", "the check names 'z', which is no column (42703)"),
+               ("ADD CHECK (ctid IS NULL)", "the check names the system column 'ctid' (42P10)"),
+               ("ADD CHECK (a)", "the check 'a' is no condition (42804)"),
+               ("ADD CHECK (a > 'x')", "the check compares 'a' with 'x', which is no int4 (22P02)"),
+               ("ADD CHECK (b > 1)", "the check compares 'b', a text, with a number (42883)"),
+               ("ADD c int DEFAULT 0 CHECK (c > 0 AND d > 0)", "the check names 'd', which is no column (42703)"))
+    TAKEN = ("ALTER a SET DEFAULT '5'", "ALTER a SET DEFAULT -5", "ALTER f SET DEFAULT 'off'", "ALTER b SET DEFAULT 5", "ALTER a SET DEFAULT null",
+             "ALTER a SET DEFAULT length('x')", "ALTER n SET DEFAULT '1e3'", "ADD c date DEFAULT 'tomorrow', ADD CHECK (c > '2024-01-01')",
+             "ADD CHECK (t.a > 0 AND f IS NOT NULL AND length(b) > 1 AND b LIKE 'x%' AND a::int8 < 5)")
+    OF_REFUSED = ("setup { CREATE TABLE t (a int, b text, n numeric(3), f boolean); %s }\nsession s1 step b { BEGIN; } step c { COMMIT; }\n"
+                  "%s\nsession s2 step r { SELECT a FROM t; }\n%s\n")
+
+    def test_refused_by_a_server(self):
+        """A default or a check that a server refuses is named, with its step, in a block and outside one."""
+        actions = [sql for sql, _ in self.REFUSED] + list(self.TAKEN)
+        steps = "".join("step x%d { ALTER TABLE t %s; }\n" % each for each in enumerate(actions))
+        permutations = ["r x%d" % at for at in range(len(actions))] + ["b x0 r c"]
+        status, shown = self.run_spec(self.OF_REFUSED % ("", steps, "\n".join("permutation " + each for each in permutations)))
+        kinds = {"default": "word", "check": "text"}
+        self.assertEqual((status, [line for line in shown.split("\n") if line.startswith("# ")]), (0, [
+            "# differs from the server: step x%d: there %s; here one is any %s, as docs/PROFILE.md says" % (
+                at, why, kinds[why.split(" ")[1]]) for at, (_, why) in enumerate(self.REFUSED)]))
+
+    def test_refused_set_up(self):
+        """In a set-up nothing comes after what a server refuses."""
+        for sql, why in self.REFUSED[0], (self.TAKEN[0], None):
+            with self.subTest(sql):
+                status, shown = self.run_spec(self.OF_REFUSED % ("ALTER TABLE t %s;" % sql, "", "permutation r"))
+                ends = [line.split("; here")[0] for line in shown.split("\n") if line.startswith("# it ends here")]
+                self.assertEqual((status, ends), (1, ["# it ends here: a set-up or a teardown fails in a server: there " + why]) if why else (0, []))
+
+    def test_words_of_checks(self):
+        """What in a check names no column."""
+        for text in ("a > 1e3", "a::double precision > 0", "cast(a as double precision) > 0", "d > timestamp with time zone '2024-01-01'",
+                     "d - d < interval '1' day", "substring(b from 1 for 2) = 'x'", "trim(both 'x' from b) = ''", "b::character varying = 'x'",
+                     "extract(year from d) > 1", "t IS NOT NULL", "tableoid > 5", "b COLLATE \"C\" > 'a'", "(t).a > 1", "n > 1"):
+            with self.subTest(text):
+                (claim,) = said("ALTER TABLE t ADD CHECK (%s)" % text, "CREATE TABLE t (a int)")[-1].claims
+                self.assertIsNone(why_no_check(condition_of(claim.tokens), {"a": "int4", "b": "text", "d": "date", "n": ""}, "t"))
+        (claim,) = said("ALTER TABLE t ADD CHECK (a > 1e3 AND day > 0)", "CREATE TABLE t (a int)")[-1].claims
+        self.assertEqual(why_no_check(condition_of(claim.tokens), {"a": "int4"}, "t"), ("names 'day', which is no column", "42703"))
+        self.assertEqual(said("ALTER TABLE t ADD CHECK (b > 0)", "CREATE TABLE t (a int)", "ALTER TABLE t ALTER a TYPE text")[-1].claims, ())
+
+    def test_refused_inside(self):
+        """All orders of the steps inside have the same words."""
+        status, shown = self.run_spec(self.OF_REFUSED % ("ALTER TABLE t ALTER a SET DEFAULT 'x';", "step d { ALTER TABLE t ADD CHECK (nope > 1); }",
+                                                         "permutation d"), "--explore")
+        self.assertEqual((status, [line.split("; here")[0] for line in shown.split("\n") if line.startswith("# ")]), (0, [
+            "# differs from the server: the set-up: there " + self.REFUSED[0][1],
+            "# differs from the server: step d: there " + self.REFUSED[5][1]]))
+
+    def test_refused_by_what_holds(self):
+        """Whether a check's columns are there is told by the step at which it comes."""
+        text = ("setup { CREATE TABLE t (a int); }\nsession s1 step a { ALTER TABLE t ADD z int; } step r { ALTER TABLE t RENAME a TO y; }\n"
+                "session s2 step x { ALTER TABLE t ADD CHECK (z > 0); }\npermutation %s\n")
+        for steps, count in (("a x", 0), ("x a", 1), ("r x", 1)):
+            with self.subTest(steps):
+                status, shown = self.run_spec(text % steps)
+                self.assertEqual((status, shown.count("# differs from the server: step x: there the check names 'z'")), (0, count))
 
     def test_inside(self):
         """Half of a commit is between the permutations, and no wait is told for an order of the steps."""

@@ -14,7 +14,7 @@ check() {
     walks built && PATH=$without walks running && touch "$main" && walks running && builds 1 && tools_take_it &&
         echo "// changed" >>"$main" && walks built && kept 1 && git checkout --quiet "$main" && walks built && kept 1 && builds 3 &&
         rm -rf "$out" && RT_DOES='sleep 0.5; echo "// changed" >>src/main.rt' walks not_kept && kept 0 && git checkout --quiet "$main" &&
-        rm -rf "$out" && : >"$out" && walks not_kept && rm "$out" && builds 5 && refused && two_at_once && killed
+        rm -rf "$out" && : >"$out" && walks not_kept && rm "$out" && builds 5 && refused && two_at_once && short_of_memory && killed
 }
 
 # Walks a script by ./catsync, and compares what it prints and what it says that it does.
@@ -74,6 +74,31 @@ two_at_once() {
     until [ -s "$temp/builds" ]; do sleep 0.1; done
     ./catsync walk <"$script.script" >"$temp/output" 2>"$temp/said" && wait $! && cmp "$temp/output" "$script.output" &&
         cmp "$temp/other" "$script.output" && grep -q ': waiting for another run that builds' "$temp/said" && builds 1 && kept 1
+}
+
+# What the program's memory checker says where it has too little is one line here, and in the tools; a run that is told to end ends
+# the program.
+short_of_memory() {
+    local kept
+    kept=$(echo "$out"/unproved-*)
+    mv "$kept" "$temp/whole" && cat >"$kept" <<'CHECKER' && chmod +x "$kept" || return 1
+#!/bin/sh
+[ -z "${SLEEPS-}" ] || exec sleep 30
+echo "==1==ERROR: AddressSanitizer failed to allocate 0x1 (1) bytes at address 0x2 (errno: 12)" >&2
+echo "==1==ReserveShadowMemoryRange failed while trying to map 0x1 bytes. Perhaps you're using ulimit -v or ulimit -d" >&2
+kill -ABRT $$
+CHECKER
+    ended=$(./catsync walk <"$script.script" 2>"$temp/said" || echo $?)
+    [ "$ended" = 6 ] && diff "$temp/said" - <<<"$running
+catsync: want of memory: the program built without proof needs more than the proved one, and addresses without a limit (ulimit -v)" &&
+        tools/explore <"$script.script" 2>&1 | diff - <(echo "explore: $PWD/$kept: want of memory, or of addresses (ulimit -v)") || return 1
+    SLEEPS=1 ./catsync walk <"$script.script" >"$temp/output" 2>/dev/null &
+    until pgrep -x -P $! sleep >/dev/null; do sleep 0.1; done
+    local sleeps
+    sleeps=$(pgrep -x -P $! sleep)
+    kill $!
+    wait $! 2>/dev/null
+    [ $? -eq 143 ] && ! kill -0 "$sleeps" 2>/dev/null && mv "$temp/whole" "$kept"
 }
 
 # A run that is told to end while it builds leaves nothing; what one leaves that is killed goes with the next.

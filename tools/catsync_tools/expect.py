@@ -10,7 +10,7 @@ from .progress import Progress
 from .search import processors
 from .sources import Source, read_source
 from .trial import BROKEN, MET, UNDECIDED, results_of
-from .vacuous import doubt_of
+from .vacuous import said_of
 
 FAILED = 1
 NOT_DECIDED = 3
@@ -68,12 +68,11 @@ def head_of(name, results):
 
 
 def lines_of(head, results, are_met_told, source):
-    """What is printed of a script: each expectation that isn't met, or all; and each that is met whatever the program does."""
+    """What is printed of a script: each expectation that isn't met, or all; and each of what no answer can have."""
     lines = [head]
     for one, result in sorted(results.items()):
-        doubt = doubt_of(one, source) if result.verdict != BROKEN else None
-        said = result.lines if result.verdict != MET or are_met_told else []
-        said = said + ["says nothing: %s" % doubt] if doubt else said
+        said = list(result.lines) if result.verdict != MET or are_met_told else []
+        said += said_of(one, source, result.verdict == MET, result.verdict == BROKEN)
         said = said + ["places aren't compared: %s" % ", ".join(places_in(one))] if places_in(one) else said
         lines += ["  line %d: %s" % (one.line, one.text)] + ["    " + line for line in said] if said else []
     return lines

@@ -8,7 +8,9 @@ from typing import Dict, List, NamedTuple, Set, Tuple
 
 from .findings import Answers, without_places
 from .isolation import Session, Spec, all_permutations
+from .permutation import SET_UP
 from .progress import Progress
+from .refused import Claim, refusals
 from .scripts import steps_line
 from .search import MOST_SERIAL, Exploration, Settings, processors
 from .sentences import counted
@@ -19,17 +21,20 @@ REFUSED = (" error 55P03 relation ", " error 55P03 name ")
 
 
 class Part(NamedTuple):
-    """A step's commands, and which of them wait for no lock."""
+    """A step's commands, and which of them wait for no lock; the defaults and checks that a server reads."""
     name: str
     session: int
     commands: Tuple[str, ...]
     nowait: Tuple[bool, ...]
+    claims: Tuple[Claim, ...] = ()
 
 
 class Plan(NamedTuple):
-    """The steps of each session that are made, in whatever order; the commands of the set-up, each with its backend."""
+    """The steps of each session that are made, in whatever order; the commands of the set-up, each with its backend; and what of that
+    a server reads, each with its backend."""
     setup: List[Tuple[int, str]]
     parts: List[List[Part]]
+    claims: List[Tuple[int, Claim]]
 
     @property
     def title(self):
@@ -54,8 +59,8 @@ class Plan(NamedTuple):
 
 
 def commands_of(sayer, sql, in_block):
-    """The commands of SQL, each with whether it waits for no lock, and whether a block is open after it. What isn't in a block
-    and is several commands, or needs one, is in one of its own."""
+    """The commands of SQL, each with whether it waits for no lock, whether a block is open after it, and what a server reads of it.
+    What isn't in a block and is several commands, or needs one, is in one of its own."""
     said = [statement for statement in sayer.step(sql) if statement.commands and statement.reason is None]
     flat = [(command, statement.nowait) for statement in said for command in statement.commands]
     words = [command for command, _ in flat]
@@ -64,26 +69,27 @@ def commands_of(sayer, sql, in_block):
         flat = [("begin", False)] + flat + [("commit", False)]
     for word in words:
         in_block = word == "begin" or in_block and word not in ("commit", "rollback")
-    return flat, in_block
+    return flat, in_block, tuple(claim for statement in said for claim in statement.claims)
 
 
 def plan_of(whole, sequences) -> Plan:
     """The plan of these steps of each session."""
     spec: Spec = whole.spec
-    setup, in_block = [], {}
+    setup, in_block, read = [], {}, []
     control = len(spec.sessions) + 1
     for backend, sql in [(control, sql) for sql in spec.setup] + [
             (number, sql) for number, session in enumerate(spec.sessions, 1) for sql in session.setup]:
-        commands, in_block[backend] = commands_of(whole.sayer, sql, in_block.get(backend, False))
+        commands, in_block[backend], claims = commands_of(whole.sayer, sql, in_block.get(backend, False))
         setup += [(backend, command) for command, _ in commands]
+        read += [(backend, claim) for claim in claims]
     parts: List[List[Part]] = []
     for number, steps in enumerate(sequences, 1):
         parts.append([])
         for step in steps:
-            commands, in_block[number] = commands_of(whole.sayer, step.sql, in_block.get(number, False))
+            commands, in_block[number], claims = commands_of(whole.sayer, step.sql, in_block.get(number, False))
             if commands:
-                parts[-1].append(Part(step.name, number, *map(tuple, zip(*commands))))
-    return Plan(setup, parts)
+                parts[-1].append(Part(step.name, number, *map(tuple, zip(*commands)), claims))
+    return Plan(setup, parts, read)
 
 
 def plans_of(whole) -> List[Plan]:
@@ -100,11 +106,13 @@ def plans_of(whole) -> List[Plan]:
 
 
 class Wholes:
-    """The answers of all permutations of a plan's whole statements, with their waits."""
+    """The answers of all permutations of a plan's whole statements, with their waits; and how a server refuses what was done there,
+    each with the places."""
 
     def __init__(self, plan: Plan, walker: Walker):
         self.plan, self.walker = plan, walker
         self.answers: Set[Answers] = set()
+        self.differs: Dict[str, Dict[str, None]] = {}
         self.is_over = True
 
     def run(self):
@@ -120,11 +128,15 @@ class Wholes:
         play, left = Play(self.walker), {}
         for backend, command in self.plan.setup:
             play.command(backend, command)
+        for backend, claim in self.plan.claims:
+            self.judge(play, SET_UP, backend, [claim])
         for part in order:
             if left.get(part.session):
                 return
             left[part.session] = list(zip(part.commands, part.nowait))
             self.go_on(play, left, part.session)
+            if not left[part.session] and not play.answer(part.session).startswith("error "):
+                self.judge(play, "step " + part.name, part.session, part.claims)
             ended = play.settle()
             while ended:
                 for backend in ended:
@@ -134,6 +146,11 @@ class Wholes:
         if not play.waits:
             self.answers.add(without_places(self.walker.run(play.commands, play.turns).answers))
 
+    def judge(self, play: Play, place, backend, claims):
+        """Takes down how a server refuses what a backend has just done."""
+        for how in refusals(play.steps, backend, claims):
+            self.differs.setdefault(how, {})[place] = None
+
     def go_on(self, play: Play, left, backend):
         """A backend makes what is left of its step, up to where it waits."""
         while left[backend] and play.command(backend, *left[backend][0]):
@@ -141,19 +158,25 @@ class Wholes:
 
 
 def explored(whole, most):
-    """What all orders of the steps inside the statements lead to, beyond what permutations do."""
-    return "\n".join(line for plan in plans_of(whole) for line in explored_plan(plan, whole.walker, most))
+    """What all orders of the steps inside the statements lead to, beyond what permutations do; and how a server refuses what is done
+    here, each with the places."""
+    lines, differs = [], {}
+    for plan in plans_of(whole):
+        wholes = Wholes(plan, whole.walker)
+        lines += explored_plan(plan, wholes, most)
+        for how, places in wholes.differs.items():
+            differs.setdefault(how, []).extend(places)
+    return "\n".join(lines), differs
 
 
-def explored_plan(plan: Plan, walker: Walker, most):
+def explored_plan(plan: Plan, wholes: Wholes, most):
     """The lines about one plan."""
     source = read_source("\n".join(plan.script + ["end", ""]).encode())
-    exploration = Exploration(Settings(jobs=processors()), source, walker.program.path, Progress())
+    exploration = Exploration(Settings(jobs=processors()), source, wholes.walker.program.path, Progress())
     exploration.run_serial()
     if not exploration.run_orders(most):
         exploration.run_random(most)
     exploration.progress.clear()
-    wholes = Wholes(plan, walker)
     wholes.run()
     sets = [(key, found) for key, found in exploration.findings.sorted() if not is_refused(plan, key)]
     new = [(key, found) for key, found in sets if key not in wholes.answers and found.turns]

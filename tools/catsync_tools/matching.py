@@ -13,7 +13,7 @@ SHOWS_FIELDS = ("show", "peek")
 
 
 def check_script(path, source, output):
-    """A Fault where the output can't be of the script of this file."""
+    """A Fault where the output can't be of the script of this file; whether its steps are in the order of the script's schedule."""
     check_places(path, source, output)
     for number, line in lines_of(output):
         text = source.commands.get((line.backend, line.command))
@@ -21,7 +21,7 @@ def check_script(path, source, output):
             raise Fault("%s: not the script of this output: line %d can't be of '%d: %s': %s" % (
                 path, number, line.backend, " ".join(text.split()), line.line))
     check_stops(path, source, output)
-    check_schedule(path, source, output)
+    return is_in_order(path, source, output)
 
 
 def lines_of(output):
@@ -82,15 +82,17 @@ def check_stops(path, source, output):
                     path, entry.backend, commands, entry.number, answered))
 
 
-def check_schedule(path, source, output):
-    """A Fault where other backends make the steps than the script's schedule says. Where all backends stop it may be an output of
-    `run`, whose order is its own."""
+def is_in_order(path, source, output):
+    """Whether the steps are in the order of the script's schedule. Where they aren't and all backends stop it may be an output of
+    `run`, whose order is its own; else it is a Fault."""
     try:
         check_steps(path, source, output)
-    except Fault as fault:
+    except Fault:
         stopped = {entry.backend for entry in output.entries if entry.event.kind == "stop"}
-        may_be_of_run = stopped == {entry.backend for entry in output.entries}
-        raise Fault("%s%s" % (fault, "; if it is an output of run: leave --script out" if may_be_of_run else "")) from None
+        if stopped != {entry.backend for entry in output.entries}:
+            raise
+        return False
+    return True
 
 
 def check_steps(path, source, output):

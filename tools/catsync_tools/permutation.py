@@ -3,10 +3,11 @@ import re
 from typing import Dict, List, NamedTuple, Optional, Set
 
 from .isolation import ONCE, Placed, Spec
-from .wording import message_of, warning_of
 from .outputs import PLACE
+from .refused import refusals
 from .statements import Rows, Sayer, Statement, is_silent
 from .waits import Play
+from .wording import message_of, warning_of
 
 LINE, ROWS, UNKNOWN = "line", "rows", "unknown"
 COLUMN_GOES = "there the indexes and keys of a column go with it, as docs/PROFILE.md says"
@@ -47,6 +48,7 @@ class Active:
         self.statement: Optional[Statement] = None
         self.commands: List[str] = []           # of the statement, that are left
         self.items: List[Item] = []
+        self.refusals: List[str] = []           # of what was done here, by a server
         self.is_implicit = False                # whether it is a transaction block without a word
         self.is_done = False
 
@@ -119,6 +121,8 @@ class Permutation:
         errors = [item.text for item in active.items if item.kind == LINE]
         if errors:
             raise Stuck("a set-up or a teardown fails: %s" % errors[0])
+        if active.refusals:
+            raise Stuck("a set-up or a teardown fails in a server: %s" % active.refusals[0])
         self.items += active.items
 
     def launch(self, placed: Placed):
@@ -212,8 +216,10 @@ class Permutation:
         if statement.commands[:1] in (("commit",), ("rollback",)):
             self.in_block[active.backend] = active.is_implicit = False
         self.filled |= {statement.fills} if statement.fills else set()
-        if statement.differs:
-            self.differs.setdefault(statement.differs, []).append(active.place)
+        for how in ([statement.differs] if statement.differs else []) + refusals(
+                self.play.steps, active.backend, statement.claims):
+            active.refusals.append(how)
+            self.differs.setdefault(how, []).append(active.place)
         if statement.shows:
             rows = self.rows(active, statement.rows) if statement.rows else None
             active.items.append(Item(ROWS if rows else UNKNOWN, rows or statement.text, name, active.alone))

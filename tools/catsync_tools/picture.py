@@ -1,7 +1,7 @@
 """The command tools/picture."""
 from .arguments import Arguments
 from .drawing import draw, picture
-from .faults import Fault, faults_of, read_file, read_input, write_output
+from .faults import Fault, faults_of, read_file, read_input, say, write_output
 from .layout import WIDTH, Commands, Span, Wanted
 from .matching import check_script
 from .outputs import read_output
@@ -16,7 +16,7 @@ LEAST_WIDTH = 400
 
 def arguments_of(words):
     """The command line."""
-    parser = Arguments("picture", "[OPTION].. < OUTPUT > HISTORY.svg", "Draws what `catsync walk` prints.",
+    parser = Arguments("picture", "[OPTION].. < OUTPUT > HISTORY.svg", "Draws what `catsync walk` and `catsync run` print.",
                        ((0, "the picture is printed"),))
     parser.option("--html", action="store_true", help="a page to step through with the arrow keys, with each backend's state")
     parser.option("--script", metavar="FILE", help="the script, for each command's text above its first entry")
@@ -53,7 +53,8 @@ def script_of(path, output) -> Commands:
     data = read_file(path)
     with faults_of(path):
         source = read_source(data)
-    check_script(path, source, output)
+    if not check_script(path, source, output):
+        say("picture: %s: the steps aren't in the order of its schedule: drawn as an output of run" % path)
     return commands_shown(source)
 
 

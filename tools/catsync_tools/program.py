@@ -2,6 +2,7 @@
 import glob
 import hashlib
 import os
+import re
 import subprocess
 import tempfile
 from typing import List, NamedTuple, Tuple
@@ -12,6 +13,9 @@ from .interrupts import SIGNALS, Interrupts
 TOP = os.path.dirname(os.path.dirname(os.path.dirname(os.path.abspath(__file__))))
 PROVED = os.path.join(TOP, "crates", "catsync", "out", "catsync")
 UNPROVED = os.path.join(TOP, "crates", "catsync", "out", "unproved-")       # and the sum of the sources it was built of
+
+# What the memory checker of the program built without proof says; ./catsync knows it too.
+_NO_MEMORY = re.compile("AddressSanitizer.*(failed to allocate|out of memory|out-of-memory|exceeds maximum|rss limit)")
 
 Step = Tuple[int, int, str]         # a step of a history: its backend, its command, and the text of its event
 
@@ -158,4 +162,6 @@ class Program:
         """What the program said on standard error, in one line."""
         self.said.seek(0)
         lines = self.said.read().decode("ascii", "replace").splitlines()
+        if any(map(_NO_MEMORY.search, lines)):
+            return "%s: want of memory, or of addresses (ulimit -v)" % self.path
         return lines[0] if lines else "%s: exit status %d" % (self.path, status)

@@ -69,7 +69,8 @@ def main(words):
     whole = whole_of(options.spec, options.program or own_program())
     with faults_of(options.spec):
         if options.explore:
-            write_output(explored(whole, options.most or MOST_ORDERS) + "".join(note + "\n" for note in notes_of(whole, None)))
+            text, differs = explored(whole, options.most or MOST_ORDERS)
+            write_output(text + "".join(note + "\n" for note in notes_of(whole, None) + differing(differs)))
             return 0
         expected = expected_in(text_of(options.out), whole.spec) if options.out else None
         return tell(whole, expected)
@@ -105,7 +106,7 @@ def tell(whole: Whole, expected):
         differ += max(0, len(expected) - number)
         head = [summary(number, len(expected), differ, len(unclear))]
     notes = notes_of(whole, left_out if expected is not None else None) + rows_unprinted(whole, unprinted)
-    notes += ["# differs from the server: %s: %s" % (listed(dict.fromkeys(places)), how) for how, places in differs.items()]
+    notes += differing(differs)
     write_output("\n".join(head + lines + notes) + "\n")
     return DIFFERS if differ or stuck and expected is None else 0
 
@@ -172,6 +173,11 @@ def rows_unprinted(whole: Whole, steps: Set[str]):
     teardowns = [alone(TEARDOWN, name) for name in sessions] + [TEARDOWN]
     places = [name for name in [*set_ups, *whole.spec.steps, *teardowns] if name in steps]
     return ["# not printed: rows of %s" % listed(places, len(places))] if places else []
+
+
+def differing(differs: Dict[str, List[str]]):
+    """How the server differs, each with the places."""
+    return ["# differs from the server: %s: %s" % (listed(dict.fromkeys(places)), how) for how, places in differs.items()]
 
 
 def shortened(text):

@@ -6,6 +6,7 @@ lock and no command of its own (TRUNCATE, VACUUM). What can't be said has a reas
 import re
 from typing import Dict, List, NamedTuple, Optional, Set, Tuple
 
+from .refused import Claim
 from .spellings import respelled
 
 NAME = "[a-z_][a-z0-9_]{0,62}"
@@ -38,7 +39,7 @@ class Rows(NamedTuple):
 class Statement(NamedTuple):
     """A statement: its words, the commands that say it, or why it can't be said; what of it isn't said; whether it has a
     result, and which; whether a lock that it doesn't get at once is an error; the deadlock_timeout that it sets; the table
-    that it may add rows to; and how the server differs where it is done here."""
+    that it may add rows to; how the server differs where it is done here; and the defaults and checks that a server reads."""
     text: str
     commands: Tuple[str, ...] = ()
     reason: Optional[str] = None
@@ -49,6 +50,7 @@ class Statement(NamedTuple):
     timeout: Optional[float] = None
     fills: Optional[str] = None
     differs: Optional[str] = None
+    claims: Tuple[Claim, ...] = ()
 
 
 def tokens_of(sql) -> List[str]:
@@ -200,6 +202,9 @@ class Sayer:
         self.unsaid: Dict[str, str] = {}        # names, each with why what makes it can't be said
         self.keys: Dict[str, str] = {}          # of tables: the column of the primary key
         self.of_keys: Set[str] = set()          # the indexes of keys
+        self.types: Dict[str, Dict[str, str]] = {}      # of tables and their columns, in the spec's words
+        self.retypes = False                    # whether a column gets another type
+        self.claims: List[Claim] = []           # of the statement that is said
 
     def note(self, sql):
         """Takes down what SQL makes and fills, before any of it is said."""
@@ -215,6 +220,7 @@ class Sayer:
             renamed = re.fullmatch("alter (?:table|index) .* rename to (%s)" % NAME, text)
             self.known |= {renamed.group(1)} if renamed else set()
             self.renames |= renamed is not None
+            self.retypes |= re.match("alter table .* (?:type|set data type) ", text) is not None
 
     def step(self, sql) -> List[Statement]:
         """The statements of a step."""
@@ -231,10 +237,11 @@ class Sayer:
                 reason = self.unsaid[token]
         if reason:
             return Statement(text, reason="%s isn't modelled here" % reason)
+        self.claims = []
         for say in (self.transaction, self.lock, self.change, self.definition, self.query):
             found = say(text, tokens)
             if found is not None:
-                return found
+                return found._replace(claims=tuple(self.claims))
         if NOTHING.fullmatch(text):
             timeout = re.fullmatch("set (?:local |session )?deadlock_timeout (?:to|=) (.*)", text)
             return Statement(text, timeout=seconds_of(timeout.group(1)) if timeout else None,
@@ -390,8 +397,9 @@ class Sayer:
         kind = TYPES.get(words[0] if words else "", OTHER_TYPE)
         if words[:4] == ["timestamp", "with", "time", "zone"]:
             kind = "timestamptz"
+        self.types.setdefault(table, {})[name] = words[0] if words else ""
         if "default" in words:
-            more.append("alter table %s alter column %s set default %s" % (table, name, word_of(after(words, "default"))))
+            more.append(self.default(table, name, after(words, "default")))
         if "primary" in words or "unique" in words:
             self.key(table, "primary" in words, [name], None, more)
         if "check" in words:
@@ -423,8 +431,19 @@ class Sayer:
         self.of_keys.add(name)
         more.append("create index %s on %s (%s)" % (name, table, ", ".join(columns)))
 
+    def default(self, table, column, words):
+        """The command of a column's default."""
+        self.claim(table, column, words)
+        return "alter table %s alter column %s set default %s" % (table, column, word_of(words))
+
+    def claim(self, table, column, words):
+        """Takes down a default, or a check, of which a server says whether it is one; none where types change, which isn't followed."""
+        if not self.retypes:
+            self.claims.append(Claim(table, column, tuple(words), tuple(self.types.get(table, {}).items())))
+
     def check(self, table, name, words, more):
         """A check."""
+        self.claim(table, None, words)
         valid = " not valid" if words[-2:] == ["not", "valid"] else ""
         more.append("alter table %s add constraint %s check (%s)%s" % (table, name, check_of(words[:-2] if valid else words), valid))
 
@@ -494,8 +513,7 @@ class Sayer:
         action = re.sub(" (?:cascade|restrict)$", "", action)
         found = re.fullmatch("alter (?:column )?(%s) set default (.*)" % NAME, action)
         if found:
-            word = word_of(found.group(2).split(" "))
-            return ["alter table %s alter column %s set default %s" % (table, found.group(1), word)]
+            return [self.default(table, found.group(1), found.group(2).split(" "))]
         action = re.sub(r"^set \( fillfactor = ([0-9]+) \)$", r"set (fillfactor = \1)", action)
         command = respelled(" alter table %s %s" % (table, action.replace("- ", "-"))).strip()
         return [command] if GRAMMAR.fullmatch(command) else None

@@ -1,8 +1,10 @@
-"""Expectations that say nothing: no answer can have what they say never comes, as no command of the script asks for it."""
+"""Expectations of what no answer can have, as no command of the script asks for it or as it contradicts itself. One that says that
+this never comes says nothing, and another can't be met."""
+import itertools
 import re
-from typing import Optional
+from typing import List, NamedTuple, Optional
 
-from .expected import MORE, NEVER, Part
+from .expected import MORE, NEVER, NONE, Part
 from .matching import ANSWERED_BY_WORD, MODES, SHOWS_FIELDS, TYPES
 from .spellings import respelled, tokens_of
 
@@ -25,12 +27,27 @@ _BACKEND = re.compile("(?:^|(?<= ))backend ([0-9]{1,9})(?![^ ;])")
 _FILLFACTOR, _STATISTICS = re.compile("fillfactor = ([0-9]+)"), re.compile("set statistics (-?[0-9]+)")
 MOST_STATISTICS = 10000     # what is set above it is written so
 ITEMS = {"columns": "a:int4", "statistics": "1:100"}        # as an item may read
+ORDERS = (("name",) + FIELDS[:8], ("name",) + FIELDS[8:])   # of the fields of a table, and of an index
+WHOLE = ("ok", "rolled back", NONE)                         # answers that are no more than these words
+
+
+class Value(NamedTuple):
+    """What a text says of a field: its value, or, where it goes on, how that begins."""
+    field: str
+    text: str
+    goes_on: bool
+
+
+def said_of(expectation, source, is_met, is_broken) -> List[str]:
+    """What is said of an expectation of which no answer can have the text, by whether that was met or broken."""
+    doubt = doubt_of(expectation, source)
+    if doubt is None or (is_broken if expectation.runs == NEVER else is_met):
+        return []
+    return ["%s: %s" % ("says nothing" if expectation.runs == NEVER else "can't be met", doubt)]
 
 
 def doubt_of(expectation, source) -> Optional[str]:
-    """Why no answer can have what an expectation says never comes, where that can be seen from the script."""
-    if expectation.runs != NEVER:
-        return None
+    """Why no answer can have what an expectation says, where that can be seen from the script."""
     doubts = (doubt_of_part(part, source) for part in expectation.parts)
     return next((doubt for doubt in doubts if doubt), None) or doubt_of_pairs(expectation.parts)
 
@@ -41,7 +58,7 @@ def doubt_of_part(part: Part, source):
     command = " ".join(source.commands[part.backend, part.command].split())
     words, called = tokens(command), "%d.%d, '%s'," % (part.backend, part.command, command)
     return (doubt_of_names(text, source) or doubt_of_code(text, words, called) or doubt_of_fields(text, words, called)
-            or doubt_of_items(text, words, source))
+            or doubt_of_items(text, words, source) or doubt_of_order(text))
 
 
 def text_of(part: Part):
@@ -56,13 +73,50 @@ def tokens(command):
 
 
 def doubt_of_pairs(parts):
-    """Two texts of one command, of which one is an error's and the other not, or another's. An error's text has no `:` and no `=`."""
-    for part in parts:
-        code = _CODE.match(text_of(part))
-        for other in parts if code else ():
-            found, text = _CODE.match(text_of(other)), text_of(other)
-            if other[:2] == part[:2] and (found.group(1) != code.group(1) if found else ":" in text or "=" in text):
-                return "no answer of %d.%d has both '%s' and '%s'" % (part[:2] + (part.text, other.text))
+    """Two texts of one command that no answer has both."""
+    for one, other in itertools.combinations(parts, 2):
+        texts = one.text.lower(), other.text.lower()
+        if one[:2] == other[:2] and (exclude(*texts) or exclude(*reversed(texts))):
+            return "no answer of %d.%d has both '%s' and '%s'" % (one[:2] + (one.text, other.text))
+    return None
+
+
+def exclude(text, other):
+    """Whether an answer that has a text can't have the other one. An error's text has no `:`, no `=` and no field; it may begin with
+    `name`, as a field does."""
+    code, found = _CODE.match(text), _CODE.match(other)
+    values, others = values_in(text), values_in(other)
+    if text.rstrip("; .") in WHOLE:
+        return re.search("(?:^| )%s(?: |$)" % re.escape(other.rstrip("; .")), text) is None
+    if code:
+        is_field = any(value.field != "name" for value in others)
+        return found.group(1) != code.group(1) if found else ":" in other or "=" in other or is_field
+    return any(one.field == two.field and not can_be_one(one, two) for one in values for two in others)
+
+
+def values_in(text) -> List[Value]:
+    """What a text says of fields. What begins amid a field says nothing of it."""
+    goes_on = text.endswith(MORE)
+    parts = [part.split() for part in (text[:-len(MORE)] if goes_on else text).split(";")]
+    return [Value(part[0], " ".join(part[1:]), goes_on and part is parts[-1]) for part in parts
+            if len(part) > 1 and (part[0] in FIELDS and (part[0] != "of" or ":" in part[1]) or part[0] == "name" and len(part) == 2)]
+
+
+def can_be_one(one: Value, other: Value):
+    """Whether one value can be as both say."""
+    texts = sorted((one.text.split(), other.text.split()), key=len)
+    may_go_on = [value.goes_on for value in sorted((one, other), key=lambda value: len(value.text.split()))]
+    return texts[0] == texts[1][:len(texts[0])] and (may_go_on[0] or len(texts[0]) == len(texts[1]))
+
+
+def doubt_of_order(text):
+    """Two fields that don't come one after the other in an answer."""
+    fields = [part.split()[0] for part in text.split(";") if part.strip()]
+    for first, second in zip(fields, fields[1:]):
+        if not {first, second} <= set(FIELDS + ("name",)):
+            continue
+        if not any((first, second) in zip(order, order[1:]) for order in ORDERS):
+            return "no answer has '%s' right after '%s': join texts of one answer by 'and'" % (second, first)
     return None
 
 

@@ -7,7 +7,7 @@ from typing import Dict, List, NamedTuple, Optional, Set, Tuple
 from .access import created
 from .events import MODES, read_event
 from .faults import Fault
-from .program import Run
+from .program import Run, Step
 from .scripts import steps_line
 
 MOST = 100000           # steps of one command
@@ -140,7 +140,7 @@ class Play:
         self.walker, self.locks = walker, Locks()
         self.commands: Dict[int, List[str]] = {}
         self.turns: List[Tuple[int, int]] = []
-        self.made = 0
+        self.steps: List[Step] = []             # that were made
         self.waits: Dict[int, Wait] = {}        # in the order in which they began
         self.nowait: Set[int] = set()           # backends that wait for no lock
         self.running: Dict[int, int] = {}       # of transactions that have written: the backend
@@ -164,8 +164,8 @@ class Play:
         """A backend makes its steps up to its command's end, or up to a lock that isn't free; whether it came to the end. The first
         of them may be granted, though others wait, or be refused, to end a deadlock."""
         run = self.walker.run(self.commands, self.turns + [(backend, MOST)])
-        count, wait = 0, None
-        for _, command, text in run.steps[self.made:]:
+        first, wait = len(self.steps), None
+        for _, command, text in run.steps[first:]:
             if command > len(self.commands[backend]):
                 break
             event = read_event(text)
@@ -174,10 +174,9 @@ class Play:
                 break
             granted = refused = False
             self.take(backend, command, event)
-            count += 1
-        self.made += count
-        if count:
-            self.turns.append((backend, count))
+            self.steps.append((backend, command, text))
+        if len(self.steps) > first:
+            self.turns.append((backend, len(self.steps) - first))
         if wait is None:
             self.waits.pop(backend, None)
             words = [line.split(" ", 3) for line in run.answers]
@@ -239,7 +238,7 @@ class Play:
         ended = []
         while True:
             wait = self.locks.free()
-            made = self.made
+            made = len(self.steps)
             if wait is not None:
                 self.locks.leave(wait)
                 del self.waits[wait.backend]
@@ -247,7 +246,7 @@ class Play:
                 continue
             for backend in [wait.backend for wait in self.waits.values() if not wait.mode]:
                 ended += [backend] if self.go_on(backend) else []
-            if self.made == made:
+            if len(self.steps) == made:
                 return ended
 
     # Deadlocks

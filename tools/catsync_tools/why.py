@@ -184,6 +184,9 @@ class Why:
             reason = " before its scan at " + at(following.number)
         if parts["answer"] == "no":
             reason = reason or self.reason_to_accept(facts)
+            if facts.left:
+                return ["looks for messages%s, and sees none, as at its entry before: since then came %s of %s, which a look of a "
+                        "run may miss" % (reason, counted(facts.left, "message"), all_at(batch.publish for batch in facts.batches))]
             return ["looks for messages%s, and none waits" % reason] + self.unsent(facts)
         return ["looks for messages%s: %s" % (reason, counted(facts.left, "message") + " " + verb(
             [0] * facts.left, "waits", "wait") + ", of " + all_at(batch.publish for batch in facts.batches))]
