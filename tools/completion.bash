@@ -8,7 +8,7 @@ _catsync_options() {
         echo --most --random --seed --find --interleaved --places --picture --html --replay --jobs --part --out --merge --program --help
         ;;
     expect) echo --most --jobs --passed --program --help ;;
-    picture) echo --html --script --brief --width --from --to --help ;;
+    picture) echo --html --script --any-order --brief --width --from --to --help ;;
     server) echo --programs --program --help ;;
     spec) echo --explore --most --program --help ;;
     replay) echo --times --all --brief --trace --sweep --programs --program --help ;;

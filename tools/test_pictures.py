@@ -907,7 +907,7 @@ class FaultyOutputs(unittest.TestCase):
     def test_output_of_run(self):
         """Where all lines can be the script's and only their order can't, and all backends stop, it may be an output of `run`: that
         is said, and only there."""
-        folder, hint = os.path.join(TOP, "examples"), "; if it is an output of run: leave --script out"
+        folder, hint = os.path.join(TOP, "examples"), "; if it is an output of run or a trace of replay: add --any-order"
         given = content_of(os.path.join(folder, "two_backends.script"))
         data = content_of(os.path.join(folder, "two_backends.output"))
         early = [line for line in data.split(b"\n") if not line.endswith(b" stop")]

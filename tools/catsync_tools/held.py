@@ -115,6 +115,7 @@ class Backend:
         self.number, self.offsets, self.pair, self.log = number, offsets, pair, log
         self.sent = sent or Sent(lambda *_: "-")
         self.fetched, self.is_lapped = len(self.sent.rels), False      # how many of these it has; whether it has lost what is left
+        self.telling: List[int] = []                # the relations for which it processes messages, the innermost last
         self.changing: Set[int] = set()             # relations of which its transaction has written rows
         session.socket.settimeout(None)
         self.asked = Reading(session, oids, self)
@@ -153,6 +154,8 @@ class Backend:
 
     def note(self, phase, event):
         """Called at each event: whether the process is to stay there."""
+        if event[0] == "told":
+            self.follow_told(phase, event[1])
         if phase == AFTER:
             self.say(*event)
             self.follow(event)
@@ -176,6 +179,16 @@ class Backend:
         elif event[0] == "fetch" or event == ("look", "no"):
             self.fetched, self.is_lapped = len(self.sent.rels), False
 
+    def follow_told(self, phase, rel):
+        """Follows which messages for descriptors are processed, each inside of the one before; one for the same relation begins a rebuild
+        inside of another."""
+        if phase == AFTER:
+            self.telling = self.telling[:-1]
+            return
+        if rel in self.telling:
+            self.say("inside", rel)
+        self.telling.append(rel)
+
     def is_waiting(self, rel):
         """Whether a message for a relation's descriptor is in the queue for it."""
         return self.is_lapped or rel in self.sent.rels[self.fetched:]
@@ -194,7 +207,7 @@ class Backend:
 
     def begin(self, ask, wake):
         """Lets a thread ask the session, which calls `wake` once it is answered."""
-        self.is_busy = True
+        self.is_busy, self.telling = True, []
 
         def work():
             try:

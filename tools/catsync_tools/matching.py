@@ -12,8 +12,8 @@ ANSWERED_BY_WORD = ("columns", "column", "regclass")
 SHOWS_FIELDS = ("show", "peek")
 
 
-def check_script(path, source, output):
-    """A Fault where the output can't be of the script of this file."""
+def check_script(path, source, output, any_order=False):
+    """A Fault where the output can't be of the script of this file; its order may be any, or is that of the script's schedule."""
     check_places(path, source, output)
     for number, line in lines_of(output):
         text = source.commands.get((line.backend, line.command))
@@ -21,7 +21,8 @@ def check_script(path, source, output):
             raise Fault("%s: not the script of this output: line %d can't be of '%d: %s': %s" % (
                 path, number, line.backend, " ".join(text.split()), line.line))
     check_stops(path, source, output)
-    check_schedule(path, source, output)
+    if not any_order:
+        check_schedule(path, source, output)
 
 
 def lines_of(output):
@@ -84,13 +85,13 @@ def check_stops(path, source, output):
 
 def check_schedule(path, source, output):
     """A Fault where other backends make the steps than the script's schedule says. Where all backends stop it may be an output of
-    `run`, whose order is its own."""
+    `run`, or a trace of a server, whose order is its own."""
     try:
         check_steps(path, source, output)
     except Fault as fault:
         stopped = {entry.backend for entry in output.entries if entry.event.kind == "stop"}
         may_be_of_run = stopped == {entry.backend for entry in output.entries}
-        raise Fault("%s%s" % (fault, "; if it is an output of run: leave --script out" if may_be_of_run else "")) from None
+        raise Fault("%s%s" % (fault, "; if it is an output of run or a trace of replay: add --any-order" if may_be_of_run else "")) from None
 
 
 def check_steps(path, source, output):

@@ -1,6 +1,6 @@
 """What a play came to: which answers differ, what docs/PROFILE.md says of that, and what is stale for good."""
 import re
-from typing import List, NamedTuple, Optional, Set
+from typing import Dict, List, NamedTuple, Optional, Set
 
 from .audit import Stale, Unread
 from .beside import Compared, Pairs, differences, order_of
@@ -12,7 +12,7 @@ from .messages import BUILD_SCANS
 from .play import Play, Served
 from .sentences import counted
 from .server import answers
-from .sql import referred_in, tokens_of
+from .sql import Answer, referred_in, tokens_of
 
 # Differences that come where commands overlap: the words of docs/PROFILE.md.
 OVERTAKEN, FEWER_LOOKS, TORN = "an older rebuild may be put over a newer one", "they aren't looked for", "half of one commit"
@@ -59,6 +59,7 @@ class Outcome(NamedTuple):
     stale: List[Stale]
     unread: List[Unread]
     served: List[Served]
+    oids: range         # that the server has drawn meanwhile
 
     @property
     def differs(self):
@@ -123,7 +124,7 @@ def outcome_of(play: Play) -> Outcome:
     all_compared, text = compared_in(play), profile()
     found = [[named(play, compared, each, text) for each in differing]
              for compared, differing in zip(all_compared, documented(all_compared, text))]
-    return Outcome(play.held, all_compared, found, play.stale, play.unread, play.served)
+    return Outcome(play.held, all_compared, found, play.stale, play.unread, play.served, range(play.first_oid, play.last_oid))
 
 
 def named(play: Play, compared: Compared, found: PartDiffering, text):
@@ -228,6 +229,22 @@ def answers_text(outcome: Outcome) -> List[str]:
         lines += served_after(outcome, compared.command[1], compared.command[0])
     kept = [each.text for each in outcome.stale + outcome.unread]
     return lines + [""] * bool(kept) + kept
+
+
+def without_oids(outcome: Outcome) -> str:
+    """What is said of an outcome, with a number in place of each oid that the server has drawn: by this two plays are alike."""
+    numbers: Dict[str, int] = {}
+
+    def numbered(found):
+        is_drawn = int(found.group()) in outcome.oids
+        return "oid %d" % numbers.setdefault(found.group(), len(numbers)) if is_drawn else found.group()
+
+    def alike(answer: Answer):
+        texts = [re.sub("[0-9]+", numbered, each) for each in [answer.text] + answer.warnings]
+        return Answer(texts[0], texts[1:])
+    compared = [each._replace(server=alike(each.server)) for each in outcome.compared]
+    served = [each._replace(answer=alike(each.answer)) for each in outcome.served]
+    return "\n".join([outcome.text] + answers_text(outcome._replace(compared=compared, served=served)))
 
 
 def served_after(outcome: Outcome, command, backend=None):

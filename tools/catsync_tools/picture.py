@@ -20,6 +20,8 @@ def arguments_of(words):
                        ((0, "the picture is printed"),))
     parser.option("--html", action="store_true", help="a page to step through with the arrow keys, with each backend's state")
     parser.option("--script", metavar="FILE", help="the script, for each command's text above its first entry")
+    parser.option("--any-order", action="store_true", help="with --script: the order needn't be its schedule's, as of what run or "
+                  "replay --trace made")
     parser.option("--brief", action="store_true", help="looks and the scans of a descriptor share a row")
     parser.option("--width", type=int, metavar="N", help="how many pixels wide it is, if its lanes allow it (%d); a page fills its "
                   "window, if that is wider" % WIDTH)
@@ -28,6 +30,8 @@ def arguments_of(words):
     options = parser.parse(words)
     if options.width is not None and options.width < LEAST_WIDTH:
         parser.error("--width: at least %d pixels" % LEAST_WIDTH)
+    if options.any_order and options.script is None:
+        parser.error("--any-order goes with --script")
     return options
 
 
@@ -48,12 +52,12 @@ def commands_shown(source) -> Commands:
     return {place: " ".join(without_comment(text).rstrip("; \t").split()) for place, text in source.commands.items()}
 
 
-def script_of(path, output) -> Commands:
-    """The commands of the script in a file, of which this is an output."""
+def script_of(path, output, any_order=False) -> Commands:
+    """The commands of the script in a file, of which this is an output; its order may be any."""
     data = read_file(path)
     with faults_of(path):
         source = read_source(data)
-    check_script(path, source, output)
+    check_script(path, source, output, any_order)
     return commands_shown(source)
 
 
@@ -71,6 +75,6 @@ def main(words):
     options = arguments_of(words)
     output = read_output(read_input())
     span = span_of(len(output.entries), options.first, options.last)
-    commands = script_of(options.script, output) if options.script is not None else None
+    commands = script_of(options.script, output, options.any_order) if options.script is not None else None
     write_output(picture_of(output, options.html, span, commands, options.brief, options.width))
     return 0

@@ -54,7 +54,12 @@ class Sessions:
         self.answers: Dict[Command, Answer] = {}
         self.database = stage.server.new_database()
         self.watcher = stage.server.session(self.database)
+        self.first_oid = self.last_oid = self.drawn_oid()
         self.sent = Sent(lambda field, rel: catalogs_of(self.watcher, field, rel))
+
+    def drawn_oid(self):
+        """An oid that the server has just drawn."""
+        return int(self.watcher.ask("select lo_create(0)").rows[0][0])
 
     def pair(self, backend: Backend, oid, name):
         """A relation that a command has made in the server is that which the same command makes here."""
@@ -244,6 +249,7 @@ class Play(Sessions):
     def look_at_rest(self):
         """Looks at what those keep that haven't been looked at, in the end."""
         audit = audit_of_all(self)
+        self.last_oid = self.drawn_oid()
         self.stale += [each for each in audit.stale if each not in self.stale]
         self.unread = audit.unread
         for backend in self.backends.values():

@@ -208,5 +208,5 @@ class Watched(Traced):
         if self.u32(self.place("CritSectionCount")):
             return "in a critical section"
         if self.u32(self.place("InterruptHoldoffCount")) > (event[0] in KINDS and KINDS[event[0]].is_in_commit):
-            return "it holds a light-weight lock"
+            return "interrupts are held off, as by a light-weight lock"
         return None
