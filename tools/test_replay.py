@@ -85,8 +85,8 @@ CHECKED = tuple(line.replace("alter column a set default 5", "add constraint c c
 CHECKED = CHECKED[:-1] + ("steps 2 to scan attribute, 1 to 4, 2 to end, 1 to end",)
 # The change comes by the server alone, and another's commit of another table between two scans.
 UNRELATED = ("setup 1: create table t (a int4)", "setup 1: create table u (a int4)", "1: alter table u set (fillfactor = 20)",
-             "3: alter table u set (fillfactor = 50)", "2: show t statistics",
-             "server 1.3: alter table t alter column a set statistics 77", "steps 1 to 3, 2 to scan class, 3 to 1, 2 to end, 1 to end, 3 to end")
+             "3: alter table u set (fillfactor = 50)", "2: show t statistics", "server 1.3: alter table t alter column a set statistics 77",
+             "steps 1 to 3, 2 to scan class, 3 to 1, 2 to end, 1 to end, 3 to end")
 # As OVERTAKEN, but all messages are sent as the answer comes, and the lock isn't released.
 ALL_SENT = OVERTAKEN[:-1] + ("steps 2 to scan attribute, 1 to publish, 1 to publish, 2 to 4, 1 to end, 2 to end",)
 # What is shown in a block before its lock; the queries for it must not keep the rebuild from accepting.
@@ -102,7 +102,8 @@ ALL_FIELDS = ("1: create table p (a int4)", "1: create table t (a int4)", "1: al
               "server 1.9: alter table t alter column a set not null", "2: show t", "server 2.1: select from t x, t y where false")
 # Backend 3 loses messages of a queue of 64 while backend 2 is held in its rebuild, and loses none.
 HELD_BESIDE_A_RESET = (
-    "setup 1: create table t (a int4)", "setup 1: alter table t alter column a set default 5", "3: begin", "3: commit", "3: show t statistics",
+    "setup 1: create table t (a int4)", "setup 1: alter table t alter column a set default 5", "3: begin", "3: commit",
+    "3: show t statistics",
     "1: create table w (%s)" % ", ".join("c%d int4" % number for number in range(40)), "1: alter table t alter column a set statistics 100",
     "1: create table v (%s)" % ", ".join("c%d int4" % number for number in range(30)), "1: alter table t alter column a set statistics 200",
     "2: begin", "2: open t", "2: lock table t in row share mode", "2: commit",

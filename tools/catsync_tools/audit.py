@@ -24,8 +24,8 @@ CATALOGS.update({
 # The oids in these, and the name that is said for one.
 OIDS = re.compile(r"(?<![^ ])[0-9]+(?![^ ])|(?<=RI_ConstraintTrigger_[ac]_)[0-9]+")
 NAMED = ("indexes", "triggers", "foreign keys")
-NAME_OF = ("select coalesce((select relname from pg_class where oid = T), (select conname from pg_constraint where oid = T), (select conname "
-           "from pg_constraint, pg_trigger where pg_trigger.oid = T and pg_constraint.oid = tgconstraint), 'gone')")
+NAME_OF = ("select coalesce((select relname from pg_class where oid = T), (select conname from pg_constraint where oid = T), (select "
+           "conname from pg_constraint, pg_trigger where pg_trigger.oid = T and pg_constraint.oid = tgconstraint), 'gone')")
 IS_TABLE = "select relname from pg_class where oid = %d and relkind = 'r'"
 HOLDERS = "select distinct pid from pg_locks where relation = %d and granted order by pid"
 

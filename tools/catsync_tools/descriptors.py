@@ -6,6 +6,7 @@ from typing import Dict, NamedTuple
 RELID = 72              # the relation's oid (13 to 17), by which rows are told apart, too
 LIST_LENGTH, LIST_ITEMS, ITEM = 4, 16, 8        # of List (pg_list.h, 13 and later): its count, where its items are, and their size
 PIECE = 256             # bytes of a text that are read at once
+TABLE = b"r"            # of relkind
 
 
 class Array(NamedTuple):
@@ -33,8 +34,9 @@ class Offsets(NamedTuple):
 
 # By the server's first number; each was tried.
 VERSIONS = {15: Offsets(
-    {"valid": 34, "has indexes": 35, "row": 56, "columns": 64, "triggers": 104, "keys": 120, "has keys": 128, "indexes": 216, "options": 280},
-    {"relhasindex": 112, "relhastriggers": 121}, {"constraints": 16, "first": 24},
+    {"valid": 34, "has indexes": 35, "row": 56, "columns": 64, "triggers": 104, "keys": 120, "has keys": 128, "indexes": 216,
+     "options": 280},
+    {"relhasindex": 112, "kind": 115, "relhastriggers": 121}, {"constraints": 16, "first": 24},
     {"defaults": 0, "checks": 8, "default count": 24, "check count": 26, "not null": 28},
     Array(112, {"target": 72, "dropped": 101}), Array(16, {"number": 0, "text": 8}), Array(24, {"name": 0, "valid": 16}),
     Array(88, {"name": 8, "enabled": 22}), 8, 4, 4)}
@@ -48,11 +50,11 @@ def offsets_of(version):
 
 
 def fields_at(memory, at, rel, offsets):
-    """What a descriptor at an address says of its relation, by FIELDS; None where it isn't valid. What it hasn't read yet isn't
-    among them."""
+    """What a descriptor at an address says of its table, by FIELDS; None where it isn't valid, or of no table. What it hasn't read
+    yet isn't among them."""
     try:
         descriptor = Descriptor(memory, at, offsets)
-        if memory.u32(at + RELID) != rel or not descriptor.flag("valid"):
+        if memory.u32(at + RELID) != rel or not descriptor.flag("valid") or descriptor.of_row("kind") != TABLE:
             return None
         found = {field: read(descriptor) for field, read in FIELDS.items()}
         return {field: value for field, value in found.items() if value is not None}
@@ -80,8 +82,12 @@ class Descriptor:
         return self.memory.u64(self.at + self.offsets.relation[name])
 
     def of_row(self, name):
-        """A flag of its row of pg_class, in the words of a query."""
-        return "true" if self.memory.read(self.part("row") + self.offsets.row[name], 1)[0] else "false"
+        """A byte of its row of pg_class."""
+        return self.memory.read(self.part("row") + self.offsets.row[name], 1)
+
+    def flag_of_row(self, name):
+        """A flag of that row, in the words of a query."""
+        return "true" if self.of_row(name)[0] else "false"
 
     def text(self, address):
         """The text at an address that is held there."""
@@ -157,6 +163,6 @@ class Descriptor:
 
 # Each field that is read, those first which `tools/server` writes so, too.
 FIELDS = {"statistics": Descriptor.statistics, "fillfactor": Descriptor.fillfactor,
-          "relhasindex": lambda each: each.of_row("relhasindex"), "indexes": Descriptor.indexes,
-          "relhastriggers": lambda each: each.of_row("relhastriggers"), "triggers": Descriptor.triggers, "defaults": Descriptor.defaults,
+          "relhasindex": lambda each: each.flag_of_row("relhasindex"), "indexes": Descriptor.indexes,
+          "relhastriggers": lambda each: each.flag_of_row("relhastriggers"), "triggers": Descriptor.triggers, "defaults": Descriptor.defaults,
           "checks": Descriptor.checks, "not null": Descriptor.not_null, "foreign keys": Descriptor.keys}

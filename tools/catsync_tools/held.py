@@ -80,6 +80,7 @@ class Reading(Asked):
     def lock(self, name, may_be_index):
         """The reply to a lock: that of a query."""
         if may_be_index and self.is_index(name):
+            self.backend.forget_opened()
             return super().lock(name, may_be_index)
         return self.backend.opening(lambda: self.session.ask(OPENS % name))
 
@@ -240,6 +241,11 @@ class Backend:
     def opened(self):
         """The relation that was opened first when that was watched last."""
         return self.watched and self.watched.opened
+
+    def forget_opened(self):
+        """None is opened from here on."""
+        if self.watched is not None:
+            self.watched.opened = None
 
     @property
     def used(self):

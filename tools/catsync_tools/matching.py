@@ -10,6 +10,7 @@ NAMED = {"class": (1,), "att": (2, 3), "con": (2,), "trg": (2,)}        # of a r
 OF_NO_COMMAND = ("gone", "release", "stop")
 ANSWERED_BY_WORD = ("columns", "column", "regclass")
 SHOWS_FIELDS = ("show", "peek")
+OTHER_ORDER = "; if it is an output of run or a trace of replay: add --any-order"
 
 
 def check_script(path, source, output, any_order=False):
@@ -91,7 +92,7 @@ def check_schedule(path, source, output):
     except Fault as fault:
         stopped = {entry.backend for entry in output.entries if entry.event.kind == "stop"}
         may_be_of_run = stopped == {entry.backend for entry in output.entries}
-        raise Fault("%s%s" % (fault, "; if it is an output of run or a trace of replay: add --any-order" if may_be_of_run else "")) from None
+        raise Fault("%s%s" % (fault, OTHER_ORDER if may_be_of_run else "")) from None
 
 
 def check_steps(path, source, output):

@@ -176,7 +176,8 @@ def unsent_writes(play: Play, backend, seen: Seen):
     is_within = False
     for made in reversed([made for made in play.log[:seen.at] if made.backend == backend]):
         kind = made.event[0]
-        if kind == "release" or kind == "publish" and seen.rel in made.event[2:] and not is_within or is_within and kind in ("visible", "gone"):
+        is_sent = kind == "publish" and seen.rel in made.event[2:] and not is_within
+        if kind == "release" or is_sent or is_within and kind in ("visible", "gone"):
             return found
         is_within = is_within or kind == "visible"
         found += [made] * (is_within and kind == "write" and made.event[2:3] == (seen.rel,))

@@ -171,8 +171,9 @@ class Watched(Traced):
     def publish(self):
         """Messages go into the queue: how many, and for which relations' descriptors."""
         count = self.number(1)
-        messages = [self.read(self.argument(0) + MESSAGE * at, MESSAGE) for at in range(count)]
-        rels = [int.from_bytes(each[8:12], "little") for each in messages if each[0] == OF_DESCRIPTOR]
+        messages = self.read(self.argument(0), MESSAGE * count)
+        rels = [int.from_bytes(messages[at + 8:at + 12], "little") for at in range(0, MESSAGE * count, MESSAGE)
+                if messages[at] == OF_DESCRIPTOR]
         return self.both("publish", str(count), *[rel for rel in rels if rel >= FIRST_OID])
 
     def release(self):

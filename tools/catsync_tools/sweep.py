@@ -164,7 +164,8 @@ class Shortest:
                 places.setdefault(point.items, []).append(number)
         scripts, without = [], []
         for items, numbers in places.items():
-            stale = next((each for each in (items, items + (LOOK,)) if items and self.is_stale(self.sweep.before, self.sweep.after, each)), ())
+            tried = (items, items + (LOOK,)) if items else ()
+            stale = next((each for each in tried if self.is_stale(self.sweep.before, self.sweep.after, each)), ())
             scripts += [(numbers, self.shortest(stale))] if stale else []
             without += numbers * (not stale)
         return scripts, without
