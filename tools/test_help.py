@@ -14,6 +14,7 @@ from testing import CAN_WAIT, TOOLS, TOP, call, content_of, hear_signals
 
 NAMES = sorted(name for name in os.listdir(TOOLS) if "." not in name and os.path.isfile(os.path.join(TOOLS, name)))
 MAN = os.path.join(TOP, "man", "catsync.1")
+UNREADABLE = b"schedule: %s: what it prints isn't an output of catsync\n"
 
 
 def options_of(text):
@@ -117,7 +118,7 @@ class Help(unittest.TestCase):
 
     def test_program(self):
         """Without a program that fault says how one is built; the one that ./catsync has built without proof is taken by the sum of
-        the sources, and not that of others."""
+        the sources, and not that of others; and before any that which CATSYNC_PROGRAM names."""
         with tempfile.TemporaryDirectory() as top:
             shutil.copytree(TOOLS, os.path.join(top, "tools"))
             for folder in ("src", "out"):
@@ -131,12 +132,15 @@ class Help(unittest.TestCase):
             tool = [sys.executable, os.path.join(top, "tools", "schedule")]
             given = b"backends 1\n1: begin\nsteps 1 to end\nend\n"
             for name, said in (("unproved-" + "0" * 16, b"schedule: no executable that is up to date: './catsync make 1' builds one "),
-                               ("unproved-" + total, b"schedule: %s: what it prints isn't an output of catsync\n")):
+                               ("unproved-" + total, UNREADABLE)):
                 path = os.path.join(top, "crates", "catsync", "out", name)
                 os.symlink(shutil.which("echo"), path)
-                done = subprocess.run(tool, input=given, stdout=subprocess.PIPE, stderr=subprocess.PIPE)
-                self.assertEqual((done.returncode, done.stdout, done.stderr.count(b"\n")), (2, b"", 1))
-                self.assertTrue(done.stderr.startswith(said.replace(b"%s", os.path.realpath(top).encode() + path[len(top):].encode())), done.stderr)
+                for named, program in (("", os.path.realpath(top) + path[len(top):]), (shutil.which("true"), shutil.which("true"))):
+                    done = subprocess.run(tool, input=given, stdout=subprocess.PIPE, stderr=subprocess.PIPE,
+                                          env=dict(os.environ, CATSYNC_PROGRAM=named))
+                    self.assertEqual((done.returncode, done.stdout, done.stderr.count(b"\n")), (2, b"", 1))
+                    expected = UNREADABLE % program.encode() if named or b"%s" in said else said
+                    self.assertTrue(done.stderr.startswith(expected), done.stderr)
 
     def test_man_page(self):
         """The man page has each tool with all of its options, and no others."""

@@ -923,7 +923,7 @@ class FaultyOutputs(unittest.TestCase):
                     self.assertIn(fault, told)
                     continue
                 self.assertEqual((status, told), (0, "picture: %s: the steps aren't in the order of its schedule: drawn as an output of "
-                                                  "run\n" % file.name))
+                                                  "run or a trace of replay\n" % file.name))
                 self.assertIn(b"create table t (a int4)", drawn)
 
     def test_looks_of_a_run(self):

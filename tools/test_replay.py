@@ -9,6 +9,7 @@ import ctypes
 import glob
 import os
 import random
+import re
 import shutil
 import signal
 import subprocess
@@ -22,12 +23,13 @@ from test_server import homes
 from testing import HAS_PROGRAM, NO_PROGRAM, PROGRAM, TOOLS, TOP, call, content_of
 
 from catsync_tools import stage as stages
-from catsync_tools.audit import Audit, audit_of_all
+from catsync_tools.audit import CATALOGS, Audit, audit_of_all, catalogs_of, named
 from catsync_tools.beside_events import turns_text
 from catsync_tools.counting import counted_script
 from catsync_tools.explored import played_text
 from catsync_tools.faults import Fault
 from catsync_tools.kinds import KINDS
+from catsync_tools.matching import check_script
 from catsync_tools.outcome import answers_text, outcome_of
 from catsync_tools.outputs import read_output
 from catsync_tools.picture import picture_of, span_of
@@ -35,6 +37,7 @@ from catsync_tools.places import EventPlace, Schedule
 from catsync_tools.play import Play, Sessions
 from catsync_tools.points import AFTER, BEFORE, FUNCTIONS, Watched
 from catsync_tools.program import Program
+from catsync_tools.replay import once_text
 from catsync_tools.server_trace import Trace
 from catsync_tools.sources import read_source
 from catsync_tools.stage import Stage, check_stage
@@ -76,6 +79,35 @@ TABLE_FIRST = ("setup 1: create table t (a int4)", "setup 1: create index i on t
 LOCKED_ALONE = ("setup 1: create table t (a int4)", "2: begin", "server 2.1: lock table t in access share mode", "1: drop table t",
                 "2: commit", "steps 2 to 1, 1 to end, 2 to end")
 VIEWED_ALONE = ("1: create table t (a int4)", "server 1.1: create view v as select * from t", "1: drop table t")
+# Of a bare table nothing is read after pg_attribute; a check is, as a default.
+CHECKED = tuple(line.replace("alter column a set default 5", "add constraint c check (a > 0)") for line in OVERTAKEN
+                if "fillfactor" not in line)
+CHECKED = CHECKED[:-1] + ("steps 2 to scan attribute, 1 to 4, 2 to end, 1 to end",)
+# The change comes by the server alone, and another's commit of another table between two scans.
+UNRELATED = ("setup 1: create table t (a int4)", "setup 1: create table u (a int4)", "1: alter table u set (fillfactor = 20)",
+             "3: alter table u set (fillfactor = 50)", "2: show t statistics", "server 1.3: alter table t alter column a set statistics 77",
+             "steps 1 to 3, 2 to scan class, 3 to 1, 2 to end, 1 to end, 3 to end")
+# As OVERTAKEN, but all messages are sent as the answer comes, and the lock isn't released.
+ALL_SENT = OVERTAKEN[:-1] + ("steps 2 to scan attribute, 1 to publish, 1 to publish, 2 to 4, 1 to end, 2 to end",)
+# What is shown in a block before its lock; the queries for it must not keep the rebuild from accepting.
+SHOWN_BEFORE = ("setup 1: create table t (a int4)", "setup 1: alter table t alter column a set default 5",
+                "1: alter table t alter column a set statistics 100", "1: alter table t alter column a set statistics 200", "2: begin",
+                "2: open t", "2: peek t statistics", "2: peek t defaults", "2: lock table t in row share mode", "2: commit",
+                "steps 2 to 4, 1 to 3, 2 to fetch, 2 to scan attribute, 1 to 4, 2 to end, 1 to end")
+# What there is of each field of a descriptor.
+ALL_FIELDS = ("1: create table p (a int4)", "1: create table t (a int4)", "1: alter table t set (fillfactor = 50)",
+              "1: alter table t alter column a set statistics 7", "1: alter table t alter column a set default 5",
+              "1: alter table t add constraint c check (a > 0) not valid", "1: create index i on t (a)", "1: create trigger r on t",
+              "1: alter table t add constraint f foreign key (a) references p (a)", "1: alter table t disable trigger r",
+              "server 1.9: alter table t alter column a set not null", "2: show t", "server 2.1: select from t x, t y where false")
+# Backend 3 loses messages of a queue of 64 while backend 2 is held in its rebuild, and loses none.
+HELD_BESIDE_A_RESET = (
+    "setup 1: create table t (a int4)", "setup 1: alter table t alter column a set default 5", "3: begin", "3: commit",
+    "3: show t statistics",
+    "1: create table w (%s)" % ", ".join("c%d int4" % number for number in range(40)), "1: alter table t alter column a set statistics 100",
+    "1: create table v (%s)" % ", ".join("c%d int4" % number for number in range(30)), "1: alter table t alter column a set statistics 200",
+    "2: begin", "2: open t", "2: lock table t in row share mode", "2: commit",
+    "steps 3 to 2, 1 to 3, 2 to 2, 1 to 4, 2 to fetch, 2 to scan attribute, 1 to 6, 3 to end, 2 to end, 1 to end")
 # What is held in the end has the table locked that another one has a descriptor of.
 ENDS_LOCKED = ("setup 1: create table t (a int4)", "1: alter table t add column b int4", "2: show t", "steps 2 to 1, 1 to scan attribute, 2 to end")
 REFUSED = ("setup 1: create table t (a int4)", "1: alter table t add column b int4", "2: show t columns", "2: show t columns",
@@ -323,12 +355,55 @@ class Played(unittest.TestCase):
                                "2: lock table t in row share mode", "steps 2 to scan class, 1 to 3, 2 to end, 1 to end")
         for source, field, kept, now in ((example("stale_in_the_server"), "statistics", "1:100", "1:200"),
                                          (example("races/rebuild_overtaken_by_a_message"), "statistics", "1:100", "1:200"),
+                                         (script_of(*CHECKED), "statistics", "1:100", "1:200"),
+                                         (script_of(*SHOWN_BEFORE), "statistics", "1:100", "1:200"),
                                          (fillfactor, "fillfactor", "-", "10")):
             for _ in range(3):
                 play = self.play(source)
                 self.assertEqual([tuple(each) for each in play.stale], [(2, "t", field, kept, now)])
                 self.assertEqual(play.held, 1)
                 self.assertTrue(outcome_of(play).differs)
+
+    def test_rows_past_what_is_declared(self):
+        """By the same hole rows pass a foreign key and an index: what is kept, and what is stored of it for this version of the server.
+        One after the other the commands leave no such row."""
+        for name, stale in (("foreign_key_unchecked", [("relhastriggers", "false", "true"), ("triggers", "-", " ".join(
+                ["RI_ConstraintTrigger_c_f:e"] * 2))]), ("insert_past_an_index", [("relhasindex", "false", "true")])):
+            with self.subTest(name):
+                outcome = outcome_of(self.play(example("races/" + name)))
+                self.assertEqual([(each.backend, each.table) + (each.field, each.kept, each.catalogs) for each in outcome.stale],
+                                 [(2, "t") + each for each in stale])
+                stored = content_of(os.path.join(TOP, "examples", "races", name + ".played")).decode()
+                shown = "\n".join(once_text("beside " + self.stage.name, None, outcome, unittest.mock.Mock(brief=True, trace=None))) + "\n"
+                if shown.split(":")[0] == stored.split(":")[0]:
+                    self.assertEqual(*(re.sub(r"\b1[6-9][0-9]{3}\b", "OID", text) for text in (shown, stored)))
+        lines = content_of(os.path.join(TOP, "examples", "races", "foreign_key_unchecked.script")).decode()
+        serial = outcome_of(self.play(read_source(lines.replace("1 to 3, 2 to fetch, 2 to scan class, 1 to 4", "1 to 4").encode())))
+        self.assertEqual([each.answer.text[:11] for each in serial.served], ["error 23503", "f, t, 0, 0", "error 23503"])
+        self.assertEqual(serial.stale, [])
+
+    def test_fields_of_a_descriptor(self):
+        """What a descriptor says of each field is as the catalogs have it, where these have something of each."""
+        source = script_of(*ALL_FIELDS)
+        sessions = Sessions(self.stage, source, run_of(source, self.program))
+        try:
+            for backend, _ in source.commands:
+                sessions.send(sessions.backend(backend))
+                sessions.advance(sessions.backend(backend))
+                sessions.serve(sessions.backend(backend))
+            rel = max(sessions.oids[oid] for (_, _, name), oid in sessions.made_here.items() if name == "t")
+            kept = sessions.backend(2).descriptor(rel)
+            self.assertEqual(list(kept), list(CATALOGS))
+            self.assertEqual(kept, {field: catalogs_of(sessions.watcher, field, rel) for field in kept})
+            self.assertEqual([named(sessions.watcher, field, kept[field]) for field in ("statistics", "fillfactor", "indexes", "checks",
+                                                                                      "not null", "foreign keys")],
+                             ["1:7", "50", "i", "c:n", "true", "f"])
+            self.assertEqual(named(sessions.watcher, "triggers", kept["triggers"]),
+                             "RI_ConstraintTrigger_c_f:e RI_ConstraintTrigger_c_f:e r:d")
+            self.assertRegex(kept["defaults"], "^1:[0-9a-f]{8}$")
+            self.assertEqual(audit_of_all(sessions), Audit([], []))
+        finally:
+            sessions.end()
 
     def test_statistics_of_analyze(self):
         """The session that keeps an old statistics target goes by it in ANALYZE."""
@@ -353,6 +428,13 @@ class Played(unittest.TestCase):
         self.assertEqual([(command, [(each.part, each.words) for each in found]) for command, found in differ],
                          [((2, 1), [("statistics", "half of one commit")])])
         self.assertFalse(outcome.differs)
+
+    def test_what_is_not_half_a_commit(self):
+        """A value that comes by no commit here isn't called half of one, nor is an old one of which all messages are sent."""
+        unrelated, all_sent = (outcome_of(self.play(script_of(*lines))) for lines in (UNRELATED, ALL_SENT))
+        self.assertEqual([(each.part, each.words, each.catalogs) for outcome in (unrelated, all_sent) for found in outcome.found for each in found],
+                         [("statistics", None, None), ("statistics", "an older rebuild may be put over a newer one", "1:200")])
+        self.assertTrue(unrelated.differs and all_sent.differs)
 
     def test_old_answers(self):
         """An old answer that no message tells of differs, though a later one mends it; one that the next accept mends doesn't."""
@@ -396,6 +478,12 @@ class Played(unittest.TestCase):
             self.assertEqual([event for event in events if event[0] in ("lapped", "fetch")][:2], [("lapped",), ("fetch", "reset")])
             others = [made for made in play.log if made.event == ("fetch", "reset") and made.backend != play.turns[turn].turn.backend]
             self.assertEqual((others, any(outcome_of(play).found)), ([], False))
+
+    def test_reset_of_another_that_is_held(self):
+        """The queue can't be overrun for one backend while another one is held that isn't reset here."""
+        source = read_source(("ring 64\nbackends 3\n" + "\n".join(HELD_BESIDE_A_RESET) + "\nend\n").encode())
+        with self.assertRaisesRegex(Unplayable, "^the queue can't be overrun for backend 3 alone: backend 2 is held, and would be reset too$"):
+            self.play(source)
 
     def test_place_that_is_not_met(self):
         """A place to which the server doesn't come is named, with what it made."""
@@ -461,15 +549,16 @@ class Played(unittest.TestCase):
             reader = sessions.backend(2)
             self.assertEqual(reader.descriptor(min(sessions.names))["statistics"], "1:-1")
             self.assertEqual(audit_of_all(sessions), Audit([], []))
-            self.assertEqual(reader.descriptor(min(sessions.names)), {"statistics": "1:7", "fillfactor": "-"})
+            self.assertEqual(reader.descriptor(min(sessions.names))["statistics"], "1:7")
         finally:
             sessions.end()
 
     def test_trace(self):
-        """What the server made is a history that is drawn."""
+        """What the server made is a history that is drawn, with the script's commands."""
         for name in ("stale_in_the_server", "held_modes", "failed_block", "reset_inside_build", "level_gives_back_its_lock"):
             with self.subTest(name):
                 output = read_output(Trace(self.play(example(name))).text().encode("ascii"))
+                check_script(name, example(name), output)
                 self.assertIn(b"<svg", picture_of(output, False, span_of(len(output.entries)), {}).encode("ascii"))
 
 
@@ -533,6 +622,12 @@ class Commands(unittest.TestCase):
         status, shown, said = call("replay", "--program", PROGRAM, "--times", "3", path)
         self.assertEqual((status, said), (1, ""))
         self.assertRegex(shown.decode(), r"^beside PostgreSQL [0-9.]+, 3 times\n\n3 of 3: held 1 time; 1 of 9 answers differs; 1 field is ")
+        with tempfile.TemporaryDirectory() as folder:
+            path = os.path.join(folder, "script")
+            with open(path, "w") as file:
+                file.write("backends 1\n1: create table t (a int4)\n1: show t\nserver 1.2: select 't'::regclass::oid\nend\n")
+            status, shown, said = call("replay", "--program", PROGRAM, "--times", "3", path)
+        self.assertEqual((status, said, shown.decode().count(" of 3: "), "\n3 of 3: " in shown.decode()), (0, "", 1, True))
 
     def test_sweep(self):
         """A sweep finds where the descriptor gets stale, and the shortest script that shows it, as examples/sweeps has it for this

@@ -1,7 +1,6 @@
 """What the tests of the tools have in common.
 
-The program that they run is the one that the tools find by themselves, or that CATSYNC_PROGRAM names; without one the tests
-that need it are skipped.
+The program that they run is the one that the tools find by themselves; without one the tests that need it are skipped.
 """
 import os
 import signal
@@ -13,9 +12,9 @@ TOOLS = os.path.dirname(os.path.abspath(__file__))
 TOP = os.path.dirname(TOOLS)
 
 from catsync_tools.interrupts import SIGNALS
-from catsync_tools.program import PROVED, built_program
+from catsync_tools.program import PROVED, found_program
 
-_FOUND = os.environ.get("CATSYNC_PROGRAM") or built_program()
+_FOUND = found_program()
 PROGRAM, HAS_PROGRAM = _FOUND or PROVED, _FOUND is not None
 NO_PROGRAM = "no executable that is up to date"
 CAN_WAIT = subprocess.run(["env", "--block-signal=INT", "true"], stderr=subprocess.DEVNULL).returncode == 0     # at Python's start

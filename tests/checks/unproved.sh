@@ -9,6 +9,7 @@ check() {
     out=crates/catsync/out
     main=crates/catsync/src/main.rt
     : >"$temp/builds"
+    unset CATSYNC_PROGRAM
     without=$PATH
     PATH=$temp/bin:$PATH
     walks built && PATH=$without walks running && touch "$main" && walks running && builds 1 && tools_take_it &&

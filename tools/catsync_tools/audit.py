@@ -3,9 +3,29 @@ backend has accepted all messages, so that none is left that would tell it."""
 import re
 from typing import List, NamedTuple, Optional
 
+from .descriptors import SHOWN
 from .held import ACCEPTS, OPENS
 from .sql import QUERIES
 
+# Each field of a descriptor (descriptors.py) as the catalogs have it.
+CATALOGS = {field: QUERIES[field] for field in SHOWN}
+CATALOGS.update({
+    "relhasindex": "select relhasindex::text from pg_class where oid = T",
+    "indexes": "select string_agg(indexrelid::text, ' ' order by indexrelid) from pg_index where indrelid = T and indislive",
+    "relhastriggers": "select relhastriggers::text from pg_class where oid = T",
+    "triggers": "select string_agg(concat_ws(':', tgname, case tgenabled when 'D' then 'd' else 'e' end), ' ' order by tgname) from "
+                "pg_trigger where tgrelid = T",
+    "defaults": "select string_agg(concat_ws(':', adnum, left(md5(adbin::text), 8)), ' ' order by adnum) from pg_attrdef where adrelid = T",
+    "checks": "select string_agg(concat_ws(':', conname, case when convalidated then 'v' else 'n' end), ' ' order by conname) from "
+              "pg_constraint where conrelid = T and contype = 'c'",
+    "not null": "select (count(*) > 0)::text from pg_attribute where attrelid = T and attnum > 0 and attnotnull",
+    "foreign keys": "select string_agg(oid::text, ' ' order by oid) from pg_constraint where conrelid = T and contype = 'f'",
+})
+# The oids in these, and the name that is said for one.
+OIDS = re.compile(r"(?<![^ ])[0-9]+(?![^ ])|(?<=RI_ConstraintTrigger_[ac]_)[0-9]+")
+NAMED = ("indexes", "triggers", "foreign keys")
+NAME_OF = ("select coalesce((select relname from pg_class where oid = T), (select conname from pg_constraint where oid = T), (select "
+           "conname from pg_constraint, pg_trigger where pg_trigger.oid = T and pg_constraint.oid = tgconstraint), 'gone')")
 IS_TABLE = "select relname from pg_class where oid = %d and relkind = 'r'"
 HOLDERS = "select distinct pid from pg_locks where relation = %d and granted order by pid"
 
@@ -86,10 +106,26 @@ def look_at_table(sessions, backend, rel, name, found: Audit):
         found.unread.append(Unread(backend.number, name, why_not_opened(sessions, backend, rel, reply)))
         return
     for field, value in kept.items():
-        rows = sessions.watcher.ask(re.sub(r"\bT\b", str(rel), QUERIES[field])).rows
-        catalogs = (rows[0][0] if rows else None) or "-"
+        catalogs = catalogs_of(sessions.watcher, field, rel)
         if value != catalogs:
-            found.stale.append(Stale(backend.number, name, field, value, catalogs))
+            found.stale.append(Stale(backend.number, name, field, named(sessions.watcher, field, value),
+                                     named(sessions.watcher, field, catalogs)))
+
+
+def asked(session, query, oid):
+    """The only value of a query about what has an oid, or `-`."""
+    rows = session.ask(re.sub(r"\bT\b", str(oid), query)).rows
+    return (rows[0][0] if rows else None) or "-"
+
+
+def catalogs_of(session, field, rel):
+    """A field of a relation as the catalogs have it."""
+    return asked(session, CATALOGS[field], rel)
+
+
+def named(session, field, value):
+    """The value of a field, by names in place of oids."""
+    return OIDS.sub(lambda found: asked(session, NAME_OF, found.group()), value) if field in NAMED else value
 
 
 def why_not_opened(sessions, backend, rel, reply):

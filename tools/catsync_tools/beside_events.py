@@ -23,6 +23,8 @@ def is_shown(event, own):
     """Whether an event is shown where not all are: it is no look without a message, and of a relation of the script."""
     if event == ("look", "no") or event[0] == "error":
         return False
+    if event[0] == "inside":
+        return event[1] in own
     if event[0] in KINDS and KINDS[event[0]].is_of_relation:
         return all(part in own for part in event[1:] if isinstance(part, int))
     return event[0] != "write" or event[1][1:] not in ("class", "att") or all(part in own for part in event[2:3] if isinstance(part, int))
@@ -36,6 +38,8 @@ def event_text(play: Play, made):
         return "  not held %s '%s': %s" % (made.event[2], play.shown(made.event[3:]), made.event[1])
     if made.event[0] == "lapped":
         return "  the queue is overrun"
+    if made.event[0] == "inside":
+        return "  inside of that %s is rebuilt once more" % play.shown(made.event[1:])
     return "%d %s" % (made.command, play.shown(made.event))
 
 

@@ -2,16 +2,15 @@
 where a turn ends."""
 import re
 import threading
-from typing import Dict, List, NamedTuple, Optional, Tuple
+from typing import Callable, Dict, List, NamedTuple, Optional, Set, Tuple
 
-from .descriptors import fields_at
+from .descriptors import SHOWN, fields_at
 from .interrupts import waiting
 from .points import AFTER, Executable, Watched
-from .sql import Answer, Asked
+from .sql import GUARD, QUERIES, Answer, Asked
 
 OPENS = 'select from "%s" where false'
 ACCEPTS = "select from pg_attrdef where false"        # makes a session accept what waits for it
-OPENS_AGAIN = "select pg_relation_size(%d::regclass)"
 
 
 class Made(NamedTuple):
@@ -22,63 +21,103 @@ class Made(NamedTuple):
 
 
 class Kept(NamedTuple):
-    """A field as the descriptor has it by which a command is answered, as the catalogs have it then, and as the descriptor has it
-    once the backend has accepted what waits for it."""
+    """A field as the descriptor has it by which a command is answered, and as the catalogs have it then."""
     value: str
     catalogs: str
-    accepted: str
 
 
 class Seen(NamedTuple):
-    """What an answer was read from: which relation's descriptor, its fields, and how much of the log there was by then."""
+    """What an answer was read from: which relation's descriptor, its fields, whether a message for it waits for the backend, and how
+    much of the log there was by then."""
     rel: int
     fields: Dict[str, Kept]
+    is_waiting: bool
     at: int
+
+
+class Sent:
+    """The relations for whose descriptors messages were sent by those who are traced, in order; and what asks for a field of a
+    relation as the catalogs have it, which no session of the script does."""
+
+    def __init__(self, catalogs: Callable[[str, int], str]):
+        self.rels: List[int] = []
+        self.catalogs = catalogs
 
 
 class Reading(Asked):
     """As `Asked`, but what shows a table opens it, as a query does, and so builds its descriptor; and what the descriptor in the
-    process says counts, which no query shows."""
+    process says counts, which no query shows. What needs queries in a block has them in a level of their own that is taken back: a
+    lock of a catalog that they left would keep the block's later locks from accepting."""
 
     def __init__(self, session, oids: Dict[int, int], backend):
         super().__init__(session, oids)
         self.backend = backend
 
+    def aside(self, ask):
+        """What is asked for the tool itself, which is no part of the command."""
+        backend, in_block = self.backend, self.in_block
+        if backend.is_aside:
+            return ask()
+        backend.is_aside = True
+        try:
+            if in_block:
+                self.session.ask('savepoint "%s"' % GUARD)
+            return ask()
+        finally:
+            if in_block:
+                self.session.ask('rollback to savepoint "%s"' % GUARD)
+                self.session.ask('release savepoint "%s"' % GUARD)
+            backend.is_aside = False
+
+    def is_index(self, which):
+        """Whether the relation of this name, or of this oid, is an index."""
+        return self.aside(lambda: super(Reading, self).is_index(which))
+
+    def value(self, query, which):
+        """The only value of a query about the relation of this name, or of this oid, or `-`."""
+        return self.aside(lambda: super(Reading, self).value(query, which))
+
     def lock(self, name, may_be_index):
         """The reply to a lock: that of a query."""
         if may_be_index and self.is_index(name):
+            self.backend.forget_opened()
             return super().lock(name, may_be_index)
         return self.backend.opening(lambda: self.session.ask(OPENS % name))
 
     def fields(self, shown, oid=None):
         """The values of the fields. The descriptor is read before the queries for the others, which accept messages."""
-        said, rel = self.backend.descriptor(oid), oid or self.backend.opened
-        text = super().fields(shown, oid)
-        catalogs: Dict[str, str] = {}
-        for field, value in (said or {}).items() if text else ():
-            found = re.search(r"(?<!\S)%s ([^;]*)" % field, text)
-            if found:
-                catalogs[field] = found.group(1)
-                text = text[:found.start(1)] + value + text[found.end(1):]
-        if catalogs:
-            self.note(rel, said, catalogs)
+        backend, rel = self.backend, oid or self.backend.opened
+        said = {field: value for field, value in (backend.descriptor(oid) or {}).items() if field in SHOWN}
+        if said and shown.field:
+            said = {field: value for field, value in said.items() if field == shown.field}
+        if said:
+            self.note(rel, said)
+        if shown.field in said:
+            return "%s %s" % (shown.field, said[shown.field])
+        text = self.aside(lambda: super(Reading, self).fields(shown, oid))
+        for field, value in said.items() if text else ():
+            text = re.sub(r"(?<!\S)%s [^;]*" % field, lambda _: "%s %s" % (field, value), text)
         return text
 
-    def note(self, rel, said, catalogs):
-        """Notes what an answer was read from. The queries for it have accepted what waits; where the descriptor was old before it is
-        opened anew."""
-        backend, is_old = self.backend, any(said[field] != value for field, value in catalogs.items())
-        accepted = (backend.opened_again(rel) or {}) if is_old else said
-        backend.seen[backend.command] = Seen(rel, {field: Kept(said[field], value, accepted.get(field, value))
-                                                   for field, value in catalogs.items()}, len(backend.log))
+    def note(self, rel, said):
+        """Notes what an answer is read from. What the session itself is about to change only it can see."""
+        backend = self.backend
+        catalogs = {field: self.value(QUERIES[field], rel) if rel in backend.changing else backend.sent.catalogs(field, rel)
+                    for field in said}
+        backend.seen[backend.command] = Seen(rel, {field: Kept(value, catalogs[field]) for field, value in said.items()},
+                                             backend.is_waiting(rel), len(backend.log))
 
 
 class Backend:
-    """A backend: what it has been asked and has answered, and what its process has made, which `log` has of all. `pair` is told
-    each new relation."""
+    """A backend: what it has been asked and has answered, and what its process has made, which `log` has of all, and `sent` of all
+    messages. `pair` is told each new relation."""
 
-    def __init__(self, number, session, oids: Dict[int, int], offsets, pair, log: List[Made]):
+    def __init__(self, number, session, oids: Dict[int, int], offsets, pair, log: List[Made], sent: Optional[Sent] = None):
         self.number, self.offsets, self.pair, self.log = number, offsets, pair, log
+        self.sent = sent or Sent(lambda *_: "-")
+        self.fetched, self.is_lapped = len(self.sent.rels), False      # how many of these it has; whether it has lost what is left
+        self.telling: List[int] = []                # the relations for which it processes messages, the innermost last
+        self.changing: Set[int] = set()             # relations of which its transaction has written rows
         session.socket.settimeout(None)
         self.asked = Reading(session, oids, self)
         self.pid = int(session.ask("select pg_backend_pid()").rows[0][0])
@@ -88,6 +127,7 @@ class Backend:
         self.made: List[Made] = []
         self.seen: Dict[int, Seen] = {}             # by command
         self.is_noted, self.is_alone = True, False  # whether what it makes is noted, and is for the server alone
+        self.is_aside = False                       # whether it is asked for the tool itself
         self.say("start")
 
     @property
@@ -115,22 +155,51 @@ class Backend:
 
     def note(self, phase, event):
         """Called at each event: whether the process is to stay there."""
+        if event[0] == "told":
+            self.follow_told(phase, event[1])
         if phase == AFTER:
             self.say(*event)
-            if event[:2] == ("write", "+class"):
-                self.pair(self, event[2], event[3])
-        if self.place is None or self.is_alone or not self.place.is_met(self.command, phase, event):
+            self.follow(event)
+        if self.place is None or self.is_alone or self.is_aside or not self.place.is_met(self.command, phase, event):
             return False
         self.not_held = self.watched.not_held(event)
         if self.not_held is not None:
             self.say("not held", self.not_held, phase, *event)
         return self.not_held is None
 
+    def follow(self, event):
+        """Follows what an event says of new relations, of changed ones, and of messages."""
+        if event[:2] == ("write", "+class"):
+            self.pair(self, event[2], event[3])
+        if event[0] == "write":
+            self.changing |= {part for part in event[2:3] if isinstance(part, int)}
+        elif event[0] in ("visible", "gone"):
+            self.changing = set()
+        elif event[0] == "publish":
+            self.sent.rels += event[2:]
+        elif event[0] == "fetch" or event == ("look", "no"):
+            self.fetched, self.is_lapped = len(self.sent.rels), False
+
+    def follow_told(self, phase, rel):
+        """Follows which messages for descriptors are processed, each inside of the one before; one for the same relation begins a rebuild
+        inside of another."""
+        if phase == AFTER:
+            self.telling = self.telling[:-1]
+            return
+        if rel in self.telling:
+            self.say("inside", rel)
+        self.telling.append(rel)
+
+    def is_waiting(self, rel):
+        """Whether a message for a relation's descriptor is in the queue for it."""
+        return self.is_lapped or rel in self.sent.rels[self.fetched:]
+
     def say(self, *event):
         """An event, or what else is said."""
-        if self.is_noted:
+        accepts = event[0] in ("look", "fetch")
+        if self.is_noted and (accepts or not self.is_aside):
             self.made.append(Made(self.number, self.command, event))
-            self.log += self.made[-1:] if not self.is_alone or event[0] in ("look", "fetch") else []
+            self.log += self.made[-1:] if accepts or not self.is_alone else []
 
     def leave(self):
         """It stops; what it makes from then on isn't noted."""
@@ -139,7 +208,7 @@ class Backend:
 
     def begin(self, ask, wake):
         """Lets a thread ask the session, which calls `wake` once it is answered."""
-        self.is_busy = True
+        self.is_busy, self.telling = True, []
 
         def work():
             try:
@@ -173,14 +242,10 @@ class Backend:
         """The relation that was opened first when that was watched last."""
         return self.watched and self.watched.opened
 
-    def opened_again(self, rel):
-        """What its descriptor says of a relation that is opened once more, of which nothing is noted."""
-        before, self.is_alone, self.is_noted = (self.is_alone, self.is_noted), True, False
-        try:
-            self.opening(lambda: self.asked.session.ask(OPENS_AGAIN % rel))
-        finally:
-            self.is_alone, self.is_noted = before
-        return self.descriptor(rel)
+    def forget_opened(self):
+        """None is opened from here on."""
+        if self.watched is not None:
+            self.watched.opened = None
 
     @property
     def used(self):

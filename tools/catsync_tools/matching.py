@@ -84,7 +84,7 @@ def check_stops(path, source, output):
 
 def is_in_order(path, source, output):
     """Whether the steps are in the order of the script's schedule. Where they aren't and all backends stop it may be an output of
-    `run`, whose order is its own; else it is a Fault."""
+    `run`, or a trace of a server, whose order is its own; else it is a Fault."""
     try:
         check_steps(path, source, output)
     except Fault:

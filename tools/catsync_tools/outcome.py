@@ -1,6 +1,6 @@
 """What a play came to: which answers differ, what docs/PROFILE.md says of that, and what is stale for good."""
 import re
-from typing import List, NamedTuple, Optional, Set
+from typing import Dict, List, NamedTuple, Optional, Set
 
 from .audit import Stale, Unread
 from .beside import Compared, Pairs, differences, order_of
@@ -8,14 +8,16 @@ from .differences import profile
 from .documented import Case, code_of, words_of
 from .held import Made, Seen
 from .known import Facts
+from .messages import BUILD_SCANS
 from .play import Play, Served
 from .sentences import counted
 from .server import answers
-from .sql import referred_in, tokens_of
+from .sql import Answer, referred_in, tokens_of
 
 # Differences that come where commands overlap: the words of docs/PROFILE.md.
 OVERTAKEN, FEWER_LOOKS, TORN = "an older rebuild may be put over a newer one", "they aren't looked for", "half of one commit"
 TABLE_FIRST = "the table first"
+CHANGES = {"statistics": ("=att",), "fillfactor": ("=class",)}      # how a field that is read from a descriptor is changed
 LOCKED = "55P03"
 
 
@@ -57,6 +59,7 @@ class Outcome(NamedTuple):
     stale: List[Stale]
     unread: List[Unread]
     served: List[Served]
+    oids: range         # that the server has drawn meanwhile
 
     @property
     def differs(self):
@@ -121,7 +124,7 @@ def outcome_of(play: Play) -> Outcome:
     all_compared, text = compared_in(play), profile()
     found = [[named(play, compared, each, text) for each in differing]
              for compared, differing in zip(all_compared, documented(all_compared, text))]
-    return Outcome(play.held, all_compared, found, play.stale, play.unread, play.served)
+    return Outcome(play.held, all_compared, found, play.stale, play.unread, play.served, range(play.first_oid, play.last_oid))
 
 
 def named(play: Play, compared: Compared, found: PartDiffering, text):
@@ -136,45 +139,49 @@ def named(play: Play, compared: Compared, found: PartDiffering, text):
 
 
 def of_descriptor(play: Play, command, seen: Seen, found: PartDiffering, text):
-    """A difference in a field that was read from the descriptor, and not by a query. What the descriptor has is as old as the
-    server's catalog snapshot where the message is still to come, and old until the next accept where it mends it; else nothing is
-    left that would."""
-    kept = seen.fields[found.part]
+    """A difference in a field that was read from the descriptor, and not by a query. Where the server's is old, a message mends it that
+    is still to be sent, or the next accept, or nothing is left that would."""
+    kept, changes = seen.fields[found.part], CHANGES[found.part]
     if kept.value == kept.catalogs:
-        return found._replace(words=TORN) if TORN in text and reads_across_a_commit(play, command) else found
-    if is_on_the_way(play, command[0], seen):
+        return found._replace(words=TORN) if TORN in text and is_half_here(play, command, seen.rel, changes) else found
+    unsent = [made.event for other in play.backends if other != command[0] for made in unsent_writes(play, other, seen)]
+    if any(event[1] in changes for event in unsent):
         return found._replace(words=TORN if TORN in text else None)
-    if kept.accepted == kept.catalogs:
-        return found._replace(words=FEWER_LOOKS if FEWER_LOOKS in text else None, is_mended=True)
-    return found._replace(words=OVERTAKEN if OVERTAKEN in text else None, catalogs=kept.catalogs)
+    words, is_mended = (FEWER_LOOKS, True) if seen.is_waiting else (OVERTAKEN, bool(unsent))
+    return found._replace(words=words if words in text else None, is_mended=is_mended, catalogs=None if is_mended else kept.catalogs)
 
 
-def reads_across_a_commit(play: Play, command):
-    """Whether another's commit became visible here between two scans of the transaction of a command."""
-    backend, number = command
+def is_half_here(play: Play, command, rel, changes):
+    """Whether here another's commit of a change of a field became visible between two scans of the relation's descriptor, in the
+    transaction of a command."""
+    (backend, number), rel = command, next((here for here, there in play.oids.items() if there == rel), None)
     scans: List[int] = []
+    commits: List[int] = []
+    writers: Set[int] = set()
     for at, (own, of, text) in enumerate(play.run.steps):
         if own == backend and of <= number:
-            scans = [] if text.startswith("release ") and of < number else scans + [at] * text.startswith("scan ")
-    between = play.run.steps[scans[0]:scans[-1]] if scans else []
-    return any(text.startswith("visible ") for own, _, text in between if own != backend)
+            scans = [] if text.startswith("release ") and of < number else scans + [at] * bool(
+                re.match("scan (?:%s) %s " % ("|".join(BUILD_SCANS), rel), text))
+        elif own != backend and any("%s(%s," % (change, rel) in text for change in changes):
+            writers.add(own)
+        elif own in writers and text.startswith(("visible ", "gone ")):
+            writers.discard(own)
+            commits += [at] * text.startswith("visible ")
+    return any(scans[0] < at < scans[-1] for at in commits if scans)
 
 
-def is_on_the_way(play: Play, backend, seen: Seen):
-    """Whether a commit of another's change of the relation was visible in the server by then, and its messages not all sent."""
-    return any(changes_unsent(play, other, seen) for other in play.backends if other != backend)
-
-
-def changes_unsent(play: Play, backend, seen: Seen):
-    """Whether a backend had changed the relation, and was between the two then."""
+def unsent_writes(play: Play, backend, seen: Seen):
+    """The writes of the relation that a backend had committed by then, if no message for its descriptor was sent yet."""
+    found: List[Made] = []
     is_within = False
-    for event in reversed([made.event for made in play.log[:seen.at] if made.backend == backend]):
-        if event[0] in ("visible", "gone", "release") and is_within or event[0] == "release":
-            return False
-        is_within = is_within or event[0] == "visible"
-        if is_within and event[0] == "write" and event[2:3] == (seen.rel,):
-            return True
-    return False
+    for made in reversed([made for made in play.log[:seen.at] if made.backend == backend]):
+        kind = made.event[0]
+        is_sent = kind == "publish" and seen.rel in made.event[2:] and not is_within
+        if kind == "release" or is_sent or is_within and kind in ("visible", "gone"):
+            return found
+        is_within = is_within or kind == "visible"
+        found += [made] * (is_within and kind == "write" and made.event[2:3] == (seen.rel,))
+    return found
 
 
 def is_table_first(play: Play, compared: Compared, text):
@@ -223,6 +230,22 @@ def answers_text(outcome: Outcome) -> List[str]:
         lines += served_after(outcome, compared.command[1], compared.command[0])
     kept = [each.text for each in outcome.stale + outcome.unread]
     return lines + [""] * bool(kept) + kept
+
+
+def without_oids(outcome: Outcome) -> str:
+    """What is said of an outcome, with a number in place of each oid that the server has drawn: by this two plays are alike."""
+    numbers: Dict[str, int] = {}
+
+    def numbered(found):
+        is_drawn = int(found.group()) in outcome.oids
+        return "oid %d" % numbers.setdefault(found.group(), len(numbers)) if is_drawn else found.group()
+
+    def alike(answer: Answer):
+        texts = [re.sub("[0-9]+", numbered, each) for each in [answer.text] + answer.warnings]
+        return Answer(texts[0], texts[1:])
+    compared = [each._replace(server=alike(each.server)) for each in outcome.compared]
+    served = [each._replace(answer=alike(each.answer)) for each in outcome.served]
+    return "\n".join([outcome.text] + answers_text(outcome._replace(compared=compared, served=served)))
 
 
 def served_after(outcome: Outcome, command, backend=None):

@@ -49,12 +49,12 @@ def commands_shown(source) -> Commands:
 
 
 def script_of(path, output) -> Commands:
-    """The commands of the script in a file, of which this is an output."""
+    """The commands of the script in a file, of which this is an output; its order may be any."""
     data = read_file(path)
     with faults_of(path):
         source = read_source(data)
     if not check_script(path, source, output):
-        say("picture: %s: the steps aren't in the order of its schedule: drawn as an output of run" % path)
+        say("picture: %s: the steps aren't in the order of its schedule: drawn as an output of run or a trace of replay" % path)
     return commands_shown(source)
 
 

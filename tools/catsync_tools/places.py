@@ -87,6 +87,10 @@ class Schedule:
         """The command and the text of a turn's last entry."""
         return self.own[turn.backend][turn.end - 1]
 
+    def is_reset_next(self, backend, made):
+        """Whether the next messages that a backend takes after so many of its entries are a reset."""
+        return next((text == "fetch reset" for _, text in self.own[backend][made:] if text.startswith("fetch ")), False)
+
     def answered(self, turn: Turn):
         """How many commands are answered by the end of a turn that ends between two; those without an entry are answered with the
         one before them."""

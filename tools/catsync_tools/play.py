@@ -5,9 +5,9 @@ import re
 import time
 from typing import Dict, List, NamedTuple, Tuple
 
-from .audit import Stale, Unread, audit_of, audit_of_all, take_back
+from .audit import Stale, Unread, audit_of, audit_of_all, catalogs_of, take_back
 from .faults import Fault
-from .held import Backend, Made, answer_of_server
+from .held import Backend, Made, Sent, answer_of_server
 from .outputs import PLACE
 from .places import Schedule, Turn
 from .sources import Source
@@ -54,6 +54,12 @@ class Sessions:
         self.answers: Dict[Command, Answer] = {}
         self.database = stage.server.new_database()
         self.watcher = stage.server.session(self.database)
+        self.first_oid = self.last_oid = self.drawn_oid()
+        self.sent = Sent(lambda field, rel: catalogs_of(self.watcher, field, rel))
+
+    def drawn_oid(self):
+        """An oid that the server has just drawn."""
+        return int(self.watcher.ask("select lo_create(0)").rows[0][0])
 
     def pair(self, backend: Backend, oid, name):
         """A relation that a command has made in the server is that which the same command makes here."""
@@ -65,7 +71,8 @@ class Sessions:
     def backend(self, number) -> Backend:
         """A backend, which is there from now on."""
         if number not in self.backends:
-            backend = Backend(number, self.stage.server.session(self.database), self.oids, self.stage.offsets, self.pair, self.log)
+            backend = Backend(number, self.stage.server.session(self.database), self.oids, self.stage.offsets, self.pair, self.log,
+                              self.sent)
             with followed(backend):
                 backend.trace(self.stage.executable)
             self.backends[number] = backend
@@ -125,8 +132,10 @@ class Sessions:
             self.served.append(Served((backend.number, backend.command), sql, answer))
 
     def shown(self, event):
-        """An event in words, with the oids that relations have here; of one that there isn't here, with a ~."""
+        """An event in words, with the oids that relations have here; of one that there isn't here, with a ~. Which relations messages
+        are for isn't said."""
         here = {there: ours for ours, there in self.oids.items()}
+        event = event[:2] if event[0] == "publish" else event
         return " ".join(part if isinstance(part, str) else str(here.get(part, abs(part) if part < 0 else "~%d" % part)) for part in event)
 
     def end(self):
@@ -150,6 +159,7 @@ class Play(Sessions):
         self.stale: List[Stale] = []
         self.unread: List[Unread] = []              # what couldn't be looked at
         self.shown_to: Dict[int, int] = {}          # of each backend: how much of what it has made was shown
+        self.made_to: Dict[int, int] = {}           # of each backend: how many of its entries here are made
         self.held, self.stops, self.seconds = 0, 0, 0.0
 
     def play(self):
@@ -158,6 +168,7 @@ class Play(Sessions):
         try:
             for turn in self.schedule.turns:
                 self.make(turn)
+                self.made_to[turn.backend] = turn.end
                 self.show(turn)
             self.look_at_rest()
         finally:
@@ -200,8 +211,13 @@ class Play(Sessions):
             self.answers[backend.number, backend.command].text))
 
     def lap(self, backend: Backend):
-        """The queue's messages for a backend are lost. It is stopped meanwhile: one that waits for a command would take them."""
-        is_stopped = backend.is_stopped
+        """The queue's messages for a backend are lost. It is stopped meanwhile: one that waits for a command would take them. Another
+        one that is held would lose what it has, too."""
+        for other in self.backends.values():
+            if other is not backend and other.is_stopped and not self.schedule.is_reset_next(other.number, self.made_to[other.number]):
+                raise Unplayable("the queue can't be overrun for backend %d alone: backend %d is held, and would be reset too" % (
+                    backend.number, other.number))
+        is_stopped, backend.is_lapped = backend.is_stopped, True
         with followed(backend):
             backend.watched.stop()
         self.stage.lap([other for other in self.backends.values() if other is not backend])
@@ -233,6 +249,7 @@ class Play(Sessions):
     def look_at_rest(self):
         """Looks at what those keep that haven't been looked at, in the end."""
         audit = audit_of_all(self)
+        self.last_oid = self.drawn_oid()
         self.stale += [each for each in audit.stale if each not in self.stale]
         self.unread = audit.unread
         for backend in self.backends.values():

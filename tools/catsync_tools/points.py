@@ -17,6 +17,7 @@ MODES = (None, "as", "rs", "rx", "su", "sh", "sr", "ex", "ax")
 CATALOG_SCHEMA = 11     # where a name is looked for first
 ERROR = 21              # of errors and what is worse (14 and later)
 SCAN_KEY, SCAN_ARGUMENT = 72, 64        # of ScanKeyData: its size, and where its value is
+MESSAGE, OF_DESCRIPTOR = 16, 254        # of SharedInvalidationMessage (sinval.h): its size, and what one for a descriptor begins with
 CACHE_FUNCTIONS = ("CatCacheInvalidate", "CreateCacheMemoryContext", "SearchCatCache", "SearchCatCache1", "SearchCatCacheList",
                    "ReleaseCatCache", "PrepareToInvalidateCacheTuple", "InitCatCache", "ResetCatalogCaches",
                    "PrintCatCacheLeakWarning")
@@ -168,8 +169,12 @@ class Watched(Traced):
         return self.both("visible" if committing else "gone") if self.number(1) else False
 
     def publish(self):
-        """Messages go into the queue."""
-        return self.both("publish", str(self.number(1)))
+        """Messages go into the queue: how many, and for which relations' descriptors."""
+        count = self.number(1)
+        messages = self.read(self.argument(0), MESSAGE * count)
+        rels = [int.from_bytes(messages[at + 8:at + 12], "little") for at in range(0, MESSAGE * count, MESSAGE)
+                if messages[at] == OF_DESCRIPTOR]
+        return self.both("publish", str(count), *[rel for rel in rels if rel >= FIRST_OID])
 
     def release(self):
         """Locks are released."""
@@ -204,5 +209,5 @@ class Watched(Traced):
         if self.u32(self.place("CritSectionCount")):
             return "in a critical section"
         if self.u32(self.place("InterruptHoldoffCount")) > (event[0] in KINDS and KINDS[event[0]].is_in_commit):
-            return "it holds a light-weight lock"
+            return "interrupts are held off, as by a light-weight lock"
         return None

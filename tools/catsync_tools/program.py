@@ -62,12 +62,17 @@ def built_program():
     return unproved if os.access(unproved, os.X_OK) else None
 
 
+def found_program():
+    """The program that CATSYNC_PROGRAM names, else the built one; None where there is neither."""
+    return os.environ.get("CATSYNC_PROGRAM") or built_program()
+
+
 def own_program():
     """The program that is run where the command line names none."""
-    program = built_program()
+    program = found_program()
     if program is None:
         raise Fault("no executable that is up to date: './catsync make 1' builds one without proof, in some 75 s of "
-                    "processor time, and ./prove a proved one; --program FILE names another")
+                    "processor time, and ./prove a proved one; --program FILE or CATSYNC_PROGRAM names another")
     return program
 
 

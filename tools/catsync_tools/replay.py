@@ -5,7 +5,7 @@ from .arguments import Arguments, count_of
 from .beside_events import turns_text
 from .counting import counted_script
 from .faults import Fault, check_file, faults_of, read_file, write_file, write_output
-from .outcome import answers_text, outcome_of
+from .outcome import answers_text, outcome_of, without_oids
 from .play import Play
 from .program import Program, own_program
 from .server_trace import Trace
@@ -15,6 +15,7 @@ from .sweep import Sweep, sweep_text
 from .tracing import Unplayable
 
 DIFFERS = 1
+NOT_TRACED = "the trace has each scan, and not that a rebuild is put over one that was made inside of it"
 
 
 def command_of(text):
@@ -83,15 +84,16 @@ def main(words):
 
 def once_text(head, play, outcome, options):
     """One play."""
-    return ["%s: %s" % (head, outcome.text)] + ([] if options.brief else turns_text(play, options.all)) + answers_text(outcome)
+    lines = ["%s: %s" % (head, outcome.text)] + ([] if options.brief else turns_text(play, options.all)) + answers_text(outcome)
+    return lines + ["", NOT_TRACED] * bool(options.trace and any(made.event[0] == "inside" for made in play.log))
 
 
 def times_text(head, outcomes):
-    """Several plays: how many had which outcome."""
+    """Several plays: how many had which outcome, each with the oids of its first play."""
     found = {}
     for outcome in outcomes:
-        found.setdefault("\n".join(["%s" % outcome.text] + answers_text(outcome)), []).append(outcome)
+        found.setdefault(without_oids(outcome), []).append(outcome)
     lines = ["%s, %d times" % (head, len(outcomes))]
-    for text, same in sorted(found.items(), key=lambda item: -len(item[1])):
-        lines += ["", "%d of %d: %s" % (len(same), len(outcomes), text)]
+    for same in sorted(found.values(), key=lambda each: -len(each)):
+        lines += ["", "%d of %d: %s" % (len(same), len(outcomes), same[0].text)] + answers_text(same[0])
     return lines

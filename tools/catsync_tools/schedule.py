@@ -2,7 +2,7 @@
 from .arguments import Arguments
 from .counting import counted_script
 from .faults import read_input, write_output
-from .program import Program, built_program, own_program
+from .program import Program, found_program, own_program
 from .sources import read_source
 
 
@@ -17,7 +17,7 @@ def arguments_of(words):
 
 def check(script, program):
     """A script in which nothing had to be counted is run too, where there is a program: a Fault says what that refuses."""
-    program = program or built_program()
+    program = program or found_program()
     if program:
         Program(program).run(script)
 

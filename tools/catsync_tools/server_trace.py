@@ -130,7 +130,7 @@ class Trace:
         if transaction and transaction.xid is not None:
             self.put(command, "visible %d" % transaction.xid)
 
-    def take_publish(self, command, _):
+    def take_publish(self, command, *_):
         """Messages are sent: those for the caches first, and with the last publish all that is left."""
         transaction = self.transaction(command[0])
         if not transaction or transaction.visible is None:

@@ -13,6 +13,7 @@ from .stage import ended
 
 Command = Tuple[int, int]
 Item = Tuple[str, ...]          # the words of an entry here, by which a line of steps names it
+LOOK: Item = ("look",)          # looks are no items of their own, as a server makes more; one may come after what is
 
 
 class Point:
@@ -163,10 +164,10 @@ class Shortest:
                 places.setdefault(point.items, []).append(number)
         scripts, without = [], []
         for items, numbers in places.items():
-            if items and self.is_stale(self.sweep.before, self.sweep.after, items):
-                scripts.append((numbers, self.shortest(items)))
-            else:
-                without += numbers
+            tried = (items, items + (LOOK,)) if items else ()
+            stale = next((each for each in tried if self.is_stale(self.sweep.before, self.sweep.after, each)), ())
+            scripts += [(numbers, self.shortest(stale))] if stale else []
+            without += numbers * (not stale)
         return scripts, without
 
     def shortest(self, items):
