@@ -11,7 +11,7 @@ import subprocess
 import tempfile
 import unittest
 
-from testing import HAS_PROGRAM, NO_PROGRAM, PROGRAM, TOP, call, content_of
+from testing import HAS_PROGRAM, NO_PROGRAM, PROGRAM, TOP, call, content_of, without_progress
 
 from catsync_tools.faults import Fault
 from catsync_tools.isolation import Blocker, all_permutations, read_spec
@@ -206,7 +206,7 @@ class Reports(unittest.TestCase):
                     with open(path, "w", encoding="ascii") as file:
                         file.write(content)
             status, shown, told = call("spec", "--program", PROGRAM, *words, *paths[:1 + (expected is not None)])
-        self.assertEqual(told, "")
+        self.assertEqual(without_progress("spec", told), "")
         return status, shown.decode()
 
     def test_examples(self):
@@ -215,7 +215,7 @@ class Reports(unittest.TestCase):
         for path in SPECS:
             with self.subTest(path):
                 status, shown, told = call("spec", "--program", PROGRAM, path)
-                self.assertEqual((status, told), (0, ""))
+                self.assertEqual((status, without_progress("spec", told)), (0, ""))
                 self.assertEqual(reported(shown), content_of(path[:-5] + ".out"))
 
     def test_expected(self):
@@ -372,7 +372,7 @@ class Reports(unittest.TestCase):
         """Half of a commit is between the permutations, and no wait is told for an order of the steps."""
         path = os.path.join(TOP, "examples", "specs", "settings_of_one_commit.spec")
         status, shown, told = call("spec", "--program", PROGRAM, "--explore", path)
-        self.assertEqual((status, told), (0, ""))
+        self.assertEqual((status, without_progress("spec", told)), (0, ""))
         text = shown.decode()
         self.assertRegex(text, r"^all [0-9]+ orders of the steps inside s1both \| s2r: 3 sets of answers with no lock refused, 1 that no "
                                "permutation of whole statements has\n")

@@ -3,6 +3,7 @@
 The program that they run is the one that the tools find by themselves; without one the tests that need it are skipped.
 """
 import os
+import re
 import signal
 import subprocess
 import sys
@@ -38,3 +39,9 @@ def call(tool, *words, given=b""):
     done = subprocess.run([sys.executable, os.path.join(TOOLS, tool)] + list(words), input=given, stdout=subprocess.PIPE,
                           stderr=subprocess.PIPE)
     return done.returncode, done.stdout, done.stderr.decode()
+
+
+def without_progress(tool, told):
+    """What a tool says on standard error, without the lines by which it says how far it is, as it does once a minute."""
+    return re.sub(r"^%s: (?:.* \([0-9]+ of [0-9]+\): )?[0-9]+ (?:of at most|serial orders?|permutations?|random schedules?)\b.*\n" % tool, "",
+                  told, flags=re.MULTILINE)

@@ -172,7 +172,7 @@ def explored(whole, most):
 def explored_plan(plan: Plan, wholes: Wholes, most):
     """The lines about one plan."""
     source = read_source("\n".join(plan.script + ["end", ""]).encode())
-    exploration = Exploration(Settings(jobs=processors()), source, wholes.walker.program.path, Progress())
+    exploration = Exploration(Settings(jobs=processors()), source, wholes.walker.program.path, Progress("spec"))
     exploration.run_serial()
     if not exploration.run_orders(most):
         exploration.run_random(most)

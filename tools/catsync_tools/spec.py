@@ -78,7 +78,7 @@ def main(words):
 
 def tell(whole: Whole, expected):
     """Runs all permutations and tells them, or what differs from those that are expected; the exit status."""
-    progress, lines, differ, stuck, number = Progress(), [], 0, 0, 0
+    progress, lines, differ, stuck, number = Progress("spec"), [], 0, 0, 0
     left_out = LeftOut(set(), set())
     unclear: List[str] = []
     unprinted: Set[str] = set()
