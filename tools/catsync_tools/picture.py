@@ -20,8 +20,8 @@ def arguments_of(words):
                        ((0, "the picture is printed"),))
     parser.option("--html", action="store_true", help="a page to step through with the arrow keys, with each backend's state")
     parser.option("--script", metavar="FILE", help="the script, for each command's text above its first entry")
-    parser.option("--any-order", action="store_true", help="with --script: the order needn't be its schedule's, as of what run or "
-                  "replay --trace made")
+    parser.option("--any-order", action="store_true", help="with --script: the order needn't be its schedule's, as of an output of "
+                  "run or a trace of replay")
     parser.option("--brief", action="store_true", help="looks and the scans of a descriptor share a row")
     parser.option("--width", type=int, metavar="N", help="how many pixels wide it is, if its lanes allow it (%d); a page fills its "
                   "window, if that is wider" % WIDTH)
