@@ -37,7 +37,7 @@ from catsync_tools.places import EventPlace, Schedule
 from catsync_tools.play import Play, Sessions
 from catsync_tools.points import AFTER, BEFORE, FUNCTIONS, Watched
 from catsync_tools.program import Program
-from catsync_tools.replay import once_text
+from catsync_tools.replay import NOT_TRACED, once_text
 from catsync_tools.server_trace import Trace
 from catsync_tools.sources import read_source
 from catsync_tools.stage import Stage, check_stage
@@ -575,21 +575,25 @@ class Commands(unittest.TestCase):
             yield folder
 
     def test_output(self):
-        """What is printed, and the exit status; and nothing is left behind."""
+        """What is printed, and the exit status; nothing is left behind; and the trace is drawn with its script."""
         path = os.path.join(TOP, "examples", "stale_in_the_server.script")
-        with self.own_folder() as folder:
-            status, shown, said = call("replay", "--program", PROGRAM, path)
+        with tempfile.TemporaryDirectory() as other, self.own_folder() as folder:
+            trace = os.path.join(other, "trace")
+            status, shown, said = call("replay", "--program", PROGRAM, "--trace", trace, path)
             self.assertEqual((status, said, os.listdir(folder)), (1, "", []))
+            self.assertEqual(call("picture", "--script", path, given=content_of(trace))[0], 0)
         lines = shown.decode().split("\n")
         self.assertRegex(lines[0], "^beside PostgreSQL [0-9.]+: held 1 time; 2 of 11 answers differ; 1 field is stale for good$")
         self.assertIn("    3 scan attribute 16384 rows 1 | 3 scan attribute 16384", lines)
         self.assertIn("                                  |   held after 'scan attribute 16384'", lines)
+        self.assertIn("    3 scan class 16384 rows 1      |   inside of that 16384 is rebuilt once more", lines)
         at = lines.index("2.4 peek t statistics")
         self.assertEqual(lines[at + 1:at + 4], [
             "    here    statistics 1:200", "    server  statistics 1:100",
             "    differs in statistics, as docs/PROFILE.md says: an older rebuild may be put over a newer one; the catalogs have 1:200, "
             "and no message is left"])
-        self.assertEqual(lines[-2:], ["backend 2 keeps statistics 1:100 of t; the catalogs have 1:200, and no message is left", ""])
+        self.assertEqual(lines[-4:], ["backend 2 keeps statistics 1:100 of t; the catalogs have 1:200, and no message is left", "",
+                                      NOT_TRACED, ""])
 
     def test_process_that_ends(self):
         """A backend that ends is told in one line; nothing is left behind."""
