@@ -41,11 +41,11 @@ each_is r f (x ∷ xs) all = (
 -- and of each relation among them
 one_is : {X : Type 0} (r : X → Oid) (f : Oid → Bool) (xs : List X) → AllByRecursion (λ x. f (r x) ≡ true) xs → (rel : Oid) → list_any (λ x. same_oid (r x) rel) xs ≡ true → f rel ≡ true
 one_is r f [] all rel is = absurd (cc)
-one_is r f (x ∷ xs) all rel is = by (same_oid (r x) rel) refl is
+one_is r f (x ∷ xs) all rel is = by (same_oid (r x) rel) refl (one_is r f xs all.1 rel) is
   where
-    by : (t : Bool) → same_oid (r x) rel ≡ t → (t || list_any (λ y. same_oid (r y) rel) xs) ≡ true → f rel ≡ true
-    by true same found = subst (λ o. f o ≡ true) (oid_is (r x) rel same) all.0
-    by false same found = one_is r f xs all.1 rel found
+    by : (t : Bool) → same_oid (r x) rel ≡ t → (list_any (λ y. same_oid (r y) rel) xs ≡ true → f rel ≡ true) → (t || list_any (λ y. same_oid (r y) rel) xs) ≡ true → f rel ≡ true
+    by true same more found = subst (λ o. f o ≡ true) (oid_is (r x) rel same) all.0
+    by false same more found = more found
 
 -- a relation is among the oids of those that are open where it is open
 pub among_open : (rel : Oid) (opens : List OpenRelation) → is_one_of rel (map (λ o. o.rel) opens) ≡ has_open rel opens
@@ -101,8 +101,8 @@ row_kept kept kind rel none = by_kind kind none
         absurd (cc never)
 
     by_kind : (k : Kind) → missing kept (build_scans k rel) ≡ [] → is_kept kept (scans.Class rel) ≡ true
-    by_kind Table lacks = first _ (is_kept kept (scans.Class rel)) refl lacks
-    by_kind Index lacks = first _ (is_kept kept (scans.Class rel)) refl lacks
+    by_kind Table lacks = first (scans.Attribute rel ∷ scans.AttrDef rel ∷ scans.Constraint rel ∷ scans.Index rel ∷ scans.Trigger rel ∷ []) (is_kept kept (scans.Class rel)) refl lacks
+    by_kind Index lacks = first (scans.IndexRow rel ∷ []) (is_kept kept (scans.Class rel)) refl lacks
 
 -- so it is pinned where it is opened
 pub opens_pinned : (s : Progress) (new : LocalCaches) (rel : Oid) (kind : Kind) → Acts s → want_of (plan_at s.opens s.exec) ≡ wants.Open rel kind → (is_kept (kept_at s) (scans.Class rel) ≡ true → is_pinned new rel ≡ true) → ((other : Oid) → other ≢ rel → is_pinned new other ≡ is_pinned s.caches other) → PinsMore s.caches new (record { rel = rel; kind = kind } ∷ [])
