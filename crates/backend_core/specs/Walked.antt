@@ -58,7 +58,7 @@ event_made size before b left nexts.Publish = events.Publish (min 64 (length (un
 event_made size before b left (nexts.TakeBack from) = events.Gone from
 event_made size before b left (nexts.Release from) = events.Release from
 event_made size before b left nexts.Leave = events.Stop
-event_made size before b left look = events.Look (is_waiting before b)
+event_made size before b left next = events.Look (is_waiting before b)
 
 -- a write was refused
 abbrev pub is_refusal : Event → Bool
@@ -74,27 +74,30 @@ pub record MakesStep (scenario : Scenario) (before : List Entry) (was : Backend)
   pub steps : Steps scenario before (before ++ e ∷ []) had has was now
   pub notes : NotesAtStep scenario before (before ++ e ∷ []) was now
 
--- the backends, with this one at its number
-abbrev pub with_at : (ℕ → Option Backend) → ℕ → Backend → ℕ → Option Backend
-with_at were b now = λ a. elim (a == b) [ true ↦ Some now | false ↦ were a ]
-
--- the next entry of a walk: a step of its backend, after which the walk goes on so
+-- the next entry of a walk: a step of its backend, while the others stay, after which the walk goes on so
 pub record WalksOn (scenario : Scenario) (before : List Entry) (were : ℕ → Option Backend) (e : Entry) (Further : (ℕ → Option Backend) → Type 0) : Type 0 where
   pub was : Backend
   pub is : were e.backend ≡ Some was
   pub now : Backend
   pub step : MakesStep scenario before was e now
-  pub further : Further (with_at were e.backend now)
+  pub are : ℕ → Option Backend
+  pub here : are e.backend ≡ Some now
+  pub beside : (b : ℕ) → (b == e.backend) ≡ false → are b ≡ were b
+  pub further : Further are
 
 -- a walk from these backends on, the one of each number: each entry is such a step
 abbrev pub Walks : Scenario → List Entry → (ℕ → Option Backend) → List Entry → Type 0
 Walks scenario before were [] = ⊤
 Walks scenario before were (e ∷ rest) = WalksOn scenario before were e (λ are. Walks scenario (before ++ e ∷ []) are rest)
 
+-- a new backend of a script with its number
+abbrev pub IsNewOf : Scenario → ℕ → Backend → Type 0
+IsNewOf scenario b s = IsNew s b (commands_of scenario b)
+
 -- a walk of new backends
 pub record IsNotedWalk (scenario : Scenario) (history : List Entry) : Type 0 where
   pub first : ℕ → Option Backend
-  pub new : (b : ℕ) → IfSome (first b) (λ s. IsNew s b (commands_of scenario b))
+  pub new : (b : ℕ) → IfSome (first b) (IsNewOf scenario b)
   pub walks : Walks scenario [] first history
 
 -- none of its writes was refused

@@ -6,41 +6,27 @@ use Rattle.std.proofs.lemmas.List.{append-nil}
 use Rattle.base_types.specs.Scenario.{Scenario}
 use Rattle.event_kinds.specs.declared.entry.Entry.{Entry}
 use Rattle.event_kinds.specs.declared.entry.Line.{Line}
-use Rattle.ddl_effect.specs.Commands.{commands_of}
-use Rattle.history_model.specs.Lives.{Unstarted, Alive, Stopped}
 use Rattle.cacheless.specs.Lines.{lines_of}
 use Rattle.backend_core.specs.declared.backend.Backend.{Backend}
-use Rattle.backend_core.specs.declared.life.Life.{Life}
-use Rattle.backend_core.specs.declared.life.Life.TheVariants as lives
-use Rattle.backend_core.specs.Agrees.{IsNew, AwaitsEntry, HasNotJoined, HasLeft, Stands}
 use Rattle.backend_core.specs.Noted.{NotesAtStep}
 use Rattle.backend_core.specs.Steps.{Steps}
-use Rattle.backend_core.specs.Walked.{Walks, IsNotedWalk, IsUnrefused}
-use Rattle.backend_core.proofs.Walked.OneWalk.{walked_alike}
+use Rattle.backend_core.specs.Walked.{Walks, IsNewOf, IsNotedWalk, IsUnrefused}
+use Rattle.backend_core.proofs.Walked.OneWalk.{walked_alike, new_standing}
 use Rattle.by_backend.proofs.Places.{get_beside_set}
 use Rattle.script_backends.specs.Standing.{StandsAt, StandTogether}
 use Rattle.walk_run.specs.Walks.{IsWalk, numbered, HasWalked}
-
--- a backend that stands where there is no entry is new
-new_standing : (s : Scenario) (b : ℕ) (x : Backend) → StandsAt s [] b x → IsNew x b (commands_of s b)
-new_standing s b x at = by_life x.life at.stands
-  where
-    by_life : (l : Life) → elim l as (λ y. Type 0) [ lives.Unstarted ↦ HasNotJoined s [] x | lives.Alive ↦ AwaitsEntry s [] x | lives.Stopped ↦ HasLeft s [] x ] → IsNew x b (commands_of s b)
-    by_life lives.Unstarted before = subst (λ n. IsNew x n (commands_of s n)) at.id (subst (IsNew x x.progress.id) before.waits.commands before.new)
-    by_life lives.Alive waits = absurd (let no : Unstarted ≡ Alive waits.keeps.life.last = waits.keeps.life.alive in cc no)
-    by_life lives.Stopped left = absurd (let no : Unstarted ≡ Stopped = left.life in cc no)
 
 -- a walk begins with the script's backends
 pub walked_first : (s : Scenario) (bs : List Backend) → StandTogether s [] bs → HasWalked s [] bs
 walked_first s bs stand = record { first = numbered bs; new = λ b. by_place b (eqb_tells b 0); walks = λ rest walks. walks }
   where
-    by_read : (b : ℕ) → (b ≡ 0 → ⊥) → (o : Option Backend) → slice_get bs (b - 1) ≡ o → IfSome o (λ x. IsNew x b (commands_of s b))
+    by_read : (b : ℕ) → (b ≡ 0 → ⊥) → (o : Option Backend) → slice_get bs (b - 1) ≡ o → IfSome o (IsNewOf s b)
     by_read b some None is = tt
-    by_read b some (Some x) is = let n : (b - 1) + 1 ≡ b = omega (arith, some) in subst (λ k. IsNew x k (commands_of s k)) n (new_standing s ((b - 1) + 1) x (stand.each (b - 1) x is))
+    by_read b some (Some x) is = let n : (b - 1) + 1 ≡ b = omega (arith, some) in let at = stand.each (b - 1) x is in subst (λ k. IsNewOf s k x) n (new_standing s ((b - 1) + 1) x at.id at.stands)
 
-    by_place : (b : ℕ) → (((b == 0) ≡ true) × (b ≡ 0)) ⊎ (((b == 0) ≡ false) × (b ≢ 0)) → IfSome (numbered bs b) (λ x. IsNew x b (commands_of s b))
-    by_place b (inl none) = subst (λ t. IfSome (elim t as (λ y. Option Backend) [ true ↦ None | false ↦ slice_get bs (b - 1) ]) (λ x. IsNew x b (commands_of s b))) (sym none.0) tt
-    by_place b (inr some) = subst (λ t. IfSome (elim t as (λ y. Option Backend) [ true ↦ None | false ↦ slice_get bs (b - 1) ]) (λ x. IsNew x b (commands_of s b))) (sym some.0) (by_read b some.1 (slice_get bs (b - 1)) refl)
+    by_place : (b : ℕ) → (((b == 0) ≡ true) × (b ≡ 0)) ⊎ (((b == 0) ≡ false) × (b ≢ 0)) → IfSome (numbered bs b) (IsNewOf s b)
+    by_place b (inl none) = subst (λ t. IfSome (elim t as (λ y. Option Backend) [ true ↦ None | false ↦ slice_get bs (b - 1) ]) (IsNewOf s b)) (sym none.0) tt
+    by_place b (inr some) = subst (λ t. IfSome (elim t as (λ y. Option Backend) [ true ↦ None | false ↦ slice_get bs (b - 1) ]) (IsNewOf s b)) (sym some.0) (by_read b some.1 (slice_get bs (b - 1)) refl)
 
 set_here : {X : Type 0} (xs : List X) (i : ℕ) (was now : X) → slice_get xs i ≡ Some was → slice_get (slice_set xs i now) i ≡ Some now
 set_here [] i was now is = absurd (cc is)

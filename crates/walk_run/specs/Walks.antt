@@ -1,7 +1,6 @@
 -- What a walk keeps with each step, and what it has made in the end.
 use Rattle.std.specs.Prelude.{◌≡◌, ◌≤◌, ◌<◌, ◌+◌, ◌-◌, ◌==◌, ℕ, true, false, Option, Some, None, IfSome, List, [], ◌++◌, length, slice_get, slice_set}
 use Rattle.base_types.specs.Scenario.{Scenario, IsBackend}
-use Rattle.ddl_effect.specs.Commands.{commands_of}
 use Rattle.event_kinds.specs.declared.entry.Entry.{Entry}
 use Rattle.event_kinds.specs.declared.entry.Line.{Line}
 use Rattle.history_model.specs.Sound.{IsSound}
@@ -12,10 +11,10 @@ use Rattle.cacheless.specs.Schedule.{FollowsSchedule, AreLooksTrue, IsComplete, 
 use Rattle.cacheless.specs.Lines.{lines_of}
 use Rattle.backend_core.specs.declared.backend.Backend.{Backend}
 use Rattle.backend_core.specs.Words.{has_left}
-use Rattle.backend_core.specs.Agrees.{IsNew, AreSpelled}
+use Rattle.backend_core.specs.Agrees.{AreSpelled}
 use Rattle.backend_core.specs.Noted.{NotesAtStep}
 use Rattle.backend_core.specs.Steps.{Steps}
-use Rattle.backend_core.specs.Walked.{Walks, IsNotedWalk}
+use Rattle.backend_core.specs.Walked.{Walks, IsNewOf, IsNotedWalk}
 use Rattle.script_backends.specs.Standing.{StandsAt}
 
 -- a walk's history is allowed and sound, and the script's commands have forms that lines may have, so that each law of such histories is one of it; it follows the schedule to its end, its looks see all that was sent, and its steps are noted; the lines are those of the history
@@ -36,7 +35,7 @@ numbered backends b = elim (b == 0) [ true ↦ None | false ↦ slice_get backen
 -- a noted walk of new backends has come to these: with a walk from these on it is one
 pub record HasWalked (scenario : Scenario) (history : List Entry) (backends : List Backend) : Type 0 where
   pub first : ℕ → Option Backend
-  pub new : (b : ℕ) → IfSome (first b) (λ s. IsNew s b (commands_of scenario b))
+  pub new : (b : ℕ) → IfSome (first b) (IsNewOf scenario b)
   pub walks : (rest : List Entry) → Walks scenario history (numbered backends) rest → Walks scenario [] first (history ++ rest)
 
 -- the script's commands have forms that lines may have, each entry of the history was one that might be made, a noted walk made them, and each backend of the script stands in it

@@ -39,7 +39,7 @@ module _ (s : Backend) (command : Command) where
   free_again none again = λ i. free (none i) (again i) (outcome_of (plan_at s.progress.opens s.progress.exec))
 
   pub free_failed : is_empty (owed_first s.progress command) ≡ true → accepts_again s ≡ false → has_failed s.progress ≡ true → next_if_free (facts_at s.progress) command (work_at s.progress) (noted_of s) ≡ next_by_end (facts_at s.progress) command (work_at s.progress)
-  free_failed none no fails = (λ i. free (none i) (no i) (outcome_of (plan_at s.progress.opens s.progress.exec))) ∙ by_outcome (outcome_of (plan_at s.progress.opens s.progress.exec)) fails
+  free_failed none quiet fails = (λ i. free (none i) (quiet i) (outcome_of (plan_at s.progress.opens s.progress.exec))) ∙ by_outcome (outcome_of (plan_at s.progress.opens s.progress.exec)) fails
     where
       by_outcome : (o : Outcome) → elim o as (λ x. Bool) [ Badly ↦ true | other ↦ false ] ≡ true → free true false o ≡ next_by_end (facts_at s.progress) command (work_at s.progress)
       by_outcome Badly is = refl
@@ -47,7 +47,7 @@ module _ (s : Backend) (command : Command) where
       by_outcome Unsettled is = absurd (cc is)
 
   pub free_going : is_empty (owed_first s.progress command) ≡ true → accepts_again s ≡ false → has_failed s.progress ≡ false → next_if_free (facts_at s.progress) command (work_at s.progress) (noted_of s) ≡ next_if_going (facts_at s.progress) command (work_at s.progress) (noted_of s)
-  free_going none no goes = (λ i. free (none i) (no i) (outcome_of (plan_at s.progress.opens s.progress.exec))) ∙ by_outcome (outcome_of (plan_at s.progress.opens s.progress.exec)) goes
+  free_going none quiet goes = (λ i. free (none i) (quiet i) (outcome_of (plan_at s.progress.opens s.progress.exec))) ∙ by_outcome (outcome_of (plan_at s.progress.opens s.progress.exec)) goes
     where
       by_outcome : (o : Outcome) → elim o as (λ x. Bool) [ Badly ↦ true | other ↦ false ] ≡ false → free true false o ≡ next_if_going (facts_at s.progress) command (work_at s.progress) (noted_of s)
       by_outcome Badly is = absurd (cc is)

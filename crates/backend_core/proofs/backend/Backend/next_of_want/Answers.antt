@@ -46,7 +46,7 @@ pub returns-in-Search-clause-is : goal.returns-in-Search-clause-is
 returns-in-Search-clause-is c = by_want c.args.self.now _ _ _ _ c.in-Search.is (ap Some (sym c.next_of_act.ensures.is))
 
 pub returns-in-Some-clause-is : goal.returns-in-Some-clause-is
-returns-in-Some-clause-is c = by_want c.args.self.now _ _ _ _ c.in-Open.is (open_lacks c.args.self.now _ _ _ _ (sym c.first_missing.ensures ∙ c.in-Some.is) ∙ ap Some (sym c.next_of_act-in-Some.ensures.is))
+returns-in-Some-clause-is c = by_want c.args.self.now _ _ _ _ c.in-Open.is (open_lacks c.args.self.now c.args.command.now _ _ _ (sym c.first_missing.ensures ∙ c.in-Some.is) ∙ ap Some (sym c.next_of_act-in-Some.ensures.is))
 
 pub returns-in-Lock-clause-is : goal.returns-in-Lock-clause-is
 returns-in-Lock-clause-is c = by_want c.args.self.now _ _ _ _ c.in-Lock.is refl
