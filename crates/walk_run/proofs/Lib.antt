@@ -1,4 +1,3 @@
-pub mod NotedWalks
 pub mod ScheduleSteps
 pub mod OneAfterAnother
 pub mod Walks

@@ -52,7 +52,7 @@ goes_on_step s t h h' h'' bs' bs'' b same number goes running made =
     let id : makes.was.progress.id ≡ b = at.id ∙ n in
     let alive : has_stopped h' b ≡ false = ap (has_stopped h') (sym n) ∙ stopped_at s h' ((b - 1) + 1) makes.was at ∙ running makes.was makes.is in
     record {
-      stand = subst (AllStand s h'') (sym makes.set) (stand_more s h' h'' makes.had makes.has bs' (b - 1) makes.was makes.now goes.stand makes.is makes.steps makes.notes);
+      stand = subst (AllStand s h'') (sym makes.set) (stand_more s h' h'' makes.had makes.has bs' (b - 1) makes.was makes.now goes.stand makes.is makes.steps);
       turn = λ none turn. subst (λ x. InTurn s x (b - 1)) (sym makes.steps.makes.is) (turn_more s h' makes.steps.makes.entry b none number (makes.steps.makes.own ∙ id) alive (goes.turn none turn));
     }
 

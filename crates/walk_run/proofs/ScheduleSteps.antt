@@ -18,13 +18,11 @@ use Rattle.cacheless.specs.Schedule.{FollowsSchedule, IsComplete, has_stopped, p
 use Rattle.backend_core.specs.declared.backend.Backend.{Backend}
 use Rattle.backend_core.specs.Words.{has_left}
 use Rattle.backend_core.specs.Agrees.{AreSpelled, Stands}
-use Rattle.backend_core.specs.Noted.{NotesAtStep}
 use Rattle.backend_core.specs.Steps.{MakesEntry, Steps}
 use Rattle.backend_core.proofs.Others.{Stands-other}
 use Rattle.by_backend.proofs.Places.{get_of_set, get_beside_set}
 use Rattle.script_backends.specs.Standing.{StandsAt, StandTogether}
 use Rattle.script_backends.proofs.Sessions.{stopped_as}
-use Rattle.walk_run.proofs.NotedWalks.{walked_first, walked_more}
 use Rattle.walk_run.specs.Walks.{AllStand, IsDue, Goes, HasSchedule, IsRunning, Makes}
 
 -- the history of one step more
@@ -37,7 +35,7 @@ together s h bs stand = record { count = stand.count; each = stand.each }
 
 -- before the first step
 pub stand_first : (s : Scenario) (bs : List Backend) → AreSpelled s → StandTogether s [] bs → AllStand s [] bs
-stand_first s bs spelled stand = record { spelled = spelled; entered = tt; walked = walked_first s bs stand; count = stand.count; each = stand.each }
+stand_first s bs spelled stand = record { spelled = spelled; entered = tt; count = stand.count; each = stand.each }
 
 -- the entry of a step isn't another backend's
 entry_apart : (e : Entry) (was other : Backend) (i j : ℕ) → e.backend ≡ was.progress.id → was.progress.id ≡ i + 1 → other.progress.id ≡ j + 1 → i ≢ j → (e.backend == other.progress.id) ≡ false
@@ -51,11 +49,10 @@ same_or_not i j = of (eqb_tells i j)
     of (inr apart) = inr apart.1
 
 -- the backends stand after a step of one of them
-pub stand_more : (s : Scenario) (h h' : List Entry) (had has : ℕ → ℕ) (bs : List Backend) (i : ℕ) (was now : Backend) → AllStand s h bs → slice_get bs i ≡ Some was → Steps s h h' had has was now → NotesAtStep s h h' was now → AllStand s h' (slice_set bs i now)
-stand_more s h h' had has bs i was now stand is steps notes = record {
+pub stand_more : (s : Scenario) (h h' : List Entry) (had has : ℕ → ℕ) (bs : List Backend) (i : ℕ) (was now : Backend) → AllStand s h bs → slice_get bs i ≡ Some was → Steps s h h' had has was now → AllStand s h' (slice_set bs i now)
+stand_more s h h' had has bs i was now stand is steps = record {
   spelled = stand.spelled;
   entered = entered_more s h h' had has was.progress.id stand.entered steps.makes;
-  walked = walked_more s h h' had has bs i was now stand.walked is (stand.each i was is) steps notes;
   count = length-set bs i now ∙ stand.count;
   each = λ j backend at. by_place j backend at (same_or_not i j);
 }
@@ -117,9 +114,9 @@ pub stopped_at : (s : Scenario) (h : List Entry) (b : ℕ) (x : Backend) → Sta
 stopped_at s h b x at = ap (has_stopped h) (sym at.id) ∙ stopped_as s h x at.stands
 
 -- one step by the schedule
-goes_by_step : (s : Scenario) (h h' : List Entry) (had has : ℕ → ℕ) (bs : List Backend) (i : ℕ) (was now : Backend) → AllStand s h bs → slice_get bs i ≡ Some was → has_left was.life ≡ false → Steps s h h' had has was now → NotesAtStep s h h' was now → Goes s h h' (slice_set bs i now) ((i + 1) ∷ [])
-goes_by_step s h h' had has bs i was now stand is running steps notes = record {
-  stand = stand_more s h h' had has bs i was now stand is steps notes;
+goes_by_step : (s : Scenario) (h h' : List Entry) (had has : ℕ → ℕ) (bs : List Backend) (i : ℕ) (was now : Backend) → AllStand s h bs → slice_get bs i ≡ Some was → has_left was.life ≡ false → Steps s h h' had has was now → Goes s h h' (slice_set bs i now) ((i + 1) ∷ [])
+goes_by_step s h h' had has bs i was now stand is running steps = record {
+  stand = stand_more s h h' had has bs i was now stand is steps;
   due = λ by rest due. subst (λ x. IsDue s x rest) (sym steps.makes.is)
       (goes_a_step s h steps.makes.entry (i + 1) rest (steps.makes.own ∙ (stand.each i was is).id) (stopped_at s h (i + 1) was (stand.each i was is) ∙ running) by due);
 }
@@ -168,23 +165,22 @@ pub makes_goes : {T E : Type 0} (s : Scenario) (h h' : List Entry) (bs bs' : Lis
 makes_goes s h h' bs bs' b (Ok x) number stand running makes =
     let n : (b - 1) + 1 ≡ b = omega (arith, number.0) in
     subst (λ xs. Goes s h h' xs (b ∷ [])) (sym makes.set)
-    (subst (λ y. Goes s h h' (slice_set bs (b - 1) makes.now) (y ∷ [])) n (goes_by_step s h h' makes.had makes.has bs (b - 1) makes.was makes.now stand makes.is (running makes.was makes.is) makes.steps makes.notes))
+    (subst (λ y. Goes s h h' (slice_set bs (b - 1) makes.now) (y ∷ [])) n (goes_by_step s h h' makes.had makes.has bs (b - 1) makes.was makes.now stand makes.is (running makes.was makes.is) makes.steps))
 makes_goes s h h' bs bs' b (Err e) number stand running makes = makes
 
 -- a step of a backend is one that is made
 pub step_makes : {T E : Type 0} (s t : Scenario) (h g h' : List Entry) (had has : ℕ → ℕ) (bs : List Backend) (b : ℕ) (was now : Backend) (result : Result T E) → t ≡ s → g ≡ h → IsBackend s.backends b → AllStand s h bs → was ≡ get_or bs (b - 1) was
-    → OnOk result (Steps t g h' had has was now) → OnOk result (NotesAtStep t g h' was now) → OnOk result (Makes s h h' bs (slice_set bs (b - 1) now) b)
-step_makes s t h g h' had has bs b was now (Ok x) script history number stand same steps notes = record {
+    → OnOk result (Steps t g h' had has was now) → OnOk result (Makes s h h' bs (slice_set bs (b - 1) now) b)
+step_makes s t h g h' had has bs b was now (Ok x) script history number stand same steps = record {
   was = was;
   is = found_at s h bs b was number stand same;
   now = now;
   had = had;
   has = has;
   steps = subst (λ before. Steps s before h' had has was now) history (subst (λ y. Steps y g h' had has was now) script steps);
-  notes = subst (λ before. NotesAtStep s before h' was now) history (subst (λ y. NotesAtStep y g h' was now) script notes);
   set = refl;
 }
-step_makes s t h g h' had has bs b was now (Err e) script history number stand same steps notes = steps
+step_makes s t h g h' had has bs b was now (Err e) script history number stand same steps = steps
 
 -- one step more of an item
 pub turns_go_on : (s t : Scenario) (h h' h'' : List Entry) (bs' bs'' : List Backend) (n b : ℕ) → t ≡ s → Goes s h h' bs' (replicate n b) → Goes t h' h'' bs'' (b ∷ []) → Goes s h h'' bs'' (replicate (n + 1) b)

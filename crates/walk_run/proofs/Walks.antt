@@ -18,7 +18,6 @@ use Rattle.backend_core.specs.declared.backend.Backend.{Backend}
 use Rattle.script_backends.specs.Sessions.{transcripts_of, AreSessions}
 use Rattle.script_backends.proofs.Sessions.{transcripts_are, stand_sessions, stand_each, stand_coherent}
 use Rattle.walk_run.specs.Walks.{AllStand, Goes, GoesOn, HasSchedule, IsWalk}
-use Rattle.walk_run.proofs.NotedWalks.{walked_whole}
 use Rattle.walk_run.proofs.ScheduleSteps.{together, scheduled_end}
 use Rattle.walk_run.proofs.OneAfterAnother.{unscheduled_end}
 
@@ -48,7 +47,6 @@ ended_walk s h bs stand end = record {
   spelled = stand.spelled;
   follows = end.0;
   looks = EachEntry-weaker (MayEnter s) (λ before e. LooksTruly before e.backend e.event) (λ before e may. may.suits.truly) h stand.entered;
-  noted = walked_whole s h bs stand.walked;
   complete = end.1;
   lines_are = transcripts_are s h bs (together s h bs stand);
 }

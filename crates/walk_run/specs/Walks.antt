@@ -1,5 +1,5 @@
 -- What a walk keeps with each step, and what it has made in the end.
-use Rattle.std.specs.Prelude.{◌≡◌, ◌≤◌, ◌<◌, ◌+◌, ◌-◌, ◌==◌, ℕ, true, false, Option, Some, None, IfSome, List, [], ◌++◌, length, slice_get, slice_set}
+use Rattle.std.specs.Prelude.{◌≡◌, ◌≤◌, ◌<◌, ◌+◌, ◌-◌, ℕ, true, false, Some, List, [], ◌++◌, length, slice_get, slice_set}
 use Rattle.base_types.specs.Scenario.{Scenario}
 use Rattle.event_kinds.specs.declared.entry.Entry.{Entry}
 use Rattle.event_kinds.specs.declared.entry.Line.{Line}
@@ -12,37 +12,23 @@ use Rattle.cacheless.specs.Lines.{lines_of}
 use Rattle.backend_core.specs.declared.backend.Backend.{Backend}
 use Rattle.backend_core.specs.Words.{has_left}
 use Rattle.backend_core.specs.Agrees.{AreSpelled}
-use Rattle.backend_core.specs.Noted.{NotesAtStep}
 use Rattle.backend_core.specs.Steps.{Steps}
-use Rattle.backend_core.specs.Walked.{Walks, IsNewOf, IsNotedWalk}
 use Rattle.script_backends.specs.Standing.{StandsAt}
 
--- a walk's history is allowed and sound, and the script's commands have forms that lines may have, so that each law of such histories is one of it; it follows the schedule to its end, its looks see all that was sent, and its steps are noted; the lines are those of the history
+-- a walk's history is allowed and sound, and the script's commands have forms that lines may have, so that each law of such histories is one of it; it follows the schedule to its end, and its looks see all that was sent; the lines are those of the history
 pub record IsWalk (scenario : Scenario) (history : List Entry) (lines : List Line) : Type 0 where
   pub allowed : IsAllowed scenario history
   pub sound : IsSound history
   pub spelled : AreSpelled scenario
   pub follows : FollowsSchedule scenario history
   pub looks : AreLooksTrue history
-  pub noted : IsNotedWalk scenario history
   pub complete : IsComplete scenario history
   pub lines_are : lines ≡ lines_of scenario history
 
--- the backend of each number, of these in order
-abbrev pub numbered : List Backend → ℕ → Option Backend
-numbered backends b = elim (b == 0) [ true ↦ None | false ↦ slice_get backends (b - 1) ]
-
--- a noted walk of new backends has come to these: with a walk from these on it is one
-pub record HasWalked (scenario : Scenario) (history : List Entry) (backends : List Backend) : Type 0 where
-  pub first : ℕ → Option Backend
-  pub new : (b : ℕ) → IfSome (first b) (IsNewOf scenario b)
-  pub walks : (rest : List Entry) → Walks scenario history (numbered backends) rest → Walks scenario [] first (history ++ rest)
-
--- the script's commands have forms that lines may have, each entry of the history was one that might be made, a noted walk made them, and each backend of the script stands in it
+-- the script's commands have forms that lines may have, each entry of the history was one that might be made, and each backend of the script stands in it
 pub record AllStand (scenario : Scenario) (history : List Entry) (backends : List Backend) : Type 0 where
   pub spelled : AreSpelled scenario
   pub entered : EachEntry (MayEnter scenario) history
-  pub walked : HasWalked scenario history backends
   pub count : length backends ≡ scenario.backends
   pub each : (i : ℕ) (backend : Backend) → slice_get backends i ≡ Some backend → StandsAt scenario history (i + 1) backend
 
@@ -74,7 +60,7 @@ pub record GoesOn (scenario : Scenario) (old : List Entry) (n : ℕ) (new : List
 abbrev pub IsRunning : List Backend → ℕ → Type 0
 IsRunning backends b = (backend : Backend) → slice_get backends (b - 1) ≡ Some backend → has_left backend.life ≡ false
 
--- the backend of this number makes a step, which is noted, and the others stay
+-- the backend of this number makes a step, and the others stay
 pub record Makes (scenario : Scenario) (old new : List Entry) (were are : List Backend) (b : ℕ) : Type 0 where
   pub was : Backend
   pub is : slice_get were (b - 1) ≡ Some was
@@ -82,5 +68,4 @@ pub record Makes (scenario : Scenario) (old new : List Entry) (were are : List B
   pub had : ℕ → ℕ
   pub has : ℕ → ℕ
   pub steps : Steps scenario old new had has was now
-  pub notes : NotesAtStep scenario old new was now
   pub set : are ≡ slice_set were (b - 1) now

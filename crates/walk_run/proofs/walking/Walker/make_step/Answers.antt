@@ -27,4 +27,4 @@ step-requires-clause-alive g c = c.requires.running _ (found_at _ _ _ _ _ c.requ
 pub returns-clause-makes : goal.returns-clause-makes
 returns-clause-makes g c =
     step_makes (g.L.Seg.script c.args.seg.now) (g.L.Seg.script c.promise.new.self) (g.L.Seg.history c.args.seg.now) (g.L.Seg.history c.promise.new.self) (g.L.Seg.history c.step.new.seg) (g.L.Seg.promised c.promise.new.self) (g.L.Seg.promised c.step.new.seg) c.args.self.now.backends.items c.args.b
-    c.index_mut-backend.result.now c.step.new.self c.step.result c.promise.ensures.script c.promise.ensures.promises.entries c.requires.backend c.requires.stand c.index_mut-backend.ensures.value c.step.ensures.steps c.step.ensures.noted
+    c.index_mut-backend.result.now c.step.new.self c.step.result c.promise.ensures.script c.promise.ensures.promises.entries c.requires.backend c.requires.stand c.index_mut-backend.ensures.value c.step.ensures.steps
