@@ -1,6 +1,5 @@
 -- What a gate is asked, step after step.
 use Rattle.std.proofs.Common.{◌≡◌, ◌∙◌, ◌+◌, ◌≤◌, ◌<◌, get_or, ℕ, zero, suc, Bool, true, false, List, [], ◌∷◌, ◌++◌, refl, sym, ap, subst, append_assoc, append-nil, length, arith, Result, Ok, Err, IfOk, OnOk}
-use Rattle.std.proofs.lemmas.Bool.{both_ways}
 use Rattle.std.specs.List.{AllByRecursion}
 use Rattle.base_types.specs.Scenario.{Scenario}
 use Rattle.event_kinds.specs.declared.entry.Entry.{Entry}
@@ -9,7 +8,7 @@ use Rattle.cacheless.specs.State.{one_if}
 use Rattle.backend_core.specs.declared.backend.Backend.{Backend}
 use Rattle.backend_core.specs.Looks.{IsOnItsWay, GoesWherever}
 use Rattle.backend_core.specs.Words.{has_joined, has_left}
-use Rattle.thread_run.specs.Asks.{ask_of, asks_after, AsksTo, AsksSome, asked_before, GoesAsked, AsksOwn, AskedEach}
+use Rattle.thread_run.specs.Asks.{ask_of, asks_after, AsksTo, asked_before, GoesAsked, AsksOwn, AskedEach}
 use Rattle.thread_run.specs.declared.seats.Seat.{Seat}
 use Rattle.thread_run.specs.Seats.{from_last, number_of, AskedTogether}
 use Rattle.thread_run.specs.Turns.{HasTakenTurn}
