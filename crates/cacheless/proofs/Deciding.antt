@@ -273,8 +273,8 @@ at_decides scenario before b (Some s) c event =
 pub next_decides : (scenario : Scenario) (before : List Entry) (e : Entry) → Decides (is_next scenario before e) (IsNext scenario before e)
 next_decides scenario before e =
     both_decide (nat_le 1 e.backend && nat_le e.backend scenario.backends) _
-      (both_decide (nat_le 1 e.backend) (nat_le e.backend scenario.backends) (leb-true 1 e.backend, le-leb 1 e.backend) (leb-true e.backend scenario.backends, le-leb e.backend scenario.backends))
-      (at_decides scenario before e.backend (session_of scenario before e.backend) e.command e.event)
+    (both_decide (nat_le 1 e.backend) (nat_le e.backend scenario.backends) (leb-true 1 e.backend, le-leb 1 e.backend) (leb-true e.backend scenario.backends, le-leb e.backend scenario.backends))
+    (at_decides scenario before e.backend (session_of scenario before e.backend) e.command e.event)
 
 -- a history of which the test says yes plays its script
 pub plays_by : (scenario : Scenario) (before history : List Entry) → are_next scenario before history ≡ true → EachFrom (IsNext scenario) before history
