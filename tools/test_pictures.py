@@ -912,7 +912,7 @@ class FaultyOutputs(unittest.TestCase):
         for script, shown, fault in (
                 (given.replace(b"1*4 2*6", b"1*5 2*5"), data, None), (given.replace(b"steps 1*4 2*6 1*3 2*20 1\n", b""), data, None),
                 (given.replace(b"2*20 1\n", b"2*19\n"), data, None), (given.replace(b"1*4 2*6", b"1*5 2*5"), early, turn),
-                (given.replace(b"2*20 1\n", b"2*18\n"), early, "not the script of this output: its steps end before line 31"),
+                (given.replace(b"2*20 1\n", b"2*18\n"), early, "not the script of this output: its steps end before line 32"),
                 (given.replace(b"(a int4)", b"(b int4)"), data, "not the script of this output: line 3 can't be of")):
             with self.subTest(script), tempfile.NamedTemporaryFile(suffix=".script") as file:
                 file.write(script)
@@ -932,7 +932,7 @@ class FaultyOutputs(unittest.TestCase):
         at = next(at for at, line in enumerate(lines) if line.startswith("h 2 ") and line.endswith(" look yes"))
         lines[at:at + 2] = ["h 2 2 look no"]
         story = story_of(read_output("\n".join(lines[:at + 1] + ["end", ""]).encode()))
-        self.assertRegex(plain(sentences_of(story)[at]), "and sees none, as at its entry before: since then came [0-9]+ "
+        self.assertRegex(plain(sentences_of(story)[at + 1]), "and sees none, as at its entry before: since then came [0-9]+ "
                          "messages? of ")
 
     def test_answers_of_commands(self):
