@@ -1,5 +1,5 @@
 -- Two backends that are as far in one history, and note the same: what comes next of them, and what they note after an entry, and after they go on.
-use Rattle.std.proofs.Common.{◌≡◌, ◌<◌, ◌+◌, ◌∙◌, ◌∷◌, ◌&&◌, ◌||◌, ℕ, Bool, true, false, not, Some, None, List, [], refl, sym, ap, subst, drop, length, slice_get, map, is_none, arith}
+use Rattle.std.proofs.Common.{◌≡◌, ◌+◌, ◌∙◌, ◌&&◌, ◌||◌, Bool, true, false, not, Some, List, refl, sym, ap, subst, drop, length, slice_get, map, arith}
 use Rattle.std.specs.List.{list_any}
 use Rattle.std.specs.Option.{option_map_or}
 use Rattle.std.proofs.lemmas.Bool.{both_ways}
@@ -20,12 +20,12 @@ use Rattle.cacheless.specs.Owed.{is_free}
 use Rattle.cacheless.specs.Session.{Session, Badly, outcome_of, opening_of, held_in}
 use Rattle.cacheless.specs.Sessions.{session_of, entered as session_after}
 use Rattle.cacheless.specs.Settled.{gives_left}
-use Rattle.cacheless.specs.Silently.{IsAtRest, acts_on, Acts as MayAct}
-use Rattle.cacheless.specs.State.{facts_at, work_at, session_at, is_absent}
+use Rattle.cacheless.specs.Silently.{IsAtRest, Acts as MayAct}
+use Rattle.cacheless.specs.State.{facts_at, session_at, is_absent}
 use Rattle.cacheless.specs.Work.{work_of}
 use Rattle.cacheless.proofs.Resting.{settled_at_rest}
 use Rattle.cacheless.proofs.Same.{work_same}
-use Rattle.backend_core.specs.Types.{Scenario, Message, Entry, Event, Command, Next, Progress, Backend}
+use Rattle.backend_core.specs.Types.{Scenario, Message, Entry, Event, Next, Progress, Backend}
 use Rattle.backend_core.specs.declared.next.Next.TheVariants as nexts
 use Rattle.backend_core.specs.Agrees.{command_at}
 use Rattle.backend_core.specs.Choice.{next_of, next_at}

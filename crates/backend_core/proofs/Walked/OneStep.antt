@@ -1,5 +1,5 @@
 -- Two steps after one history, of backends of one number that note the same, are one step: their entries are one, where neither is a refused write, and they note the same again.
-use Rattle.std.proofs.Common.{◌≡◌, ◌∙◌, ◌+◌, ◌++◌, ◌∷◌, ℕ, Bool, true, false, Option, Some, None, List, [], refl, sym, ap, subst, length, slice_get}
+use Rattle.std.proofs.Common.{◌≡◌, ◌∙◌, ◌+◌, ◌++◌, ◌∷◌, ℕ, false, Some, None, List, [], refl, sym, ap, subst, length, slice_get}
 use Rattle.std.proofs.lemmas.List.{append_cancel_left}
 use Rattle.event_kinds.specs.declared.entry.Event.TheVariants as events
 use Rattle.ddl_effect.specs.Commands.{commands_of}
@@ -15,7 +15,7 @@ use Rattle.cacheless.specs.MayEnter.{MayEnter}
 use Rattle.cacheless.specs.Plays.{IsStart, MayPlayAt, MayPlayIn}
 use Rattle.cacheless.specs.Session.{Session}
 use Rattle.cacheless.specs.Sessions.{session_of}
-use Rattle.backend_core.specs.Types.{Scenario, Entry, Event, Next, Life, Backend}
+use Rattle.backend_core.specs.Types.{Scenario, Entry, Event, Life, Backend}
 use Rattle.backend_core.specs.declared.life.Life.TheVariants as lives
 use Rattle.backend_core.specs.Agrees.{AwaitsEntry, HasNotJoined, HasLeft, Stands}
 use Rattle.backend_core.specs.Noted.{noted_of, noted_by, nothing_noted, IsEntered, NotesStep}
