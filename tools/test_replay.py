@@ -37,7 +37,7 @@ from catsync_tools.places import EventPlace, Schedule
 from catsync_tools.play import Play, Sessions
 from catsync_tools.points import AFTER, BEFORE, FUNCTIONS, Watched
 from catsync_tools.program import Program
-from catsync_tools.replay import NOT_TRACED, once_text
+from catsync_tools.replay import TRACE_LACKS, once_text
 from catsync_tools.server_trace import Trace
 from catsync_tools.sources import read_source
 from catsync_tools.stage import Stage, check_stage
@@ -593,7 +593,7 @@ class Commands(unittest.TestCase):
             "    differs in statistics, as docs/PROFILE.md says: an older rebuild may be put over a newer one; the catalogs have 1:200, "
             "and no message is left"])
         self.assertEqual(lines[-4:], ["backend 2 keeps statistics 1:100 of t; the catalogs have 1:200, and no message is left", "",
-                                      NOT_TRACED, ""])
+                                      TRACE_LACKS, ""])
 
     def test_process_that_ends(self):
         """A backend that ends is told in one line; nothing is left behind."""

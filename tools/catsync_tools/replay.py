@@ -15,7 +15,7 @@ from .sweep import Sweep, sweep_text
 from .tracing import Unplayable
 
 DIFFERS = 1
-NOT_TRACED = "the trace has each scan, and not that a rebuild is put over one that was made inside of it"
+TRACE_LACKS = "the trace has each scan, and not that a rebuild is put over one that was made inside of it"
 
 
 def command_of(text):
@@ -85,7 +85,7 @@ def main(words):
 def once_text(head, play, outcome, options):
     """One play."""
     lines = ["%s: %s" % (head, outcome.text)] + ([] if options.brief else turns_text(play, options.all)) + answers_text(outcome)
-    return lines + ["", NOT_TRACED] * bool(options.trace and any(made.event[0] == "inside" for made in play.log))
+    return lines + ["", TRACE_LACKS] * bool(options.trace and any(made.event[0] == "inside" for made in play.log))
 
 
 def times_text(head, outcomes):
