@@ -194,9 +194,9 @@ promised_wanted {b} {n} first had has may wants enough most makes = let place = 
 pub promised_next : {b n : ℕ} {scenario later : Scenario} {old now new : List Entry} {was s : Backend} (first had has : ℕ → ℕ) → MayEnterNext scenario b old was → WantsPlaces was n → n ≤ had b → had b ≤ max (first b) (max n 48) → MakesNext later now new had has was s → PromisesWanted was (first b) (has b)
 promised_next first had has may wants enough most makes = promised_wanted first had has may wants enough most (next_made makes)
 
-pub promised_step : {E : Type 0} {b n : ℕ} {scenario later : Scenario} {old now new : List Entry} {was s : Backend} (first had has : ℕ → ℕ) (result : Result (Unit {0}) E) → MayEnterNext scenario b old was → WantsPlaces was n → n ≤ had b → had b ≤ max (first b) (max n 48) → OnOk result (Steps later now new had has was s) → OnOk result (PromisesWanted was (first b) (has b))
-promised_step first had has (Ok x) may wants enough most steps = promised_wanted first had has may wants enough most steps.makes
-promised_step first had has (Err e) may wants enough most steps = tt
+pub promised_step : {E : Type 0} {b n : ℕ} {scenario : Scenario} {old : List Entry} {was : Backend} (later : Scenario) (now new : List Entry) (first had has : ℕ → ℕ) (s : Backend) (result : Result (Unit {0}) E) → MayEnterNext scenario b old was → WantsPlaces was n → n ≤ had b → had b ≤ max (first b) (max n 48) → OnOk result (Steps later now new had has was s) → OnOk result (PromisesWanted was (first b) (has b))
+promised_step later now new first had has s (Ok x) may wants enough most steps = promised_wanted first had has may wants enough most steps.makes
+promised_step later now new first had has s (Err e) may wants enough most steps = tt
 
 -- by which at most one entry came
 pub refused_few : {scenario : Scenario} {first old new : List Entry} {had has : ℕ → ℕ} {b : ℕ} → old ≡ first → IsRefused scenario old new had has b → length new ≤ length first + 1

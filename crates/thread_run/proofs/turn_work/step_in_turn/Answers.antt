@@ -42,4 +42,4 @@ pub returns-clause-stands : goal.returns-clause-stands
 returns-clause-stands g c = step_stands (g.L.Seg.history c.renew.new.seg) (g.L.Seg.history c.step.new.seg) (g.L.Seg.promised c.renew.new.seg) (g.L.Seg.promised c.step.new.seg) c.args.backend.now c.step.new.self c.step.result c.step.ensures.script c.step.ensures.steps
 
 pub returns-clause-promises : goal.returns-clause-promises
-returns-clause-promises g c = promised_step (g.L.Seg.promised c.args.seg.now) (g.L.Seg.promised c.renew.new.seg) (g.L.Seg.promised c.step.new.seg) c.step.result c.requires.may c.places_wanted-wanted.ensures c.in_ok-renew.ensures.wanted c.in_ok-renew.ensures.most c.step.ensures.steps
+returns-clause-promises g c = promised_step (g.L.Seg.script c.renew.new.seg) (g.L.Seg.history c.renew.new.seg) (g.L.Seg.history c.step.new.seg) (g.L.Seg.promised c.args.seg.now) (g.L.Seg.promised c.renew.new.seg) (g.L.Seg.promised c.step.new.seg) c.step.new.self c.step.result c.requires.may c.places_wanted-wanted.ensures c.in_ok-renew.ensures.wanted c.in_ok-renew.ensures.most c.step.ensures.steps
