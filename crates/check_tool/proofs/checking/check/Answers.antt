@@ -18,7 +18,7 @@ pub returns : goal.returns
 returns c =
     differs_at c.args.kind c.args.script.now c.args.output.now c.in_ok-leading.leading.entries.items (drop c.in_ok-leading.leading.size c.args.output.now) c.in_ok-far.far.entries c.in_ok-far.far.due c.in_ok-far.far.lines c.in_ok-leading.ensures.leads
     (subst (λ entries. HaveReached c.args.kind c.args.script.now entries c.in_ok-far.far.entries c.in_ok-far.far.due c.in_ok-far.far.lines) c.deref.ensures.value c.in_ok-far.ensures)
-    (omega (arith, c.if-gt.false, c.len.ensures))
+    (omega arith)
     (elim c.else-is_at_end.branch [
       | else-is_at_end-via-then-is_at_end+else-are_lines w ↦ λ end same.
           let never : false ≡ true = sym w.if-are_lines.false ∙ w.are_lines.ensures.same.1 (take_rest c.args.output.now c.in_ok-leading.leading.size ∙ same ∙ ap (λ lines. lines_text lines ++ codes "end\n") (sym w.as_slice.ensures)) in
