@@ -23,7 +23,7 @@ abbrev pub idle : Scenario
 idle = record { size = 64; from = 0; backends = 1; commands = []; steps = [] }
 
 idle_script : IsScript idle
-idle_script = record { size = record { power = 6; is = refl; least = omega arith }; from = omega arith; backends = (omega arith, omega arith); commands = omega arith; placed = tt; spelled = tt; turns = tt; steps = omega arith }
+idle_script = record { size = record { power = 6; is = refl; least = omega arith; most = omega arith }; from = omega arith; backends = (omega arith, omega arith); commands = omega arith; placed = tt; spelled = tt; turns = tt; steps = omega arith }
 
 -- so few bytes can be counted
 counted : (text : List ℕ) → length text ≤ 30 → IsCountable text
