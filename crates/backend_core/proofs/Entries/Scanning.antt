@@ -215,12 +215,11 @@ module _ (scenario : Scenario) (old : List Entry) (was : Backend) (waits : Await
           by_case (Said absent) = absurd (both_ways _ present absent)
 
   -- so after it the backend agrees
-  pub scan_enters : (new : List Entry) (had has : ℕ → ℕ) (p : Progress) (rows : List Row) (at : ℕ) → IsPlayed scenario old → HasEntered scenario old was.progress event waits.rests p → rows ≡ answer_of old was.progress.id scan → at ≡ length old + 1
+  pub scan_enters : (new : List Entry) (had has : ℕ → ℕ) (p : Progress) (rows : List Row) (at : ℕ) → IsPlayed scenario old → HasEntered scenario old was.progress event waits.rests p
       → kept_at p ≡ kept_with scan rows at (kept_at was.progress) → p.answer ≡ None
       → Appends old new had has (entry_of was.progress.id (was.progress.finished + 1) event) → Enters scenario old new had has was (record was { progress = p; looked = was.looked && rebuilds; frames = frames_noted rebuilds (is_kept (kept_at p)) p.opened was.frames })
-  scan_enters new had has p rows at played enters rows_are at_is kept none appends = subst (λ l. Enters scenario old new had has was (record was { progress = p; looked = was.looked && rebuilds; frames = l })) (sym (frames_are p rows at enters kept))
+  scan_enters new had has p rows at played enters kept none appends = subst (λ l. Enters scenario old new had has was (record was { progress = p; looked = was.looked && rebuilds; frames = l })) (sym (frames_are p rows at enters kept))
       (own_enters scenario old new had has was (record was { progress = p; looked = was.looked && rebuilds; frames = frames_now rebuilds }) event waits played courses scan_own enters
-      (kept ∙ (λ i. kept_with scan (rows_are i) (at_is i) (kept_at was.progress)))
       (fits_at scenario old was event waits p enters (was.looked && rebuilds) (frames_now rebuilds) was.told (scan_fits (builds_begin scenario old played.plays was.progress.id)))
       refl refl refl (λ stop. cc stop) none appends)
     where
