@@ -122,7 +122,7 @@ may_hand_over whole b seen now_seen held was now some_wait between follows none 
 }
 
 -- the looks with the last one are those that the turn finds
-pushed_as : (held items : List HeldLook) (look : HeldLook) (was : Backend) (some_wait : Bool) → items ≡ held ++ look ∷ [] → look ≡ held_look was some_wait → items ≡ held ++ held_look was some_wait ∷ []
+pub pushed_as : (held items : List HeldLook) (look : HeldLook) (was : Backend) (some_wait : Bool) → items ≡ held ++ look ∷ [] → look ≡ held_look was some_wait → items ≡ held ++ held_look was some_wait ∷ []
 pushed_as held items look was some_wait pushed is = pushed ∙ ap (λ l. held ++ l ∷ []) is
 
 -- so it may with its pass and its looks as they are then
