@@ -271,7 +271,8 @@ class Tool(unittest.TestCase):
         status, printed, _ = self.expect("--most", "3", given=ALTERED % b"expect some 1.2 error 42P01\nexpect 2.1 ok\n")
         self.assertEqual(status, 1)
         self.assertRegex(printed, "^FAILED: standard input\n  line 7: expect some 1.2 error 42P01\n    %s\n"
-                         "  line 8: expect 2.1 ok\n    - 2.1 ok\n    [+] 2.1 error 55P03 .*\n0 passed, 1 failed\n$" % self.UNDECIDED)
+                         "  line 8: expect 2.1 ok\n    - 2.1 ok\n    [+] 2.1 error 55P03 .*\n"
+                         "    can't be met: 2.1, 'show t columns', is never answered 'ok'\n0 passed, 1 failed\n$" % self.UNDECIDED)
 
     @unittest.skipUnless(HAS_PROGRAM, NO_PROGRAM)
     def test_what_came(self):
