@@ -20,7 +20,7 @@ import time
 import unittest
 import unittest.mock
 
-from testing import CAN_WAIT, HAS_PROGRAM, NO_PROGRAM, PROGRAM, TOOLS, TOP, call, content_of, hear_signals
+from testing import CAN_WAIT, HAS_PROGRAM, NO_PROGRAM, PROGRAM, TOOLS, TOP, call, content_of, hear_signals, without_progress
 
 from catsync_tools import explore
 from catsync_tools.access import Accesses
@@ -588,7 +588,7 @@ class Explorer(unittest.TestCase):
     def explore(self, script, *words):
         """Exit status, standard output and standard error of the explorer."""
         status, text, said = call("explore", "--program", PROGRAM, *words, given=script)
-        return status, text.decode(), said
+        return status, text.decode(), without_progress("explore", said)
 
     def report(self, script, *words):
         """What the explorer prints for a script that is explored to the end."""

@@ -20,7 +20,7 @@ import unittest
 import unittest.mock
 
 from test_server import homes
-from testing import HAS_PROGRAM, NO_PROGRAM, PROGRAM, TOOLS, TOP, call, content_of
+from testing import HAS_PROGRAM, NO_PROGRAM, PROGRAM, TOOLS, TOP, call, content_of, hear_signals
 
 from catsync_tools import stage as stages
 from catsync_tools.audit import CATALOGS, Audit, audit_of_all, catalogs_of, named
@@ -708,7 +708,7 @@ class Commands(unittest.TestCase):
         for number in (signal.SIGTERM, signal.SIGINT, signal.SIGHUP):
             with self.subTest(number), self.own_folder() as folder:
                 with subprocess.Popen([os.path.join(TOOLS, "replay"), "--program", PROGRAM, "--times", "9", path], stdout=subprocess.PIPE,
-                                      stderr=subprocess.PIPE, preexec_fn=lambda: signal.signal(signal.SIGINT, signal.SIG_DFL)) as tool:
+                                      stderr=subprocess.PIPE, preexec_fn=hear_signals) as tool:
                     while not glob.glob(os.path.join(folder, "*", "data", "postmaster.pid")) and tool.poll() is None:
                         time.sleep(0.01)
                     time.sleep(draw.uniform(0, 3))
