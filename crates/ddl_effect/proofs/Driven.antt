@@ -1,20 +1,30 @@
--- A command that is given what the rows have for its want comes to the same.
-use Rattle.std.proofs.Common.{◌≡◌, ◌<◌, ℕ, Bool, true, false, not, Option, None, List, [], ◌&&◌, nat_le, int_lt, pos, negsuc, refl, ap, sym, arith}
+-- A command that is given what the rows have for its want comes to the same, and has an act left as long as it wants one.
+use Rattle.std.proofs.Common.{◌≡◌, ◌<◌, ◌≤◌, ◌+◌, ℕ, suc, Bool, true, false, not, Option, Ok, List, [], ◌∷◌, ◌++◌, if◌then◌else◌, length, fold, refl, ap, arith, length-append}
+use Rattle.std.specs.List.{list_any, flat_map}
+use Rattle.base_types.specs.Scans.{same_oid}
+use Rattle.base_types.specs.declared.command.Command.TheVariants as commands
 use Rattle.base_types.specs.declared.scan.Purpose.TheVariants as scans
+use Rattle.base_types.specs.declared.row.ConKind.TheVariants as kinds
+use Rattle.base_types.specs.declared.row.Row.TheVariants as rows
+use Rattle.command_answers.specs.declared.error.CommandError.{CommandError}
 use Rattle.command_answers.specs.declared.error.CommandError.TheVariants as errors
-use Rattle.ddl_effect.specs.Types.{Oid, Row, Purpose, CommandError, OpenRelation, Alteration, Altering, Finding, Exec, Want}
-use Rattle.ddl_effect.specs.declared.alteration.Alteration.TheVariants as alterations
-use Rattle.ddl_effect.specs.declared.altering.Altering.TheVariants as alters
+use Rattle.ddl_effect.specs.Types.{Oid, Table, Index, Row, Purpose, Command, Draft, OpenRelation, Want}
+use Rattle.ddl_effect.specs.declared.exec.Exec.{Exec}
 use Rattle.ddl_effect.specs.declared.exec.Exec.TheVariants as stages
-use Rattle.ddl_effect.specs.declared.finding.Finding.TheVariants as findings
+use Rattle.ddl_effect.specs.declared.step.Step.{Step}
+use Rattle.ddl_effect.specs.declared.step.Step.TheVariants as steps
 use Rattle.ddl_effect.specs.declared.told.Told.TheVariants as tells
 use Rattle.ddl_effect.specs.declared.want.Want.TheVariants as wants
-use Rattle.ddl_effect.specs.Plans.{Act, Plan, Done, Fails, Absent, Do, Lookup, Open, Search, Read, Lock, Write, after_act, told_rests_on}
-use Rattle.ddl_effect.specs.Parts.{if_passes, column_there}
-use Rattle.ddl_effect.specs.Tables.{filling}
-use Rattle.ddl_effect.specs.Columns.{targeting}
-use Rattle.ddl_effect.specs.Effects.{effect_of, given_for}
-use Rattle.ddl_effect.specs.Stages.{want_of, plan_at, plan_again, altered, altering_at, altering_again, name_sought, acts_left, find_acts_left}
+use Rattle.ddl_effect.specs.Plans.{Plan, Done, Fails, Absent, Do, Lookup, Open, Search, Read, Lock, Write, after_act, told_rests_on}
+use Rattle.ddl_effect.specs.Parts.{if_passes, opening, reading}
+use Rattle.ddl_effect.specs.Opens.{has_open}
+use Rattle.ddl_effect.specs.Tables.{referred, referred_by, with_relation, index_of, is_of_other, drop_table, drop_indexes}
+use Rattle.ddl_effect.specs.Commands.{plan_of}
+use Rattle.ddl_effect.specs.Effects.{Effect, Writes, IsEffect, effect_of, given_for, no_changes}
+use Rattle.ddl_effect.specs.Replays.{after_all, step_of}
+use Rattle.ddl_effect.specs.Courses.{plan_left, is_act, acts_at, acts_by}
+use Rattle.ddl_effect.specs.Stages.{want_of, plan_at, acts_left}
+use Rattle.ddl_effect.proofs.Within.{IsWithin, within_act, w_locking, few_acts}
 
 pub effect_of-after : (rows : Purpose → List Row) (plan : Plan) (given : List Row) → (want_of plan ≡ wants.Write → ⊥) → given ≡ given_for rows (want_of plan)
     → effect_of rows (after_act given plan) ≡ effect_of rows plan
@@ -27,6 +37,34 @@ effect_of-after rows (Do (Open rel kind) rest) given other is = ap (λ l. effect
 effect_of-after rows (Do (Search scan) rest) given other is = ap (λ l. effect_of rows (rest l)) is
 effect_of-after rows (Do (Read scan) rest) given other is = ap (λ l. effect_of rows (rest l)) is
 effect_of-after rows (Do (Lock rel mode) rest) given other is = ap (λ l. effect_of rows (rest l)) is
+
+-- what a plan comes to that is at its write
+pub writes_is : (rows : Purpose → List Row) (plan : Plan) (draft : Draft) → step_of plan ≡ steps.Write draft → effect_of rows plan ≡ Writes draft
+writes_is rows (Do (Write own) rest) draft is = ap (λ step. writes step) is
+  where
+    writes : Step → Effect
+    writes (steps.Write d) = Writes d
+    writes step = Writes own
+writes_is rows (Done told) draft is = absurd (cc is)
+writes_is rows (Fails error) draft is = absurd (cc is)
+writes_is rows (Absent name) draft is = absurd (cc is)
+writes_is rows (Do (Lookup name mode) rest) draft is = absurd (cc is)
+writes_is rows (Do (Open rel kind) rest) draft is = absurd (cc is)
+writes_is rows (Do (Search scan) rest) draft is = absurd (cc is)
+writes_is rows (Do (Read scan) rest) draft is = absurd (cc is)
+writes_is rows (Do (Lock rel mode) rest) draft is = absurd (cc is)
+
+-- what a plan comes to that is done
+pub done_is : (rows : Purpose → List Row) (plan : Plan) (scan : Option Purpose) (draft : Draft) → want_of plan ≡ wants.Done scan → draft ≡ no_changes → IsEffect (effect_of rows plan) (Ok draft)
+done_is rows (Done told) scan draft is none = none
+done_is rows (Fails error) scan draft is none = absurd (cc is)
+done_is rows (Absent name) scan draft is none = absurd (cc is)
+done_is rows (Do (Write own) rest) scan draft is none = absurd (cc is)
+done_is rows (Do (Lookup name mode) rest) scan draft is none = absurd (cc is)
+done_is rows (Do (Open rel kind) rest) scan draft is none = absurd (cc is)
+done_is rows (Do (Search own) rest) scan draft is none = absurd (cc is)
+done_is rows (Do (Read own) rest) scan draft is none = absurd (cc is)
+done_is rows (Do (Lock rel mode) rest) scan draft is none = absurd (cc is)
 
 -- what a plan wants that has failed
 pub fails_is : (plan : Plan) (error : CommandError) → want_of plan ≡ wants.Fails error → plan ≡ Fails error
@@ -51,75 +89,98 @@ absent_is (Absent own) name is = ap (λ want. absent want) is
 absent_is (Do (Lookup own mode) rest) name is = absurd (cc is)
 absent_is (Do act rest) name is = absurd (cc is)
 
-finds_some : (finding : Finding) → 0 < find_acts_left finding
-finds_some (findings.LockTable name mode) = omega arith
-finds_some (findings.DropTable name) = omega arith
-finds_some finding = omega arith
+-- `drop table` locks no more relations than its constraints and indexes have rows
+few_with : (given : List Oid) (rel : Oid) (t : Bool) → length (if t then given else given ++ rel ∷ []) ≤ length given + 1
+few_with given rel true = omega arith
+few_with given rel false = omega (arith, length-append given (rel ∷ []))
+
+few_folded : (given rels : List Oid) → length (fold with_relation given rels) ≤ length given + length rels
+few_folded given [] = omega arith
+few_folded given (rel ∷ rels) = omega (arith, few_folded (with_relation given rel) rels, few_with given rel (list_any (same_oid rel) given))
+
+few_keys : (constraints : List Row) → length (flat_map referred_by constraints) ≤ length constraints
+few_keys [] = omega arith
+few_keys (rows.Con oid rel own valid (kinds.Foreign num refrel refnum) ∷ more) = omega (arith, few_keys more)
+few_keys (rows.Con oid rel own valid (kinds.Check text) ∷ more) = omega (arith, few_keys more)
+few_keys (rows.Class oid own kind fill ∷ more) = omega (arith, few_keys more)
+few_keys (rows.Att rel num own col_type stat live ∷ more) = omega (arith, few_keys more)
+few_keys (rows.Def oid rel num word ∷ more) = omega (arith, few_keys more)
+few_keys (rows.Ind index table state nums ∷ more) = omega (arith, few_keys more)
+few_keys (rows.Trg oid rel own on ∷ more) = omega (arith, few_keys more)
+
+few_indexes : (indexes : List Row) → length (flat_map index_of indexes) ≤ length indexes
+few_indexes [] = omega arith
+few_indexes (rows.Ind index table state nums ∷ more) = omega (arith, few_indexes more)
+few_indexes (rows.Con oid rel own valid what ∷ more) = omega (arith, few_indexes more)
+few_indexes (rows.Class oid own kind fill ∷ more) = omega (arith, few_indexes more)
+few_indexes (rows.Att rel num own col_type stat live ∷ more) = omega (arith, few_indexes more)
+few_indexes (rows.Def oid rel num word ∷ more) = omega (arith, few_indexes more)
+few_indexes (rows.Trg oid rel own on ∷ more) = omega (arith, few_indexes more)
+
+few_locks : (constraints indexes : List Row) → length (referred constraints ++ flat_map index_of indexes) ≤ length constraints + length indexes
+few_locks constraints indexes = omega (arith, length-append (referred constraints) (flat_map index_of indexes), few_folded [] (flat_map referred_by constraints), few_keys constraints, few_indexes indexes)
+
+w_locked : (opens : List OpenRelation) (rel : Oid) (m : ℕ) (constraints indexes : List Row) → length constraints + length indexes ≤ m → IsWithin (suc (suc (suc (suc m)))) (drop_indexes opens rel constraints indexes)
+w_locked opens rel m constraints indexes few = λ defaults. λ triggers. λ columns. w_locking (suc m) opens (referred constraints ++ flat_map index_of indexes) _ (omega (arith, few, few_locks constraints indexes))
+
+w_indexed : (opens : List OpenRelation) (name : List ℕ) (rel : Oid) (m : ℕ) (t : Bool) (constraints indexes : List Row) → length constraints + length indexes ≤ m
+    → IsWithin (suc (suc (suc (suc m)))) (after_act indexes (if_passes t (errors.Depends name) (reading (scans.Index rel) (drop_indexes opens rel constraints))))
+w_indexed opens name rel m false constraints indexes few = tt
+w_indexed opens name rel m true constraints indexes few = w_locked opens rel m constraints indexes few
+
+w_closed : (opens : List OpenRelation) (name : List ℕ) (rel : Oid) (m : ℕ) (t : Bool) (opened constraints indexes : List Row) → length constraints + length indexes ≤ m
+    → IsWithin (suc (suc (suc (suc m)))) (after_act indexes (after_act constraints (after_act opened (if_passes t (errors.InUse rel) (opening rel Table (drop_table opens name rel))))))
+w_closed opens name rel m false opened constraints indexes few = tt
+w_closed opens name rel m true opened constraints indexes few = w_indexed opens name rel m (not (list_any (is_of_other rel) constraints)) constraints indexes few
+
+w_drop : (opens : List OpenRelation) (name : List ℕ) (m : ℕ) (looked opened constraints indexes : List Row) → length constraints + length indexes ≤ m
+    → IsWithin (suc (suc (suc (suc m)))) (after_act indexes (after_act constraints (after_act opened (after_act looked (plan_of opens (commands.DropTable name))))))
+w_drop opens name m (rows.Class oid own Table fill ∷ more) opened constraints indexes few = w_closed opens name oid m (not (has_open oid opens)) opened constraints indexes few
+w_drop opens name m (rows.Class oid own Index fill ∷ more) opened constraints indexes few = tt
+w_drop opens name m [] opened constraints indexes few = tt
+w_drop opens name m (row ∷ more) opened constraints indexes few = tt
+
+drop_acts : (opens : List OpenRelation) (name : List ℕ) (given : List (List Row)) → is_act (step_of (after_all given (plan_of opens (commands.DropTable name)))) ≡ true → length given < acts_by (commands.DropTable name) given
+drop_acts opens name [] is = omega arith
+drop_acts opens name (looked ∷ []) is = omega arith
+drop_acts opens name (looked ∷ opened ∷ []) is = omega arith
+drop_acts opens name (looked ∷ opened ∷ constraints ∷ []) is = omega arith
+drop_acts opens name (looked ∷ opened ∷ constraints ∷ indexes ∷ more) is =
+    let less : length more < suc (suc (suc (suc (length constraints + length indexes)))) = within_act _ _ more (w_drop opens name (length constraints + length indexes) looked opened constraints indexes (omega arith)) is in
+    omega (arith, less)
+
+acts_more : (opens : List OpenRelation) (command : Command) (given : List (List Row)) → is_act (step_of (after_all given (plan_of opens command))) ≡ true → length given < acts_by command given
+acts_more opens (commands.DropTable name) given is = drop_acts opens name given is
+acts_more opens command given is = within_act 40 (plan_of opens command) given (few_acts opens command refl) is
 
 -- one that hasn't come out has acts left
+acts_some_at : (step : Step) (n : ℕ) → is_act step ≡ true → 0 < n → 0 < acts_at step n
+acts_some_at (steps.Lookup name mode) n is some = some
+acts_some_at (steps.Open rel kind) n is some = some
+acts_some_at (steps.Search scan) n is some = some
+acts_some_at (steps.Read scan) n is some = some
+acts_some_at (steps.Lock rel mode) n is some = some
+acts_some_at (steps.Write draft) n is some = some
+acts_some_at (steps.Done told) n is some = absurd (cc is)
+acts_some_at (steps.Fails error) n is some = absurd (cc is)
+acts_some_at (steps.Absent name) n is some = absurd (cc is)
+
 pub acts_some : (opens : List OpenRelation) (exec : Exec) → ((scan : Option Purpose) → want_of (plan_at opens exec) ≡ wants.Done scan → ⊥) → ((error : CommandError) → want_of (plan_at opens exec) ≡ wants.Fails error → ⊥) → ((name : List ℕ) → want_of (plan_at opens exec) ≡ wants.Absent name → ⊥)
     → 0 < acts_left exec
 acts_some opens (stages.Done told) done fails absent = absurd (done (told_rests_on told) refl)
 acts_some opens (stages.Failing error) done fails absent = absurd (fails error refl)
-acts_some opens (stages.Missing finding) done fails absent = absurd (absent (name_sought finding) refl)
-acts_some opens (stages.Finding finding) done fails absent = finds_some finding
-acts_some opens (stages.Altering alters.Done) done fails absent = absurd (done None refl)
-acts_some opens (stages.Altering (alters.Failing error)) done fails absent = absurd (fails error refl)
-acts_some opens (stages.Altering (alters.Missing name alteration)) done fails absent = absurd (absent name refl)
-acts_some opens (stages.Altering (alters.MissingReferred rel key row)) done fails absent = absurd (absent key.refers refl)
-acts_some opens (stages.MissingIndexed index) done fails absent = absurd (absent index.on_table refl)
-acts_some opens (stages.Altering stage) done fails absent = omega arith
-acts_some opens stage done fails absent = omega arith
-
-absent_name : (own name : List ℕ) → Absent own ≡ Absent name → own ≡ name
-absent_name own name is = ap (λ p. name_of p) is
+acts_some opens (stages.Going taken) done fails absent = acts_some_at (step_of (plan_left taken)) _ is (let less : length taken.given < acts_by taken.command taken.given = acts_more taken.opens taken.command taken.given is in omega (arith, less))
   where
-    name_of : Plan → List ℕ
-    name_of (Absent n) = n
-    name_of p = []
+    acts : (plan : Plan) → ((scan : Option Purpose) → want_of plan ≡ wants.Done scan → ⊥) → ((error : CommandError) → want_of plan ≡ wants.Fails error → ⊥) → ((name : List ℕ) → want_of plan ≡ wants.Absent name → ⊥) → is_act (step_of plan) ≡ true
+    acts (Done told) d f a = absurd (d (told_rests_on told) refl)
+    acts (Fails error) d f a = absurd (f error refl)
+    acts (Absent name) d f a = absurd (a name refl)
+    acts (Do (Lookup name mode) rest) d f a = refl
+    acts (Do (Open rel kind) rest) d f a = refl
+    acts (Do (Search scan) rest) d f a = refl
+    acts (Do (Read scan) rest) d f a = refl
+    acts (Do (Lock rel mode) rest) d f a = refl
+    acts (Do (Write draft) rest) d f a = refl
 
--- a command whose search found no relation goes on with a search for that name
-abbrev pub Seeks : List ℕ → Plan → Type 0
-Seeks name (Do (Lookup own mode) rest) = own ≡ name
-Seeks name plan = ⊥
-
--- what is done first of an open descriptor is no lookup that may find nothing
-test_there : (passes : Bool) (error : CommandError) (act : Act) (rest : List Row → Plan) (name : List ℕ) → if_passes passes error (Do act rest) ≡ Absent name → ⊥
-test_there true error act rest name is = absurd (cc is)
-test_there false error act rest name is = absurd (cc is)
-
-opened_there : (opens : List OpenRelation) (alteration : Alteration) (rel : Oid) (name : List ℕ) → altered opens alteration rel ≡ Absent name → ⊥
-opened_there opens (alterations.SetStatistics column stat) rel name is = test_there (not (int_lt stat (negsuc 0))) (errors.OutOfRange stat) (Search (scans.AttName rel column)) (column_there column (targeting stat)) name is
-opened_there opens (alterations.SetFillfactor fill) rel name is = test_there (nat_le 10 fill && nat_le fill 100) (errors.OutOfRange (pos fill)) (Read (scans.Class rel)) (filling fill) name is
-opened_there opens alteration rel name is = absurd (let no : true ≡ false = ap is_absent (sym is) in cc no)
-  where
-    is_absent : Plan → Bool
-    is_absent (Absent n) = true
-    is_absent p = false
-
-alters_again : (opens : List OpenRelation) (altering : Altering) (name : List ℕ) → altering_at opens altering ≡ Absent name → Seeks name (altering_again opens altering)
-alters_again opens (alters.Missing own alteration) name is = absent_name own name is
-alters_again opens (alters.MissingReferred rel key row) name is = absent_name key.refers name is
-alters_again opens (alters.Opened rel alteration) name is = absurd (opened_there opens alteration rel name is)
-alters_again opens stage name is = absurd (cc is)
-
-pub seeks_again : (opens : List OpenRelation) (exec : Exec) (name : List ℕ) → plan_at opens exec ≡ Absent name → Seeks name (plan_again opens exec)
-seeks_again opens (stages.Missing finding) name is = absent_name (name_sought finding) name is
-seeks_again opens (stages.Altering altering) name is = alters_again opens altering name is
-seeks_again opens (stages.MissingIndexed index) name is = absent_name index.on_table name is
-seeks_again opens stage name is = absurd (cc is)
-
-opened_alike : (opens other : List OpenRelation) (alteration : Alteration) (rel : Oid) → want_of (altered opens alteration rel) ≡ want_of (altered other alteration rel)
-opened_alike opens other (alterations.DropConstraint constraint) rel = refl
-opened_alike opens other alteration rel = refl
-
-alters_alike : (opens other : List OpenRelation) (altering : Altering) → want_of (altering_at opens altering) ≡ want_of (altering_at other altering)
-alters_alike opens other (alters.Finding name alteration) = refl
-alters_alike opens other (alters.Opened rel alteration) = opened_alike opens other alteration rel
-alters_alike opens other altering = refl
-
--- what a command wants next doesn't depend on what is open
-pub wants_alike : (opens other : List OpenRelation) (exec : Exec) → want_of (plan_at opens exec) ≡ want_of (plan_at other exec)
-wants_alike opens other (stages.Finding finding) = refl
-wants_alike opens other (stages.Altering altering) = alters_alike opens other altering
-wants_alike opens other exec = refl
+    is : is_act (step_of (plan_left taken)) ≡ true
+    is = acts (plan_left taken) done fails absent

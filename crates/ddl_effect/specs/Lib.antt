@@ -2,7 +2,6 @@ pub mod Types
 pub mod Opens
 pub mod Plans
 pub mod Effects
-pub mod Numbered
 pub mod Parts
 pub mod Reads
 pub mod Tables
@@ -12,5 +11,7 @@ pub mod Triggers
 pub mod Indexes
 pub mod Commands
 pub mod Drawing
+pub mod Replays
+pub mod Taken
+pub mod Courses
 pub mod Stages
-pub mod Steps

@@ -1,5 +1,5 @@
 -- Plans: what a command does, an act at a time, by the rows that each act gives.
-use Rattle.std.specs.Prelude.{ℕ, Option, Some, None, List, [], ◌∷◌}
+use Rattle.std.specs.Prelude.{ℕ, Bool, true, false, Option, Some, None, List, [], ◌∷◌}
 use Rattle.std.specs.List.{cons_option}
 use Rattle.base_types.specs.Scans.{build_scans}
 use Rattle.base_types.specs.declared.scan.Purpose.TheVariants as scans
@@ -21,6 +21,11 @@ pub data Plan : Type 0 where
   Fails : (error : CommandError) → Plan
   Absent : (name : List ℕ) → Plan
   Do : (act : Act) → (rest : List Row → Plan) → Plan
+
+-- it has come to that no relation has a name
+abbrev pub is_absent : Plan → Bool
+is_absent (Absent name) = true
+is_absent plan = false
 
 -- the plan after its first act, which gave these rows
 abbrev pub after_act : List Row → Plan → Plan

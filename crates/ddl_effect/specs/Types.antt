@@ -19,9 +19,6 @@ pub use Rattle.ddl_effect.specs.declared.draft.Draft.{Draft}
 pub use Rattle.ddl_effect.specs.declared.told.Told.{Told}
 pub use Rattle.ddl_effect.specs.declared.foreign_key.ForeignKey.{ForeignKey}
 pub use Rattle.ddl_effect.specs.declared.alteration.Alteration.{Alteration}
-pub use Rattle.ddl_effect.specs.declared.altering.Altering.{Altering}
-pub use Rattle.ddl_effect.specs.declared.finding.Finding.{Finding}
-pub use Rattle.ddl_effect.specs.declared.exec.Exec.{Exec}
 pub use Rattle.ddl_effect.specs.declared.want.Want.{Want}
 pub use Rattle.ddl_effect.specs.declared.facts.Facts.{Facts}
 pub use Rattle.ddl_effect.specs.declared.facts.EffectRefusal.{EffectRefusal}

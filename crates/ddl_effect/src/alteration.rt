@@ -1,8 +1,8 @@
 ghost use Rattle.std.specs.Prelude.{◌≡◌, List, false, MatchOption};
 ghost use Rattle.ddl_effect.specs.Commands.{plan_of};
-ghost use Rattle.ddl_effect.specs.Stages.{alters_table, mode_of, kind_of, altering_at};
+ghost use Rattle.ddl_effect.specs.Stages.{alters_table, mode_of, kind_of, alteration_plan};
 
-use crate::{Altering, ForeignKey, OpenRelation};
+use crate::{ForeignKey, OpenRelation};
 use base_types::{ColType, Command, Kind, Mode, Name, Text, Word};
 
 /// What an alteration does to its table or index.
@@ -94,9 +94,16 @@ pub(crate) fn kind(alteration: &Alteration) -> Kind
     }
 }
 
-/// An alteration at its beginning, if the command is one.
-pub(crate) fn alteration_of(command: &Command) -> Option<Altering>
-    ensures { MatchOption result (alters_table command.now ≡ false) (λ altering. (opens : List OpenRelation) → altering_at opens altering ≡ plan_of opens command.now) }
+/// An alteration of a relation that has this name.
+#[derive(Clone, Copy)]
+pub struct Altered {
+    pub name: Name,
+    pub alteration: Alteration,
+}
+
+/// What the command alters, if it alters something.
+pub(crate) fn alteration_of(command: &Command) -> Option<Altered>
+    ensures { MatchOption result (alters_table command.now ≡ false) (λ a. (opens : List OpenRelation) → alteration_plan opens a ≡ plan_of opens command.now) }
 {
     match *command {
         Command::AddColumn {
@@ -170,9 +177,9 @@ pub(crate) fn alteration_of(command: &Command) -> Option<Altering>
     }
 }
 
-// An alteration of the relation of this name, at its beginning.
-fn alters(name: Name, alteration: Alteration) -> Altering
-    ensures { result ≡ Altering.Finding name alteration }
+// An alteration of the relation of this name.
+fn alters(name: Name, alteration: Alteration) -> Altered
+    ensures { result ≡ record { name = name; alteration = alteration } }
 {
-    Altering::Finding { name, alteration }
+    Altered { name, alteration }
 }

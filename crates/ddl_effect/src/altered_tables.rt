@@ -1,46 +1,44 @@
-// What alterations of whole tables come to by the rows that their acts gave.
+// Alterations of whole relations, once the descriptor is open.
 
-ghost use Rattle.std.specs.Prelude.{◌≡◌, ◌<◌, ℕ, List};
-ghost use Rattle.ddl_effect.specs.Plans.{Absent, after_act};
-ghost use Rattle.ddl_effect.specs.Tables.{renaming_table};
-ghost use Rattle.ddl_effect.specs.Stages.{altered, altering_at, alter_acts_left};
+ghost use Rattle.ddl_effect.specs.Tables.{set_fillfactor as setting_fillfactor, rename_table as renaming};
+ghost use Rattle.ddl_effect.specs.Replays.{Comes};
 
 use crate::altered_rows::{filled, renamed_relation};
-use crate::{Alteration, Altering, OpenRelation};
-use base_types::{Name, Oid, Row};
+use crate::draft::replacing;
+use crate::leave::{done, fails};
+use crate::{Leave, Replay, Step, Told};
+use base_types::{Name, Oid, Purpose};
 use command_answers::CommandError;
+use std::alloc::Global;
 
-/// `set (fillfactor = N)`, by the table's row, where the number is 10 to 100.
-pub(crate) fn with_fillfactor(fill: u32, rows: &[Row]) -> Altering
-    ensures plan { (opens : List OpenRelation) (rel : Oid) → altering_at opens result ≡ after_act rows.now (altered opens (Alteration.SetFillfactor fill) rel) }
-    ensures left { alter_acts_left result < 5 }
-    ensures there { (opens : List OpenRelation) (name : List ℕ) → altering_at opens result ≡ Absent name → ⊥ }
+/// `set (fillfactor = N)` (`ATExecSetRelOptions` in `src/backend/commands/tablecmds.c`): 10 to 100.
+#[tactic(auto, using(crate::proofs::Replays::settled))]
+pub(crate) fn set_fillfactor(
+    alloc: Global,
+    given: &mut Replay,
+    rel: Oid,
+    fill: u32,
+) -> Result<Step, Leave>
+    ensures { Comes result given.old (setting_fillfactor fill rel) }
 {
     if fill < 10 || fill > 100 {
-        return Altering::Failing(CommandError::OutOfRange {
+        return fails(CommandError::OutOfRange {
             value: i64::from(fill),
         });
     }
-    match rows.first() {
-        Some(row) => Altering::Replacing {
-            deleted: None,
-            row: filled(row, fill),
-        },
-        None => Altering::Done,
+    match given.read(Purpose::Class(rel))?.first() {
+        Some(row) => given.write(replacing(alloc, None, filled(row, fill))?),
+        None => done(Told::Ok),
     }
 }
 
-/// `rename to`, by the relation's row.
-pub(crate) fn with_table_name(to: Name, rows: &[Row]) -> Altering
-    ensures plan { (opens : List OpenRelation) → altering_at opens result ≡ renaming_table to rows.now }
-    ensures left { alter_acts_left result < 5 }
-    ensures there { (opens : List OpenRelation) (name : List ℕ) → altering_at opens result ≡ Absent name → ⊥ }
+/// `rename to`, of a table or of an index (`RenameRelation` in `src/backend/commands/tablecmds.c`).
+#[tactic(auto, using(crate::proofs::Replays::settled))]
+pub(crate) fn rename(alloc: Global, given: &mut Replay, rel: Oid, to: Name) -> Result<Step, Leave>
+    ensures { Comes result given.old (renaming to rel) }
 {
-    match rows.first() {
-        Some(row) => Altering::Replacing {
-            deleted: None,
-            row: renamed_relation(row, to),
-        },
-        None => Altering::Done,
+    match given.read(Purpose::Class(rel))?.first() {
+        Some(row) => given.write(replacing(alloc, None, renamed_relation(row, to))?),
+        None => done(Told::Ok),
     }
 }

@@ -1,45 +1,36 @@
-// What alterations of a table's columns come to by the rows that their acts gave.
+// Alterations of the columns of a table, once its descriptor is open.
 
-ghost use Rattle.std.specs.Prelude.{◌≡◌, ◌<◌, ◌∷◌, ◌==◌, ℕ, List, [], IfOk};
+ghost use Rattle.std.specs.Prelude.{◌≡◌, ◌==◌, IfOk};
 ghost use Rattle.std.specs.List.{list_any};
-ghost use Rattle.base_types.specs.declared.change.Change.TheVariants.{Replace};
-ghost use Rattle.ddl_effect.specs.Plans.{Absent, after_act};
-ghost use Rattle.ddl_effect.specs.Parts.{column_there, column_free, reading, changing, writing};
-ghost use Rattle.ddl_effect.specs.Columns.{adding, uses_column, drop_unindexed, drop_unreferred, drop_found, dropping, renaming, with_name, default_found, defaulting, targeting};
-ghost use Rattle.ddl_effect.specs.Stages.{altered, altering_at, alter_acts_left};
+ghost use Rattle.ddl_effect.specs.Parts.{reading, writing};
+ghost use Rattle.ddl_effect.specs.Columns.{uses_column, add_column as adding_column, drop_column as dropping_column, drop_found as dropping_found, dropping, defaulting, rename_column as renaming_column, set_default as setting_default, set_statistics as setting_statistics};
+ghost use Rattle.ddl_effect.specs.Replays.{Comes};
 
 use crate::altered_rows::{MOST_STAT, column_number, default_of, dropped, renamed, targeted};
-use crate::draft::{NEW, adding_draft};
-use crate::{Alteration, Altering, Draft, OpenRelation};
+use crate::draft::{NEW, adding_draft, inserting, replacing};
+use crate::leave::fails;
+use crate::{Draft, Leave, Replay, Step};
 use base_types::{ColType, ConKind, MOST_COLUMNS, Name, NoMemory, Oid, Purpose, Row, Word};
 use command_answers::CommandError;
 use std::alloc::Global;
 
-/// `add column`, after the lookup of its name.
-pub(crate) fn to_number(rel: Oid, column: Name, col_type: ColType, rows: &[Row]) -> Altering
-    ensures plan { (opens : List OpenRelation) → altering_at opens result ≡ column_free column (reading (Purpose.Attribute rel) (adding rel column col_type)) rows.now }
-    ensures left { alter_acts_left result < 5 }
-    ensures there { (opens : List OpenRelation) (name : List ℕ) → altering_at opens result ≡ Absent name → ⊥ }
+/// `add column` (`ATExecAddColumn` in `src/backend/commands/tablecmds.c`).
+#[tactic(auto, using(crate::proofs::Replays::settled))]
+pub(crate) fn add_column(
+    alloc: Global,
+    given: &mut Replay,
+    rel: Oid,
+    column: Name,
+    col_type: ColType,
+) -> Result<Step, Leave>
+    ensures { Comes result given.old (adding_column column col_type rel) }
 {
-    if rows.is_empty() {
-        Altering::NumberingColumn {
-            rel,
-            column,
-            col_type,
-        }
-    } else {
-        Altering::Failing(CommandError::ColumnExists { name: column })
+    if !given.search(Purpose::AttName(rel, column))?.is_empty() {
+        return fails(CommandError::ColumnExists { name: column });
     }
-}
-
-/// `add column`, by the rows of the table's columns.
-pub(crate) fn numbered(rel: Oid, column: Name, col_type: ColType, columns: &[Row]) -> Altering
-    ensures plan { (opens : List OpenRelation) → altering_at opens result ≡ adding rel column col_type columns.now }
-    ensures left { alter_acts_left result < 2 }
-    ensures there { (opens : List OpenRelation) (name : List ℕ) → altering_at opens result ≡ Absent name → ⊥ }
-{
+    let columns = given.read(Purpose::Attribute(rel))?;
     if columns.len() >= MOST_COLUMNS as usize {
-        return Altering::Failing(CommandError::TooManyColumns);
+        return fails(CommandError::TooManyColumns);
     }
     let row = Row::Att {
         rel,
@@ -49,47 +40,143 @@ pub(crate) fn numbered(rel: Oid, column: Name, col_type: ColType, columns: &[Row
         stat: -1,
         live: true,
     };
-    Altering::Inserting { row }
+    given.write(inserting(alloc, row)?)
 }
 
-/// `drop column`, after the lookup of its name.
-pub(crate) fn to_drop(rel: Oid, column: Name, rows: &[Row]) -> Altering
-    ensures plan { (opens : List OpenRelation) → altering_at opens result ≡ column_there column (drop_found column rel) rows.now }
-    ensures left { alter_acts_left result < 5 }
-    ensures there { (opens : List OpenRelation) (name : List ℕ) → altering_at opens result ≡ Absent name → ⊥ }
+/// `drop column` (`ATExecDropColumn` in `src/backend/commands/tablecmds.c`).
+#[tactic(auto, using(crate::proofs::Replays::settled))]
+pub(crate) fn drop_column(
+    alloc: Global,
+    given: &mut Replay,
+    rel: Oid,
+    column: Name,
+) -> Result<Step, Leave>
+    ensures { Comes result given.old (dropping_column column rel) }
 {
-    match rows.first() {
-        Some(row) => Altering::TestingConstraints {
-            rel,
-            column,
-            row: *row,
-        },
-        None => Altering::Failing(CommandError::NoColumn { name: column }),
-    }
+    let Some(row) = given.search(Purpose::AttName(rel, column))?.first() else {
+        return fails(CommandError::NoColumn { name: column });
+    };
+    drop_found(alloc, given, rel, column, row)
 }
 
-/// `drop column`, by the rows of the table's constraints and of those that refer to it.
-pub(crate) fn without_constraint(rel: Oid, column: Name, row: Row, constraints: &[Row]) -> Altering
-    ensures plan { (opens : List OpenRelation) → altering_at opens result ≡ drop_unreferred column rel row constraints.now }
-    ensures left { alter_acts_left result < 4 }
-    ensures there { (opens : List OpenRelation) (name : List ℕ) → altering_at opens result ≡ Absent name → ⊥ }
+// The same by the row of the column, which no constraint and no index may use.
+#[tactic(auto, using(crate::proofs::Replays::settled))]
+fn drop_found(
+    alloc: Global,
+    given: &mut Replay,
+    rel: Oid,
+    column: Name,
+    row: &Row,
+) -> Result<Step, Leave>
+    ensures { Comes result given.old (dropping_found column rel row.now) }
 {
-    if is_used(rel, column_number(&row), constraints) {
-        return Altering::Failing(CommandError::ColumnUsed { name: column });
+    let num = column_number(row);
+    let constraints = given.read(Purpose::Constraint(rel))?;
+    if is_used(rel, num, constraints) {
+        return fails(CommandError::ColumnUsed { name: column });
     }
-    Altering::TestingIndexes { rel, column, row }
+    let indexes = given.read(Purpose::Index(rel))?;
+    if is_used(rel, num, indexes) {
+        return fails(CommandError::ColumnUsed { name: column });
+    }
+    drop_unused(alloc, given, rel, row)
 }
 
-/// `drop column`, by the rows of the table's indexes.
-pub(crate) fn without_index(rel: Oid, column: Name, row: Row, indexes: &[Row]) -> Altering
-    ensures plan { (opens : List OpenRelation) → altering_at opens result ≡ drop_unindexed column rel row indexes.now }
-    ensures left { alter_acts_left result < 3 }
-    ensures there { (opens : List OpenRelation) (name : List ℕ) → altering_at opens result ≡ Absent name → ⊥ }
+// The same where nothing uses it; its default goes with it.
+#[tactic(auto, using(crate::proofs::Replays::settled))]
+fn drop_unused(alloc: Global, given: &mut Replay, rel: Oid, row: &Row) -> Result<Step, Leave>
+    ensures { Comes result given.old (reading (Purpose.AttrDef rel) (dropping row.now)) }
 {
-    if is_used(rel, column_number(&row), indexes) {
-        return Altering::Failing(CommandError::ColumnUsed { name: column });
+    let defaults = given.read(Purpose::AttrDef(rel))?;
+    given.write(without_default(alloc, row, defaults)?)
+}
+
+// The draft of a dropped column, with which its default goes.
+fn without_default(alloc: Global, row: &Row, defaults: &[Row]) -> Result<Draft, NoMemory>
+    ensures { IfOk result (λ draft. writing draft ≡ dropping row.now defaults.now) }
+{
+    let deleted = default_of(column_number(row), defaults);
+    replacing(alloc, deleted, dropped(row))
+}
+
+/// `rename column` (`renameatt_internal` in `src/backend/commands/tablecmds.c`).
+#[tactic(auto, using(crate::proofs::Replays::settled))]
+pub(crate) fn rename_column(
+    alloc: Global,
+    given: &mut Replay,
+    rel: Oid,
+    column: Name,
+    to: Name,
+) -> Result<Step, Leave>
+    ensures { Comes result given.old (renaming_column column to rel) }
+{
+    let Some(row) = given.search(Purpose::AttName(rel, column))?.first() else {
+        return fails(CommandError::NoColumn { name: column });
+    };
+    if !given.search(Purpose::AttName(rel, to))?.is_empty() {
+        return fails(CommandError::ColumnExists { name: to });
     }
-    Altering::DroppingDefault { rel, row }
+    given.write(replacing(alloc, None, renamed(row, to))?)
+}
+
+/// `set default` (`StoreAttrDefault` in `src/backend/catalog/pg_attrdef.c`): the old one goes.
+#[tactic(auto, using(crate::proofs::Replays::settled))]
+pub(crate) fn set_default(
+    alloc: Global,
+    given: &mut Replay,
+    rel: Oid,
+    column: Name,
+    word: Word,
+) -> Result<Step, Leave>
+    ensures { Comes result given.old (setting_default column word rel) }
+{
+    let Some(row) = given.search(Purpose::AttName(rel, column))?.first() else {
+        return fails(CommandError::NoColumn { name: column });
+    };
+    let defaults = given.read(Purpose::AttrDef(rel))?;
+    given.write(with_default(alloc, rel, row, word, defaults)?)
+}
+
+// The draft of a column's new default, with which the old one goes.
+fn with_default(
+    alloc: Global,
+    rel: Oid,
+    row: &Row,
+    word: Word,
+    defaults: &[Row],
+) -> Result<Draft, NoMemory>
+    ensures { IfOk result (λ draft. writing draft ≡ defaulting word rel row.now defaults.now) }
+{
+    let num = column_number(row);
+    let default = Row::Def {
+        oid: NEW,
+        rel,
+        num,
+        word,
+    };
+    adding_draft(alloc, default_of(num, defaults), default, rel)
+}
+
+/// `set statistics` (`ATExecSetStatistics` in `src/backend/commands/tablecmds.c`): -1 is the least target.
+#[tactic(auto, using(crate::proofs::Replays::settled))]
+pub(crate) fn set_statistics(
+    alloc: Global,
+    given: &mut Replay,
+    rel: Oid,
+    column: Name,
+    stat: i32,
+) -> Result<Step, Leave>
+    ensures { Comes result given.old (setting_statistics column stat rel) }
+{
+    if stat < -1 {
+        return fails(CommandError::OutOfRange {
+            value: i64::from(stat),
+        });
+    }
+    let Some(row) = given.search(Purpose::AttName(rel, column))?.first() else {
+        return fails(CommandError::NoColumn { name: column });
+    };
+    given.write(replacing(alloc, None, targeted(row, stat.min(MOST_STAT)))?)
 }
 
 // Whether one of these rows uses the column of a relation with this number.
@@ -123,100 +210,4 @@ fn has_number(nums: &[u32], num: u32) -> bool
     ensures { result ≡ list_any (λ n. n == num) nums.now }
 {
     nums.iter().any(|n| *n == num)
-}
-
-/// `drop column`, by the rows of the table's defaults.
-pub(crate) fn without_default(row: Row, defaults: &[Row]) -> Altering
-    ensures plan { (opens : List OpenRelation) → altering_at opens result ≡ dropping row defaults.now }
-    ensures left { alter_acts_left result < 2 }
-    ensures there { (opens : List OpenRelation) (name : List ℕ) → altering_at opens result ≡ Absent name → ⊥ }
-{
-    Altering::Replacing {
-        deleted: default_of(column_number(&row), defaults),
-        row: dropped(&row),
-    }
-}
-
-/// `rename column`, after the lookup of its old name.
-pub(crate) fn to_rename(rel: Oid, column: Name, to: Name, rows: &[Row]) -> Altering
-    ensures plan { (opens : List OpenRelation) → altering_at opens result ≡ column_there column (renaming to rel) rows.now }
-    ensures left { alter_acts_left result < 5 }
-    ensures there { (opens : List OpenRelation) (name : List ℕ) → altering_at opens result ≡ Absent name → ⊥ }
-{
-    match rows.first() {
-        Some(row) => Altering::RenamingTo { rel, row: *row, to },
-        None => Altering::Failing(CommandError::NoColumn { name: column }),
-    }
-}
-
-/// `rename column`, after the lookup of its new name.
-pub(crate) fn named(row: Row, to: Name, rows: &[Row]) -> Altering
-    ensures plan { (opens : List OpenRelation) → altering_at opens result ≡ column_free to (changing (Replace (with_name to row) ∷ [])) rows.now }
-    ensures left { alter_acts_left result < 2 }
-    ensures there { (opens : List OpenRelation) (name : List ℕ) → altering_at opens result ≡ Absent name → ⊥ }
-{
-    if rows.is_empty() {
-        Altering::Replacing {
-            deleted: None,
-            row: renamed(&row, to),
-        }
-    } else {
-        Altering::Failing(CommandError::ColumnExists { name: to })
-    }
-}
-
-/// `set default`, after the lookup of its column.
-pub(crate) fn to_default(rel: Oid, column: Name, word: Word, rows: &[Row]) -> Altering
-    ensures plan { (opens : List OpenRelation) → altering_at opens result ≡ column_there column (default_found word rel) rows.now }
-    ensures left { alter_acts_left result < 5 }
-    ensures there { (opens : List OpenRelation) (name : List ℕ) → altering_at opens result ≡ Absent name → ⊥ }
-{
-    match rows.first() {
-        Some(row) => Altering::ReplacingDefault {
-            rel,
-            row: *row,
-            word,
-        },
-        None => Altering::Failing(CommandError::NoColumn { name: column }),
-    }
-}
-
-/// `set default`, by the rows of the table's defaults (`StoreAttrDefault` in `src/backend/catalog/pg_attrdef.c`).
-pub(crate) fn defaulted(
-    alloc: Global,
-    rel: Oid,
-    row: &Row,
-    word: Word,
-    defaults: &[Row],
-) -> Result<Draft, NoMemory>
-    ensures { IfOk result (λ draft. writing draft ≡ defaulting word rel row.now defaults.now) }
-{
-    let num = column_number(row);
-    let default = Row::Def {
-        oid: NEW,
-        rel,
-        num,
-        word,
-    };
-    adding_draft(alloc, default_of(num, defaults), default, rel)
-}
-
-/// `set statistics`, after the lookup of its column, where the target is one.
-pub(crate) fn with_target(column: Name, stat: i32, rows: &[Row]) -> Altering
-    ensures plan { (opens : List OpenRelation) (rel : Oid) → altering_at opens result ≡ after_act rows.now (altered opens (Alteration.SetStatistics column stat) rel) }
-    ensures left { alter_acts_left result < 5 }
-    ensures there { (opens : List OpenRelation) (name : List ℕ) → altering_at opens result ≡ Absent name → ⊥ }
-{
-    if stat < -1 {
-        return Altering::Failing(CommandError::OutOfRange {
-            value: i64::from(stat),
-        });
-    }
-    match rows.first() {
-        Some(row) => Altering::Replacing {
-            deleted: None,
-            row: targeted(row, stat.min(MOST_STAT)),
-        },
-        None => Altering::Failing(CommandError::NoColumn { name: column }),
-    }
 }

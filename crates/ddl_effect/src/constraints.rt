@@ -1,20 +1,152 @@
-// What commands on the constraints of a table come to by the rows that their acts gave.
+// Alterations of the constraints of a table, once its descriptor is open.
 
-ghost use Rattle.std.specs.Prelude.{◌≡◌, ◌<◌, ◌∷◌, ℕ, List, [], IfOk, MatchOption};
+ghost use Rattle.std.specs.Prelude.{◌≡◌, ◌∷◌, [], IfOk, MatchOption};
 ghost use Rattle.std.specs.List.{find, cons_option};
-ghost use Rattle.ddl_effect.specs.Plans.{Absent, Done};
-ghost use Rattle.ddl_effect.specs.Parts.{found as found_rows, column_there, forcing};
+ghost use Rattle.ddl_effect.specs.Plans.{Done};
+ghost use Rattle.ddl_effect.specs.Parts.{forcing};
 ghost use Rattle.ddl_effect.specs.Tables.{referred_by};
-ghost use Rattle.ddl_effect.specs.Constraints.{is_own_named, constraint_there, constraint_free, adding_check, foreign_named, referring, referring_to, adding_foreign, validating, dropping_constraint};
-ghost use Rattle.ddl_effect.specs.Stages.{altering_at, altering_again, alter_acts_left, acts_left, plan_at};
+ghost use Rattle.ddl_effect.specs.Constraints.{is_own_named, add_check as adding_check, add_foreign as adding_foreign, foreign_named, referring, validating, validate_constraint as validating_constraint, drop_constraint as dropping_constraint};
+ghost use Rattle.ddl_effect.specs.Replays.{Comes};
 
 use crate::altered_rows::column_number;
 use crate::draft::{NEW, adding_draft, replacing_draft};
-use crate::further_locks::to_lock;
-use crate::{Altering, Draft, Exec, ForeignKey, OpenRelation, Told};
-use base_types::{Change, ConKind, Kind, Listed, Name, NoMemory, Oid, Row, RowKey, Text};
+use crate::leave::{absent, done, fails};
+use crate::{Draft, ForeignKey, Leave, OpenRelation, Replay, Step, Told};
+use base_types::{
+    Change, ConKind, Kind, Listed, Mode, Name, NoMemory, Oid, Purpose, Row, RowKey, Text,
+};
 use command_answers::CommandError;
 use std::alloc::Global;
+
+/// `add constraint .. check` (`ATExecAddConstraint` in `src/backend/commands/tablecmds.c`).
+#[tactic(auto, using(crate::proofs::Replays::settled))]
+pub(crate) fn add_check(
+    alloc: Global,
+    given: &mut Replay,
+    rel: Oid,
+    name: Name,
+    text: Text,
+    valid: bool,
+) -> Result<Step, Leave>
+    ensures { Comes result given.old (adding_check name text valid rel) }
+{
+    let constraints = given.read(Purpose::Constraint(rel))?;
+    if let Some(_) = own_constraint(rel, name, constraints) {
+        return fails(CommandError::ConstraintExists { name });
+    }
+    let row = Row::Con {
+        oid: NEW,
+        rel,
+        name,
+        valid,
+        what: ConKind::Check(text),
+    };
+    given.write(adding_draft(alloc, None, row, rel)?)
+}
+
+/// `add constraint .. foreign key` (`ATExecAddConstraint` in `src/backend/commands/tablecmds.c`).
+#[tactic(auto, using(crate::proofs::Replays::settled))]
+pub(crate) fn add_foreign(
+    alloc: Global,
+    given: &mut Replay,
+    rel: Oid,
+    key: &ForeignKey,
+) -> Result<Step, Leave>
+    ensures { Comes result given.old (adding_foreign key.now rel) }
+{
+    let constraints = given.read(Purpose::Constraint(rel))?;
+    if let Some(_) = own_constraint(rel, key.constraint, constraints) {
+        return fails(CommandError::ConstraintExists {
+            name: key.constraint,
+        });
+    }
+    let Some(row) = given.search(Purpose::AttName(rel, key.column))?.first() else {
+        return fails(CommandError::NoColumn { name: key.column });
+    };
+    refer(alloc, given, rel, key, row)
+}
+
+// The same by the row of the table's own column: the other relation is looked up, and has to be a table with that column.
+#[tactic(auto, using(crate::proofs::Replays::settled))]
+fn refer(
+    alloc: Global,
+    given: &mut Replay,
+    rel: Oid,
+    key: &ForeignKey,
+    row: &Row,
+) -> Result<Step, Leave>
+    ensures { Comes result given.old (referring key.now rel row.now) }
+{
+    let rows = given.look_up(key.refers, Mode::ShareRowExclusive)?;
+    let Some(Row::Class { oid, kind, .. }) = rows.first() else {
+        return absent(key.refers);
+    };
+    let Kind::Table = *kind else {
+        return fails(CommandError::NotTable { name: key.refers });
+    };
+    let Some(there) = given
+        .search(Purpose::AttName(*oid, key.ref_column))?
+        .first()
+    else {
+        return fails(CommandError::NoColumn {
+            name: key.ref_column,
+        });
+    };
+    let constraint = Row::Con {
+        oid: NEW,
+        rel,
+        name: key.constraint,
+        valid: key.valid,
+        what: ConKind::Foreign {
+            num: column_number(row),
+            refrel: *oid,
+            refnum: column_number(there),
+        },
+    };
+    given.write(adding_draft(alloc, None, constraint, *oid)?)
+}
+
+/// `validate constraint` (`ATExecValidateConstraint` in `src/backend/commands/tablecmds.c`).
+#[tactic(auto, using(crate::proofs::Replays::settled))]
+pub(crate) fn validate(
+    alloc: Global,
+    given: &mut Replay,
+    rel: Oid,
+    name: Name,
+) -> Result<Step, Leave>
+    ensures { Comes result given.old (validating_constraint name rel) }
+{
+    let constraints = given.read(Purpose::Constraint(rel))?;
+    let Some(row) = own_constraint(rel, name, constraints) else {
+        return fails(CommandError::NoConstraint { name });
+    };
+    match as_valid(&row) {
+        Some(valid) => given.write(replacing_draft(alloc, valid, rel)?),
+        None => done(Told::Ok),
+    }
+}
+
+/// `drop constraint` (`ATExecDropConstraint` in `src/backend/commands/tablecmds.c`): of a foreign key the other table is
+/// locked, and told.
+#[tactic(auto, using(crate::proofs::Replays::settled))]
+pub(crate) fn drop_constraint(
+    alloc: Global,
+    opens: &[OpenRelation],
+    given: &mut Replay,
+    rel: Oid,
+    name: Name,
+) -> Result<Step, Leave>
+    ensures { Comes result given.old (dropping_constraint opens.now name rel) }
+{
+    let constraints = given.read(Purpose::Constraint(rel))?;
+    let Some(row) = own_constraint(rel, name, constraints) else {
+        return fails(CommandError::NoConstraint { name });
+    };
+    let other = refers_to(&row);
+    let draft = dropped_constraint(alloc, row.key(), rel, other)?;
+    let rels = other_table(alloc, other)?;
+    given.lock_all(opens, rels.as_slice(), draft)
+}
 
 // The table's own constraint of a name.
 fn own_constraint(rel: Oid, name: Name, constraints: &[Row]) -> Option<Row>
@@ -33,143 +165,6 @@ fn is_own(rel: Oid, named: Name, row: &Row) -> bool
     match row {
         Row::Con { rel: of, name, .. } => of.0 == rel.0 && name.as_bytes() == named.as_bytes(),
         _ => false,
-    }
-}
-
-/// `add constraint .. check`, by the rows of the table's constraints and of those that refer to it.
-pub(crate) fn checked_name(
-    alloc: Global,
-    rel: Oid,
-    name: Name,
-    text: Text,
-    valid: bool,
-    constraints: &[Row],
-) -> Result<Exec, NoMemory>
-    ensures plan { IfOk result (λ exec. (opens : List OpenRelation) → plan_at opens exec ≡ constraint_free rel name (adding_check name text valid rel) constraints.now) }
-    ensures left { IfOk result (λ exec. acts_left exec < 5) }
-    ensures there { IfOk result (λ exec. (opens : List OpenRelation) (name : List ℕ) → plan_at opens exec ≡ Absent name → ⊥) }
-    ensures named { IfOk result (λ exec. (opens : List OpenRelation) (oid : Oid) → plan_at opens exec ≡ Done (Told.Regclass oid) → ⊥) }
-{
-    if let Some(_) = own_constraint(rel, name, constraints) {
-        return Ok(Exec::Failing(CommandError::ConstraintExists { name }));
-    }
-    let row = Row::Con {
-        oid: NEW,
-        rel,
-        name,
-        valid,
-        what: ConKind::Check(text),
-    };
-    let draft = adding_draft(alloc, None, row, rel)?;
-    Ok(Exec::Writing(draft))
-}
-
-/// `add constraint .. foreign key`, by the rows of the table's constraints and of those that refer to it.
-pub(crate) fn foreign_name(rel: Oid, key: ForeignKey, constraints: &[Row]) -> Altering
-    ensures plan { (opens : List OpenRelation) → altering_at opens result ≡ constraint_free rel key.constraint (foreign_named key rel) constraints.now }
-    ensures left { alter_acts_left result < 5 }
-    ensures there { (opens : List OpenRelation) (name : List ℕ) → altering_at opens result ≡ Absent name → ⊥ }
-{
-    match own_constraint(rel, key.constraint, constraints) {
-        Some(_) => Altering::Failing(CommandError::ConstraintExists {
-            name: key.constraint,
-        }),
-        None => Altering::FindingOwnColumn { rel, key },
-    }
-}
-
-/// `add constraint .. foreign key`, after the lookup of the table's own column.
-pub(crate) fn own_column(rel: Oid, key: ForeignKey, rows: &[Row]) -> Altering
-    ensures plan { (opens : List OpenRelation) → altering_at opens result ≡ column_there key.column (referring key rel) rows.now }
-    ensures left { alter_acts_left result < 4 }
-    ensures there { (opens : List OpenRelation) (name : List ℕ) → altering_at opens result ≡ Absent name → ⊥ }
-{
-    match rows.first() {
-        Some(row) => Altering::FindingReferred {
-            rel,
-            key,
-            row: *row,
-        },
-        None => Altering::Failing(CommandError::NoColumn { name: key.column }),
-    }
-}
-
-/// `add constraint .. foreign key`, after the lookup of the other table.
-pub(crate) fn found_referred(rel: Oid, key: ForeignKey, row: Row, rows: &[Row]) -> Altering
-    ensures plan { (opens : List OpenRelation) → altering_at opens result ≡ found_rows key.refers (referring_to key rel row) rows.now }
-    ensures left { alter_acts_left result < 3 }
-    ensures again { (opens : List OpenRelation) (name : List ℕ) → altering_at opens result ≡ Absent name → altering_again opens result ≡ altering_at opens (Altering.FindingReferred rel key row) }
-{
-    match rows.first() {
-        Some(
-            Row::Class {
-                oid,
-                kind: Kind::Table,
-                ..
-            },
-        ) => Altering::FindingReferredColumn {
-            rel,
-            key,
-            row,
-            other: *oid,
-        },
-        Some(Row::Class { .. }) => Altering::Failing(CommandError::NotTable { name: key.refers }),
-        _ => Altering::MissingReferred { rel, key, row },
-    }
-}
-
-/// `add constraint .. foreign key`, after the lookup of the other table's column.
-pub(crate) fn referred_column(
-    alloc: Global,
-    rel: Oid,
-    key: &ForeignKey,
-    row: &Row,
-    other: Oid,
-    rows: &[Row],
-) -> Result<Exec, NoMemory>
-    ensures plan { IfOk result (λ exec. (opens : List OpenRelation) → plan_at opens exec ≡ column_there key.now.ref_column (adding_foreign key.now rel row.now other) rows.now) }
-    ensures left { IfOk result (λ exec. acts_left exec < 2) }
-    ensures there { IfOk result (λ exec. (opens : List OpenRelation) (name : List ℕ) → plan_at opens exec ≡ Absent name → ⊥) }
-    ensures named { IfOk result (λ exec. (opens : List OpenRelation) (oid : Oid) → plan_at opens exec ≡ Done (Told.Regclass oid) → ⊥) }
-{
-    let Some(there) = rows.first() else {
-        return Ok(Exec::Failing(CommandError::NoColumn {
-            name: key.ref_column,
-        }));
-    };
-    let constraint = Row::Con {
-        oid: NEW,
-        rel,
-        name: key.constraint,
-        valid: key.valid,
-        what: ConKind::Foreign {
-            num: column_number(row),
-            refrel: other,
-            refnum: column_number(there),
-        },
-    };
-    let draft = adding_draft(alloc, None, constraint, other)?;
-    Ok(Exec::Writing(draft))
-}
-
-/// `validate constraint`, by the rows of the table's constraints and of those that refer to it.
-pub(crate) fn validated(
-    alloc: Global,
-    rel: Oid,
-    name: Name,
-    constraints: &[Row],
-) -> Result<Exec, NoMemory>
-    ensures plan { IfOk result (λ exec. (opens : List OpenRelation) → plan_at opens exec ≡ constraint_there rel name (validating rel) constraints.now) }
-    ensures left { IfOk result (λ exec. acts_left exec < 5) }
-    ensures there { IfOk result (λ exec. (opens : List OpenRelation) (name : List ℕ) → plan_at opens exec ≡ Absent name → ⊥) }
-    ensures named { IfOk result (λ exec. (opens : List OpenRelation) (oid : Oid) → plan_at opens exec ≡ Done (Told.Regclass oid) → ⊥) }
-{
-    let Some(row) = own_constraint(rel, name, constraints) else {
-        return Ok(Exec::Failing(CommandError::NoConstraint { name }));
-    };
-    match as_valid(&row) {
-        Some(valid) => Ok(Exec::Writing(replacing_draft(alloc, valid, rel)?)),
-        None => Ok(Exec::Done(Told::Ok)),
     }
 }
 
@@ -192,29 +187,6 @@ fn as_valid(row: &Row) -> Option<Row>
             what: *what,
         }),
         _ => None,
-    }
-}
-
-/// `drop constraint`, by the rows of the table's constraints and of those that refer to it.
-pub(crate) fn constraint_dropped(
-    alloc: Global,
-    rel: Oid,
-    name: Name,
-    constraints: &[Row],
-) -> Result<Exec, NoMemory>
-    ensures plan { IfOk result (λ exec. (opens : List OpenRelation) → plan_at opens exec ≡ constraint_there rel name (dropping_constraint opens rel) constraints.now) }
-    ensures left { IfOk result (λ exec. acts_left exec < 5) }
-    ensures there { IfOk result (λ exec. (opens : List OpenRelation) (name : List ℕ) → plan_at opens exec ≡ Absent name → ⊥) }
-    ensures named { IfOk result (λ exec. (opens : List OpenRelation) (oid : Oid) → plan_at opens exec ≡ Done (Told.Regclass oid) → ⊥) }
-{
-    match own_constraint(rel, name, constraints) {
-        Some(row) => {
-            let other = refers_to(&row);
-            let draft = dropped_constraint(alloc, row.key(), rel, other)?;
-            let rels = other_table(alloc, other)?;
-            Ok(to_lock(rels, draft))
-        }
-        None => Ok(Exec::Failing(CommandError::NoConstraint { name })),
     }
 }
 

@@ -40,6 +40,27 @@ pub(crate) fn draft_of(alloc: Global, changes: Listed<Change>) -> Draft
     }
 }
 
+/// The draft that inserts a row.
+pub(crate) fn inserting(alloc: Global, row: Row) -> Result<Draft, NoMemory>
+    ensures { IfOk result (λ draft. writing draft ≡ changing (Change.Insert row ∷ [])) }
+{
+    let mut changes = Listed::new(alloc);
+    changes.push(Change::Insert(row))?;
+    Ok(draft_of(alloc, changes))
+}
+
+/// The draft that deletes a row, if there is one, and replaces another.
+pub(crate) fn replacing(alloc: Global, deleted: Option<Row>, row: Row) -> Result<Draft, NoMemory>
+    ensures { IfOk result (λ draft. writing draft ≡ changing (deleting deleted ++ Change.Replace row ∷ [])) }
+{
+    let mut changes = Listed::new(alloc);
+    if let Some(other) = deleted {
+        changes.push(Change::Delete(other.key()))?;
+    }
+    changes.push(Change::Replace(row))?;
+    Ok(draft_of(alloc, changes))
+}
+
 /// The draft that deletes a row, if there is one, and inserts one with a new oid, and of which a relation is told too.
 pub(crate) fn adding_draft(
     alloc: Global,

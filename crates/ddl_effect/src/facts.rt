@@ -41,16 +41,13 @@ pub fn effect(alloc: Global, command: &Command, facts: &Facts) -> Result<Draft, 
             Want::Fails(error) => return Err(EffectRefusal::Cause(error)),
             Want::Absent(name) => return Err(EffectRefusal::Absent(name)),
             Want::Write => {
-                return match exec.into_draft(alloc) {
-                    Ok(draft) => Ok(draft),
-                    Err(NoMemory) => Err(EffectRefusal::NoMemory),
-                };
+                return Ok(exec.into_draft());
             }
             want => {
                 let Ok(rows) = rows_for(alloc, &want, facts.rows.as_slice()) else {
                     return Err(EffectRefusal::NoMemory);
                 };
-                let Ok(()) = exec.give(alloc, facts.opened.as_slice(), &rows) else {
+                let Ok(()) = exec.give(alloc, &rows) else {
                     return Err(EffectRefusal::NoMemory);
                 };
             }

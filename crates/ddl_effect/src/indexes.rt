@@ -1,134 +1,62 @@
-// What commands on indexes come to by the rows that their acts gave.
+// Commands on indexes.
 
-ghost use Rattle.std.specs.Prelude.{◌≡◌, ◌<◌, ◌≤◌, ◌+◌, ◌∷◌, ℕ, List, [], None, Ok, length, IfOk, IfSome, OnErr};
+ghost use Rattle.std.specs.Prelude.{◌≡◌, ◌<◌, ◌≤◌, ◌∷◌, [], length, IfOk};
+ghost use Rattle.base_types.specs.declared.nums.TheConstants.{MOST_INDEX_COLUMNS as MOST};
 ghost use Rattle.base_types.specs.declared.row_key.RowKey.TheVariants as keys;
-ghost use Rattle.ddl_effect.specs.Plans.{Absent, Done, after_act};
-ghost use Rattle.ddl_effect.specs.Parts.{found as found_rows, altering, writing};
-ghost use Rattle.ddl_effect.specs.Indexes.{adding_index, create_index, dropping_index};
-ghost use Rattle.ddl_effect.specs.Commands.{plan_of};
-ghost use Rattle.ddl_effect.specs.Stages.{acts_left, most_acts, plan_at, plan_again};
+ghost use Rattle.ddl_effect.specs.Parts.{looking_up, altering, writing};
+ghost use Rattle.ddl_effect.specs.Indexes.{adding_index, numbering, create_index as creating_index, drop_index as dropping_index};
+ghost use Rattle.ddl_effect.specs.Replays.{Comes};
 
 use crate::altered_rows::column_number;
 use crate::draft::NEW;
-use crate::further_locks::to_lock;
-use crate::lists::taken;
-use crate::opens::has_open;
-use crate::{Draft, Exec, NewIndex, Numbering, OpenRelation, Told};
+use crate::leave::{done, fails};
+use crate::{Draft, Leave, OpenRelation, Replay, Step, Told};
 use base_types::{
-    Change, Command, IndexState, Kind, Listed, MOST_INDEX_COLUMNS, Name, NoMemory, Nums, Oid, Row,
+    Change, IndexState, Kind, Listed, MOST_INDEX_COLUMNS, Name, NoMemory, Nums, Oid, Purpose, Row,
     RowKey,
 };
 use command_answers::CommandError;
 use std::alloc::Global;
 
-/// `create index` at its beginning.
-pub(crate) fn new_index(
-    alloc: Global,
-    name: Name,
-    on_table: Name,
-    columns: &[Name],
-) -> Result<Exec, NoMemory>
-    ensures plan { IfOk result (λ exec. (opens : List OpenRelation) → plan_at opens exec ≡ plan_of opens (Command.CreateIndex name on_table columns.now)) }
-    ensures few { IfOk result (λ exec. acts_left exec ≤ most_acts) }
-{
-    let count = columns.len();
-    let columns = Listed::from_vec(columns.to_vec(alloc)?);
-    Ok(Exec::FindingIndexed(NewIndex {
-        name,
-        on_table,
-        columns,
-    }))
-}
-
-/// `create index`, after the lookup of its table.
-pub(crate) fn found_indexed(
-    alloc: Global,
-    index: &mut NewIndex,
-    opens: &[OpenRelation],
-    rows: &[Row],
-) -> Exec
-    ensures plan { plan_at opens.now result ≡ found_rows index.old.on_table (altering opens.now index.old.on_table (create_index index.old.name index.old.columns)) rows.now }
-    ensures left { acts_left result < length index.old.columns + 3 }
-    ensures again { (name : List ℕ) → plan_at opens.now result ≡ Absent name → plan_again opens.now result ≡ plan_at opens.now (Exec.FindingIndexed index.old) }
-    ensures named { (oid : Oid) → plan_at opens.now result ≡ Done (Told.Regclass oid) → ⊥ }
-{
-    let found = NewIndex {
-        name: index.name,
-        on_table: index.on_table,
-        columns: taken(alloc, &mut index.columns),
-    };
-    match rows.first() {
-        Some(
-            Row::Class {
-                oid,
-                kind: Kind::Table,
-                ..
-            },
-        ) => {
-            if has_open(*oid, opens) {
-                return Exec::Failing(CommandError::InUse { rel: *oid });
-            }
-            Exec::OpeningIndexed {
-                rel: *oid,
-                index: found,
-            }
-        }
-        Some(Row::Class { .. }) => Exec::Failing(CommandError::NotTable {
-            name: index.on_table,
-        }),
-        _ => Exec::MissingIndexed(found),
-    }
-}
-
 /// `create index`, once the descriptor of its table is open (`DefineIndex` in
-/// `src/backend/commands/indexcmds.c`).
-pub(crate) fn to_number_columns(alloc: Global, rel: Oid, name: Name, columns: Listed<Name>) -> Exec
-    ensures plan { (opens : List OpenRelation) → plan_at opens result ≡ create_index name columns rel }
-    ensures left { acts_left result < length columns + 2 }
-    ensures there { (opens : List OpenRelation) (name : List ℕ) → plan_at opens result ≡ Absent name → ⊥ }
-    ensures named { (opens : List OpenRelation) (oid : Oid) → plan_at opens result ≡ Done (Told.Regclass oid) → ⊥ }
-{
-    let count = columns.as_slice().len();
-    if count < 1 || count > MOST_INDEX_COLUMNS {
-        return Exec::Failing(CommandError::TooManyColumns);
-    }
-    Exec::NumberingIndex {
-        rel,
-        name,
-        columns: Numbering::new(alloc, columns),
-    }
-}
-
-/// `create index`, after the lookup of a column: what comes next, or nothing where the next column is looked up.
-/// Out of memory, nothing changes.
-pub(crate) fn column_numbered(
+/// `src/backend/commands/indexcmds.c`): 1 to 32 columns.
+#[tactic(auto, using(crate::proofs::Replays::settled))]
+pub(crate) fn create_index(
     alloc: Global,
+    given: &mut Replay,
     rel: Oid,
     name: Name,
-    columns: &mut Numbering,
-    rows: &[Row],
-) -> Result<Option<Exec>, NoMemory>
-    ensures stays { result ≡ Ok None → plan_at [] (Exec.NumberingIndex rel name columns.new) ≡ after_act rows.now (plan_at [] (Exec.NumberingIndex rel name columns.old)) }
-    ensures shorter { result ≡ Ok None → length columns.new.left < length columns.old.left }
-    ensures plan { IfOk result (λ next. IfSome next (λ exec. (opens : List OpenRelation) → plan_at opens exec ≡ after_act rows.now (plan_at opens (Exec.NumberingIndex rel name columns.old)))) }
-    ensures left { IfOk result (λ next. IfSome next (λ exec. acts_left exec < 2)) }
-    ensures there { IfOk result (λ next. IfSome next (λ exec. (opens : List OpenRelation) (name : List ℕ) → plan_at opens exec ≡ Absent name → ⊥)) }
-    ensures named { IfOk result (λ next. IfSome next (λ exec. (opens : List OpenRelation) (oid : Oid) → plan_at opens exec ≡ Done (Told.Regclass oid) → ⊥)) }
-    ensures err { OnErr result (columns.new ≡ columns.old) }
+    columns: &[Name],
+) -> Result<Step, Leave>
+    ensures { Comes result given.old (creating_index name columns.now rel) }
 {
-    let Some(row) = rows.first() else {
-        return Ok(Some(Exec::Failing(CommandError::NoColumn {
-            name: columns.column(),
-        })));
-    };
-    let num = column_number(row);
-    if !columns.is_last() {
-        columns.push(num)?;
-        return Ok(None);
+    if columns.len() < 1 || columns.len() > MOST_INDEX_COLUMNS {
+        return fails(CommandError::TooManyColumns);
     }
-    let nums = columns.all(alloc, num)?;
-    let draft = index_draft(alloc, name, rel, nums)?;
-    Ok(Some(Exec::Writing(draft)))
+    number_columns(alloc, given, rel, name, columns)
+}
+
+// Looks up the columns one by one, for their numbers, and writes.
+#[tactic(auto, using(crate::proofs::Replays::settled))]
+fn number_columns(
+    alloc: Global,
+    given: &mut Replay,
+    rel: Oid,
+    name: Name,
+    columns: &[Name],
+) -> Result<Step, Leave>
+    requires some { 0 < length columns.now }
+    requires few { length columns.now ≤ MOST }
+    ensures { Comes result given.old (numbering name rel columns.now []) }
+{
+    let mut nums = Vec::new(alloc);
+    for column in columns {
+        let Some(row) = given.search(Purpose::AttName(rel, *column))?.first() else {
+            return fails(CommandError::NoColumn { name: *column });
+        };
+        nums.push(column_number(row))?;
+    }
+    given.write(index_draft(alloc, name, rel, Nums::new(&nums))?)
 }
 
 // The draft of a new index: its own row and that of its columns have one oid, and its table is told.
@@ -157,20 +85,21 @@ fn index_draft(alloc: Global, name: Name, rel: Oid, nums: Nums) -> Result<Draft,
     })
 }
 
-/// `drop index`, by the index's row (`index_drop` in `src/backend/catalog/index.c`).
-pub(crate) fn index_dropped(alloc: Global, rel: Oid, rows: &[Row]) -> Result<Exec, NoMemory>
-    ensures plan { IfOk result (λ exec. (opens : List OpenRelation) → plan_at opens exec ≡ dropping_index opens rel rows.now) }
-    ensures left { IfOk result (λ exec. acts_left exec < 5) }
-    ensures there { IfOk result (λ exec. (opens : List OpenRelation) (name : List ℕ) → plan_at opens exec ≡ Absent name → ⊥) }
-    ensures named { IfOk result (λ exec. (opens : List OpenRelation) (oid : Oid) → plan_at opens exec ≡ Done (Told.Regclass oid) → ⊥) }
+/// `drop index`, once the descriptor is open (`index_drop` in `src/backend/catalog/index.c`): its table is locked, and told.
+#[tactic(auto, using(crate::proofs::Replays::settled))]
+pub(crate) fn drop_index(
+    alloc: Global,
+    opens: &[OpenRelation],
+    given: &mut Replay,
+    rel: Oid,
+) -> Result<Step, Leave>
+    ensures { Comes result given.old (dropping_index opens.now rel) }
 {
-    let Some(Row::Ind { table, .. }) = rows.first() else {
-        return Ok(Exec::Done(Told::Ok));
+    let Some(Row::Ind { table, .. }) = given.read(Purpose::IndexRow(rel))?.first() else {
+        return done(Told::Ok);
     };
     let draft = dropped_index(alloc, rel, *table)?;
-    let mut rels = Listed::new(alloc);
-    rels.push(*table)?;
-    Ok(to_lock(rels, draft))
+    given.lock_all(opens, &[*table], draft)
 }
 
 // The draft that deletes the rows of an index, of which its table is told.

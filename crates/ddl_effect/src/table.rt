@@ -1,32 +1,35 @@
-ghost use Rattle.std.specs.Prelude.{◌≡◌, ◌≤◌, List, [], map, length, IfOk};
+ghost use Rattle.std.specs.Prelude.{◌≡◌, ◌≤◌, [], map, length, IfOk};
 ghost use Rattle.base_types.specs.declared.dropped.TheConstants.{MOST_COLUMNS};
 ghost use Rattle.ddl_effect.specs.Tables.{creating, first_twice as first_repeated, new_table as table_draft, new_column as column_change, table_row};
-ghost use Rattle.ddl_effect.specs.Stages.{plan_at};
+ghost use Rattle.ddl_effect.specs.Replays.{Comes};
 
 use crate::draft::NEW;
-use crate::{Draft, Exec, OpenRelation};
+use crate::leave::fails;
+use crate::{Draft, Leave, Replay, Step};
 use base_types::{Change, Kind, Listed, MOST_COLUMNS, Name, NewColumn, NoMemory, Row};
 use command_answers::CommandError;
 use std::alloc::{AllocError, Global};
 use std::collections::BTreeSet;
 
-// `create table` (`DefineRelation` in `src/backend/commands/tablecmds.c`): its rows, or why it has too
-// many columns or one twice (`CheckAttributeNamesTypes` in `src/backend/catalog/heap.c`).
+/// `create table` (`DefineRelation` in `src/backend/commands/tablecmds.c`): not too many
+/// columns, and none twice (`CheckAttributeNamesTypes` in `src/backend/catalog/heap.c`).
+#[tactic(auto, using(crate::proofs::Replays::settled))]
 pub(crate) fn create_table(
     alloc: Global,
+    given: &mut Replay,
     name: Name,
     columns: &[NewColumn],
-) -> Result<Exec, NoMemory>
-    ensures { IfOk result (λ exec. (opens : List OpenRelation) → plan_at opens exec ≡ creating name columns.now) }
+) -> Result<Step, Leave>
+    ensures { Comes result given.old (creating name columns.now) }
 {
     if columns.len() > MOST_COLUMNS as usize {
-        return Ok(Exec::Failing(CommandError::TooManyColumns));
+        return fails(CommandError::TooManyColumns);
     }
     let names = column_names(alloc, columns)?;
-    match first_twice(alloc, &names)? {
-        Some(name) => Ok(Exec::Failing(CommandError::ColumnExists { name })),
-        None => Ok(Exec::Writing(new_table(alloc, name, columns)?)),
+    if let Some(name) = first_twice(alloc, &names)? {
+        return fails(CommandError::ColumnExists { name });
     }
+    given.write(new_table(alloc, name, columns)?)
 }
 
 // The names of columns in order.

@@ -1,0 +1,7 @@
+use Rattle.std.proofs.Common.{Err, ap}
+use Rattle.std.proofs.lemmas.Result.{err_from_is_err_and}
+use Rattle.ddl_effect.specs.Indexes.{create_index as creating_index}
+use Rattle.ddl_effect.proofs.commands.create_on.Goals as goal
+
+pub returns-in_err-rel : goal.returns-in_err-rel
+returns-in_err-rel c = let p = err_from_is_err_and c.from_residual.result c.from_residual.ensures.1 in rw (p.1, p.2) (ap (λ l. Err l) (c.in_err-rel.ensures.stays (creating_index c.args.name c.args.columns.now)))
