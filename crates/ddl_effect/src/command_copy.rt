@@ -4,8 +4,8 @@ ghost use Rattle.ddl_effect.specs.Stages.{alters_table};
 use base_types::{Command, Listed, Name, NewColumn, NoMemory};
 use std::alloc::{AllocError, Global};
 
-// A copy of a command.
-pub(crate) fn copied(alloc: Global, command: &Command) -> Result<Command, NoMemory>
+/// A copy of a command.
+pub fn copied_command(alloc: Global, command: &Command) -> Result<Command, NoMemory>
     ensures { IfOk result (λ copy. copy ≡ command.now) }
 {
     Ok(match command {

@@ -10,13 +10,25 @@ use std::marker::Model;
 use std::mem::replace;
 
 /// A command that is on its way, with what its acts gave so far: it goes over them again at each act.
-#[derive(Drop)]
 pub struct Course {
     opens: Vec<OpenRelation>,
     command: Command,
     given: Vec<Listed<Row>>,
     step: Step,
     before: Option<Step>,
+}
+
+// Written out, and not derived: so it is proved here, and not again wherever one is dropped.
+impl Drop for Course {
+    fn drop(self) {
+        let Course {
+            opens: _,
+            command: _,
+            given: _,
+            step: _,
+            before: _,
+        } = self;
+    }
 }
 
 impl Model for Course {
@@ -96,7 +108,14 @@ impl Course {
     pub(crate) fn into_step(self) -> Step
         ensures { result ≡ step_of (plan_left self) }
     {
-        self.step
+        let Course {
+            opens: _,
+            command: _,
+            given: _,
+            step,
+            before: _,
+        } = self;
+        step
     }
 }
 

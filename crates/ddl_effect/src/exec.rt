@@ -4,7 +4,7 @@ ghost use Rattle.ddl_effect.specs.Commands.{plan_of};
 ghost use Rattle.ddl_effect.specs.Replays.{step_of};
 ghost use Rattle.ddl_effect.specs.Stages.{plan_at, plan_again, want_of, told_of, acts_left, most_acts, want_at};
 
-use crate::command_copy::copied;
+use crate::command_copy::copied_command;
 use crate::course::Course;
 use crate::{Draft, OpenRelation, Step, Told, Want};
 use base_types::{Command, NoMemory, Purpose, Row};
@@ -12,7 +12,6 @@ use command_answers::CommandError;
 use std::alloc::Global;
 
 /// How far a command is: what is left of it.
-#[derive(Drop)]
 pub enum Exec {
     /// It has done what it says, and answers this.
     Done(Told),
@@ -22,13 +21,22 @@ pub enum Exec {
     Going(Course),
 }
 
+// Written out, and not derived: so it is proved here, and not again wherever one is dropped.
+impl Drop for Exec {
+    fn drop(self) {
+        match self {
+            Exec::Done(_) | Exec::Failing(_) | Exec::Going(_) => (),
+        }
+    }
+}
+
 impl Exec {
     /// A command at its beginning, by the relations that its session has open.
     pub fn new(alloc: Global, opens: &[OpenRelation], command: &Command) -> Result<Exec, NoMemory>
         ensures plan { IfOk result (λ exec. (any : List OpenRelation) → plan_at any exec ≡ plan_of opens.now command.now) }
         ensures few { IfOk result (λ exec. acts_left exec ≤ most_acts) }
     {
-        let own = copied(alloc, command)?;
+        let own = copied_command(alloc, command)?;
         Ok(Exec::Going(Course::new(alloc, opens, own)?))
     }
 
@@ -94,10 +102,7 @@ impl Exec {
     {
         match self {
             Exec::Done(_) | Exec::Failing(_) => unreachable!(),
-            Exec::Going(course) => match course.into_step() {
-                Step::Write(draft) => draft,
-                _ => unreachable!(),
-            },
+            Exec::Going(course) => course.into_step().into_draft(),
         }
     }
 

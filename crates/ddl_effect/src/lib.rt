@@ -38,6 +38,7 @@ mod want;
 
 pub use absent::absent_error;
 pub use alteration::Alteration;
+pub use command_copy::copied_command;
 pub use course::Course;
 pub use draft::Draft;
 pub use exec::Exec;

@@ -1,9 +1,12 @@
+ghost use Rattle.std.specs.Prelude.{◌≡◌};
+ghost use Rattle.ddl_effect.specs.Stages.{want_at};
+ghost use Rattle.ddl_effect.specs.declared.want.Want.TheVariants as wants;
+
 use crate::{Draft, Told};
 use base_types::{Kind, Mode, Name, Oid, Purpose};
 use command_answers::CommandError;
 
 /// What a command does next.
-#[derive(Drop)]
 pub enum Step {
     /// It has done what it says, and answers this.
     Done(Told),
@@ -23,4 +26,29 @@ pub enum Step {
     Lock { rel: Oid, mode: Mode },
     /// It writes.
     Write(Draft),
+}
+
+// Written out, and not derived: so it is proved here, and not again wherever one is dropped.
+impl Drop for Step {
+    fn drop(self) {
+        match self {
+            Step::Done(_) | Step::Fails(_) | Step::Absent(_) | Step::Search(_) | Step::Read(_) =>
+                (),
+            Step::Lookup { name: _, mode: _ } | Step::Open { rel: _, kind: _ } => (),
+            Step::Lock { rel: _, mode: _ } | Step::Write(_) => (),
+        }
+    }
+}
+
+impl Step {
+    /// The draft that it writes, by value. Condition: it writes.
+    pub(crate) fn into_draft(self) -> Draft
+        requires { want_at self ≡ wants.Write }
+        ensures { self ≡ Step.Write result }
+    {
+        match self {
+            Step::Write(draft) => draft,
+            _ => unreachable!(),
+        }
+    }
 }

@@ -3,10 +3,9 @@ use Rattle.ddl_effect.specs.Taken.{Taken}
 use Rattle.ddl_effect.specs.Courses.{plan_left, left_again}
 use Rattle.ddl_effect.proofs.Giving.{back_course, again_by, absent_at, not_absent, found_same}
 use Rattle.ddl_effect.proofs.course.Course.search_again.Goals as goal
-use Rattle.ddl_effect.proofs.course.Course.search_again.Goals.{in-Done+in-Columns-1, in-Done+in-Ok-1, in-Write-1, in-Fails-1}
 
-pub invariant_of-self-in-Some-4 : goal.invariant_of-self-in-Some-4
-invariant_of-self-in-Some-4 c =
+pub invariant_of-self : goal.invariant_of-self
+invariant_of-self c =
     let cut : c.pop.new.self.items ≡ take (length c.self.inside.given.items - 1) c.self.inside.given.items = search rules in
     let none : c.take.new.self ≡ None = search rules in
     let was : c.self.inside.before ≡ Some c.in-Some.before = search rules in
@@ -21,8 +20,6 @@ returns-in-Some c =
     let taken : Taken = record { opens = c.self.inside.opens.items; command = c.self.inside.command; given = c.self.inside.given.items } in
     let cut : c.pop.new.self.items ≡ take (length c.self.inside.given.items - 1) c.self.inside.given.items = search rules in
     let was : c.self.inside.before ≡ Some c.in-Some.before = search rules in
-    let is : c.match-self-before.self ≡ record { opens = c.self.inside.opens.items; command = c.self.inside.command; given = c.pop.new.self.items } = elim c.match-self-before.branch [ in-Done+in-Columns-1 w ↦ w.self-is | in-Done+in-Ok-1 w ↦ w.self-is | in-Write-1 w ↦ w.self-is | in-Fails-1 w ↦ w.self-is ] in
-    ap plan_left is
-    ∙ ap (λ g. plan_left record { opens = c.self.inside.opens.items; command = c.self.inside.command; given = g }) cut
+    ap (λ g. plan_left record { opens = c.self.inside.opens.items; command = c.self.inside.command; given = g }) cut
     ∙ sym (again_by taken c.in-Some.before (absent_at (plan_left taken) c.in-Absent.field-0 (c.self.invariant.step ∙ c.in-Absent.is)) (rw was at c.self.invariant.before))
     ∙ ap left_again c.self.view_is
