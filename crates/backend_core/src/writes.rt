@@ -3,10 +3,9 @@ ghost use Rattle.cacheless.specs.State.{relation_made as relation_of, change_mak
 
 use crate::Backend;
 use base_types::{Change, NoMemory, Oid, Row};
-use ddl_effect::{Draft, Exec, Told};
+use ddl_effect::Draft;
 use seg_calls::{Seg, WriteRefusal};
 use std::alloc::Global;
-use std::mem::replace;
 
 impl Backend {
     ghost use Rattle.std.specs.Prelude.{◌≡◌, OnOk, OnErr};
@@ -26,11 +25,12 @@ impl Backend {
         ensures refused { OnErr result (IsRefused (L.script seg.old) (L.history seg.old) (L.history seg.new) (L.promised seg.old) (L.promised seg.new) self.old.progress.id) }
     {
         self.progress.reserve_lock()?;
-        let draft = replace(&mut self.progress.exec, Exec::Done(Told::Ok)).into_draft(alloc)?;
-        match seg.write(self.progress.id, self.progress.finished + 1, &draft) {
+        let Some(draft) = self.progress.exec.draft() else {
+            unreachable!()
+        };
+        match seg.write(self.progress.id, self.progress.finished + 1, draft) {
             Ok(written) => {
-                let made = relation_made(&draft, written.first_oid);
-                self.progress.exec = Exec::Writing(draft);
+                let made = relation_made(draft, written.first_oid);
                 self.progress
                     .enter_write(alloc, written.xid, written.messages.as_slice(), made)?;
                 self.frames
@@ -38,7 +38,6 @@ impl Backend {
             }
             Err(refusal) => match refusal {
                 WriteRefusal::Clash(name, clash) => {
-                    self.progress.exec = Exec::Writing(draft);
                     self.progress.enter_clash(name, clash);
                     Ok(())
                 }

@@ -36,6 +36,7 @@ pub mod Matching
 pub mod SameRows
 pub mod Deciding
 pub mod WantedPlans
+pub mod DraftNext
 pub mod Lacking
 mod Blocking
 mod BeforeStart

@@ -23,7 +23,7 @@ use Rattle.cacheless.specs.Plays.{IsWrite, MayPlayIn}
 use Rattle.cacheless.specs.Session.{Session}
 use Rattle.cacheless.specs.Sessions.{written, resumed}
 use Rattle.cacheless.specs.State.{kept_at, session_at}
-use Rattle.cacheless.proofs.Entries.EnteredFetches.{never_absent}
+use Rattle.cacheless.proofs.Plans.CommandUnder.{never_absent}
 use Rattle.cacheless.proofs.Plans.SilentActs.{on_its_way, its_place}
 use Rattle.cacheless.proofs.Reading.{facts_of-own}
 use Rattle.cacheless.proofs.Resting.{settled_at_rest}
@@ -67,7 +67,7 @@ fetch_there : (scenario : Scenario) (seen : List Entry) (was : Progress) (rests 
 fetch_there scenario seen was rests = by_plan (plan_at was.opens was.exec) refl
   where
     by_plan : (p : Plan) → plan_at was.opens was.exec ≡ p → is_absent (resumed p (session_at was rests.holds.rest)).left ≡ false
-    by_plan (Absent name) at = ap is_absent (rests.holds.sought (ap is_absent at)) ∙ never_absent was.opens was.exec
+    by_plan (Absent name) at = ap is_absent (rests.holds.sought (ap is_absent at)).is ∙ never_absent was.opens was.exec
     by_plan p at = ap is_absent at
 
 -- after its write a command has come out well

@@ -17,7 +17,7 @@ use Rattle.ddl_effect.specs.Plans.{Plan, Act, Done, Fails, Absent, Do, Lookup, O
 use Rattle.ddl_effect.specs.Stages.{plan_at, plan_again, acts_left, want_of, want_of_act}
 use Rattle.ddl_effect.specs.declared.want.Want.{Want}
 use Rattle.ddl_effect.specs.declared.want.Want.TheVariants as wants
-use Rattle.ddl_effect.proofs.Driven.{Seeks, seeks_again, acts_some}
+use Rattle.ddl_effect.proofs.Driven.{acts_some}
 use Rattle.history_model.specs.Read.{is_scan_of, rows_by, rows_read}
 use Rattle.history_model.specs.Versions.{answer_of}
 use Rattle.history_model.proofs.Every.{every-weaker}
@@ -37,6 +37,7 @@ use Rattle.cacheless.specs.State.{blocks_passed, lists_at, no_counts, kept_at, i
 use Rattle.cacheless.specs.Silently.{is_finished_at, rows_for, rows_given, opened_for, Acts, Finishes}
 use Rattle.cacheless.specs.Holds.{FactsFit, Holds, HasActed, HasPassed}
 use Rattle.cacheless.proofs.Settling.{settled-act, settled-finish, acted-out}
+use Rattle.cacheless.proofs.Plans.CommandUnder.{ActsUnder, exec_under, Seeks, seeks_under}
 use Rattle.cacheless.proofs.Plans.SilentActs.{some_is}
 use Rattle.cacheless.proofs.Allowed.OpensKept.{IsOpenEach, IsHeldEach, held_each, after_each}
 use Rattle.cacheless.proofs.Pinning.{open_each, open_pinned, held_pinned, pins_left, pins_opened}
@@ -66,7 +67,7 @@ rows_asked history b scan = along-keeps (λ before given. AreGivenBy scan given)
 -- what an act gave that needs no entry: the rows of a scan are such as it asks for
 gave_asked : (seen : List Entry) (b : ℕ) (s : Progress) (act : Act) (plan : List Row → Plan) (gave : List Row) → FactsFit (facts_of seen b) s → plan_at s.opens s.exec ≡ Do act plan → act_missing s (Do act plan) ≡ [] → gives_in (facts_at s) (work_at s) act ≡ Some gave
     → PutsOpened s.opened (Do act plan) → PutsOpened (s.opened ++ opened_by act) (plan gave)
-gave_asked seen b s (Lookup name mode) plan gave fits at none gives puts = subst (λ l. PutsOpened l (plan gave)) (sym (append-nil s.opened)) (puts gave)
+gave_asked seen b s (Lookup name mode) plan gave fits at none gives puts = puts gave (s.opened ++ [])
 gave_asked seen b s (Open rel kind) plan gave fits at none gives puts = puts gave
 gave_asked seen b s (Search scan) plan gave fits at none gives puts = subst (λ l. PutsOpened l (plan gave)) (sym (append-nil s.opened))
     (puts gave (subst (AreGivenBy scan) (kept_read seen b (kept_at s) scan (ap (λ f. f.kept) fits) (cond_none (is_kept (kept_at s) scan) scan none) ∙ some_is (rows_kept (kept_at s) scan) gave gives) (rows_asked seen b scan)))
@@ -82,6 +83,11 @@ sought_is (Search scan) plan name r seeks = absurd seeks
 sought_is (Read scan) plan name r seeks = absurd seeks
 sought_is (Lock rel mode) plan name r seeks = absurd seeks
 sought_is (Write draft) plan name r seeks = absurd seeks
+
+-- what is put after a lookup is opened after it, whatever was open before
+puts_seeking : (act : Act) (plan : List Row → Plan) (name : List ℕ) (opened other : List Opening) → Seeks name (Do act plan) → PutsOpened opened (Do act plan) → PutsOpened other (Do act plan)
+puts_seeking (Lookup own mode) plan name opened other seeks puts = puts
+puts_seeking act plan name opened other seeks puts = absurd seeks
 
 -- where a search has found nothing, its name is at hand
 absent_or : {X : Type 0} (p : Plan) → is_absent p ≡ true → ((name : List ℕ) → p ≡ Absent name → X) → X
@@ -118,7 +124,10 @@ act_keeps scenario seen was exec opened caches suspects known command act plan g
   facts = let f = holds.facts in λ i. record { due = (f i).due; running = (f i).running; lists = (f i).lists; kept = (ap (λ g. g.kept) f ∙ sym keeps) i };
   counts = holds.counts;
   order = holds.order;
-  sought = λ is. absent_or (plan_at was.opens exec) is (λ name missed. sought_is act plan name (session_at was holds.rest) (seeks name missed) ∙ sym (again name missed));
+  sought = λ is. absent_or (plan_at was.opens exec) is (λ name missed. record {
+    is = sought_is act plan name (session_at was holds.rest) (seeks name missed) ∙ sym (again name missed);
+    puts = λ other. subst (PutsOpened other) (sym (again name missed ∙ at)) (puts_seeking act plan name was.opened other (seeks name missed) (subst (PutsOpened was.opened) at holds.puts));
+  });
   puts = subst (λ p. PutsOpened opened p) (sym on) (subst (λ l. PutsOpened l (plan gave)) (sym opens) (gave_asked seen was.id was act plan gave holds.facts at none gives_it (subst (PutsOpened was.opened) at holds.puts)));
   pins = pins_opened was caches opened (opened_by act) holds.pins pinned opens;
 }
@@ -133,7 +142,7 @@ act_keeps scenario seen was exec opened caches suspects known command act plan g
     none = right_none (builds_missing (kept_at was) was.opened) (act_missing was (Do act plan)) (lacks_none was act plan at free.scans)
 
     seeks : (name : List ℕ) → plan_at was.opens exec ≡ Absent name → Seeks name (Do act plan)
-    seeks name missed = subst (Seeks name) (again name missed ∙ at) (seeks_again was.opens exec name missed)
+    seeks name missed = seeks_under act plan gave name (subst ActsUnder at (exec_under was.opens was.exec)) (sym on ∙ missed)
 
     left : drop was.finished was.commands ≡ command ∷ drop (was.finished + 1) was.commands
     left = left_command was command has
@@ -310,17 +319,17 @@ act_is_left s acts = by_plan (plan_at s.opens s.exec) refl (and_true (owes_nothi
     by_plan (Absent name) at is = absurd (cc)
 
 -- the act that is done without an entry
-pub acted_keeps : (was : Progress) (exec : Exec) (opened : List Opening) (caches : LocalCaches) (suspects : Suspects) (known : AreKnown (is_kept (kept_of caches)) opened suspects) (want : Want) (acts : Acts was) → want ≡ want_of (plan_at was.opens was.exec)
-    → plan_at was.opens exec ≡ after_act (rows_given was want) (plan_at was.opens was.exec) → ((name : List ℕ) → 0 < acts_left was.exec → plan_at was.opens exec ≡ Absent name → plan_again was.opens exec ≡ plan_at was.opens was.exec) → opened ≡ was.opened ++ opened_for want → kept_of caches ≡ kept_at was → PinsMore was.caches caches (opened_for want)
+pub acted_code : (was : Progress) (exec : Exec) (opened : List Opening) (caches : LocalCaches) (suspects : Suspects) (known : AreKnown (is_kept (kept_of caches)) opened suspects) (want : Want) (given : List Row) (acts : Acts was) → want ≡ want_of (plan_at was.opens was.exec) → given ≡ rows_given was want
+    → plan_at was.opens exec ≡ after_act given (plan_at was.opens was.exec) → ((name : List ℕ) → 0 < acts_left was.exec → plan_at was.opens exec ≡ Absent name → plan_again was.opens exec ≡ plan_at was.opens was.exec) → opened ≡ was.opened ++ opened_for want → kept_of caches ≡ kept_at was → PinsMore was.caches caches (opened_for want)
     → (scenario : Scenario) (seen : List Entry) (held : Holds scenario seen was) → HasActed scenario seen was held (record was { exec = exec; opened = opened; caches = caches; suspects = suspects; known = known; taken = None })
-acted_keeps was exec opened caches suspects known want acts wants on again opens keeps pinned scenario seen held = by_plan (plan_at was.opens was.exec) refl (and_true (owes_nothing acts.command was) (gives_left (facts_at was) (work_at was) (plan_at was.opens was.exec)) acts.acts)
+acted_code was exec opened caches suspects known want given acts wants gives on again opens keeps pinned scenario seen held = by_plan (plan_at was.opens was.exec) refl (and_true (owes_nothing acts.command was) (gives_left (facts_at was) (work_at was) (plan_at was.opens was.exec)) acts.acts)
   where
     by_plan : (p : Plan) → plan_at was.opens was.exec ≡ p → (owes_nothing acts.command was ≡ true) × (gives_left (facts_at was) (work_at was) (plan_at was.opens was.exec) ≡ true) → HasActed scenario seen was held (record was { exec = exec; opened = opened; caches = caches; suspects = suspects; known = known; taken = None })
     by_plan (Do act plan) at parts =
         let want_is : want ≡ want_of (Do act plan) = wants ∙ ap want_of at in
         act_acts scenario seen was exec opened caches suspects known acts.command act plan (rows_given was (want_of (Do act plan))) held acts.at parts.0 at
         (gave_is was act plan (sym (ap (gives_left (facts_at was) (work_at was)) at) ∙ parts.1))
-        (on ∙ ap (after_act (rows_given was want)) at ∙ ap (λ w. plan (rows_given was w)) want_is)
+        (on ∙ (λ i. after_act (gives i) (at i)) ∙ ap (λ w. plan (rows_given was w)) want_is)
         (λ name. again name (act_is_left was acts))
         (opens ∙ ap (λ w. was.opened ++ opened_for w) want_is ∙ ap (λ l. was.opened ++ l) (opened_is act plan))
         keeps
@@ -328,14 +337,6 @@ acted_keeps was exec opened caches suspects known want acts wants on again opens
     by_plan (Done told) at parts = absurd (let both : false ≡ true = sym (ap (gives_left (facts_at was) (work_at was)) at) ∙ parts.1 in cc)
     by_plan (Fails error) at parts = absurd (let both : false ≡ true = sym (ap (gives_left (facts_at was) (work_at was)) at) ∙ parts.1 in cc)
     by_plan (Absent name) at parts = absurd (let both : false ≡ true = sym (ap (gives_left (facts_at was) (work_at was)) at) ∙ parts.1 in cc)
-
--- the same by the rows that the code gives, and by the relations that it goes by
-pub acted_code : (was : Progress) (exec : Exec) (opened : List Opening) (caches : LocalCaches) (suspects : Suspects) (known : AreKnown (is_kept (kept_of caches)) opened suspects) (want : Want) (opens : List OpenRelation) (given : List Row) (acts : Acts was) → want ≡ want_of (plan_at was.opens was.exec) → given ≡ rows_given was want → opens ≡ was.opens
-    → plan_at opens exec ≡ after_act given (plan_at opens was.exec) → ((name : List ℕ) → 0 < acts_left was.exec → plan_at opens exec ≡ Absent name → plan_again opens exec ≡ plan_at opens was.exec) → opened ≡ was.opened ++ opened_for want → kept_of caches ≡ kept_at was → PinsMore was.caches caches (opened_for want)
-    → (scenario : Scenario) (seen : List Entry) (held : Holds scenario seen was) → HasActed scenario seen was held (record was { exec = exec; opened = opened; caches = caches; suspects = suspects; known = known; taken = None })
-acted_code was exec opened caches suspects known want opens given acts wants gives same on again pushes keeps pinned = acted_keeps was exec opened caches suspects known want acts wants
-    (subst (λ o. plan_at o exec ≡ after_act given (plan_at o was.exec)) same on ∙ ap (λ l. after_act l (plan_at was.opens was.exec)) gives)
-    (subst (λ o. (name : List ℕ) → 0 < acts_left was.exec → plan_at o exec ≡ Absent name → plan_again o exec ≡ plan_at o was.exec) same again) pushes keeps pinned
 
 -- the code's step to the next command
 pub finish_code : (was : Progress) (exec : Exec) (blocked : Bool) (blocks : Blocks) (tally : Counts) (opens : List OpenRelation) (opened : List Opening) (caches : LocalCaches) (suspects : Suspects) (known : AreKnown (is_kept (kept_of caches)) opened suspects) (answer : Option (List ℕ)) (were : List OpenRelation) (held_before : List Opening) (are : List OpenRelation) (commands : List Command) (command : Command) → Finishes was → slice_get was.commands was.finished ≡ Some command

@@ -11,5 +11,6 @@ pub mod StillUnder
 pub mod ClearLocks
 pub mod Given
 pub mod AfterActs
+pub mod CommandUnder
 pub mod ToldHeld
 pub mod SilentActs

@@ -1,20 +1,15 @@
--- What each stage of a command keeps to.
-use Rattle.std.proofs.Common.{◌≡◌, ◌&&◌, Bool, true, false, not, nat_le, int_lt, negsuc, pos, List, refl}
+-- What a command reads and what it searches.
+use Rattle.std.proofs.Common.{◌≡◌, ◌∙◌, ◌||◌, Bool, true, false, List, [], ◌∷◌, refl, ap, sym}
 use Rattle.std.specs.Prelude.{⊤}
-use Rattle.base_types.specs.Scans.{is_build_scan}
+use Rattle.std.specs.List.{list_any}
+use Rattle.base_types.specs.Scans.{same_scan, build_scans, is_build_scan}
+use Rattle.base_types.specs.declared.kind.Kind.TheVariants.{Table, Index}
 use Rattle.base_types.specs.declared.scan.Purpose.TheVariants as scans
-use Rattle.command_answers.specs.declared.error.CommandError.TheVariants as errors
-use Rattle.ddl_effect.specs.Commands.{if_passes, with_column, reading, targeting, filling}
-use Rattle.ddl_effect.specs.Plans.{Plan, Fails, Do, Search, Read}
-use Rattle.ddl_effect.specs.Stages.{plan_at, altering_at, altered, want_of}
-use Rattle.ddl_effect.specs.declared.alteration.Alteration.{Alteration}
-use Rattle.ddl_effect.specs.declared.alteration.Alteration.TheVariants as alterations
-use Rattle.ddl_effect.specs.declared.want.Want.TheVariants as wants
-use Rattle.ddl_effect.specs.declared.altering.Altering.{Altering}
-use Rattle.ddl_effect.specs.declared.altering.Altering.TheVariants as alters
-use Rattle.ddl_effect.specs.declared.exec.Exec.TheVariants as stages
-use Rattle.cacheless.specs.State.{is_absent}
-use Rattle.cacheless.specs.Types.{Oid, CommandError, OpenRelation, Exec}
+use Rattle.ddl_effect.specs.Plans.{Plan, Do, Search, Read}
+use Rattle.ddl_effect.specs.Stages.{plan_at}
+use Rattle.cacheless.specs.Types.{Oid, Kind, Purpose, OpenRelation, Opening, Exec}
+use Rattle.cacheless.specs.OpenedReads.{is_of_opened}
+use Rattle.cacheless.proofs.Plans.CommandUnder.{ActsUnder, exec_under}
 
 -- an act that only reads rows reads them of a descriptor, and one that searches a catalog cache doesn't
 abbrev pub ReadsBuilds : Plan → Type 0
@@ -22,62 +17,33 @@ ReadsBuilds (Do (Read scan) rest) = is_build_scan scan ≡ true
 ReadsBuilds (Do (Search scan) rest) = is_build_scan scan ≡ false
 ReadsBuilds plan = ⊤
 
--- a plan that begins by searching or reading, or has failed
-abbrev pub BeginsReading : Plan → Type 0
-BeginsReading (Fails error) = ⊤
-BeginsReading (Do (Search scan) rest) = is_build_scan scan ≡ false
-BeginsReading (Do (Read scan) rest) = is_build_scan scan ≡ true
-BeginsReading plan = ⊥
+-- a scan of a catalog cache is none of a descriptor
+not_of_kind : (scan : Purpose) (kind : Kind) (rel : Oid) → is_build_scan scan ≡ false → list_any (same_scan scan) (build_scans kind rel) ≡ false
+not_of_kind (scans.RelName name) Table rel is = refl
+not_of_kind (scans.RelName name) Index rel is = refl
+not_of_kind (scans.RelOid of) Table rel is = refl
+not_of_kind (scans.RelOid of) Index rel is = refl
+not_of_kind (scans.AttName of name) Table rel is = refl
+not_of_kind (scans.AttName of name) Index rel is = refl
+not_of_kind (scans.AttList of) Table rel is = refl
+not_of_kind (scans.AttList of) Index rel is = refl
+not_of_kind scan kind rel is = absurd (cc is)
 
-passes_begin : (passes : Bool) (error : CommandError) (plan : Plan) → BeginsReading plan → BeginsReading (if_passes passes error plan)
-passes_begin true error plan begins = begins
-passes_begin false error plan begins = tt
+not_of_opened : (scan : Purpose) (opened : List Opening) → is_build_scan scan ≡ false → is_of_opened scan opened ≡ false
+not_of_opened scan [] is = refl
+not_of_opened scan (o ∷ opened) is = ap (λ t. t || is_of_opened scan opened) (not_of_kind scan o.kind o.rel is) ∙ not_of_opened scan opened is
 
--- so does each alteration, once the descriptor is open
-pub opened_begins : (opens : List OpenRelation) (alteration : Alteration) (rel : Oid) → BeginsReading (altered opens alteration rel)
-opened_begins opens (alterations.SetStatistics column stat) rel = passes_begin (not (int_lt stat (negsuc 0))) (errors.OutOfRange stat) (with_column rel column (targeting stat)) refl
-opened_begins opens (alterations.SetFillfactor fill) rel = passes_begin (nat_le 10 fill && nat_le fill 100) (errors.OutOfRange (pos fill)) (reading (scans.Class rel) (filling fill)) refl
-opened_begins opens (alterations.AddColumn column col_type) rel = refl
-opened_begins opens alteration rel = refl
+opened_builds : (scan : Purpose) (opened : List Opening) → is_of_opened scan opened ≡ true → is_build_scan scan ≡ true
+opened_builds scan opened of = by_test (is_build_scan scan) refl
+  where
+    by_test : (t : Bool) → is_build_scan scan ≡ t → is_build_scan scan ≡ true
+    by_test true is = is
+    by_test false is = absurd (let both : false ≡ true = sym (not_of_opened scan opened is) ∙ of in cc both)
 
-begins_reads : (plan : Plan) → BeginsReading plan → ReadsBuilds plan
-begins_reads (Fails error) begins = tt
-begins_reads (Do (Search scan) rest) begins = begins
-begins_reads (Do (Read scan) rest) begins = begins
-begins_reads plan begins = absurd begins
-
-pub begins_there : (plan : Plan) → BeginsReading plan → is_absent plan ≡ false
-begins_there (Fails error) begins = refl
-begins_there (Do act rest) begins = refl
-begins_there plan begins = absurd begins
-
-pub begins_unwritten : (plan : Plan) → BeginsReading plan → want_of plan ≡ wants.Write → ⊥
-begins_unwritten (Fails error) begins is = cc is
-begins_unwritten (Do (Search scan) rest) begins is = cc is
-begins_unwritten (Do (Read scan) rest) begins is = cc is
-begins_unwritten plan begins is = absurd begins
-
-alters_reads : (opens : List OpenRelation) (altering : Altering) → ReadsBuilds (altering_at opens altering)
-alters_reads opens (alters.Opened rel alteration) = begins_reads (altered opens alteration rel) (opened_begins opens alteration rel)
-alters_reads opens (alters.NumberingColumn rel column col_type) = refl
-alters_reads opens (alters.TestingConstraints rel column row) = refl
-alters_reads opens (alters.TestingIndexes rel column row) = refl
-alters_reads opens (alters.DroppingDefault rel row) = refl
-alters_reads opens (alters.RenamingTo rel row to) = refl
-alters_reads opens (alters.ReplacingDefault rel row word) = refl
-alters_reads opens (alters.FindingOwnColumn rel key) = refl
-alters_reads opens (alters.FindingReferredColumn rel key row other) = refl
-alters_reads opens stage = tt
+reads_under : (plan : Plan) → ActsUnder plan → ReadsBuilds plan
+reads_under (Do (Read scan) rest) under = opened_builds scan under.on.opened under.follows.2
+reads_under (Do (Search scan) rest) under = under.follows.2
+reads_under plan under = tt
 
 pub stage_reads : (opens : List OpenRelation) (exec : Exec) → ReadsBuilds (plan_at opens exec)
-stage_reads opens (stages.Altering altering) = alters_reads opens altering
-stage_reads opens (stages.DroppingTable rel name) = refl
-stage_reads opens (stages.DroppingIndexes rel constraints) = refl
-stage_reads opens (stages.DroppingDefaults rel constraints indexes) = refl
-stage_reads opens (stages.DroppingTriggers rel constraints indexes defaults) = refl
-stage_reads opens (stages.DroppingColumns rel constraints indexes defaults triggers) = refl
-stage_reads opens (stages.NumberingIndex rel name columns) = refl
-stage_reads opens (stages.ListingColumns rel) = refl
-stage_reads opens (stages.FindingColumn rel column) = refl
-stage_reads opens (stages.FindingOid oid) = refl
-stage_reads opens stage = tt
+stage_reads opens exec = reads_under (plan_at opens exec) (exec_under opens exec)

@@ -8,7 +8,7 @@ use Rattle.txn_blocks.specs.Blocks.{no_block}
 use Rattle.ddl_effect.specs.Commands.{commands_of}
 use Rattle.ddl_effect.specs.Stages.{plan_at, plan_again}
 use Rattle.history_model.specs.Changing.{is_empty}
-use Rattle.cacheless.specs.Types.{Row, Command, Scenario, Entry, Event}
+use Rattle.cacheless.specs.Types.{Row, Command, Opening, Scenario, Entry, Event}
 use Rattle.cacheless.specs.declared.progress.Counts.{Counts}
 use Rattle.cacheless.specs.declared.progress.Progress.{Progress}
 use Rattle.cacheless.specs.Facts.{Facts, facts_of}
@@ -35,6 +35,11 @@ pub record CountsFit (c : Counts) (entries : ℕ) : Type 0 where
   pub fetches : c.fetches ≤ entries
   pub full : c.full ≤ c.fetches
 
+-- the plan before the last lookup is this one, which puts only what it opens itself
+pub record IsSought (sought plan : Plan) : Type 0 where
+  pub is : sought ≡ plan
+  pub puts : (opened : List Opening) → PutsOpened opened plan
+
 -- what the code holds is the session of its backend in a history, before or after it went on without entries
 pub record Holds (scenario : Scenario) (seen : List Entry) (s : Progress) : Type 0 where
   pub number : IsBackend scenario.backends s.id
@@ -47,7 +52,7 @@ pub record Holds (scenario : Scenario) (seen : List Entry) (s : Progress) : Type
   pub facts : FactsFit (facts_of seen s.id) s
   pub counts : CountsFit s.tally (length seen)
   pub order : AllByRecursion (λ list. list.command ≤ s.finished + 1) (lists_at s)
-  pub sought : is_absent (plan_at s.opens s.exec) ≡ true → rest.sought ≡ plan_again s.opens s.exec
+  pub sought : is_absent (plan_at s.opens s.exec) ≡ true → IsSought rest.sought (plan_again s.opens s.exec)
   pub puts : PutsOpened s.opened (plan_at s.opens s.exec)
   pub pins : ArePinned s
 

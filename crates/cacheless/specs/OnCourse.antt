@@ -6,6 +6,7 @@ use Rattle.event_kinds.specs.declared.entry.Event.TheVariants as events
 use Rattle.lock_modes.specs.Own.{cleared}
 use Rattle.ddl_effect.specs.declared.told.Told.TheVariants as tells
 use Rattle.ddl_effect.specs.Plans.{Act, Lookup, Write, Plan, Done, Fails, Absent, Do}
+pub use Rattle.ddl_effect.specs.Plans.{is_absent}
 use Rattle.ddl_effect.specs.Commands.{plan_of, commands_of}
 use Rattle.txn_blocks.specs.Blocks.{refused_by}
 use Rattle.history_model.specs.Lives.{last_event_of}
@@ -22,11 +23,6 @@ use Rattle.cacheless.specs.Settled.{class_oid, found_by, is_finished_in}
 use Rattle.cacheless.specs.Sessions.{session_of}
 use Rattle.cacheless.specs.Told.{tells_of_scans}
 use Rattle.cacheless.specs.ActsDone.{LockOn, locks_by, named_by, IsDrawn, IsHeldOn, reached, made_in, opening_by, IsStill, WayHolds, IsOtherLock}
-
--- the command failed to find a relation
-abbrev pub is_absent : Plan → Bool
-is_absent (Absent name) = true
-is_absent plan = false
 
 -- a lookup that has newly locked a relation has locked none under which its command goes on
 abbrev pub TakesNew : List LockOn → Plan → Option Oid → Type 0

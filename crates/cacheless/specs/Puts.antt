@@ -6,7 +6,7 @@ use Rattle.base_types.specs.declared.row.Row.TheVariants as rows
 use Rattle.base_types.specs.declared.change.Change.{Change}
 use Rattle.base_types.specs.declared.change.Change.TheVariants.{Replace}
 use Rattle.ddl_effect.specs.Drawing.{drawn_oid}
-use Rattle.ddl_effect.specs.Plans.{Open, Search, Read, Write, Plan, Do}
+use Rattle.ddl_effect.specs.Plans.{Lookup, Open, Search, Read, Write, Plan, Do}
 use Rattle.cacheless.specs.Types.{Oid, Row, Purpose, Opening}
 
 -- the descriptor of the relation is opened
@@ -22,8 +22,9 @@ PutOpened opened new_oids change = ⊤
 abbrev pub AreGivenBy : Purpose → List Row → Type 0
 AreGivenBy scan given = AllByRecursion (λ row. selects scan row ≡ true) given
 
--- the writes of a plan put no other relation's row, whichever rows its scans give
+-- the writes of a plan put no other relation's row, whichever rows its scans give; after a lookup only that of a relation which it opens after it
 abbrev pub PutsOpened : List Opening → Plan → Type 0
+PutsOpened opened (Do (Lookup name mode) rest) = (given : List Row) (other : List Opening) → PutsOpened other (rest given)
 PutsOpened opened (Do (Open rel kind) rest) = (given : List Row) → PutsOpened (opened ++ record { rel = rel; kind = kind } ∷ []) (rest given)
 PutsOpened opened (Do (Search scan) rest) = (given : List Row) → AreGivenBy scan given → PutsOpened opened (rest given)
 PutsOpened opened (Do (Read scan) rest) = (given : List Row) → AreGivenBy scan given → PutsOpened opened (rest given)

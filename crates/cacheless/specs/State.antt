@@ -16,7 +16,7 @@ use Rattle.txn_blocks.specs.Blocks.{Blocks, no_block, blocks_well, blocks_badly}
 use Rattle.ddl_effect.specs.Stages.{plan_at, plan_again}
 use Rattle.ddl_effect.specs.declared.exec.Exec.TheVariants as stages
 use Rattle.history_model.specs.Sent.{cats_by, rels_by}
-pub use Rattle.cacheless.specs.OnCourse.{is_absent}
+pub use Rattle.ddl_effect.specs.Plans.{is_absent}
 use Rattle.txn_blocks.specs.Transactions.{begun_own}
 use Rattle.cacheless.specs.Types.{Oid, Message, Row, Purpose, Command, CommandError, Clash, Item, Entry, Event, OwnLock}
 use Rattle.cacheless.specs.Session.{Session, Finished, Tally, Well, outcome_of, is_settled, none_open, plan_first, is_blocked}

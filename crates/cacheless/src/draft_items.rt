@@ -8,7 +8,7 @@ ghost use Rattle.base_types.specs.RowKeys.{catalog_of};
 ghost use Rattle.base_types.specs.Scans.{same_oid as oids_match};
 ghost use Rattle.base_types.specs.declared.catalog.Catalog.TheVariants as catalogs;
 ghost use Rattle.ddl_effect.specs.Drawing.{drawn_oid, drawn_row, drawn_change};
-ghost use Rattle.ddl_effect.specs.Stages.{plan_at, altering_at};
+ghost use Rattle.ddl_effect.specs.Stages.{plan_at};
 ghost use Rattle.history_model.specs.Changes.{item_of, items_of};
 ghost use Rattle.history_model.specs.Covered.{same_row as rows_match, same_demand as demands_match};
 ghost use Rattle.history_model.specs.Names.{has_name as is_named};
@@ -19,18 +19,18 @@ ghost use Rattle.local_caches.specs.Caches.{kept_of};
 
 use crate::silent::rows_kept;
 use base_types::{Change, ConKind, Name, Oid, Purpose, Row, live_word, on_word, valid_word};
-use ddl_effect::{Altering, Draft, Exec, OpenRelation};
+use ddl_effect::{Draft, Exec, OpenRelation};
 use event_kinds::Item;
 use local_caches::LocalCaches;
 
 // Whether the next act writes these items, where the next new oid is this one.
+#[tactic(auto, using(crate::proofs::DraftNext::write_by, crate::proofs::DraftNext::no_write))]
 pub(crate) fn writes_items(exec: &Exec, next: u32, items: &[Item]) -> bool
     ensures { (opens : List OpenRelation) → result ≡ is_write next items.now (plan_at opens exec.now) }
 {
-    match exec {
-        Exec::Writing(draft) => writes_draft(draft, next, items),
-        Exec::Altering(altering) => writes_row(altering, next, items),
-        _ => false,
+    match exec.draft() {
+        Some(draft) => writes_draft(draft, next, items),
+        None => false,
     }
 }
 
@@ -45,29 +45,6 @@ fn writes_draft(draft: &Draft, next: u32, items: &[Item]) -> bool
         next,
         draft.new_oids,
     )
-}
-
-// Whether an alteration writes these items.
-fn writes_row(altering: &Altering, next: u32, items: &[Item]) -> bool
-    ensures { (opens : List OpenRelation) → result ≡ is_write next items.now (altering_at opens altering.now) }
-{
-    match altering {
-        Altering::Inserting { row } => are_drafted(items, &[Change::Insert(*row)], &[], next, 0),
-        Altering::Replacing { deleted: None, row } => {
-            are_drafted(items, &[Change::Replace(*row)], &[], next, 0)
-        }
-        Altering::Replacing {
-            deleted: Some(old),
-            row,
-        } => are_drafted(
-            items,
-            &[Change::Delete(old.key()), Change::Replace(*row)],
-            &[],
-            next,
-            0,
-        ),
-        _ => false,
-    }
 }
 
 // Whether these are the items of changes, in which an oid from 1 to `new_oids` means a new one, and of
@@ -371,13 +348,13 @@ fn same_name(a: &Name, b: &Name) -> bool
 }
 
 // Whether the next act writes a relation of this new name.
+#[tactic(auto, using(crate::proofs::DraftNext::clash_by, crate::proofs::DraftNext::no_clash))]
 pub(crate) fn gives_name(exec: &Exec, caches: &LocalCaches, name: Name) -> bool
     ensures { (opens : List OpenRelation) → result ≡ is_clash (kept_of caches.now) name (plan_at opens exec.now) }
 {
-    match exec {
-        Exec::Writing(draft) => draft_gives(draft, caches, name),
-        Exec::Altering(altering) => alteration_gives(altering, caches, name),
-        _ => false,
+    match exec.draft() {
+        Some(draft) => draft_gives(draft, caches, name),
+        None => false,
     }
 }
 
@@ -395,17 +372,6 @@ fn any_gives(changes: &[Change], caches: &LocalCaches, name: Name) -> bool
     changes
         .iter()
         .any(|change| change_gives(change, caches, name))
-}
-
-// Whether an alteration gives a relation this new name.
-fn alteration_gives(altering: &Altering, caches: &LocalCaches, name: Name) -> bool
-    ensures { (opens : List OpenRelation) → result ≡ is_clash (kept_of caches.now) name (altering_at opens altering.now) }
-{
-    match altering {
-        Altering::Inserting { row } => change_gives(&Change::Insert(*row), caches, name),
-        Altering::Replacing { row, .. } => change_gives(&Change::Replace(*row), caches, name),
-        _ => false,
-    }
 }
 
 // Whether a change gives a relation this new name: a row that is put gives none which the row that is

@@ -60,7 +60,7 @@ impl Progress {
         lock_new(&mut self.locks, made, command);
         self.running = Some(RunningTransaction::begun(command, self.running).with_xid(xid));
         self.due = Due::Nothing;
-        self.exec.give(alloc, self.opens.as_slice(), &[])?;
+        self.exec.give(alloc, &[])?;
         self.opened = held_in(alloc, &self.blocks, self.opens.as_slice())?;
         unpin_others(alloc, &mut self.caches, self.opens.as_slice())?;
         self.suspects.find(&self.caches, &self.opened);

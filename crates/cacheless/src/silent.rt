@@ -225,7 +225,7 @@ impl Progress {
         self.caches.pin(rel)?;
         self.opened.push(opening)?;
         self.suspects.hold(&self.caches, &self.opened, &opening);
-        self.exec.give(alloc, self.opens.as_slice(), &[])?;
+        self.exec.give(alloc, &[])?;
         self.taken = None;
         Ok(())
     }
@@ -243,7 +243,7 @@ impl Progress {
         let want = self.exec.next();
         let row = self.row_next();
         let rows = rows_for(&want, &row, &self.caches);
-        self.exec.give(alloc, self.opens.as_slice(), rows)?;
+        self.exec.give(alloc, rows)?;
         self.taken = None;
         Ok(())
     }

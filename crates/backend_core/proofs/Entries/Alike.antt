@@ -1,32 +1,22 @@
--- A backend whose locks have more room, or whose plan is held in another form, agrees as before.
-use Rattle.std.proofs.Common.{◌≡◌, ◌∙◌, ◌&&◌, ℕ, Bool, true, false, Option, Some, None, List, refl, sym, ap, subst, take, drop, is_some}
-use Rattle.std.proofs.Math.Bool.{and-false}
+-- A backend whose locks have more room agrees as before.
+use Rattle.std.proofs.Common.{◌≡◌, ◌∙◌, ℕ, true, Some, List, sym, ap, subst, take, drop, is_some}
 use Rattle.lock_modes.specs.Rooms.{Roomy}
-use Rattle.ddl_effect.specs.Commands.{writing}
-use Rattle.ddl_effect.specs.Stages.{plan_at, plan_again}
-use Rattle.ddl_effect.specs.declared.exec.Exec.TheVariants as stages
 use Rattle.cacheless.specs.Facts.{facts_of}
 use Rattle.cacheless.specs.Holds.{Holds}
-use Rattle.cacheless.specs.May.{owes_nothing}
-use Rattle.cacheless.specs.Puts.{PutsOpened}
-use Rattle.cacheless.specs.Session.{outcome_of, is_settled}
 use Rattle.cacheless.specs.Settled.{settled}
 use Rattle.cacheless.specs.Silently.{IsAtRest, is_to_answer_at}
-use Rattle.cacheless.specs.State.{facts_at, work_at, kept_at, is_kept, is_absent, IsLockedIn, Rest, session_at}
-use Rattle.cacheless.specs.Owed.{is_free}
-use Rattle.cacheless.specs.Suspects.{AreKnown}
-use Rattle.cacheless.proofs.Lacking.{with_known}
-use Rattle.backend_core.specs.Types.{Oid, Mode, Command, Draft, Exec, OwnLock, Scenario, Entry, Progress, Backend}
+use Rattle.cacheless.specs.State.{IsLockedIn, Rest, session_at}
+use Rattle.backend_core.specs.Types.{Oid, Mode, OwnLock, Scenario, Entry, Progress, Backend}
 use Rattle.backend_core.specs.Agrees.{command_at, AwaitsEntry}
 use Rattle.backend_core.specs.Fits.{Fits}
 use Rattle.backend_core.specs.Steps.{MakesEntry, Enters, IsLockNext, IsWriteNext}
 
-module _ (scenario : Scenario) (seen : List Entry) (s : Backend) (exec : Exec) (locks : Roomy OwnLock) (plan : plan_at s.progress.opens exec ≡ plan_at s.progress.opens s.progress.exec) (items : locks.items ≡ s.progress.locks.items) (again : is_absent (plan_at s.progress.opens exec) ≡ true → plan_again s.progress.opens s.progress.exec ≡ plan_again s.progress.opens exec) where
+module _ (scenario : Scenario) (seen : List Entry) (s : Backend) (locks : Roomy OwnLock) (items : locks.items ≡ s.progress.locks.items) where
   abbrev other : Backend
-  other = record s { progress = record s.progress { exec = exec; locks = locks } }
+  other = record s { progress = record s.progress { locks = locks } }
 
   abbrev session_same : (rest : Rest) → session_at other.progress rest ≡ session_at s.progress rest
-  session_same rest = λ i. record (session_at s.progress rest) { left = plan i; locks = items i }
+  session_same rest = λ i. record (session_at s.progress rest) { locks = items i }
 
   abbrev holds_same : Holds scenario seen s.progress → Holds scenario seen other.progress
   holds_same h = record {
@@ -40,22 +30,22 @@ module _ (scenario : Scenario) (seen : List Entry) (s : Backend) (exec : Exec) (
     facts = h.facts;
     counts = h.counts;
     order = h.order;
-    sought = λ is. h.sought (ap is_absent (sym plan) ∙ is) ∙ again is;
-    puts = subst (PutsOpened s.progress.opened) (sym plan) h.puts;
+    sought = h.sought;
+    puts = h.puts;
     pins = h.pins;
   }
 
-  alike_awaits : IsAtRest other.progress → (is_to_answer_at other.progress ≡ true → is_some s.progress.answer ≡ true) → AwaitsEntry scenario seen s → AwaitsEntry scenario seen other
-  alike_awaits still answered waits = record {
+  roomy_awaits : IsAtRest other.progress → (is_to_answer_at other.progress ≡ true → is_some s.progress.answer ≡ true) → AwaitsEntry scenario seen s → AwaitsEntry scenario seen other
+  roomy_awaits still answered waits = record {
     keeps = let k = waits.keeps in record {
       alive = k.alive;
       life = record { last = k.life.last; alive = k.life.alive; most = k.life.most };
-      places = record { kept = k.places.kept; absent = λ name missed whole. k.places.absent name (sym plan ∙ missed) (record { untaken = whole.untaken; going = whole.going }) };
+      places = record { kept = k.places.kept; absent = λ name missed whole. k.places.absent name missed (record { untaken = whole.untaken; going = whole.going }) };
     };
     rests = record { holds = holds_same waits.rests.holds; still = still };
     fits = subst (λ x. Fits (facts_of seen s.progress.id) (command_at s) x s.looked s.frames s.told) (sym (session_same waits.rests.holds.rest)) waits.fits;
     lines = waits.lines;
-    tells = record { answer = waits.tells.answer; out = λ some. ap (λ p. is_settled (outcome_of p)) plan ∙ waits.tells.out some };
+    tells = record { answer = waits.tells.answer; out = waits.tells.out };
     answered = answered;
     before = λ part m number less is. waits.before part m number less is ∙ ap (λ x. Some (settled (facts_of seen s.progress.id) (drop s.progress.finished (take m s.progress.commands)) x)) (sym (session_same waits.rests.holds.rest));
   }
@@ -63,7 +53,7 @@ module _ (scenario : Scenario) (seen : List Entry) (s : Backend) (exec : Exec) (
 -- there is room for one more lock
 pub reserved_awaits : (scenario : Scenario) (seen : List Entry) (s : Backend) (p : Progress) → IsLockedIn s.progress.locks.items s.progress p → AwaitsEntry scenario seen s → AwaitsEntry scenario seen (record s { progress = p })
 reserved_awaits scenario seen s p same waits = subst (λ x. AwaitsEntry scenario seen (record s { progress = x })) (sym same.is)
-    (alike_awaits scenario seen s s.progress.exec p.locks refl same.locks_are (λ is. refl)
+    (roomy_awaits scenario seen s p.locks same.locks_are
     (subst (λ l. IsAtRest (record s.progress { locks = record { items = l; room = p.locks.room } })) (sym same.locks_are) waits.rests.still)
     (subst (λ l. is_to_answer_at (record s.progress { locks = record { items = l; room = p.locks.room } }) ≡ true → is_some s.progress.answer ≡ true) (sym same.locks_are) waits.answered) waits)
 
@@ -83,22 +73,3 @@ reserved_id s p same = ap (λ (x : Progress). x.id) same.is
 -- what another form of the backend entered it entered
 pub alike_enters : (scenario : Scenario) (old new : List Entry) (had has : ℕ → ℕ) (was alike now : Backend) → alike.progress.id ≡ was.progress.id → Enters scenario old new had has alike now → Enters scenario old new had has was now
 alike_enters scenario old new had has was alike now same enters = record { makes = subst (MakesEntry scenario old new had has) same enters.makes; id = enters.id ∙ same; agrees = enters.agrees }
-
--- its write is drafted
-none_answered : (o : Option Command) → elim o as (λ x. Bool) [ Some command ↦ false | None ↦ false ] ≡ true → ⊥
-none_answered None is = absurd (cc is)
-none_answered (Some command) is = absurd (cc is)
-
-pub drafted_awaits : (scenario : Scenario) (seen : List Entry) (s : Backend) (draft : Draft) (known : AreKnown (is_kept (kept_at s.progress)) s.progress.opened s.progress.suspects) → plan_at s.progress.opens s.progress.exec ≡ writing draft → AwaitsEntry scenario seen s → AwaitsEntry scenario seen (record s { progress = record s.progress { exec = stages.Writing draft; known = known } })
-drafted_awaits scenario seen s draft known plan waits = with_known (λ p. AwaitsEntry scenario seen (record s { progress = p })) (record s.progress { exec = stages.Writing draft }) known
-    (alike_awaits scenario seen s (stages.Writing draft) s.progress.locks (sym plan) refl (λ is. absurd (cc is))
-    (λ command at. (and-false (owes_nothing command (record s.progress { exec = stages.Writing draft })), refl))
-    (λ is. absurd (none_answered (command_at s) is)) waits)
-
-pub drafted_write : (s : Progress) (draft : Draft) (known : AreKnown (is_kept (kept_at s)) s.opened s.suspects) → plan_at s.opens s.exec ≡ writing draft → IsWriteNext s → IsWriteNext (record s { exec = stages.Writing draft; known = known })
-drafted_write s draft known plan next = record {
-  command = next.command;
-  free = record { at = next.free.at; due = next.free.due; first = next.free.first };
-  owes = subst (λ p. is_free (facts_at s) next.command (record (work_at s) { left = p }) ≡ true) plan next.owes;
-  wants = refl;
-}

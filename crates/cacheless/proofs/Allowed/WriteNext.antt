@@ -53,7 +53,7 @@ answer_asked history b scan = every-weaker _ (λ row. selects scan row ≡ true)
 
 -- after an act whose rows are so still the rest of a plan puts no other relation's row
 puts_further : (history : List Entry) (b : ℕ) (opened : List Opening) (act : Act) (rest : List Row → Plan) (given : List Row) → PutsOpened opened (Do act rest) → IsStill (answer_of history b) act rest given → PutsOpened (opened ++ opened_by act) (after_given given (Do act rest))
-puts_further history b opened (Lookup name mode) rest given puts still = subst (λ l. PutsOpened l (rest given)) (sym (append-nil opened)) (puts given)
+puts_further history b opened (Lookup name mode) rest given puts still = puts given (opened ++ [])
 puts_further history b opened (Open rel kind) rest given puts still = puts given
 puts_further history b opened (Search scan) rest given puts still = subst (λ l. PutsOpened l (rest given)) (sym (append-nil opened)) (subst (PutsOpened opened) (sym still) (puts (answer_of history b scan) (answer_asked history b scan)))
 puts_further history b opened (Read scan) rest given puts still = subst (λ l. PutsOpened l (rest given)) (sym (append-nil opened)) (subst (PutsOpened opened) (sym still) (puts (answer_of history b scan) (answer_asked history b scan)))

@@ -6,10 +6,7 @@ use Rattle.lock_modes.specs.Rooms.{Roomy}
 use Rattle.local_caches.specs.Caches.{kept_of, KeepsPins}
 use Rattle.local_caches.specs.declared.local_caches.LocalCaches.{LocalCaches}
 use Rattle.ddl_effect.specs.Plans.{Plan, Done, Fails, Absent, Do}
-use Rattle.ddl_effect.specs.Stages.{plan_at, plan_again, altered, altering_at, altering_again}
-use Rattle.ddl_effect.specs.declared.altering.Altering.{Altering}
-use Rattle.ddl_effect.specs.declared.altering.Altering.TheVariants as alters
-use Rattle.ddl_effect.specs.declared.exec.Exec.TheVariants as stages
+use Rattle.ddl_effect.specs.Stages.{plan_at, plan_again}
 use Rattle.history_model.specs.Log.{fetched_by}
 use Rattle.cacheless.specs.Types.{Oid, Message, Purpose, Scenario, Entry, Event, OpenRelation, OwnLock, Exec}
 use Rattle.cacheless.specs.declared.progress.Due.TheVariants as dues
@@ -22,11 +19,10 @@ use Rattle.cacheless.specs.Sessions.{resumed, placed_at, counted}
 use Rattle.cacheless.specs.Puts.{PutsOpened}
 use Rattle.txn_blocks.specs.Transactions.{begun_own}
 use Rattle.cacheless.specs.State.{due_fetched, one_if, Kept, kept_at, nothing_kept, is_kept, kept_spared, is_absent, is_full, is_in_accept, locks_accepted, Rest, rest_of, tally_at, session_at}
-use Rattle.cacheless.specs.Holds.{FactsFit, Rests, HasEntered}
-use Rattle.cacheless.proofs.ReadsBuilds.{opened_begins, begins_there}
+use Rattle.cacheless.specs.Holds.{FactsFit, Holds, Rests, HasEntered}
+use Rattle.cacheless.proofs.Plans.CommandUnder.{never_absent, again_same}
 use Rattle.cacheless.proofs.Tests.{not_both}
 use Rattle.cacheless.proofs.Same.{full_same}
-use Rattle.cacheless.proofs.Written.Putting.{puts_again}
 use Rattle.cacheless.proofs.Entries.Entering.{facts_after, noted_after, with_locks, own_entered, runs_begun}
 
 -- a scan is kept still where it was kept and no message covers it
@@ -36,28 +32,6 @@ is_kept-spared messages kept scan = by_test (is_spared scan messages)
     by_test : (t : Bool) → is_some (if t then kept scan else None) ≡ (t && is_kept kept scan)
     by_test true = refl
     by_test false = refl
-
--- a search that is made anew has found nothing yet
-alters_seek : (opens : List OpenRelation) (altering : Altering) → is_absent (altering_again opens altering) ≡ false
-alters_seek opens (alters.Opened rel alteration) = begins_there (altered opens alteration rel) (opened_begins opens alteration rel)
-alters_seek opens alters.Done = refl
-alters_seek opens stage = refl
-
-pub never_absent : (opens : List OpenRelation) (exec : Exec) → is_absent (plan_again opens exec) ≡ false
-never_absent opens (stages.Altering altering) = alters_seek opens altering
-never_absent opens stage = refl
-
--- any other command stays as it is
-alters_same : (opens : List OpenRelation) (altering : Altering) → is_absent (altering_at opens altering) ≡ false → altering_again opens altering ≡ altering_at opens altering
-alters_same opens (alters.Missing name alteration) found = absurd (cc)
-alters_same opens (alters.MissingReferred rel key row) found = absurd (cc)
-alters_same opens stage found = refl
-
-pub again_same : (opens : List OpenRelation) (exec : Exec) → is_absent (plan_at opens exec) ≡ false → plan_again opens exec ≡ plan_at opens exec
-again_same opens (stages.Missing finding) found = absurd (cc)
-again_same opens (stages.MissingIndexed index) found = absurd (cc)
-again_same opens (stages.Altering altering) found = alters_same opens altering found
-again_same opens stage found = refl
 
 -- what is left once a search is made anew, and the relations that were found then
 abbrev pub left_again : Plan → Session → Plan
@@ -85,6 +59,14 @@ pub resumed_same : (was : Progress) (exec : Exec) (rest : Rest) → (is_absent (
     → resumed (plan_at was.opens was.exec) (session_at was rest) ≡ record (session_at was rest) { left = plan_at was.opens exec; found = found_again (plan_at was.opens was.exec) (session_at was rest) }
 resumed_same was exec rest sought again = resumed_is (plan_at was.opens was.exec) (session_at was rest)
     ∙ (λ i. record (session_at was rest) { left = (left_is was rest sought (plan_at was.opens was.exec) refl ∙ sym again) i; found = found_again (plan_at was.opens was.exec) (session_at was rest) })
+
+-- and what is left then puts only what it opens
+puts_again : (was : Progress) {scenario : Scenario} {old : List Entry} → Holds scenario old was → PutsOpened was.opened (plan_again was.opens was.exec)
+puts_again was holds = by_test (is_absent (plan_at was.opens was.exec)) refl
+  where
+    by_test : (t : Bool) → is_absent (plan_at was.opens was.exec) ≡ t → PutsOpened was.opened (plan_again was.opens was.exec)
+    by_test true is = (holds.sought is).puts was.opened
+    by_test false is = subst (PutsOpened was.opened) (sym (again_same was.opens was.exec is)) holds.puts
 
 -- the state after a fetch of these messages, but for its full fetches
 abbrev pub fetched_first : (was : Progress) (count : ℕ) (caches : LocalCaches) (suspects : Suspects) → AreKnown (is_kept (kept_of caches)) was.opened suspects → Exec → Progress
@@ -124,7 +106,7 @@ fetch_holds scenario old was count messages caches suspects known exec locks res
   counts = let c = rests.holds.counts in record { looks = omega (arith, c.looks); scans = omega (arith, c.scans); grants = omega (arith, c.grants); unlocks = omega (arith, c.unlocks); fetches = omega (arith, c.fetches); full = omega (arith, c.full, one_at_most (is_full count first)) };
   order = rests.holds.order;
   sought = λ is. absurd (not_both (is_absent (plan_at was.opens exec)) is (ap is_absent again ∙ never_absent was.opens was.exec));
-  puts = subst (PutsOpened was.opened) (sym again) (puts_again was.opened was.opens was.exec rests.holds.puts);
+  puts = subst (PutsOpened was.opened) (sym again) (puts_again was rests.holds);
   pins = λ rel. pinned rel ∙ rests.holds.pins rel;
 }) items
   where
@@ -158,7 +140,7 @@ fetch_holds scenario old was count messages caches suspects known exec locks res
     once = record s.tally { fetches = s.tally.fetches + 1 }
 
     placed_is : placed_at (length old + 1) (was.finished + 1) event s ≡ noted_as once
-    placed_is = ap (λ (t : Session). record t { tally = once; locks = s.locks; judged = length old + 1; last = length old + 1 }) (resumed_same was exec rests.holds.rest rests.holds.sought again)
+    placed_is = ap (λ (t : Session). record t { tally = once; locks = s.locks; judged = length old + 1; last = length old + 1 }) (resumed_same was exec rests.holds.rest (λ is. (rests.holds.sought is).is) again)
 
     whole : noted_after old was event rests.holds.rest ≡ noted_as (tally_at now.tally)
     whole = ap (counted after event) placed_is
@@ -188,7 +170,7 @@ reset_holds scenario old was caches suspects known exec locks rests keeps pinned
   counts = let c = rests.holds.counts in record { looks = omega (arith, c.looks); scans = omega (arith, c.scans); grants = omega (arith, c.grants); unlocks = omega (arith, c.unlocks); fetches = omega (arith, c.fetches); full = omega (arith, c.full) };
   order = rests.holds.order;
   sought = λ is. absurd (not_both (is_absent (plan_at was.opens exec)) is (ap is_absent again ∙ never_absent was.opens was.exec));
-  puts = subst (PutsOpened was.opened) (sym again) (puts_again was.opened was.opens was.exec rests.holds.puts);
+  puts = subst (PutsOpened was.opened) (sym again) (puts_again was rests.holds);
   pins = λ rel. pinned rel ∙ rests.holds.pins rel;
 }) items
   where
@@ -209,4 +191,4 @@ reset_holds scenario old was caches suspects known exec locks rests keeps pinned
     s = session_at was rests.holds.rest
 
     whole : noted_after old was event rests.holds.rest ≡ record s { left = plan_at was.opens exec; found = found_again (plan_at was.opens was.exec) s; tally = tally_at now.tally; judged = length old + 1; last = length old + 1 }
-    whole = ap (λ (t : Session). record t { tally = tally_at now.tally; locks = s.locks; judged = length old + 1; last = length old + 1 }) (resumed_same was exec rests.holds.rest rests.holds.sought again)
+    whole = ap (λ (t : Session). record t { tally = tally_at now.tally; locks = s.locks; judged = length old + 1; last = length old + 1 }) (resumed_same was exec rests.holds.rest (λ is. (rests.holds.sought is).is) again)

@@ -15,11 +15,7 @@ use Rattle.local_caches.specs.declared.local_caches.LocalCaches.{LocalCaches}
 use Rattle.ddl_effect.specs.declared.told.Told.TheVariants as tells
 use Rattle.ddl_effect.specs.Opens.{has_open}
 use Rattle.ddl_effect.specs.Plans.{Plan, Done, Fails, Absent, Do, Lookup, Open, Search, Read, Lock, Write, after_act}
-use Rattle.ddl_effect.specs.Stages.{plan_at, altered, altering_at, want_of}
-use Rattle.cacheless.proofs.ReadsBuilds.{opened_begins, begins_unwritten}
-use Rattle.ddl_effect.specs.declared.altering.Altering.{Altering}
-use Rattle.ddl_effect.specs.declared.altering.Altering.TheVariants as alters
-use Rattle.ddl_effect.specs.declared.exec.Exec.TheVariants as stages
+use Rattle.ddl_effect.specs.Stages.{plan_at, want_of}
 use Rattle.ddl_effect.specs.declared.want.Want.TheVariants as wants
 use Rattle.history_model.specs.Sent.{cats_by, rels_by, written_by, messages_written}
 use Rattle.history_model.specs.Versions.{old_row, added_row}
@@ -40,6 +36,7 @@ use Rattle.cacheless.specs.State.{lists_at, kept_at, kept_spared, is_kept, is_ab
 use Rattle.cacheless.specs.Holds.{Rests, HasEntered}
 use Rattle.cacheless.proofs.Allowed.OpensKept.{held_each}
 use Rattle.cacheless.proofs.Pinning.{open_each, open_pinned, pins_left}
+use Rattle.cacheless.proofs.Plans.CommandUnder.{done_written}
 use Rattle.cacheless.proofs.Tests.{not_both}
 use Rattle.cacheless.proofs.Written.WrittenMessages.{any_once}
 use Rattle.cacheless.proofs.Entries.Entering.{facts_after, noted_after, with_locks, own_entered, runs_begun, counts_stay}
@@ -76,18 +73,6 @@ any_in_parts p f g (x ∷ xs) =
 pub spared_alike : (before : List Entry) (b : ℕ) (items : List Item) (scan : Purpose) → is_spared scan (messages_in before b items) ≡ is_spared scan (messages_written before b items)
 spared_alike before b items scan = ap not (any_in_parts (covers scan) (cats_by before b) (rels_by before b) items
     ∙ sym (list_any-append (covers scan) (flat_map (cats_by before b) items) (fold once_more [] (flat_map (rels_by before b) items)) ∙ ap (λ t. list_any (covers scan) (flat_map (cats_by before b) items) || t) (any_once (covers scan) [] (flat_map (rels_by before b) items))))
-
--- a write is the last act of a command
-alters_done : (opens : List OpenRelation) (altering : Altering) (given : List Row) → want_of (altering_at opens altering) ≡ wants.Write → after_act given (altering_at opens altering) ≡ Done tells.Ok
-alters_done opens (alters.Opened rel alteration) given is = absurd (begins_unwritten (altered opens alteration rel) (opened_begins opens alteration rel) is)
-alters_done opens (alters.Inserting row) given is = refl
-alters_done opens (alters.Replacing deleted row) given is = refl
-alters_done opens stage given is = absurd (cc)
-
-pub done_written : (opens : List OpenRelation) (exec : Exec) (given : List Row) → want_of (plan_at opens exec) ≡ wants.Write → after_act given (plan_at opens exec) ≡ Done tells.Ok
-done_written opens (stages.Writing draft) given is = refl
-done_written opens (stages.Altering altering) given is = alters_done opens altering given is
-done_written opens stage given is = absurd (cc)
 
 -- the session once the write of its command is made
 written_is : (p : Plan) (s : Session) → want_of p ≡ wants.Write → written p s ≡ record s { left = after_act [] p; opened = held_before s; taken = None }

@@ -23,7 +23,7 @@ use Rattle.cacheless.specs.Pins.{ArePinned}
 use Rattle.cacheless.specs.Puts.{PutsOpened}
 use Rattle.txn_blocks.specs.Transactions.{begun_own, ends_own}
 use Rattle.cacheless.specs.State.{lists_at, is_absent, is_in_accept, locks_accepted, Rest, rest_of, session_at}
-use Rattle.cacheless.specs.Holds.{FactsFit, CountsFit, Holds, Rests, IsWhere, HasEntered, entry_of, with_own}
+use Rattle.cacheless.specs.Holds.{FactsFit, CountsFit, IsSought, Holds, Rests, IsWhere, HasEntered, entry_of, with_own}
 use Rattle.cacheless.proofs.Reading.{facts_of-own, session_of-own}
 use Rattle.cacheless.proofs.Same.{accept_same}
 use Rattle.cacheless.proofs.Resting.{first_left, settled_at_rest}
@@ -52,7 +52,7 @@ pub record Enters (old : List Entry) (was now : Progress) (event : Event) (rest 
   pub facts : FactsFit (facts_after old was event) now
   pub counts : CountsFit now.tally (length old + 1)
   pub order : AllByRecursion (λ list. list.command ≤ now.finished + 1) (lists_at now)
-  pub sought : is_absent (plan_at now.opens now.exec) ≡ true → (rest_after old was event rest).sought ≡ plan_again now.opens now.exec
+  pub sought : is_absent (plan_at now.opens now.exec) ≡ true → IsSought (rest_after old was event rest).sought (plan_again now.opens now.exec)
   pub puts : PutsOpened now.opened (plan_at now.opens now.exec)
   pub pins : ArePinned now
 

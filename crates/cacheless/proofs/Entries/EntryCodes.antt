@@ -127,13 +127,13 @@ built_code was scan rows at own caches suspects known locks begins pushed pinned
     subst (HasEntered scenario seen was (events.Scan scan count) rests) (λ i. record (built_scan was caches suspects known) { running = Some (sym begins i); locks = locks })
     (built_holds scenario seen was scan count rows.items at caches suspects known locks rests are placed pushed pinned items)
 
-pub write_code : (was : Progress) (xid : Xid) (messages : List Message) (made : Option Oid) (own : RunningTransaction) (lists : Held) (caches : LocalCaches) (suspects : Suspects) (exec : Exec) (open_now : List OpenRelation) (opened : List Opening) (known : AreKnown (is_kept (kept_of caches)) opened suspects) (locked locks : Roomy OwnLock)
+pub write_code : (was : Progress) (xid : Xid) (messages : List Message) (made : Option Oid) (own : RunningTransaction) (lists : Held) (caches : LocalCaches) (suspects : Suspects) (exec : Exec) (opened : List Opening) (known : AreKnown (is_kept (kept_of caches)) opened suspects) (locked locks : Roomy OwnLock)
     → own ≡ record (begun_own (was.finished + 1) was.running) { xid = Some xid } → want_of (plan_at was.opens was.exec) ≡ wants.Write → all_lists lists.lists ≡ lists_at was ++ with_messages messages (new_list (was.finished + 1)) ∷ []
-    → kept_of caches ≡ kept_spared messages (kept_at was) → PinsOnly was.caches caches was.opens → open_now ≡ was.opens → plan_at open_now exec ≡ after_act [] (plan_at open_now was.exec) → opened ≡ held_in was.blocks.block was.opens → locked.items ≡ was.locks.items ++ locks_made (was.finished + 1) made
+    → kept_of caches ≡ kept_spared messages (kept_at was) → PinsOnly was.caches caches was.opens → plan_at was.opens exec ≡ after_act [] (plan_at was.opens was.exec) → opened ≡ held_in was.blocks.block was.opens → locked.items ≡ was.locks.items ++ locks_made (was.finished + 1) made
     → locks.items ≡ locks_accepted (is_in_accept (record was { lists = lists; caches = caches; suspects = suspects; known = known; running = Some own; due = dues.Nothing; exec = exec; opened = opened; taken = None; locks = locked }) (slice_get was.commands was.finished)) locked.items
     → (scenario : Scenario) (seen : List Entry) (items : List Item) → (rests : Rests scenario seen was) → messages ≡ messages_in seen was.id items → flat_map (locked_by (was.finished + 1)) items ≡ locks_made (was.finished + 1) made
     → HasEntered scenario seen was (events.Write xid items) rests (record was { lists = lists; caches = caches; suspects = suspects; known = known; running = Some own; due = dues.Nothing; exec = exec; opened = opened; taken = None; locks = locks; answer = None })
-write_code was xid messages made own lists caches suspects exec open_now opened known locked locks begins wants_it pushed keeps pinned same goes opens held accepts scenario seen items rests are makes =
+write_code was xid messages made own lists caches suspects exec opened known locked locks begins wants_it pushed keeps pinned goes opens held accepts scenario seen items rests are makes =
     subst (λ o. (k : AreKnown (is_kept (kept_of caches)) o suspects) → locks.items ≡ accepted_in o k → HasEntered scenario seen was (events.Write xid items) rests (entered o k own)) (sym opens) direct known accepts
   where
     entered : (o : List Opening) → AreKnown (is_kept (kept_of caches)) o suspects → RunningTransaction → Progress
@@ -144,7 +144,7 @@ write_code was xid messages made own lists caches suspects exec open_now opened 
 
     direct : (k : AreKnown (is_kept (kept_of caches)) (held_in was.blocks.block was.opens) suspects) → locks.items ≡ accepted_in (held_in was.blocks.block was.opens) k → HasEntered scenario seen was (events.Write xid items) rests (entered (held_in was.blocks.block was.opens) k own)
     direct k accepted = subst (HasEntered scenario seen was (events.Write xid items) rests) (λ i. record (wrote was xid caches suspects k lists exec locks) { running = Some (sym begins i) })
-        (write_holds scenario seen was xid items messages made caches suspects k lists exec locked locks rests wants_it are makes pushed keeps pinned (subst (λ o. plan_at o exec ≡ after_act [] (plan_at o was.exec)) same goes) held accepted)
+        (write_holds scenario seen was xid items messages made caches suspects k lists exec locked locks rests wants_it are makes pushed keeps pinned goes held accepted)
 
 pub visible_code : (was : Progress) (xid : Xid) (own : RunningTransaction) (locks : Roomy OwnLock) (known : AreKnown (is_kept (kept_of was.caches)) was.opened was.suspects) → own ≡ begun_own (was.finished + 1) was.running
     → locks.items ≡ locks_accepted (is_in_accept (record was { running = Some (record own { visible = true }); due = dues.Nothing }) (slice_get was.commands was.finished)) was.locks.items

@@ -15,23 +15,19 @@ use Rattle.base_types.specs.declared.command.Command.TheVariants as commands
 use Rattle.base_types.specs.declared.command.NewColumn.{NewColumn}
 use Rattle.base_types.specs.declared.dropped.TheConstants.{MOST_COLUMNS}
 use Rattle.base_types.specs.declared.kind.Kind.TheVariants.{Table, Index}
+use Rattle.base_types.specs.declared.mode.Mode.TheVariants.{AccessShare, Share, ShareRowExclusive}
 use Rattle.base_types.specs.declared.row.Row.TheVariants as rows
 use Rattle.base_types.specs.declared.row_key.RowKey.TheVariants as keys
 use Rattle.base_types.specs.declared.scan.Purpose.TheVariants as scans
 use Rattle.command_answers.specs.declared.error.CommandError.TheVariants as errors
 use Rattle.ddl_effect.specs.declared.alteration.Alteration.{Alteration}
 use Rattle.ddl_effect.specs.declared.alteration.Alteration.TheVariants as alterations
-use Rattle.ddl_effect.specs.declared.altering.Altering.{Altering}
-use Rattle.ddl_effect.specs.declared.altering.Altering.TheVariants as alters
-use Rattle.ddl_effect.specs.declared.exec.Exec.TheVariants as stages
-use Rattle.ddl_effect.specs.declared.finding.Finding.{Finding}
-use Rattle.ddl_effect.specs.declared.finding.Finding.TheVariants as findings
 use Rattle.ddl_effect.specs.declared.told.Told.TheVariants as tells
 use Rattle.txn_blocks.specs.Blocks.{Blocks, refused_by}
 use Rattle.ddl_effect.specs.Opens.{latest_open, has_open}
 use Rattle.ddl_effect.specs.Plans.{Plan, Done, Do}
-use Rattle.ddl_effect.specs.Parts.{found, if_passes, writing, opening, searching, is_table, is_index, if_closed, altering, altering_index, locking_all, column_there, with_column, column_free, reading, changing, deleting, removing, column_number, first_new}
-use Rattle.ddl_effect.specs.Reads.{showing, telling_columns, telling_column, told_fields, peeking, closing}
+use Rattle.ddl_effect.specs.Parts.{found, looking_up, if_passes, writing, opening, searching, is_table, is_index, if_closed, altering, altering_index, locking_all, column_there, with_column, column_free, reading, changing, deleting, removing, column_number, first_new}
+use Rattle.ddl_effect.specs.Reads.{showing, showing_field, keeping, locking, listing_columns, finding_column, telling_columns, telling_column, told_fields, peeking, closing}
 use Rattle.ddl_effect.specs.Columns.{adding, as_dropped, is_default_of, dropping, uses_column, drop_unindexed, drop_found, default_found, with_name, renaming, with_stat, most_stat, targeting}
 use Rattle.ddl_effect.specs.Constraints.{is_own_named, if_constraint, if_no_constraint, adding_check, adding_foreign, referring_to, referring, foreign_named, validating, dropping_constraint}
 use Rattle.ddl_effect.specs.Triggers.{is_trigger, if_trigger, if_no_trigger, same_state, unless_so, switching, adding_trigger}
@@ -39,8 +35,8 @@ use Rattle.ddl_effect.specs.Indexes.{numbered_too, numbering, is_index_width, cr
 use Rattle.ddl_effect.specs.Tables.{if_no_column, first_twice, new_column, new_table, with_own_name, renaming_table, with_fill, filling, is_of_other, referred_by, referred, index_of, dropped_index, by_oid, dropped_table, drop_table, drop_indexes}
 use Rattle.ddl_effect.specs.declared.foreign_key.ForeignKey.{ForeignKey}
 use Rattle.ddl_effect.specs.Commands.{plan_of}
-use Rattle.ddl_effect.specs.Stages.{plan_at, plan_again, altering_at, altering_again, altering_kind, kind_of, altered, name_sought, plan_found}
-use Rattle.cacheless.specs.Types.{Oid, Kind, Field, Row, Purpose, Command, CommandError, OpenRelation, Draft, Exec, Opening}
+use Rattle.ddl_effect.specs.Stages.{alteration_plan, altering_kind, kind_of, mode_of, altered}
+use Rattle.cacheless.specs.Types.{Oid, Mode, AccessExclusive, Kind, Field, Row, Purpose, Command, CommandError, OpenRelation, Draft, Opening}
 use Rattle.history_model.proofs.Asking.{oid_eq}
 use Rattle.history_model.proofs.Every.{every-append}
 use Rattle.cacheless.specs.Puts.{is_opened, PutOpened, AreGivenBy, PutsOpened}
@@ -55,6 +51,9 @@ puts_found : (opened : List Opening) (name : List ℕ) (rest : Oid → Kind → 
 puts_found opened name rest puts [] = tt
 puts_found opened name rest puts (rows.Class oid own kind fill ∷ more) = puts oid kind
 puts_found opened name rest puts (row ∷ more) = tt
+
+puts_looking : (opened : List Opening) (name : List ℕ) (mode : Mode) (rest : Oid → Kind → Plan) → ((other : List Opening) (rel : Oid) (kind : Kind) → PutsOpened other (rest rel kind)) → PutsOpened opened (looking_up name mode rest)
+puts_looking opened name mode rest puts = λ given other. puts_found other name rest (puts other) given
 
 -- a plan that has come out writes nothing
 pub puts_out : (opened : List Opening) (plan : Plan) → is_settled (outcome_of plan) ≡ true → PutsOpened opened plan
@@ -148,9 +147,9 @@ puts_constraint opened name further None puts = tt
 puts_constraint opened name further (Some row) puts = puts row
 
 puts_referring : (opened : List Opening) (key : ForeignKey) (rel : Oid) (row : Row) → PutsOpened opened (referring key rel row)
-puts_referring opened key rel row = puts_found opened key.refers (referring_to key rel row)
-    (λ other kind. puts_if_passes opened (is_table kind) (errors.NotTable key.refers) (with_column other key.ref_column (adding_foreign key rel row other))
-    (puts_there opened (scans.AttName other key.ref_column) key.ref_column (adding_foreign key rel row other) (λ there asked. ((tt, tt), λ given. tt))))
+puts_referring opened key rel row = puts_looking opened key.refers ShareRowExclusive (referring_to key rel row)
+    (λ now other kind. puts_if_passes now (is_table kind) (errors.NotTable key.refers) (with_column other key.ref_column (adding_foreign key rel row other))
+    (puts_there now (scans.AttName other key.ref_column) key.ref_column (adding_foreign key rel row other) (λ there asked. ((tt, tt), λ given. tt))))
 
 puts_foreign : (opened : List Opening) (key : ForeignKey) (rel : Oid) → PutsOpened opened (foreign_named key rel)
 puts_foreign opened key rel = puts_there opened (scans.AttName rel key.column) key.column (referring key rel) (λ row asked. puts_referring opened key rel row)
@@ -261,36 +260,8 @@ puts_told opened column [] = tt
 puts_told opened column (rows.Att rel num own col_type stat live ∷ more) = tt
 puts_told opened column (row ∷ more) = tt
 
-puts_found_by : (opened : List Opening) (opens : List OpenRelation) (finding : Finding) (rel : Oid) (kind : Kind) → PutsOpened opened (plan_found opens finding rel kind)
-puts_found_by opened opens (findings.Show name) rel kind = λ given. tt
-puts_found_by opened opens (findings.ShowField name field) rel kind = puts_if_passes opened (has_field kind field) (errors.NoField name field) (showing (Some field) rel kind) (λ given. tt)
-puts_found_by opened opens (findings.OpenRel name) rel kind = λ given. tt
-puts_found_by opened opens (findings.LockTable name mode) rel kind = puts_if_passes opened (is_table kind) (errors.NotTable name) (Done tells.Ok) tt
-puts_found_by opened opens (findings.DropTable name) rel kind = puts_table opened opens name (drop_table opens name) rel kind (puts_dropping (opened ++ record { rel = rel; kind = kind } ∷ []) opens name rel)
-puts_found_by opened opens (findings.Columns name) rel kind = puts_if_passes opened (is_table kind) (errors.NotTable name) (searching (scans.AttList rel) telling_columns) (λ given asked. tt)
-puts_found_by opened opens (findings.Column name column) rel kind = puts_if_passes opened (is_table kind) (errors.NotTable name) (searching (scans.AttName rel column) (telling_column column)) (λ given asked. puts_told opened column given)
-
-puts_sought : (opened : List Opening) (opens : List OpenRelation) (finding : Finding) → PutsOpened opened (plan_at opens (stages.Finding finding))
-puts_sought opened opens finding = puts_found opened (name_sought finding) (plan_found opens finding) (puts_found_by opened opens finding)
-
-puts_finding : (opened : List Opening) (opens : List OpenRelation) (name : List ℕ) (alteration : Alteration) → PutsOpened opened (altering_at opens (alters.Finding name alteration))
-puts_finding opened opens name alteration = puts_found opened name (altering_kind (kind_of alteration) opens name (altered opens alteration)) (puts_kind (kind_of alteration) opened opens name alteration)
-
-puts_indexed : (opened : List Opening) (opens : List OpenRelation) (name on_table : List ℕ) (columns : List (List ℕ)) (given : List Row) → PutsOpened opened (found on_table (altering opens on_table (create_index name columns)) given)
-puts_indexed opened opens name on_table columns = puts_found opened on_table (altering opens on_table (create_index name columns))
-    (λ rel kind. puts_table opened opens on_table (create_index name columns) rel kind (puts_creating_index (opened ++ record { rel = rel; kind = kind } ∷ []) name columns rel))
-
--- so does a command whose lookup is made anew
-alters_again : (opened : List Opening) (opens : List OpenRelation) (altering : Altering) → PutsOpened opened (altering_at opens altering) → PutsOpened opened (altering_again opens altering)
-alters_again opened opens (alters.Missing name alteration) puts = puts_finding opened opens name alteration
-alters_again opened opens (alters.MissingReferred rel key row) puts = puts_referring opened key rel row
-alters_again opened opens stage puts = puts
-
-pub puts_again : (opened : List Opening) (opens : List OpenRelation) (exec : Exec) → PutsOpened opened (plan_at opens exec) → PutsOpened opened (plan_again opens exec)
-puts_again opened opens (stages.Missing finding) puts = puts_sought opened opens finding
-puts_again opened opens (stages.MissingIndexed index) puts = puts_indexed opened opens index.name index.on_table index.columns
-puts_again opened opens (stages.Altering altering) puts = alters_again opened opens altering puts
-puts_again opened opens stage puts = puts
+puts_finding : (opened : List Opening) (opens : List OpenRelation) (name : List ℕ) (alteration : Alteration) → PutsOpened opened (alteration_plan opens (record { name = name; alteration = alteration }))
+puts_finding opened opens name alteration = puts_looking opened name (mode_of alteration) (altering_kind (kind_of alteration) opens name (altered opens alteration)) (λ other. puts_kind (kind_of alteration) other opens name alteration)
 
 -- and a command at its beginning
 puts_columns : (opened : List Opening) (columns : List (ℕ × NewColumn)) → AllByRecursion (PutOpened opened 1) (map new_column columns)
@@ -318,14 +289,14 @@ puts_plan opened opens commands.Rollback = tt
 puts_plan opened opens (commands.Savepoint name) = tt
 puts_plan opened opens (commands.Release name) = tt
 puts_plan opened opens (commands.RollbackTo name) = tt
-puts_plan opened opens (commands.Show name None) = puts_sought opened opens (findings.Show name)
-puts_plan opened opens (commands.Show name (Some field)) = puts_sought opened opens (findings.ShowField name field)
-puts_plan opened opens (commands.Columns name) = puts_sought opened opens (findings.Columns name)
-puts_plan opened opens (commands.Column name column) = puts_sought opened opens (findings.Column name column)
+puts_plan opened opens (commands.Show name None) = puts_looking opened name AccessShare (showing None) (λ other rel kind. λ given. tt)
+puts_plan opened opens (commands.Show name (Some field)) = puts_looking opened name AccessShare (showing_field name field) (λ other rel kind. puts_if_passes other (has_field kind field) (errors.NoField name field) (showing (Some field) rel kind) (λ given. tt))
+puts_plan opened opens (commands.Columns name) = puts_looking opened name AccessShare (listing_columns name) (λ other rel kind. puts_if_passes other (is_table kind) (errors.NotTable name) (searching (scans.AttList rel) telling_columns) (λ given asked. tt))
+puts_plan opened opens (commands.Column name column) = puts_looking opened name AccessShare (finding_column name column) (λ other rel kind. puts_if_passes other (is_table kind) (errors.NotTable name) (searching (scans.AttName rel column) (telling_column column)) (λ given asked. puts_told other column given))
 puts_plan opened opens (commands.Regclass oid) = λ given asked. tt
-puts_plan opened opens (commands.LockTable name mode) = puts_sought opened opens (findings.LockTable name mode)
+puts_plan opened opens (commands.LockTable name mode) = puts_looking opened name mode (locking name) (λ other rel kind. puts_if_passes other (is_table kind) (errors.NotTable name) (Done tells.Ok) tt)
 puts_plan opened opens (commands.CreateTable name columns) = puts_creating opened name columns (nat_le (length columns) MOST_COLUMNS) (first_twice [] (map (λ c. c.name) columns))
-puts_plan opened opens (commands.DropTable name) = puts_sought opened opens (findings.DropTable name)
+puts_plan opened opens (commands.DropTable name) = puts_looking opened name AccessExclusive (altering opens name (drop_table opens name)) (λ other rel kind. puts_table other opens name (drop_table opens name) rel kind (puts_dropping (other ++ record { rel = rel; kind = kind } ∷ []) opens name rel))
 puts_plan opened opens (commands.RenameTable name to) = puts_finding opened opens name (alterations.RenameTable to)
 puts_plan opened opens (commands.AddColumn name column col_type) = puts_finding opened opens name (alterations.AddColumn column col_type)
 puts_plan opened opens (commands.DropColumn name column) = puts_finding opened opens name (alterations.DropColumn column)
@@ -339,10 +310,10 @@ puts_plan opened opens (commands.ValidateConstraint name constraint) = puts_find
 puts_plan opened opens (commands.DropConstraint name constraint) = puts_finding opened opens name (alterations.DropConstraint constraint)
 puts_plan opened opens (commands.SetTrigger name trigger on) = puts_finding opened opens name (alterations.SetTrigger trigger on)
 puts_plan opened opens (commands.CreateTrigger name trigger) = puts_finding opened opens name (alterations.CreateTrigger trigger)
-puts_plan opened opens (commands.CreateIndex name on_table columns) = puts_indexed opened opens name on_table columns
+puts_plan opened opens (commands.CreateIndex name on_table columns) = puts_looking opened on_table Share (altering opens on_table (create_index name columns)) (λ other rel kind. puts_table other opens on_table (create_index name columns) rel kind (puts_creating_index (other ++ record { rel = rel; kind = kind } ∷ []) name columns rel))
 puts_plan opened opens (commands.DropIndex name) = puts_finding opened opens name alterations.DropIndex
 puts_plan opened opens (commands.RenameIndex name to) = puts_finding opened opens name (alterations.RenameIndex to)
-puts_plan opened opens (commands.OpenRel name) = puts_sought opened opens (findings.OpenRel name)
+puts_plan opened opens (commands.OpenRel name) = puts_looking opened name AccessShare keeping (λ other rel kind. λ given. tt)
 puts_plan opened opens (commands.Peek name field) = puts_peeking opened name field (latest_open name opens)
 puts_plan opened opens (commands.CloseRel name) = puts_closing opened name (latest_open name opens)
 

@@ -25,4 +25,4 @@ pub returns-in_default-clause-plan : goal.returns-in_default-clause-plan
 returns-in_default-clause-plan c = ap (plan_first c.args.blocks.now c.args.opens.now) (sym (none_at c.args.commands.now c.args.commands.now c.args.index refl c.in_default.ensures.lookup.0))
 
 pub returns-in_ok-exec-in-Ok-clause-plan : goal.returns-in_ok-exec-in-Ok-clause-plan
-returns-in_ok-exec-in-Ok-clause-plan c = c.in_ok-exec-in-Ok.ensures.plan ∙ ap (λ o. plan_admitted c.args.opens.now o c.in-Some.command.now) (sym c.in-Ok.ensures.ok) ∙ ap (plan_first c.args.blocks.now c.args.opens.now) (sym (given_at c.args.commands.now c.args.commands.now c.args.index c.in-Some.command.now refl (c.in-Some.ensures.lookup.3).0 c.in-Some.ensures.lookup.1))
+returns-in_ok-exec-in-Ok-clause-plan c = c.in_ok-exec-in-Ok.ensures.plan c.args.opens.now ∙ ap (λ o. plan_admitted c.args.opens.now o c.in-Some.command.now) (sym c.in-Ok.ensures.ok) ∙ ap (plan_first c.args.blocks.now c.args.opens.now) (sym (given_at c.args.commands.now c.args.commands.now c.args.index c.in-Some.command.now refl (c.in-Some.ensures.lookup.3).0 c.in-Some.ensures.lookup.1))

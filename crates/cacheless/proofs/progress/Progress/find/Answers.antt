@@ -9,9 +9,9 @@ use Rattle.cacheless.proofs.Pinning.{none_opened}
 use Rattle.cacheless.proofs.progress.Progress.find.Goals as goal
 
 pub returns-clause-acts : goal.returns-clause-acts
-returns-clause-acts c = acted_code c.args.self.now _ _ _ _ _ _ c.as_slice.result.now c.rows_for-rows.result.now c.requires.acts (c.next-want.ensures c.args.self.now.opens)
+returns-clause-acts c = acted_code c.args.self.now _ _ _ _ _ _ c.rows_for-rows.result.now c.requires.acts (c.next-want.ensures c.args.self.now.opens)
     (c.rows_for-rows.ensures ∙ (λ i. rows_for (c.next-want.ensures c.args.self.now.opens i) (c.row_next-row.ensures i) (kept_at c.args.self.now)) ∙ given_is c.args.self.now (plan_at c.args.self.now.opens c.args.self.now.exec) ∙ ap (rows_given c.args.self.now) (sym (c.next-want.ensures c.args.self.now.opens)))
-    c.as_slice.ensures c.in_ok-give.ensures.plan c.in_ok-give.ensures.again
+    (c.in_ok-give.ensures.plan c.args.self.now.opens) (c.in_ok-give.ensures.again c.args.self.now.opens)
     (sym (ap (λ l. c.args.self.now.opened ++ l) (ap opened_for (c.next-want.ensures c.args.self.now.opens) ∙ c.requires.other) ∙ append-nil c.args.self.now.opened)) refl
     (subst (PinsMore c.args.self.now.caches c.args.self.now.caches) (sym (ap opened_for (c.next-want.ensures c.args.self.now.opens) ∙ c.requires.other)) (none_opened c.args.self.now.caches))
 

@@ -6,7 +6,7 @@ use Rattle.cacheless.proofs.Pinning.{opens_pinned}
 use Rattle.cacheless.proofs.progress.Progress.open.Goals as goal
 
 pub returns-clause-acts : goal.returns-clause-acts
-returns-clause-acts c = acted_code c.args.self.now _ _ _ _ _ _ c.as_slice.result.now _ c.requires.acts (sym c.requires.opens) refl c.as_slice.ensures c.in_ok-give.ensures.plan c.in_ok-give.ensures.again c.in_ok-push.ensures.ok c.in_ok-pin.ensures.kept (opens_pinned c.args.self.now _ c.args.rel c.args.kind c.requires.acts c.requires.opens (c.in_ok-pin.ensures.pinned (Class c.args.rel) refl) c.in_ok-pin.ensures.others)
+returns-clause-acts c = acted_code c.args.self.now _ _ _ _ _ _ _ c.requires.acts (sym c.requires.opens) refl (c.in_ok-give.ensures.plan c.args.self.now.opens) (c.in_ok-give.ensures.again c.args.self.now.opens) c.in_ok-push.ensures.ok c.in_ok-pin.ensures.kept (opens_pinned c.args.self.now _ c.args.rel c.args.kind c.requires.acts c.requires.opens (c.in_ok-pin.ensures.pinned (Class c.args.rel) refl) c.in_ok-pin.ensures.others)
 
 pub returns-clause-less : goal.returns-clause-less
 returns-clause-less c = omega (arith, c.in_ok-give.ensures.less (act_is_left c.args.self.now c.requires.acts))
