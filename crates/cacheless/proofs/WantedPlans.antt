@@ -15,7 +15,7 @@ use Rattle.txn_blocks.specs.Blocks.{Block, Blocks, Level, blocks_badly}
 use Rattle.ddl_effect.proofs.Driven.{fails_is}
 use Rattle.history_model.specs.Changing.{is_empty}
 use Rattle.cacheless.specs.Types.{Oid, Mode, Kind, Row, Purpose, Command, CommandError, OpenRelation, Opening, OwnLock}
-use Rattle.cacheless.specs.Session.{Badly, Unsettled, outcome_of, is_settled}
+use Rattle.cacheless.specs.Session.{Well, Badly, Unsettled, outcome_of, is_settled}
 use Rattle.cacheless.specs.Settled.{if_locked, opens_badly, opens_passed, looked_up_in, gives_left}
 use Rattle.cacheless.specs.State.{Kept, kept_at, is_kept, missing, row_sought, row_next, blocks_passed, facts_at, work_at, rows_kept}
 use Rattle.cacheless.specs.May.{is_missing, is_first_missing, is_next_of_act, lacks_to_build}
@@ -124,6 +124,13 @@ no_scans want lookup opens search reads done = refl
 -- how its command has come out
 pub came_badly : (plan : Plan) (error : CommandError) → want_of plan ≡ wants.Fails error → outcome_of plan ≡ Badly
 came_badly plan error is = ap outcome_of (fails_is plan error is)
+
+pub came_well : (plan : Plan) (told : Option Purpose) → want_of plan ≡ wants.Done told → outcome_of plan ≡ Well
+came_well (Done told) rests is = refl
+came_well (Fails error) rests is = absurd (cc is)
+came_well (Absent name) rests is = absurd (cc is)
+came_well (Do (Lookup name mode) rest) rests is = absurd (cc is)
+came_well (Do act rest) rests is = absurd (cc is)
 
 pub goes_on : (plan : Plan) → ((told : Option Purpose) → want_of plan ≡ wants.Done told → ⊥) → ((error : CommandError) → want_of plan ≡ wants.Fails error → ⊥) → ((name : List ℕ) → want_of plan ≡ wants.Absent name → ⊥) → outcome_of plan ≡ Unsettled
 goes_on (Done told) done fails absent = absurd (done (told_rests_on told) refl)

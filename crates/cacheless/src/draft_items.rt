@@ -24,7 +24,6 @@ use event_kinds::Item;
 use local_caches::LocalCaches;
 
 // Whether the next act writes these items, where the next new oid is this one.
-#[tactic(auto, using(crate::proofs::DraftNext::write_by, crate::proofs::DraftNext::no_write))]
 pub(crate) fn writes_items(exec: &Exec, next: u32, items: &[Item]) -> bool
     ensures { (opens : List OpenRelation) → result ≡ is_write next items.now (plan_at opens exec.now) }
 {
@@ -348,7 +347,6 @@ fn same_name(a: &Name, b: &Name) -> bool
 }
 
 // Whether the next act writes a relation of this new name.
-#[tactic(auto, using(crate::proofs::DraftNext::clash_by, crate::proofs::DraftNext::no_clash))]
 pub(crate) fn gives_name(exec: &Exec, caches: &LocalCaches, name: Name) -> bool
     ensures { (opens : List OpenRelation) → result ≡ is_clash (kept_of caches.now) name (plan_at opens exec.now) }
 {

@@ -167,7 +167,10 @@ impl Progress {
     fn tells_of_scans(&self) -> bool
         ensures { result ≡ rests_on_scans (told_of (plan_at self.now.opens self.now.exec)) }
     {
-        !matches!(self.exec.told(), None | Some(Told::Ok | Told::Commit))
+        match self.exec.told() {
+            Some(told) => is_of_scans(told),
+            None => false,
+        }
     }
 
     // Whether the command is finished.
@@ -319,6 +322,13 @@ impl Progress {
             text,
         })
     }
+}
+
+// Whether what is told rests on scans.
+fn is_of_scans(told: &Told) -> bool
+    ensures { result ≡ rests_on_scans told.now }
+{
+    !matches!(told, Told::Ok | Told::Commit)
 }
 
 // The command of this number has come out.

@@ -1,4 +1,4 @@
-use Rattle.std.proofs.Common.{◌∙◌, ap, sym}
+use Rattle.std.proofs.Common.{◌≡◌, ◌∙◌, true, false, ap, sym}
 use Rattle.std.proofs.lemmas.Result.{IfOk-weaker}
 use Rattle.command_answers.specs.declared.answer.Answer.TheVariants as answers
 use Rattle.ddl_effect.specs.Commands.{absent_error}
@@ -6,7 +6,7 @@ use Rattle.ddl_effect.proofs.Driven.{fails_is, absent_is}
 use Rattle.ddl_effect.specs.Stages.{plan_at}
 use Rattle.cacheless.specs.State.{kept_at, rows_kept, place_kept}
 use Rattle.cacheless.specs.Told.{told_well, told_left}
-use Rattle.cacheless.proofs.WantedPlans.{tells_well}
+use Rattle.cacheless.proofs.WantedPlans.{out_of_want, out_wanted, not_out, tells_well}
 use Rattle.cacheless.proofs.progress.Progress.told.Goals as goal
 
 pub returns-in-Fails : goal.returns-in-Fails
@@ -27,3 +27,8 @@ returns-in-Absent c =
 
 pub returns-in-None : goal.returns-in-None
 returns-in-None c = sym (tells_well (rows_kept (kept_at c.args.self.now)) (place_kept (kept_at c.args.self.now)) c.args.self.now.locks.items c.args.self.now.blocks.block c.args.command.now (plan_at c.args.self.now.opens c.args.self.now.exec) c.in-Done.field-0 (sym (c.next.ensures c.args.self.now.opens) ∙ c.in-Done.is) ∙ ap (told_well (rows_kept (kept_at c.args.self.now)) (place_kept (kept_at c.args.self.now)) c.args.self.now.locks.items c.args.self.now.blocks.block) (c.in-None.ensures c.args.self.now.opens))
+
+pub unreachable-requires : goal.unreachable-requires
+unreachable-requires c =
+    let both : true ≡ false = sym c.requires ∙ out_wanted (plan_at c.args.self.now.opens c.args.self.now.exec) ∙ ap out_of_want (sym (c.next.ensures c.args.self.now.opens)) ∙ not_out c.next.result c.in_default.not-Done c.in_default.not-Fails c.in_default.not-Absent in
+    absurd (cc both)
