@@ -1,4 +1,5 @@
 ghost use Rattle.std.specs.Prelude.{◌≡◌, ℕ, List, [], ◌∷◌, ◌++◌, IfOk, length};
+ghost use Rattle.std.specs.List.{All};
 
 use ghost_list::GhostList;
 use std::alloc::{AllocError, Global};
@@ -59,9 +60,10 @@ impl OpenGate {
     }
 }
 
-/// So many gates that never stop.
+/// So many gates that never stop, and were asked nothing.
 pub fn open_gates(alloc: Global, count: usize) -> Result<Vec<OpenGate>, AllocError>
-    ensures { IfOk result (λ gates. length gates.items ≡ count) }
+    ensures count { IfOk result (λ gates. length gates.items ≡ count) }
+    ensures unasked { IfOk result (λ gates. All (λ g. g.asked.items ≡ []) gates.items) }
 {
     let mut gates = Vec::with_capacity(alloc, count)?;
     'opening: for _number in 0..count {
