@@ -1,18 +1,22 @@
 -- What a backend notes beside how far it is: whether the look for the next scan of its act is made, the rebuilds that are on their way, and whether messages came since its lookup began; and what each entry makes of that.
-use Rattle.std.specs.Prelude.{◌≡◌, ◌<◌, ◌+◌, ◌++◌, ◌∷◌, ◌&&◌, ◌||◌, ℕ, Bool, true, false, not, Some, List, [], drop, length, map, ⊤}
+use Rattle.std.specs.Prelude.{◌≡◌, ◌<◌, ◌+◌, ◌++◌, ◌∷◌, ◌&&◌, ◌||◌, ℕ, Bool, true, false, not, Option, Some, List, [], drop, length, map, ⊤}
 use Rattle.event_kinds.specs.declared.entry.Event.TheVariants as events
+use Rattle.history_model.specs.Drawn.{next_oid}
 use Rattle.history_model.specs.Log.{fetched_by}
-use Rattle.seg_calls.specs.Calls.{entry_of, messages_in}
+use Rattle.history_model.specs.Names.{new_names}
+use Rattle.seg_calls.specs.Calls.{entry_of, first_refused, messages_in}
 use Rattle.ddl_effect.specs.Opens.{opens_before}
+use Rattle.ddl_effect.specs.Plans.{Plan, Do, Write}
 use Rattle.ddl_effect.specs.Stages.{plan_at, acts_left}
 use Rattle.cacheless.specs.Facts.{facts_of}
 use Rattle.cacheless.specs.Holds.{Holds, IsWhere}
 use Rattle.cacheless.specs.May.{has_failed}
+use Rattle.cacheless.specs.Plays.{drafted}
 use Rattle.cacheless.specs.Session.{Session, opening_of, held_in}
 use Rattle.cacheless.specs.Sessions.{session_of, entered as session_after}
 use Rattle.cacheless.specs.Silently.{Acts as MayAct}
 use Rattle.cacheless.specs.State.{kept_at, kept_spared, is_kept, is_absent, session_at}
-use Rattle.backend_core.specs.Types.{Scenario, Message, Entry, Event, Frame, Next, Progress, Backend}
+use Rattle.backend_core.specs.Types.{Scenario, Item, Message, Entry, Event, Frame, Next, Progress, Backend}
 use Rattle.backend_core.specs.declared.life.Life.TheVariants as lives
 use Rattle.backend_core.specs.declared.next.Next.TheVariants as nexts
 pub use Rattle.backend_core.specs.Choice.{Noted, noted_of}
@@ -61,26 +65,35 @@ noted_by before s nexts.Write (events.Write xid items) = noted_written s (messag
 noted_by before s (nexts.Release from) event = noted_released s from
 noted_by before s next event = noted_of s
 
--- an event of the kind that comes next, and of a scan, a lock or an end with what that names
-abbrev pub ComesAs : Next → Event → Type 0
-ComesAs nexts.Look (events.Look some_wait) = ⊤
-ComesAs (nexts.LookBeforeScan rebuilds) (events.Look some_wait) = ⊤
-ComesAs nexts.LookBeforeAbsent (events.Look some_wait) = ⊤
-ComesAs nexts.Fetch (events.Fetch count) = ⊤
-ComesAs nexts.Fetch events.FetchReset = ⊤
-ComesAs (nexts.Scan scan rebuilds) (events.Scan made rows) = made ≡ scan
-ComesAs (nexts.Lock rel mode) (events.LockOk granted in_mode) = (granted ≡ rel) × (in_mode ≡ mode)
-ComesAs (nexts.Lock rel mode) (events.LockHeld refused in_mode holder held) = (refused ≡ rel) × (in_mode ≡ mode)
-ComesAs (nexts.Unlock rel mode) (events.Unlock unlocked in_mode) = (unlocked ≡ rel) × (in_mode ≡ mode)
-ComesAs nexts.Write (events.Write xid items) = ⊤
-ComesAs nexts.Write (events.ClashRow name rel) = ⊤
-ComesAs nexts.Write (events.ClashRunning name xid) = ⊤
-ComesAs (nexts.Commit xid) (events.Visible shown) = shown ≡ xid
-ComesAs nexts.Publish (events.Publish count) = ⊤
-ComesAs (nexts.TakeBack from) (events.Gone first) = first ≡ from
-ComesAs (nexts.Release from) (events.Release first) = first ≡ from
-ComesAs nexts.Leave events.Stop = ⊤
-ComesAs next event = ⊥
+-- an event of the kind that comes next, and of a scan, a lock or an end with what that names; a write is refused with this refusal alone
+abbrev pub ComesAs : Option Event → Next → Event → Type 0
+ComesAs refusal nexts.Look (events.Look some_wait) = ⊤
+ComesAs refusal (nexts.LookBeforeScan rebuilds) (events.Look some_wait) = ⊤
+ComesAs refusal nexts.LookBeforeAbsent (events.Look some_wait) = ⊤
+ComesAs refusal nexts.Fetch (events.Fetch count) = ⊤
+ComesAs refusal nexts.Fetch events.FetchReset = ⊤
+ComesAs refusal (nexts.Scan scan rebuilds) (events.Scan made rows) = made ≡ scan
+ComesAs refusal (nexts.Lock rel mode) (events.LockOk granted in_mode) = (granted ≡ rel) × (in_mode ≡ mode)
+ComesAs refusal (nexts.Lock rel mode) (events.LockHeld refused in_mode holder held) = (refused ≡ rel) × (in_mode ≡ mode)
+ComesAs refusal (nexts.Unlock rel mode) (events.Unlock unlocked in_mode) = (unlocked ≡ rel) × (in_mode ≡ mode)
+ComesAs refusal nexts.Write (events.Write xid items) = ⊤
+ComesAs refusal nexts.Write (events.ClashRow name rel) = refusal ≡ Some (events.ClashRow name rel)
+ComesAs refusal nexts.Write (events.ClashRunning name xid) = refusal ≡ Some (events.ClashRunning name xid)
+ComesAs refusal (nexts.Commit xid) (events.Visible shown) = shown ≡ xid
+ComesAs refusal nexts.Publish (events.Publish count) = ⊤
+ComesAs refusal (nexts.TakeBack from) (events.Gone first) = first ≡ from
+ComesAs refusal (nexts.Release from) (events.Release first) = first ≡ from
+ComesAs refusal nexts.Leave events.Stop = ⊤
+ComesAs refusal next event = ⊥
+
+-- what a plan writes, where the first new oid is this one
+abbrev pub items_left : ℕ → Plan → List Item
+items_left next (Do (Write draft) rest) = drafted next draft
+items_left next plan = []
+
+-- the refusal of what is left of a backend's plan, if it writes a name that is taken
+abbrev pub refusal_left : List Entry → ℕ → Plan → Option Event
+refusal_left before b left = first_refused before b (new_names before b (items_left (next_oid before) left))
 
 -- the backend is where this entry of its command leaves it, before it goes on without one
 pub record IsEntered (scenario : Scenario) (old new : List Entry) (was : Progress) (event : Event) (now : Progress) : Type 0 where
@@ -93,7 +106,7 @@ pub record IsEntered (scenario : Scenario) (old new : List Entry) (was : Progres
 -- the entry that came next is made, and no other, the backend is where it leaves it, and what is noted is what it makes of it
 pub record IsNoted (scenario : Scenario) (old new : List Entry) (was : Backend) (next : Next) (now : Backend) : Type 0 where
   pub event : Event
-  pub made : ComesAs next event
+  pub made : ComesAs (refusal_left old was.progress.id (plan_at was.progress.opens was.progress.exec)) next event
   pub entered : new ≡ old ++ entry_of was.progress.id (was.progress.finished + 1) event ∷ []
   pub goes : IsEntered scenario old new was.progress event now.progress
   pub noted : noted_of now ≡ noted_by old was next event

@@ -1,9 +1,8 @@
 -- Steps and walks that are noted, of which two are one: where two backends are as far, and which entry comes of what comes next.
 use Rattle.std.specs.Prelude.{◌≡◌, ◌==◌, ◌++◌, ◌∷◌, ℕ, Bool, true, false, Option, Some, None, IfSome, List, [], ⊤, min, length}
-use Rattle.std.specs.List.{AllByRecursion}
 use Rattle.event_kinds.specs.declared.entry.Event.TheVariants as events
 use Rattle.ddl_effect.specs.Commands.{commands_of}
-use Rattle.ddl_effect.specs.Plans.{Plan, Do, Write}
+use Rattle.ddl_effect.specs.Plans.{Plan}
 use Rattle.lock_modes.specs.Grants.{first_conflict}
 use Rattle.history_model.specs.Drawn.{next_oid}
 use Rattle.history_model.specs.Held.{held_of}
@@ -14,12 +13,11 @@ use Rattle.history_model.specs.Transactions.{xid_for}
 use Rattle.history_model.specs.Types.{Grant}
 use Rattle.history_model.specs.Versions.{answer_of}
 use Rattle.seg_calls.specs.Calls.{due_to}
-use Rattle.cacheless.specs.Plays.{drafted}
 use Rattle.cacheless.specs.State.{facts_at, work_at}
 use Rattle.backend_core.specs.Types.{Oid, Mode, Item, Scenario, Entry, Event, Next, Progress, Backend}
 use Rattle.backend_core.specs.declared.next.Next.TheVariants as nexts
 use Rattle.backend_core.specs.Agrees.{IsNew, Stands}
-use Rattle.backend_core.specs.Noted.{NotesAtStep}
+use Rattle.backend_core.specs.Noted.{NotesAtStep, items_left, refusal_left}
 use Rattle.backend_core.specs.Steps.{Steps}
 
 -- two backends of one number are as far in one history
@@ -31,11 +29,6 @@ pub record IsAsFar (one two : Progress) : Type 0 where
   pub work : work_at one ≡ work_at two
   pub opens : one.opens ≡ two.opens
 
--- what a plan writes, where the first new oid is this one
-abbrev pub items_left : ℕ → Plan → List Item
-items_left next (Do (Write draft) rest) = drafted next draft
-items_left next plan = []
-
 -- a lock is granted, or refused for the first grant that conflicts with it
 abbrev pub lock_made : Oid → Mode → Option Grant → Event
 lock_made rel mode None = events.LockOk rel mode
@@ -46,25 +39,24 @@ abbrev pub fetch_made : Bool → ℕ → Event
 fetch_made true count = events.FetchReset
 fetch_made false count = events.Fetch count
 
--- the entry that comes of what comes next, in a history with a queue of this size, by what is left of the backend's plan: of a write that where none of its names is taken
+-- a write is made, or refused
+abbrev pub write_made : ℕ → List Item → Option Event → Event
+write_made xid items None = events.Write (record { 0 = xid }) items
+write_made xid items (Some refusal) = refusal
+
+-- the entry that comes of what comes next, in a history with a queue of this size, by what is left of the backend's plan
 abbrev pub event_made : ℕ → List Entry → ℕ → Plan → Next → Event
 event_made size before b left (nexts.Scan scan rebuilds) = events.Scan scan (length (answer_of before b scan))
 event_made size before b left (nexts.Lock rel mode) = lock_made rel mode (first_conflict (held_of before) b rel mode)
 event_made size before b left (nexts.Unlock rel mode) = events.Unlock rel mode
 event_made size before b left nexts.Fetch = fetch_made (is_lapped size before b) (due_to before b)
-event_made size before b left nexts.Write = events.Write (record { 0 = xid_for before b }) (items_left (next_oid before) left)
+event_made size before b left nexts.Write = write_made (xid_for before b) (items_left (next_oid before) left) (refusal_left before b left)
 event_made size before b left (nexts.Commit xid) = events.Visible xid
 event_made size before b left nexts.Publish = events.Publish (min 64 (length (unsent_of before b)))
 event_made size before b left (nexts.TakeBack from) = events.Gone from
 event_made size before b left (nexts.Release from) = events.Release from
 event_made size before b left nexts.Leave = events.Stop
 event_made size before b left next = events.Look (is_waiting before b)
-
--- a write was refused
-abbrev pub is_refusal : Event → Bool
-is_refusal (events.ClashRow name rel) = true
-is_refusal (events.ClashRunning name xid) = true
-is_refusal event = false
 
 -- a backend's step with this entry, and what it notes
 pub record MakesStep (scenario : Scenario) (before : List Entry) (was : Backend) (e : Entry) (now : Backend) : Type 0 where
@@ -99,7 +91,3 @@ pub record IsNotedWalk (scenario : Scenario) (history : List Entry) : Type 0 whe
   pub first : ℕ → Option Backend
   pub new : (b : ℕ) → IfSome (first b) (IsNewOf scenario b)
   pub walks : Walks scenario [] first history
-
--- none of its writes was refused
-abbrev pub IsUnrefused : List Entry → Type 0
-IsUnrefused history = AllByRecursion (λ (e : Entry). is_refusal e.event ≡ false) history

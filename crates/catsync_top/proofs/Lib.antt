@@ -2,6 +2,7 @@ pub mod Words
 pub mod Inputs
 pub mod Asked
 pub mod Written
+pub mod OneOutput
 pub mod Readable
 pub mod Checked
 pub mod Numbers

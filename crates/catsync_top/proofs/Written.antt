@@ -19,15 +19,15 @@ use Rattle.out_text.proofs.OneHistory.{spells_only}
 use Rattle.cacheless.proofs.PlacesUsable.{places_usable}
 use Rattle.cacheless.proofs.Written.WritesChange.{allowed_changes}
 use Rattle.catsync_top.proofs.Readable.{all_read}
-use Rattle.catsync_top.specs.Sessions.{RanCoherently}
+use Rattle.catsync_top.specs.Sessions.{IsNotedAs, RanCoherently}
 
 -- a script that was read, and an output for it that was written, whose entries and lines are typed
 pub has_run : (kind : CheckKind) (left rest taken now : Option (List ℕ)) (Writes : Option (List ℕ) → Option (List ℕ) → List ℕ → Type 0) (items input output : List ℕ) (reading : Reading) (answers : List Line) (sessions backends : List Backend)
     → ReadsAll left rest 1048576 items → length items ≤ 1048576 → input ≡ items → script_of Refused input ≡ Ok reading
-    → (is : IsOutput kind reading.script output) → IsSound is.history → AreSpelled reading.script → All IsTyped is.history → All IsLine (lines_of reading.script is.history)
+    → (is : IsOutput kind reading.script output) → IsNotedAs kind reading.script is.history → IsSound is.history → AreSpelled reading.script → All IsTyped is.history → All IsLine (lines_of reading.script is.history)
     → AreSessions reading.script is.history answers backends → answers ≡ lines_of reading.script is.history
     → All (Stands reading.script is.history) backends → All (IsCoherent reading.script is.history) backends → sessions ≡ backends → Writes taken now output → RanCoherently kind left rest taken now Writes sessions
-has_run kind left rest taken now Writes items input output reading answers sessions backends all short same spelled is sound commands entries lines have as_defined stand coherent handed written = record {
+has_run kind left rest taken now Writes items input output reading answers sessions backends all short same spelled is noted sound commands entries lines have as_defined stand coherent handed written = record {
   ran = record {
     input = items;
     whole = record { read = all.consumed; ended = all.ended short; short = short };
@@ -44,6 +44,7 @@ has_run kind left rest taken now Writes items input output reading answers sessi
     are = subst (AreSessions reading.script is.history (lines_of reading.script is.history)) (sym handed) (subst (λ l. AreSessions reading.script is.history l backends) as_defined have);
     written = written;
   };
+  noted = noted;
   stand = subst (All (Stands reading.script is.history)) (sym handed) stand;
   coherent = subst (All (IsCoherent reading.script is.history)) (sym handed) coherent;
 }

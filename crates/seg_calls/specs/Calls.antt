@@ -1,11 +1,15 @@
 -- What the calls of a segment need, and what they do: one word for each class of call.
 -- `old` and `new` are the history before and after a call, `had` and `has` how many places each backend was promised then.
-use Rattle.std.specs.Prelude.{ℕ, Bool, true, false, Option, Some, Result, Ok, Err, OnOk, OnErr, List, [], ◌∷◌, ◌++◌, ◌≡◌, ◌≢◌, ◌≤◌, ◌<◌, ◌+◌, ◌-◌, zero, suc, min, max, length, take}
+use Rattle.std.specs.Prelude.{ℕ, Bool, true, false, Option, Some, None, Result, Ok, Err, OnOk, OnErr, List, [], ◌∷◌, ◌++◌, ◌≡◌, ◌≢◌, ◌≤◌, ◌<◌, ◌+◌, ◌-◌, zero, suc, min, max, length, take}
 use Rattle.std.specs.List.{flat_map, filter_map, list_any, list_all, range_with_len}
+use Rattle.std.specs.Option.{option_or}
 use Rattle.std.specs.Str.{bytes_eq}
 use Rattle.base_types.specs.RowKeys.{are_distinct_keys}
 use Rattle.base_types.specs.Scenario.{IsBackend}
 use Rattle.base_types.specs.declared.fetched.Fetched.TheVariants as fetches
+use Rattle.base_types.specs.declared.row.Row.TheVariants as rows
+use Rattle.base_types.specs.declared.row.Row.{Row as CatalogRow}
+use Rattle.base_types.specs.declared.scan.Purpose.TheVariants.{RelName}
 use Rattle.lock_modes.specs.declared.granted.LockRefusal.TheVariants as lock_refusals
 use Rattle.ddl_effect.specs.Commands.{commands_of}
 use Rattle.ddl_effect.specs.Drawing.{changes_of}
@@ -16,7 +20,7 @@ use Rattle.history_model.specs.MayFollow.{MayFollow}
 use Rattle.history_model.specs.Lives.{life_of, last_event_of}
 use Rattle.history_model.specs.declared.life.Life.TheVariants.{Alive}
 use Rattle.history_model.specs.Log.{log_of, position_of, fetched_by}
-use Rattle.history_model.specs.Names.{new_names}
+use Rattle.history_model.specs.Names.{new_names, users_of}
 use Rattle.history_model.specs.Orderly.{IsOrderlyWrite}
 use Rattle.history_model.specs.Sound.{MayComeNext}
 use Rattle.history_model.specs.Sent.{cats_by, rels_by, unsent_of}
@@ -130,10 +134,22 @@ pub record MakesWrite (old new : List Entry) (had has : ℕ → ℕ) (b c : ℕ)
   pub first : written.first_oid.0 ≡ next_oid old
   pub messages : written.messages.items ≡ messages_in old b (items_drawn old draft)
 
--- a name that the write gives a relation is taken
+-- the refusal of a name that these transactions have in use and these rows have: for the first transaction, or else for the relation of the first row
+abbrev pub refused_name : List ℕ → List ℕ → List CatalogRow → Option Event
+refused_name name (user ∷ users) seen = Some (ClashRunning name (record { 0 = user }))
+refused_name name [] (rows.Class oid own kind fill ∷ seen) = Some (ClashRow name oid)
+refused_name name [] seen = None
+
+-- the refusal of a write that gives these names: of the first that is taken
+abbrev pub first_refused : List Entry → ℕ → List (List ℕ) → Option Event
+first_refused before b [] = None
+first_refused before b (name ∷ names) = option_or (refused_name name (users_of before b name) (answer_of before b (RelName name))) (first_refused before b names)
+
+-- a name that the write gives a relation is taken, and it is refused for the first such name
 pub record Clashes (old new : List Entry) (had has : ℕ → ℕ) (b : ℕ) (draft : Draft) (name : List ℕ) (e : Entry) : Type 0 where
   pub appends : Appends old new had has e
   pub is_new : list_any (bytes_eq name) (new_names old b (items_drawn old draft)) ≡ true
+  pub first : first_refused old b (new_names old b (items_drawn old draft)) ≡ Some e.event
 
 -- how many messages a fetch gives: at most 32
 abbrev pub due_to : List Entry → ℕ → ℕ

@@ -55,11 +55,11 @@ names_same history b rows own k is [] = refl
 names_same history b rows own k is (item ∷ items) = λ i. name_same history b rows own k is item i ++ names_same history b rows own k is items i
 
 -- where all are free, so they are in the history
-each_free : (history : List Entry) (b : ℕ) (store : Store) (own : Option Xid) → Mirrors (segment_of history) b store own → (names : List (List ℕ)) → AllByRecursion (λ name. clash_of store own name ≡ None) names → list_all (is_free history b) names ≡ true
+pub each_free : (history : List Entry) (b : ℕ) (store : Store) (own : Option Xid) → Mirrors (segment_of history) b store own → (names : List (List ℕ)) → AllByRecursion (λ name. clash_of store own name ≡ None) names → list_all (is_free history b) names ≡ true
 each_free history b store own m [] free = refl
 each_free history b store own m (name ∷ names) free = and_from (is_free history b name) (list_all (is_free history b) names) (free_name (segment_of history) b store own m name free.0) (each_free history b store own m names free.1)
 
-flat_free : (store : Store) (own : Option Xid) (items : List Item) → NamesFree store own items → AllByRecursion (λ name. clash_of store own name ≡ None) (flat_map (new_name_of store own) items)
+pub flat_free : (store : Store) (own : Option Xid) (items : List Item) → NamesFree store own items → AllByRecursion (λ name. clash_of store own name ≡ None) (flat_map (new_name_of store own) items)
 flat_free store own [] free = tt
 flat_free store own (item ∷ items) free = every-append (λ name. clash_of store own name ≡ None) (new_name_of store own item) (flat_map (new_name_of store own) items) free.0 (flat_free store own items free.1)
 

@@ -2,6 +2,7 @@ mod Appended
 mod Asked
 mod Clashes
 mod Entered
+mod FirstClash
 mod Keeps
 mod Locked
 mod NewNames

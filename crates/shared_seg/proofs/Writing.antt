@@ -35,7 +35,7 @@ use Rattle.history_model.proofs.Allows.{unwritten_last}
 use Rattle.history_model.proofs.Covering.{told_covers}
 use Rattle.history_model.proofs.Ordered.{locks_exclude}
 use Rattle.seg_calls.proofs.Allowed.{request_follows}
-use Rattle.seg_calls.specs.Calls.{entry_of, items_drawn, messages_in, MayRequest, MayWrite, MakesWrite, Clashes, Writes}
+use Rattle.seg_calls.specs.Calls.{entry_of, items_drawn, messages_in, first_refused, MayRequest, MayWrite, MakesWrite, Clashes, Writes}
 use Rattle.shared_seg.specs.declared.drawing.Drawn.{Drawn}
 use Rattle.shared_seg.specs.declared.naming.Taken.{Taken}
 use Rattle.txn_blocks.specs.declared.transaction.RunningTransaction.{RunningTransaction}
@@ -56,6 +56,7 @@ use Rattle.segment_rows.proofs.Mirrors.{Mirrors}
 use Rattle.segment_rows.proofs.Kept.{mirrors, draws_next, written_same}
 use Rattle.shared_seg.proofs.Keeps.{event_allowed}
 use Rattle.shared_seg.proofs.Clashes.{all_free, names_same, clash_allowed}
+use Rattle.shared_seg.proofs.FirstClash.{taken_refused}
 use Rattle.shared_seg.proofs.NewLocks.{grants_free}
 use Rattle.shared_seg.proofs.NewNames.{taken_new}
 use Rattle.shared_seg.proofs.Queue.{asked_still}
@@ -166,6 +167,12 @@ module _ (script : Scenario) (history : List Entry) (promised : List ℕ) (rows 
   pub taken_allowed : (items : List Item) (taken : Taken) → IsTaken rows.store (xid_at transactions b) items taken → AllowsEvent history b c (clash_with taken)
   taken_allowed items taken is = clash_allowed history b c rows.store (xid_at transactions b) mirrors_own taken.name taken.clash is.by.clash
 
+  -- which is the first that is taken
+  pub taken_first : (draft : Draft) (drawn : Drawn) (taken : Taken) → IsDrawn (xid_at transactions b) draft rows.next_oid rows.last_xid drawn → IsTaken rows.store (xid_at transactions b) drawn.items.items taken
+      → first_refused history b (new_names history b (items_drawn history draft)) ≡ Some (clash_with taken)
+  taken_first draft drawn taken is at =
+      ap (first_refused history b) (sym (names_same history b rows (xid_at transactions b) k.rows_are own_is drawn.items.items ∙ ap (new_names history b) (items_made draft drawn is))) ∙ taken_refused history b rows.store (xid_at transactions b) mirrors_own drawn.items.items taken at
+
   -- of a new name
   pub taken_is_new : (draft : Draft) (drawn : Drawn) (taken : Taken) → IsDrawn (xid_at transactions b) draft rows.next_oid rows.last_xid drawn → IsTaken rows.store (xid_at transactions b) drawn.items.items taken
       → list_any (bytes_eq taken.name) (new_names history b (items_drawn history draft)) ≡ true
@@ -215,14 +222,14 @@ clash_keeps k now after has b c name (Running xid) rows locks transactions own i
 
 -- and what callers see of it
 pub clash_writes : (k now : Kept) (after : List Entry) (has : List ℕ) (b c : ℕ) (draft : Draft) (name : List ℕ) (clash : Clash) → k ≡ now → MayRequest now.script now.history b c → AllowsEvent k.history b c (clash_event_of name clash)
-    → list_any (bytes_eq name) (new_names k.history b (items_drawn k.history draft)) ≡ true → after ≡ k.history ++ entry_of b c (clash_event_of name clash) ∷ [] → has ≡ k.promised
+    → list_any (bytes_eq name) (new_names k.history b (items_drawn k.history draft)) ≡ true → first_refused k.history b (new_names k.history b (items_drawn k.history draft)) ≡ Some (clash_event_of name clash) → after ≡ k.history ++ entry_of b c (clash_event_of name clash) ∷ [] → has ≡ k.promised
     → Writes now.history after (places_in now) (promised_in has) b c draft (Err (RefusesClash name clash))
-clash_writes k now after has b c draft name (Row rel) is request allows new entries same =
+clash_writes k now after has b c draft name (Row rel) is request allows new first entries same =
     subst (λ (x : Kept). Clashes x.history after (places_in x) (promised_in has) b draft name (entry_of b c (ClashRow name rel))) is
-    (record { appends = asked_appends k k after has b c (ClashRow name rel) refl (request_inside k now b c is request) refl allows tt entries same; is_new = new })
-clash_writes k now after has b c draft name (Running xid) is request allows new entries same =
+    (record { appends = asked_appends k k after has b c (ClashRow name rel) refl (request_inside k now b c is request) refl allows tt entries same; is_new = new; first = first })
+clash_writes k now after has b c draft name (Running xid) is request allows new first entries same =
     subst (λ (x : Kept). Clashes x.history after (places_in x) (promised_in has) b draft name (entry_of b c (ClashRunning name xid))) is
-    (record { appends = asked_appends k k after has b c (ClashRunning name xid) refl (request_inside k now b c is request) refl allows tt entries same; is_new = new })
+    (record { appends = asked_appends k k after has b c (ClashRunning name xid) refl (request_inside k now b c is request) refl allows tt entries same; is_new = new; first = first })
 
 -- what callers see of a write
 pub makes_write : (k now : Kept) (after : List Entry) (has : List ℕ) (b c next : ℕ) (draft : Draft) (written : Written) → k ≡ now → MayRequest now.script now.history b c → AllowsEvent k.history b c (Write written.xid (items_drawn k.history draft)) → IsOrderlyWrite k.history b (items_drawn k.history draft)
@@ -233,7 +240,7 @@ makes_write k now after has b c next draft written is request allows orderly ent
 
 -- the same of what a call answers
 pub clash_writes_at : (k now : Kept) (after : List Entry) (has : List ℕ) (b c : ℕ) (draft : Draft) (taken : Taken) (answer : WriteRefusal) → answer ≡ refuses taken → k ≡ now → MayRequest now.script now.history b c → AllowsEvent k.history b c (clash_with taken)
-    → list_any (bytes_eq taken.name) (new_names k.history b (items_drawn k.history draft)) ≡ true → after ≡ k.history ++ entry_of b c (clash_with taken) ∷ [] → has ≡ k.promised
+    → list_any (bytes_eq taken.name) (new_names k.history b (items_drawn k.history draft)) ≡ true → first_refused k.history b (new_names k.history b (items_drawn k.history draft)) ≡ Some (clash_with taken) → after ≡ k.history ++ entry_of b c (clash_with taken) ∷ [] → has ≡ k.promised
     → Writes now.history after (places_in now) (promised_in has) b c draft (Err answer)
-clash_writes_at k now after has b c draft taken answer answer_is is request allows new entries same =
-    subst (λ r. Writes now.history after (places_in now) (promised_in has) b c draft (Err r)) (sym answer_is) (clash_writes k now after has b c draft taken.name taken.clash is request allows new entries same)
+clash_writes_at k now after has b c draft taken answer answer_is is request allows new first entries same =
+    subst (λ r. Writes now.history after (places_in now) (promised_in has) b c draft (Err r)) (sym answer_is) (clash_writes k now after has b c draft taken.name taken.clash is request allows new first entries same)

@@ -10,7 +10,7 @@ use Rattle.cacheless.specs.Lines.{lines_of}
 use Rattle.backend_core.specs.declared.backend.Backend.{Backend}
 use Rattle.backend_core.specs.Noted.{NotesAtStep}
 use Rattle.backend_core.specs.Steps.{Steps}
-use Rattle.backend_core.specs.Walked.{Walks, IsNewOf, IsNotedWalk, IsUnrefused}
+use Rattle.backend_core.specs.Walked.{Walks, IsNewOf, IsNotedWalk}
 use Rattle.backend_core.proofs.Walked.OneWalk.{walked_alike, new_standing}
 use Rattle.by_backend.proofs.Places.{get_beside_set}
 use Rattle.script_backends.specs.Standing.{StandsAt, StandTogether}
@@ -78,9 +78,9 @@ walked_more s h h' had has bs i was now walked is at steps notes = subst (λ x. 
 pub walked_whole : (s : Scenario) (h : List Entry) (bs : List Backend) → HasWalked s h bs → IsNotedWalk s h
 walked_whole s h bs walked = record { first = walked.first; new = walked.new; walks = subst (Walks s [] walked.first) (append-nil h) (walked.walks [] tt) }
 
--- two walks of one script are one, where no write of theirs was refused
-pub walks_alike : (s : Scenario) (history other : List Entry) (lines said : List Line) → IsWalk s history lines → IsWalk s other said → IsUnrefused history → IsUnrefused other → (history ≡ other) × (lines ≡ said)
-walks_alike s history other lines said walk also plain unrefused = (one, walk.lines_are ∙ ap (lines_of s) one ∙ sym also.lines_are)
+-- two walks of one script are one
+pub walks_alike : (s : Scenario) (history other : List Entry) (lines said : List Line) → IsWalk s history lines → IsWalk s other said → (history ≡ other) × (lines ≡ said)
+walks_alike s history other lines said walk also = (one, walk.lines_are ∙ ap (lines_of s) one ∙ sym also.lines_are)
   where
     one : history ≡ other
-    one = walked_alike s history other walk.noted also.noted walk.follows also.follows walk.complete also.complete plain unrefused
+    one = walked_alike s history other walk.noted also.noted walk.follows also.follows walk.complete also.complete

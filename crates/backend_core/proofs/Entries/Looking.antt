@@ -418,10 +418,10 @@ accept_well scenario old was p some_wait told waits played courses next follows 
     runs = find_runs scenario old was waits courses next.command next.free.at next.free.first next.finds
 
 -- each look comes as one
-pub look_comes : (look : LookFor) (some_wait : Bool) → ComesAs (next_of_look look) (events.Look some_wait)
-look_comes looks.Accept some_wait = tt
-look_comes (looks.Scan rebuilds) some_wait = tt
-look_comes looks.Absent some_wait = tt
+pub look_comes : (refusal : Option Event) (look : LookFor) (some_wait : Bool) → ComesAs refusal (next_of_look look) (events.Look some_wait)
+look_comes refusal looks.Accept some_wait = tt
+look_comes refusal (looks.Scan rebuilds) some_wait = tt
+look_comes refusal looks.Absent some_wait = tt
 
 -- a look that comes next may be called for, where the history allows it
 pub looks_call : (scenario : Scenario) (seen : List Entry) (s : Backend) (look : LookFor) (some_wait : Bool) → AwaitsEntry scenario seen s → IsNextOf s (next_of_look look) → AllowsLook seen s.progress.id some_wait → MayCall scenario seen (look_of s some_wait)

@@ -13,7 +13,7 @@ use Rattle.ddl_effect.specs.Stages.{plan_at, acts_left}
 use Rattle.backend_core.specs.Types.{Oid, Mode, Exec, OwnLock, Scenario, Entry, Event, Line, Frame, Next, Progress, Backend}
 use Rattle.backend_core.specs.declared.next.Next.TheVariants as nexts
 use Rattle.backend_core.specs.Agrees.{AgreesNow}
-use Rattle.backend_core.specs.Noted.{Noted, noted_of, noted_by, ComesAs, IsEntered, IsNoted, Settles, Stays, Acts, Passes}
+use Rattle.backend_core.specs.Noted.{Noted, noted_of, noted_by, ComesAs, refusal_left, IsEntered, IsNoted, Settles, Stays, Acts, Passes}
 use Rattle.backend_core.specs.Words.{is_unfound, finds_none}
 use Rattle.backend_core.proofs.Silent.{act_finds}
 use Rattle.backend_core.proofs.Entries.Inside.{then_so}
@@ -21,7 +21,7 @@ use Rattle.backend_core.proofs.Entries.WhereLeft.{entered_here, entered_alike}
 
 -- an entry that is appended, and is what comes next
 pub noted_with : (scenario : Scenario) (old new : List Entry) (had has : ℕ → ℕ) (was now : Backend) (next : Next) (event : Event) (rests : Rests scenario old was.progress) → HasEntered scenario old was.progress event rests now.progress
-    → Appends old new had has (entry_of was.progress.id (was.progress.finished + 1) event) → ComesAs next event → noted_of now ≡ noted_by old was next event → IsNoted scenario old new was next now
+    → Appends old new had has (entry_of was.progress.id (was.progress.finished + 1) event) → ComesAs (refusal_left old was.progress.id (plan_at was.progress.opens was.progress.exec)) next event → noted_of now ≡ noted_by old was next event → IsNoted scenario old new was next now
 noted_with scenario old new had has was now next event rests goes appends made same = record { event = event; made = made; entered = appends.entries; goes = entered_here scenario old new was.progress now.progress event rests goes appends.entries; noted = same }
 
 -- where there is room for a lock, the backend is in the same command
@@ -46,10 +46,10 @@ write_alike : (old : List Entry) (was : Backend) (locks : Roomy OwnLock) (exec :
 write_alike old was locks exec (events.Write xid items) = refl
 write_alike old was locks exec event = refl
 
-pub written_noted : (scenario : Scenario) (old new : List Entry) (was now : Backend) (q : Progress) (exec : Exec) (known : AreKnown (is_kept (kept_at q)) q.opened q.suspects) → IsLockedIn was.progress.locks.items was.progress q → IsNoted scenario old new (record was { progress = record q { exec = exec; known = known } }) nexts.Write now → IsNoted scenario old new was nexts.Write now
-written_noted scenario old new was now q exec known same noted = record {
+pub written_noted : (scenario : Scenario) (old new : List Entry) (was now : Backend) (q : Progress) (exec : Exec) (known : AreKnown (is_kept (kept_at q)) q.opened q.suspects) → plan_at q.opens q.exec ≡ plan_at q.opens exec → IsLockedIn was.progress.locks.items was.progress q → IsNoted scenario old new (record was { progress = record q { exec = exec; known = known } }) nexts.Write now → IsNoted scenario old new was nexts.Write now
+written_noted scenario old new was now q exec known plan same noted = record {
   event = noted.event;
-  made = noted.made;
+  made = subst (λ o. ComesAs o nexts.Write noted.event) (λ i. refusal_left old ((ap (λ (x : Progress). x.id) same.is) i) ((sym plan ∙ ap (λ (x : Progress). plan_at x.opens x.exec) same.is) i)) noted.made;
   entered = noted.entered ∙ ap (λ (x : Progress). old ++ entry_of x.id (x.finished + 1) noted.event ∷ []) same.is;
   goes = entered_alike scenario old new was.progress (record q { exec = exec; known = known }) now.progress noted.event (ap (λ (x : Progress). x.id) same.is) (ap (λ (x : Progress). x.commands) same.is) (ap (λ (x : Progress). x.finished) same.is) noted.goes;
   noted = noted.noted ∙ sym (λ i. noted_by old (record was { progress = record q { exec = exec; known = another_known q known i } }) nexts.Write noted.event) ∙ ap (λ (x : Progress). noted_by old (record was { progress = record x { exec = exec } }) nexts.Write noted.event) same.is ∙ write_alike old was q.locks exec noted.event;

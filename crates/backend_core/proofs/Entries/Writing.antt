@@ -53,7 +53,7 @@ use Rattle.backend_core.specs.Types.{Oid, Xid, Command, Draft, Item, Message, Op
 use Rattle.backend_core.specs.Agrees.{IsPlayed, command_at, AwaitsEntry}
 use Rattle.backend_core.specs.Fits.{looks_due, looked_on_top, came_well, LooksFit, IsLookedFor, TakesFit, FramesFit, keeps_whole, is_lost, is_gone_due}
 use Rattle.backend_core.specs.Steps.{IsWriteNext, MakesEntry, Enters, IsRefused}
-use Rattle.backend_core.specs.Noted.{noted_of, noted_by, ComesAs, IsNoted}
+use Rattle.backend_core.specs.Noted.{noted_of, noted_by, ComesAs, refusal_left, IsNoted}
 use Rattle.backend_core.specs.declared.next.Next.TheVariants as nexts
 use Rattle.backend_core.proofs.Choosing.ActsRun.{act_runs}
 use Rattle.backend_core.proofs.Entries.Alike.{alike_enters}
@@ -95,9 +95,9 @@ clash_plays next facts command s name (clashes.Row rel) none clashes = (none, cl
 clash_plays next facts command s name (clashes.Running xid) none clashes = (none, clashes)
 
 -- which is one of a write
-clash_comes : (name : List ℕ) (clash : Clash) → ComesAs nexts.Write (clash_event name clash)
-clash_comes name (clashes.Row rel) = tt
-clash_comes name (clashes.Running xid) = tt
+clash_comes : (refusal : Option Event) (name : List ℕ) (clash : Clash) → refusal ≡ Some (clash_event name clash) → ComesAs refusal nexts.Write (clash_event name clash)
+clash_comes refusal name (clashes.Row rel) is = is
+clash_comes refusal name (clashes.Running xid) is = is
 
 -- one that is refused leaves what is noted
 clash_leaves : (old : List Entry) (was : Backend) (name : List ℕ) (clash : Clash) → noted_of was ≡ noted_by old was nexts.Write (clash_event name clash)
@@ -300,11 +300,14 @@ module _ (scenario : Scenario) (old : List Entry) (was : Backend) (draft : Draft
   pub clash_noted : (new : List Entry) (had has : ℕ → ℕ) (p : Progress) (name : List ℕ) (clash : Clash) → HasEntered scenario old was.progress (clash_event name clash) waits.rests p → Writes old new had has was.progress.id (was.progress.finished + 1) draft (Err (refusals.Clash name clash)) → IsNoted scenario old new was nexts.Write (record was { progress = p })
   clash_noted new had has p name clash goes writes = record {
     event = clash_event name clash;
-    made = clash_comes name clash;
+    made = clash_comes (refusal_left old was.progress.id (plan_at was.progress.opens was.progress.exec)) name clash (ap (refusal_left old was.progress.id) at ∙ refused.first);
     entered = appended;
     goes = entered_here scenario old new was.progress p (clash_event name clash) waits.rests goes appended;
     noted = clash_leaves old was name clash;
   }
     where
+      refused : Clashes old new had has was.progress.id draft name (entry_of was.progress.id (was.progress.finished + 1) (clash_event name clash))
+      refused = clashes_as old new had has was.progress.id (was.progress.finished + 1) draft name clash writes
+
       appended : new ≡ with_own old was.progress (clash_event name clash)
-      appended = (clashes_as old new had has was.progress.id (was.progress.finished + 1) draft name clash writes).appends.entries
+      appended = refused.appends.entries

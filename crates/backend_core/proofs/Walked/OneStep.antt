@@ -1,5 +1,5 @@
--- Two steps after one history, of backends of one number that note the same, are one step: their entries are one, where neither is a refused write, and they note the same again.
-use Rattle.std.proofs.Common.{◌≡◌, ◌∙◌, ◌+◌, ◌++◌, ◌∷◌, ℕ, false, Some, None, List, [], refl, sym, ap, subst, length, slice_get}
+-- Two steps after one history, of backends of one number that note the same, are one step: their entries are one, and they note the same again.
+use Rattle.std.proofs.Common.{◌≡◌, ◌∙◌, ◌+◌, ◌++◌, ◌∷◌, ℕ, Some, None, List, [], refl, sym, ap, subst, length, slice_get}
 use Rattle.std.proofs.lemmas.List.{append_cancel_left}
 use Rattle.event_kinds.specs.declared.entry.Event.TheVariants as events
 use Rattle.ddl_effect.specs.Commands.{commands_of}
@@ -19,7 +19,7 @@ use Rattle.backend_core.specs.Types.{Scenario, Entry, Event, Life, Backend}
 use Rattle.backend_core.specs.declared.life.Life.TheVariants as lives
 use Rattle.backend_core.specs.Agrees.{AwaitsEntry, HasNotJoined, HasLeft, Stands}
 use Rattle.backend_core.specs.Noted.{noted_of, noted_by, nothing_noted, IsEntered, NotesStep}
-use Rattle.backend_core.specs.Walked.{IsAsFar, event_made, is_refusal, MakesStep}
+use Rattle.backend_core.specs.Walked.{IsAsFar, event_made, MakesStep}
 use Rattle.backend_core.proofs.Own.{waiting, waiting_is}
 use Rattle.backend_core.proofs.Walked.AsFar.{far_at_rest, far_entered, same_next, same_noted, same_settled}
 use Rattle.backend_core.proofs.Walked.MadeEntries.{comes_so}
@@ -54,16 +54,16 @@ module _ (scenario : Scenario) (before : List Entry) (was now : Backend) (e : En
   plays : MayPlayIn (next_oid before) (facts_of before was.progress.id) (slice_get (commands_of scenario was.progress.id) (length (waiting waits).finished)) (waiting waits) notes.made.noted.event
   plays = (subst (λ o. MayPlayAt scenario before was.progress.id o (was.progress.finished + 1) notes.made.noted.event) (waiting_is scenario before was waits) may.next.1).1
 
-  comes : is_refusal e.event ≡ false → notes.made.noted.event ≡ event_made scenario.size before was.progress.id (plan_at was.progress.opens was.progress.exec) notes.made.next
-  comes plain = comes_so scenario.size before was.progress.id (was.progress.finished + 1) (facts_of before was.progress.id) (slice_get (commands_of scenario was.progress.id) (length (waiting waits).finished)) (waiting waits) notes.made.next notes.made.noted.event
-      notes.made.noted.made may.comes.follows.event may.suits.truly may.suits.queue plays (ap (λ (x : Entry). is_refusal x.event) (sym own) ∙ plain)
+  comes : notes.made.noted.event ≡ event_made scenario.size before was.progress.id (plan_at was.progress.opens was.progress.exec) notes.made.next
+  comes = comes_so scenario.size before was.progress.id (was.progress.finished + 1) (facts_of before was.progress.id) (slice_get (commands_of scenario was.progress.id) (length (waiting waits).finished)) (waiting waits) notes.made.next notes.made.noted.event
+      notes.made.noted.made may.comes.follows.event may.suits.truly may.suits.queue plays
 
   -- it rests after it
   rests : Rests scenario (before ++ e ∷ []) now.progress
   rests = let goes = notes.made.noted.goes in rests_standing scenario (before ++ e ∷ []) now _ step.steps.stands (ap (session_of scenario (before ++ e ∷ [])) (step.steps.id ∙ sym goes.moves.id) ∙ goes.holds.is)
 
 -- so two such steps are one
-module _ (scenario : Scenario) (before : List Entry) (one two now done : Backend) (e f : Entry) (a : MakesStep scenario before one e now) (b : MakesStep scenario before two f done) (id : one.progress.id ≡ two.progress.id) (noted : noted_of one ≡ noted_of two) (plain : is_refusal e.event ≡ false) (also : is_refusal f.event ≡ false) (wait : AwaitsEntry scenario before one) (waits : AwaitsEntry scenario before two) (c : NotesStep scenario before (before ++ e ∷ []) one now) (d : NotesStep scenario before (before ++ f ∷ []) two done) where
+module _ (scenario : Scenario) (before : List Entry) (one two now done : Backend) (e f : Entry) (a : MakesStep scenario before one e now) (b : MakesStep scenario before two f done) (id : one.progress.id ≡ two.progress.id) (noted : noted_of one ≡ noted_of two) (wait : AwaitsEntry scenario before one) (waits : AwaitsEntry scenario before two) (c : NotesStep scenario before (before ++ e ∷ []) one now) (d : NotesStep scenario before (before ++ f ∷ []) two done) where
   far : IsAsFar one.progress two.progress
   far = far_at_rest scenario before one.progress two.progress wait.rests waits.rests id
 
@@ -71,7 +71,7 @@ module _ (scenario : Scenario) (before : List Entry) (one two now done : Backend
   next_one = let both : Some c.made.next ≡ Some d.made.next = sym c.made.chosen ∙ same_next one two far noted ∙ d.made.chosen in cc both
 
   event_one : c.made.noted.event ≡ d.made.noted.event
-  event_one = comes scenario before one now e a wait c plain ∙ (λ i. event_made scenario.size before (id i) (far.work i).left (next_one i)) ∙ sym (comes scenario before two done f b waits d also)
+  event_one = comes scenario before one now e a wait c ∙ (λ i. event_made scenario.size before (id i) (far.work i).left (next_one i)) ∙ sym (comes scenario before two done f b waits d)
 
   entry_one : e ≡ f
   entry_one = own scenario before one now e a wait c ∙ (λ i. entry_of (id i) (far.finished i + 1) (event_one i)) ∙ sym (own scenario before two done f b waits d)
@@ -106,9 +106,9 @@ starts_one scenario before e b may own none life = λ i. entry_of (own i) (parts
         (subst (λ l. FollowsLife l e.command e.event) (ap (life_of before) own ∙ life) may.comes.follows.life)
 
 -- whether they have joined or not
-pub one_step : (scenario : Scenario) (before : List Entry) (one two now done : Backend) (e f : Entry) → MakesStep scenario before one e now → MakesStep scenario before two f done → one.progress.id ≡ two.progress.id → noted_of one ≡ noted_of two → is_refusal e.event ≡ false → is_refusal f.event ≡ false
+pub one_step : (scenario : Scenario) (before : List Entry) (one two now done : Backend) (e f : Entry) → MakesStep scenario before one e now → MakesStep scenario before two f done → one.progress.id ≡ two.progress.id → noted_of one ≡ noted_of two
     → (e ≡ f) × (noted_of now ≡ noted_of done)
-one_step scenario before one two now done e f a b id noted plain also = by_lives one.life two.life a.stands b.stands a.notes b.notes
+one_step scenario before one two now done e f a b id noted = by_lives one.life two.life a.stands b.stands a.notes b.notes
   where
     At : Backend → Life → Type 0
     At s l = elim l as (λ x. Type 0) [ lives.Unstarted ↦ HasNotJoined scenario before s | lives.Alive ↦ AwaitsEntry scenario before s | lives.Stopped ↦ HasLeft scenario before s ]
@@ -121,7 +121,7 @@ one_step scenario before one two now done e f a b id noted plain also = by_lives
     no_more s after x step left = let may = step_may scenario before s after x step in subst (λ l. FollowsLife l x.command x.event) (ap (life_of before) may.1 ∙ left.life) may.0.comes.follows.life
 
     by_lives : (l m : Life) → At one l → At two m → Notes one e now l → Notes two f done m → (e ≡ f) × (noted_of now ≡ noted_of done)
-    by_lives lives.Alive lives.Alive wait waits c d = (entry_one scenario before one two now done e f a b id noted plain also wait waits c d, now_noted scenario before one two now done e f a b id noted plain also wait waits c d)
+    by_lives lives.Alive lives.Alive wait waits c d = (entry_one scenario before one two now done e f a b id noted wait waits c d, now_noted scenario before one two now done e f a b id noted wait waits c d)
     by_lives lives.Unstarted lives.Unstarted new fresh c d = (
       starts_one scenario before e one.progress.id (step_may scenario before one now e a).0 (step_may scenario before one now e a).1 new.session new.life ∙ ap (λ n. entry_of n 0 events.Start) id
           ∙ sym (starts_one scenario before f two.progress.id (step_may scenario before two done f b).0 (step_may scenario before two done f b).1 fresh.session fresh.life),

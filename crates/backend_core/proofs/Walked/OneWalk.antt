@@ -1,4 +1,4 @@
--- Two walks of one script whose steps are noted, and that follow its schedule to its end, are one history, where no write of theirs was refused.
+-- Two walks of one script whose steps are noted, and that follow its schedule to its end, are one history.
 use Rattle.std.proofs.Common.{◌≡◌, ◌≢◌, ◌∙◌, ◌==◌, ◌++◌, ◌∷◌, ◌⊎◌, inl, inr, ℕ, true, false, Option, Some, None, IfSome, List, [], refl, sym, ap, subst, slice_get, append_assoc}
 use Rattle.std.proofs.lemmas.Bool.Decides.{eqb_tells}
 use Rattle.std.proofs.lemmas.List.{append-nil}
@@ -9,7 +9,7 @@ use Rattle.backend_core.specs.Types.{Scenario, Entry, Life, Backend}
 use Rattle.backend_core.specs.declared.life.Life.TheVariants as lives
 use Rattle.backend_core.specs.Agrees.{IsNew, AwaitsEntry, HasNotJoined, HasLeft, Stands}
 use Rattle.backend_core.specs.Noted.{noted_of}
-use Rattle.backend_core.specs.Walked.{Walks, IsNewOf, IsNotedWalk, IsUnrefused}
+use Rattle.backend_core.specs.Walked.{Walks, IsNewOf, IsNotedWalk}
 use Rattle.backend_core.proofs.Walked.OneStep.{one_step}
 
 -- the backends of each number note the same
@@ -40,11 +40,11 @@ turns_on scenario before e rest takes = record { each = takes.each.1; over = ap 
 none_more : (scenario : Scenario) (before : List Entry) (e : Entry) (rest : List Entry) → TakesTurns scenario before [] → TakesTurns scenario before (e ∷ rest) → ⊥
 none_more scenario before e rest done takes = let no : None ≡ Some e.backend = sym (ap (λ l. slice_get (turns_left scenario l) 0) (sym (append-nil before)) ∙ ap (λ l. slice_get l 0) done.over) ∙ takes.each.0 in cc no
 
-walks_one : (scenario : Scenario) (before : List Entry) (one two : ℕ → Option Backend) (h k : List Entry) → AreSame one two → Walks scenario before one h → Walks scenario before two k → TakesTurns scenario before h → TakesTurns scenario before k → IsUnrefused h → IsUnrefused k → h ≡ k
-walks_one scenario before one two [] [] same a b takes turns plain also = refl
-walks_one scenario before one two [] (f ∷ k) same a b takes turns plain also = absurd (none_more scenario before f k takes turns)
-walks_one scenario before one two (e ∷ h) [] same a b takes turns plain also = absurd (none_more scenario before e h turns takes)
-walks_one scenario before one two (e ∷ h) (f ∷ k) same a b takes turns plain also = λ i. made.0 i ∷ walks_one scenario (before ++ e ∷ []) a.are b.are h k now_same a.further goes (turns_on scenario before e h takes) left plain.1 also.1 i
+walks_one : (scenario : Scenario) (before : List Entry) (one two : ℕ → Option Backend) (h k : List Entry) → AreSame one two → Walks scenario before one h → Walks scenario before two k → TakesTurns scenario before h → TakesTurns scenario before k → h ≡ k
+walks_one scenario before one two [] [] same a b takes turns = refl
+walks_one scenario before one two [] (f ∷ k) same a b takes turns = absurd (none_more scenario before f k takes turns)
+walks_one scenario before one two (e ∷ h) [] same a b takes turns = absurd (none_more scenario before e h turns takes)
+walks_one scenario before one two (e ∷ h) (f ∷ k) same a b takes turns = λ i. made.0 i ∷ walks_one scenario (before ++ e ∷ []) a.are b.are h k now_same a.further goes (turns_on scenario before e h takes) left i
   where
     turn : e.backend ≡ f.backend
     turn = one_some e.backend f.backend (sym takes.each.0 ∙ turns.each.0)
@@ -53,7 +53,7 @@ walks_one scenario before one two (e ∷ h) (f ∷ k) same a b takes turns plain
     alike = same e.backend a.was b.was a.is (ap two turn ∙ b.is)
 
     made : (e ≡ f) × (noted_of a.now ≡ noted_of b.now)
-    made = one_step scenario before a.was b.was a.now b.now e f a.step b.step alike.0 alike.1 plain.0 also.0
+    made = one_step scenario before a.was b.was a.now b.now e f a.step b.step alike.0 alike.1
 
     now_same : AreSame a.are b.are
     now_same = same_on one two a.are b.are e.backend a.now b.now same a.here (ap b.are turn ∙ b.here) a.beside (λ c other. b.beside c (sym (ap (λ n. c == n) turn) ∙ other)) (a.step.steps.id ∙ alike.0 ∙ sym b.step.steps.id) made.1
@@ -65,9 +65,9 @@ walks_one scenario before one two (e ∷ h) (f ∷ k) same a b takes turns plain
     left = subst (λ x. TakesTurns scenario (before ++ x ∷ []) k) (sym made.0) (turns_on scenario before f k turns)
 
 -- so two walks of new backends are one
-pub walked_alike : (scenario : Scenario) (history other : List Entry) → IsNotedWalk scenario history → IsNotedWalk scenario other → FollowsSchedule scenario history → FollowsSchedule scenario other → IsComplete scenario history → IsComplete scenario other → IsUnrefused history → IsUnrefused other → history ≡ other
-walked_alike scenario history other walk also follows obeys complete over plain unrefused =
-    walks_one scenario [] walk.first also.first history other begin walk.walks also.walks (record { each = follows; over = complete }) (record { each = obeys; over = over }) plain unrefused
+pub walked_alike : (scenario : Scenario) (history other : List Entry) → IsNotedWalk scenario history → IsNotedWalk scenario other → FollowsSchedule scenario history → FollowsSchedule scenario other → IsComplete scenario history → IsComplete scenario other → history ≡ other
+walked_alike scenario history other walk also follows obeys complete over =
+    walks_one scenario [] walk.first also.first history other begin walk.walks also.walks (record { each = follows; over = complete }) (record { each = obeys; over = over })
   where
     begin : AreSame walk.first also.first
     begin b s t is there = let one : IsNewOf scenario b s = subst (λ o. IfSome o (IsNewOf scenario b)) is (walk.new b) in

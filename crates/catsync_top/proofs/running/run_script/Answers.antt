@@ -13,14 +13,14 @@ returns-in-Ok-put_output-clause-done g c =
     let run = c.in-Ok-run.ensures.run in
     λ _. has_run kinds.Run _ _ _ _ Grows _ _ _ _ _ _ _ c.in-Ok.ensures.bytes (grind arith) c.deref.ensures.value c.in-Ok-read_script.ensures
     (record { history = c.in-Ok-run.ran.entries; allowed = run.allowed; interleaved = tt; complete = run.stopped; text_is = rw (c.as_slice.ensures, c.as_slice-2.ensures, run.lines_are) refl })
-    run.sound run.spelled (subst (All IsTyped) c.as_slice.ensures c.put_output.ensures.typed.0) (subst (All IsLine) (c.as_slice-2.ensures ∙ run.lines_are) c.put_output.ensures.typed.1) c.in-Ok-run.ensures.sessions run.lines_are c.in-Ok-run.ensures.stand c.in-Ok-run.ensures.coherent c.into_vec.ensures c.in-Ok-put_output.ensures.bytes
+    tt run.sound run.spelled (subst (All IsTyped) c.as_slice.ensures c.put_output.ensures.typed.0) (subst (All IsLine) (c.as_slice-2.ensures ∙ run.lines_are) c.put_output.ensures.typed.1) c.in-Ok-run.ensures.sessions run.lines_are c.in-Ok-run.ensures.stand c.in-Ok-run.ensures.coherent c.into_vec.ensures c.in-Ok-put_output.ensures.bytes
 
 pub returns-clause-write_front : goal.returns-clause-write_front
 returns-clause-write_front g c =
     let run = c.in-Ok-run.ensures.run in
     λ _. has_run kinds.Run _ _ _ _ GrowsByFront _ _ _ _ _ _ _ c.in-Ok.ensures.bytes (grind arith) c.deref.ensures.value c.in-Ok-read_script.ensures
     (record { history = c.in-Ok-run.ran.entries; allowed = run.allowed; interleaved = tt; complete = run.stopped; text_is = rw (c.as_slice.ensures, c.as_slice-2.ensures, run.lines_are) refl })
-    run.sound run.spelled (subst (All IsTyped) c.as_slice.ensures c.put_output.ensures.typed.0) (subst (All IsLine) (c.as_slice-2.ensures ∙ run.lines_are) c.put_output.ensures.typed.1) c.in-Ok-run.ensures.sessions run.lines_are c.in-Ok-run.ensures.stand c.in-Ok-run.ensures.coherent c.into_vec.ensures c.in-Err.ensures.bytes
+    tt run.sound run.spelled (subst (All IsTyped) c.as_slice.ensures c.put_output.ensures.typed.0) (subst (All IsLine) (c.as_slice-2.ensures ∙ run.lines_are) c.put_output.ensures.typed.1) c.in-Ok-run.ensures.sessions run.lines_are c.in-Ok-run.ensures.stand c.in-Ok-run.ensures.coherent c.into_vec.ensures c.in-Err.ensures.bytes
 
 pub returns-in-Err-Stopped-clause-stopped_read : goal.returns-in-Err-Stopped-clause-stopped_read
 returns-in-Err-Stopped-clause-stopped_read g c =

@@ -18,7 +18,7 @@ returns-clause-enters g c = looks_enter _ _ _ _ _ c.args.self.now _ _ c.requires
 pub returns-clause-noted : goal.returns-clause-noted
 returns-clause-noted g c = record {
   event = events.Look c.waits-some_wait.result;
-  made = look_comes c.args.look c.waits-some_wait.result;
+  made = look_comes _ c.args.look c.waits-some_wait.result;
   entered = c.looked.ensures.appends.entries;
   goes = subst (λ h. IsEntered (g.L.Seg.script c.args.seg.now) (g.L.Seg.history c.args.seg.now) h c.args.self.now.progress (events.Look c.waits-some_wait.result) c.take_look.new.self.progress) (sym c.looked.ensures.appends.entries)
       (c.take_look.ensures.looks _ _ c.requires.ready c.looked.ensures.appends.comes.follows).goes;

@@ -37,11 +37,11 @@ returns-in-Clash-clause-enters g c = clash_enters _ _ _ c.in-Some.draft.now (wri
     c.args.self.now (reserved_id _ _ c.reserve_lock.ensures.same) _ _ _ _ c.in-Clash.name c.in-Clash.clash (c.enter_clash.ensures.holds _ _ _) c.enter_clash.ensures.answer (rw c.in-Clash.is at c.in-Err.ensures.writes)
 
 pub returns-in_ok-enter_write-in-Ok-clause-noted : goal.returns-in_ok-enter_write-in-Ok-clause-noted
-returns-in_ok-enter_write-in-Ok-clause-noted g c = then_so c.tell_each.result (written_noted _ _ _ c.args.self.now _ _ _ _ c.reserve_lock.ensures.same) (wrote_noted _ _ _ c.in-Some.draft.now (writing_is _ _ c.in-Some.draft.now (c.in-Some.ensures _)) (reserved_awaits _ _ c.args.self.now _ c.reserve_lock.ensures.same c.requires.ready.waits) c.requires.ready.played c.requires.ready.course (reserved_write _ _ c.reserve_lock.ensures.same c.requires.next)
+returns-in_ok-enter_write-in-Ok-clause-noted g c = then_so c.tell_each.result (written_noted _ _ _ c.args.self.now _ _ _ _ refl c.reserve_lock.ensures.same) (wrote_noted _ _ _ c.in-Some.draft.now (writing_is _ _ c.in-Some.draft.now (c.in-Some.ensures _)) (reserved_awaits _ _ c.args.self.now _ c.reserve_lock.ensures.same c.requires.ready.waits) c.requires.ready.played c.requires.ready.course (reserved_write _ _ c.reserve_lock.ensures.same c.requires.next)
     _ _ _ _ _ c.tell_each.result c.in-Ok.written _ _ c.relation_made-made.ensures c.in-Ok.ensures.writes c.as_slice.ensures.value c.in_ok-enter_write-in-Ok.ensures.kept c.in_ok-enter_write-in-Ok.ensures.holds _ _ refl c.as_slice-in-Ok.ensures.value c.tell_each.ensures)
 
 pub returns-in-Clash-clause-noted : goal.returns-in-Clash-clause-noted
-returns-in-Clash-clause-noted g c = written_noted _ _ _ c.args.self.now _ _ _ _ c.reserve_lock.ensures.same (clash_noted _ _ _ c.in-Some.draft.now (writing_is _ _ c.in-Some.draft.now (c.in-Some.ensures _)) (reserved_awaits _ _ c.args.self.now _ c.reserve_lock.ensures.same c.requires.ready.waits) c.requires.ready.played c.requires.ready.course (reserved_write _ _ c.reserve_lock.ensures.same c.requires.next)
+returns-in-Clash-clause-noted g c = written_noted _ _ _ c.args.self.now _ _ _ _ refl c.reserve_lock.ensures.same (clash_noted _ _ _ c.in-Some.draft.now (writing_is _ _ c.in-Some.draft.now (c.in-Some.ensures _)) (reserved_awaits _ _ c.args.self.now _ c.reserve_lock.ensures.same c.requires.ready.waits) c.requires.ready.played c.requires.ready.course (reserved_write _ _ c.reserve_lock.ensures.same c.requires.next)
     _ _ _ _ c.in-Clash.name c.in-Clash.clash (c.enter_clash.ensures.holds _ _ _) (rw c.in-Clash.is at c.in-Err.ensures.writes))
 
 pub enter_write-requires-clause-few : goal.enter_write-requires-clause-few

@@ -8,7 +8,7 @@ use Rattle.shared_seg.specs.Transactions.{transaction_at, transaction_by, xid_at
 use Rattle.shared_seg.specs.Kept.{Kept}
 use Rattle.shared_seg.proofs.Asked.{asked_within}
 use Rattle.shared_seg.proofs.Queue.{clash_still}
-use Rattle.shared_seg.proofs.Writing.{drawn_of, may_enter, write_allowed, write_draws, write_granted, write_entered, write_announced, write_keeps, taken_of, taken_allowed, taken_is_new, clash_counted, clash_keeps, clash_writes_at, makes_write}
+use Rattle.shared_seg.proofs.Writing.{drawn_of, may_enter, write_allowed, write_draws, write_granted, write_entered, write_announced, write_keeps, taken_of, taken_allowed, taken_is_new, taken_first, clash_counted, clash_keeps, clash_writes_at, makes_write}
 use Rattle.shared_seg.proofs.Unchanged.{keeps_same, unchanged}
 use Rattle.shared_seg.proofs.shared.SharedSeg.write.Goals as goal
 
@@ -32,7 +32,8 @@ returns-in-Some-clause-writes c =
     let drawn = drawn_of _ _ c.args.draft.now _ _ c.self.inside.rows c.in-Ok.drawn own c.next_oid-next.ensures c.last_xid.ensures c.in-Ok.ensures in
     clash_writes_at _ _ _ _ c.args.b c.args.c c.args.draft.now c.in-Some.taken _ c.refusal_of.ensures c.self.view_is c.requires.call
     (taken_allowed _ _ _ _ _ _ c.args.b c.args.c c.self.invariant.folds c.in-Ok.drawn.items.items c.in-Some.taken taken)
-    (taken_is_new _ _ _ _ _ _ c.args.b c.args.c c.self.invariant.folds c.args.draft.now c.in-Ok.drawn c.in-Some.taken drawn taken) entered c.add.ensures.promised
+    (taken_is_new _ _ _ _ _ _ c.args.b c.args.c c.self.invariant.folds c.args.draft.now c.in-Ok.drawn c.in-Some.taken drawn taken)
+    (taken_first _ _ _ _ _ _ c.args.b c.args.c c.self.invariant.folds c.args.draft.now c.in-Ok.drawn c.in-Some.taken drawn taken) entered c.add.ensures.promised
 
 pub enter_write-requires-clause-free : goal.enter_write-requires-clause-free
 enter_write-requires-clause-free c =

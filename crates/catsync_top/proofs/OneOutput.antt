@@ -1,0 +1,28 @@
+-- What `walk` writes for a script is one text.
+use Rattle.std.proofs.Common.{◌≡◌, ◌∙◌, ℕ, Option, Ok, List, sym, ap, subst}
+use Rattle.base_types.specs.Scenario.{Scenario}
+use Rattle.event_kinds.specs.Texts.{text_of}
+use Rattle.script_text.specs.Grammar.{Reading, script_of}
+use Rattle.script_text.specs.declared.fault.Rest.TheVariants.{Refused}
+use Rattle.cacheless.specs.declared.check_kind.CheckKind.TheVariants as kinds
+use Rattle.cacheless.specs.Lines.{lines_of}
+use Rattle.cacheless.specs.Output.{IsOutput}
+use Rattle.backend_core.specs.Walked.{IsNotedWalk}
+use Rattle.backend_core.specs.declared.backend.Backend.{Backend}
+use Rattle.backend_core.proofs.Walked.OneWalk.{walked_alike}
+use Rattle.catsync_top.specs.Sessions.{RanCoherently}
+
+-- outputs of noted walks of one script
+one_text : (script : Scenario) (x y : List ℕ) (one : IsOutput kinds.Walk script x) (two : IsOutput kinds.Walk script y) → IsNotedWalk script one.history → IsNotedWalk script two.history → x ≡ y
+one_text script x y one two noted also =
+    one.text_is ∙ ap (λ h. text_of h (lines_of script h)) (walked_alike script one.history two.history noted also one.interleaved.follows two.interleaved.follows one.complete two.complete) ∙ sym two.text_is
+
+script_same : (input other : List ℕ) (one two : Reading) → script_of Refused input ≡ Ok one → script_of Refused other ≡ Ok two → input ≡ other → two.script ≡ one.script
+script_same input other one two spelled also same = ap (λ (r : Reading). r.script) (let both : Ok two ≡ Ok one = sym also ∙ ap (script_of Refused) (sym same) ∙ spelled in cc both)
+
+-- of one input one output, whatever the source and the sink tell, and whatever sessions are handed out
+pub one_output : (left rest taken now before after given kept : Option (List ℕ)) (Writes Wrote : Option (List ℕ) → Option (List ℕ) → List ℕ → Type 0) (sessions others : List Backend)
+    → (one : RanCoherently kinds.Walk left rest taken now Writes sessions) (two : RanCoherently kinds.Walk before after given kept Wrote others) → one.ran.input ≡ two.ran.input → one.ran.output ≡ two.ran.output
+one_output left rest taken now before after given kept Writes Wrote sessions others one two same =
+    subst (λ script. (is : IsOutput kinds.Walk script two.ran.output) → IsNotedWalk script is.history → one.ran.output ≡ two.ran.output) (sym (script_same one.ran.input two.ran.input one.ran.reading two.ran.reading one.ran.spelled two.ran.spelled same))
+    (λ is also. one_text one.ran.reading.script one.ran.output two.ran.output one.ran.is is one.noted also) two.ran.is two.noted
