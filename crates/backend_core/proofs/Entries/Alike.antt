@@ -17,7 +17,7 @@ use Rattle.cacheless.specs.Owed.{is_free}
 use Rattle.cacheless.specs.Suspects.{AreKnown}
 use Rattle.cacheless.proofs.Lacking.{with_known}
 use Rattle.backend_core.specs.Types.{Oid, Mode, Command, Draft, Exec, OwnLock, Scenario, Entry, Progress, Backend}
-use Rattle.backend_core.specs.Agrees.{command_at, AwaitsEntry}
+use Rattle.backend_core.specs.Agrees.{RunsFit, command_at, AwaitsEntry}
 use Rattle.backend_core.specs.Fits.{Fits}
 use Rattle.backend_core.specs.Steps.{MakesEntry, Enters, IsLockNext, IsWriteNext}
 
@@ -53,6 +53,7 @@ module _ (scenario : Scenario) (seen : List Entry) (s : Backend) (exec : Exec) (
       places = record { kept = k.places.kept; absent = λ name missed whole. k.places.absent name (sym plan ∙ missed) (record { untaken = whole.untaken; going = whole.going }) };
     };
     rests = record { holds = holds_same waits.rests.holds; still = still };
+    runs = subst (RunsFit (facts_of seen s.progress.id) (command_at s)) (sym (session_same waits.rests.holds.rest)) waits.runs;
     fits = subst (λ x. Fits (facts_of seen s.progress.id) (command_at s) x s.looked s.frames s.told) (sym (session_same waits.rests.holds.rest)) waits.fits;
     lines = waits.lines;
     tells = record { answer = waits.tells.answer; out = λ some. ap (λ p. is_settled (outcome_of p)) plan ∙ waits.tells.out some };
