@@ -2,14 +2,13 @@
 use Rattle.std.proofs.Common.{◌≡◌, ◌∙◌, ◌==◌, false, List, [], ◌∷◌, ◌++◌, sym, subst}
 use Rattle.base_types.specs.Scenario.{Scenario}
 use Rattle.history_model.proofs.Reading.{life_of-other}
-use Rattle.cacheless.specs.State.{kept_at}
 use Rattle.cacheless.proofs.Entries.Others.{holds-other}
 use Rattle.cacheless.proofs.Reading.{facts_of-other}
 use Rattle.cacheless.specs.Awaiting.{HasNoEntry, AwaitsEntry as SessionAwaits}
-use Rattle.cacheless.proofs.OthersEntries.{kept-other, awaits-other as session_awaits-other, no_entry-other, lines-other}
+use Rattle.cacheless.proofs.OthersEntries.{awaits-other as session_awaits-other, no_entry-other, lines-other}
 use Rattle.backend_core.specs.Types.{Entry, Life, Backend}
 use Rattle.backend_core.specs.declared.life.Life.TheVariants as lives
-use Rattle.backend_core.specs.Agrees.{command_at, AwaitsEntry, HasNotJoined, HasLeft, Stands}
+use Rattle.backend_core.specs.Agrees.{RunsFit, command_at, AwaitsEntry, HasNotJoined, HasLeft, Stands}
 use Rattle.backend_core.specs.Fits.{Fits}
 use Rattle.backend_core.proofs.Cutting.Before.{before-other}
 use Rattle.backend_core.proofs.Own.{waiting, session_waits, no_entry}
@@ -24,6 +23,7 @@ awaits-other scenario seen e s other waits = record {
     places = still.places;
   };
   rests = still.rests;
+  runs = subst (λ f. RunsFit f (command_at s) (waiting waits)) (sym (facts_of-other seen e s.progress.id other)) waits.runs;
   fits = subst (λ f. Fits f (command_at s) (waiting waits) s.looked s.frames s.told) (sym (facts_of-other seen e s.progress.id other)) waits.fits;
   lines = still.lines_are;
   tells = still.tells;
@@ -52,7 +52,6 @@ not_joined-other scenario seen e s other before = record {
 left-other : (scenario : Scenario) (seen : List Entry) (e : Entry) (s : Backend) → (e.backend == s.progress.id) ≡ false → HasLeft scenario seen s → HasLeft scenario (seen ++ e ∷ []) s
 left-other scenario seen e s other left = record {
   holds = holds-other scenario seen e s.progress other left.holds;
-  kept = kept-other seen e s.progress.id (kept_at s.progress) other left.kept;
   life = life_of-other seen e s.progress.id other ∙ left.life;
   lines = left.lines ∙ sym (lines-other scenario seen e s.progress.id other);
   past = left.past;

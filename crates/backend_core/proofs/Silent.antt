@@ -8,11 +8,15 @@ use Rattle.cacheless.specs.Holds.{Holds, HasActed, HasPassed}
 use Rattle.cacheless.specs.OnCourse.{EntersCourse, TellsAlone, FollowsPlan}
 use Rattle.cacheless.specs.Answering.{IsToldText}
 use Rattle.cacheless.specs.Session.{Session, at_command, outcome_of, is_settled}
-use Rattle.cacheless.specs.Silently.{is_to_answer, IsSettled, Answers, HasAnswered, IsLineOf}
-use Rattle.cacheless.specs.State.{kept_at, session_at, is_absent}
+use Rattle.cacheless.specs.Silently.{is_to_answer, IsSettled, Acts, Answers, HasAnswered, IsLineOf}
+use Rattle.cacheless.specs.Owed.{owed_first_in, owed_after}
+use Rattle.cacheless.specs.State.{kept_at, session_at, is_absent, owes_nothing}
+use Rattle.cacheless.proofs.Allowed.TransactionsKept.{transactions_kept}
+use Rattle.cacheless.proofs.Resting.{free_now}
+use Rattle.history_model.specs.Changing.{is_empty}
 use Rattle.cacheless.proofs.Answers.Telling.{told_asked, act_places, act_tells, act_lines, with_answer, answer_holds, answer_tells, answer_places, pass_places, pass_tells, pass_lines}
 use Rattle.backend_core.specs.Types.{Row, Command, Scenario, Entry, Line, Progress, Backend, Frame}
-use Rattle.backend_core.specs.Agrees.{command_at, AgreesNow, GoesOn, AwaitsEntry}
+use Rattle.backend_core.specs.Agrees.{RunsFit, command_at, AgreesNow, GoesOn, AwaitsEntry}
 use Rattle.backend_core.specs.Halts.{AwaitsCommand, begins_at}
 use Rattle.backend_core.proofs.Cutting.Before.{before_act, before_pass, ends_pass}
 use Rattle.backend_core.proofs.Fitting.FitsOn.{fits_act, fits_pass, fits_quieter}
@@ -42,18 +46,18 @@ acts_going scenario seen b s command course at unsettled = by_ended s.ended refl
         by_side (inr alone) = absurd (both_ways _ unsettled (ap (λ p. is_settled (outcome_of p)) alone.left))
 
 -- it does an act
-act_agrees : (scenario : Scenario) (seen : List Entry) (was : Backend) (p : Progress) (keeps told : Bool) → told ≡ was.told && keeps → (now : AgreesNow scenario seen was) → HasActed scenario seen was.progress now.holds p → kept_at p ≡ kept_at was.progress → p.answer ≡ was.progress.answer → AgreesNow scenario seen (record was { progress = p; told = told })
-act_agrees scenario seen was p keeps told quiet now acted kept same = record {
+act_agrees : (scenario : Scenario) (seen : List Entry) (was : Backend) (p : Progress) (keeps told : Bool) → told ≡ was.told && keeps → (now : AgreesNow scenario seen was) → Acts was.progress → HasActed scenario seen was.progress now.holds p → kept_at p ≡ kept_at was.progress → p.answer ≡ was.progress.answer → AgreesNow scenario seen (record was { progress = p; told = told })
+act_agrees scenario seen was p keeps told quiet now acts acted kept same = record {
   keeps = record {
     alive = now.keeps.alive;
     life = record { last = now.keeps.life.last; alive = ap (life_of seen) acted.moves.id ∙ now.keeps.life.alive; most = omega (arith, now.keeps.life.most, acted.moves.finished) };
     places = act_places scenario seen was.progress p now.holds now.tells.course acted kept now.keeps.places;
   };
   holds = acted.holds;
-  fits = subst (λ f. Fits f (slice_get p.commands p.finished) (session_at p acted.holds.rest) was.looked was.frames told) (sym (ap (facts_of seen) acted.moves.id))
-      (subst (λ o. Fits (facts_of seen was.progress.id) o (session_at p acted.holds.rest) was.looked was.frames told) (sym same_command)
-      (subst (λ x. Fits (facts_of seen was.progress.id) (command_at was) x was.looked was.frames told) (sym acted.session)
-      (fits_quieter (facts_of seen was.progress.id) (command_at was) (act_done acted.act acted.given (acted.further acted.given) s) was.looked was.frames was.told keeps told quiet (fits_act (facts_of seen was.progress.id) (command_at was) s was.looked was.frames was.told acted.command acted.act acted.further acted.given acted.at acted.left going (is_done_here (facts_of seen was.progress.id) s acted.act acted.further acted.given acted.gives) says now.fits))));
+  runs = then RunsFit (subst (λ o. RunsFit facts o (act_done acted.act acted.given (acted.further acted.given) s)) (sym acted.at)
+      ((transactions_kept scenario).acts facts acted.command s acted.act acted.further acted.given acted.left free acted.gives (subst (λ o. RunsFit facts o s) acted.at now.runs)));
+  fits = then (λ f o x. Fits f o x was.looked was.frames told) (fits_quieter facts (command_at was) (act_done acted.act acted.given (acted.further acted.given) s) was.looked was.frames was.told keeps told quiet
+      (fits_act facts (command_at was) s was.looked was.frames was.told acted.act acted.further acted.given acted.left going (is_done_here facts s acted.act acted.further acted.given acted.gives) says now.fits));
   tells = act_tells scenario seen was.progress p now.holds now.tells acted same;
   lines = act_lines scenario seen was.progress p now.holds acted was.lines now.lines;
   before = before_act scenario seen was.progress p now.holds acted now.before;
@@ -62,8 +66,16 @@ act_agrees scenario seen was p keeps told quiet now acted kept same = record {
     s : Session
     s = session_at was.progress now.holds.rest
 
-    same_command : slice_get p.commands p.finished ≡ command_at was
-    same_command = ap (λ l. slice_get l p.finished) acted.moves.commands ∙ ap (slice_get was.progress.commands) acted.moves.finished
+    facts : Facts
+    facts = facts_of seen was.progress.id
+
+    then : (Held : Facts → Option Command → Session → Type 0) → Held facts (command_at was) (act_done acted.act acted.given (acted.further acted.given) s) → Held (facts_of seen p.id) (slice_get p.commands p.finished) (session_at p acted.holds.rest)
+    then Held held = subst (λ b. Held (facts_of seen b) (slice_get p.commands p.finished) (session_at p acted.holds.rest)) (sym acted.moves.id)
+        (subst (λ o. Held facts o (session_at p acted.holds.rest)) (sym (λ i. slice_get (acted.moves.commands i) (acted.moves.finished i))) (subst (Held facts (command_at was)) (sym acted.session) held))
+
+    free : is_empty (owed_first_in facts acted.command (work_of s) ++ owed_after facts.due) ≡ true
+    free = (free_now facts acted.command was.progress now.holds.rest now.holds.facts (subst (λ c. owes_nothing c was.progress ≡ true) (let both : Some acts.command ≡ Some acted.command = sym acts.at ∙ acted.at in cc both)
+        (and_parts (owes_nothing acts.command was.progress) _ acts.acts).0)).first
 
     at_now : slice_get (commands_of scenario was.progress.id) (length s.finished) ≡ Some acted.command
     at_now = ap (slice_get (commands_of scenario was.progress.id)) now.holds.count ∙ ap (λ l. slice_get l was.progress.finished) (sym now.holds.commands) ∙ acted.at
@@ -75,9 +87,9 @@ act_agrees scenario seen was p keeps told quiet now acted kept same = record {
     going = acts_going scenario seen was.progress.id s acted.command now.tells.course
         (ap (slice_get (commands_of scenario was.progress.id)) now.holds.count ∙ ap (λ l. slice_get l was.progress.finished) (sym now.holds.commands) ∙ acted.at) (ap (λ x. is_settled (outcome_of x)) acted.left)
 
-pub act_goes : (was : Backend) (p : Progress) (keeps told : Bool) → told ≡ was.told && keeps → ((scenario : Scenario) (seen : List Entry) (held : Holds scenario seen was.progress) → HasActed scenario seen was.progress held p) → kept_at p ≡ kept_at was.progress → p.answer ≡ was.progress.answer
+pub act_goes : (was : Backend) (p : Progress) (keeps told : Bool) → told ≡ was.told && keeps → Acts was.progress → ((scenario : Scenario) (seen : List Entry) (held : Holds scenario seen was.progress) → HasActed scenario seen was.progress held p) → kept_at p ≡ kept_at was.progress → p.answer ≡ was.progress.answer
     → (scenario : Scenario) (seen : List Entry) → AgreesNow scenario seen was → GoesOn scenario seen was (record was { progress = p; told = told })
-act_goes was p keeps told quiet acted kept same scenario seen now = record { agrees = act_agrees scenario seen was p keeps told quiet now (acted scenario seen now.holds) kept same; id = (acted scenario seen now.holds).moves.id }
+act_goes was p keeps told quiet acts acted kept same scenario seen now = record { agrees = act_agrees scenario seen was p keeps told quiet now acts (acted scenario seen now.holds) kept same; id = (acted scenario seen now.holds).moves.id }
 
 -- a lookup that came to its end without a relation took no lock
 accepted : (facts : Facts) (s : Session) (read given : List Row) → if_locked (has_accepted_in facts (work_of s)) read ≡ Some given → is_none s.taken ≡ true
@@ -152,6 +164,7 @@ unfolding answer_holds
 answer_agrees scenario seen s command text now at asked none told = record {
   keeps = let k = now.keeps in record { alive = k.alive; life = record { last = k.life.last; alive = k.life.alive; most = k.life.most }; places = answer_places seen s.progress text k.places };
   holds = answer_holds scenario seen s.progress text now.holds;
+  runs = now.runs;
   fits = now.fits;
   tells = answer_tells scenario seen s.progress command text now.holds now.tells now.keeps.places at asked none told;
   lines = now.lines;
@@ -161,6 +174,10 @@ answer_agrees scenario seen s command text now at asked none told = record {
 pub answer_goes : {E : Type 0} (was : Backend) (p : Progress) (result : Result (Unit {0}) E) → Answers was.progress → OnOk result (HasAnswered was.progress p) → OnOk result ((scenario : Scenario) (seen : List Entry) → AgreesNow scenario seen was → GoesOn scenario seen was (record was { progress = p }))
 answer_goes was p (Ok x) asked has = λ scenario seen now. subst (λ x. GoesOn scenario seen was (record was { progress = x })) (sym has.is) (record { agrees = answer_agrees scenario seen was asked.command has.text now asked.at asked.asked asked.none (told_asked was.progress p asked has); id = refl })
 answer_goes was p (Err e) asked has = tt
+
+-- its transaction is that of the next command, or of its block still
+passed_runs : (scenario : Scenario) (seen : List Entry) (was : Backend) (p : Progress) (now : AgreesNow scenario seen was) (passed : HasPassed scenario seen was.progress now.holds p) (next : Option Command) → RunsFit (facts_of seen was.progress.id) next (next_session passed.command next (session_at was.progress now.holds.rest))
+passed_runs scenario seen was p now passed next = (transactions_kept scenario).passes (facts_of seen was.progress.id) passed.command next (session_at was.progress now.holds.rest) passed.over (subst (λ o. RunsFit (facts_of seen was.progress.id) o (session_at was.progress now.holds.rest)) passed.at now.runs)
 
 -- it passes to its next command
 pass_agrees : (scenario : Scenario) (seen : List Entry) (was : Backend) (p : Progress) (lines : List Line) (line : Line) (now : AgreesNow scenario seen was) → HasPassed scenario seen was.progress now.holds p → kept_at p ≡ kept_at was.progress → p.answer ≡ None
@@ -172,10 +189,8 @@ pass_agrees scenario seen was p lines line now passed kept none says pushed = re
     places = pass_places scenario seen was.progress p now.holds passed kept now.keeps.places;
   };
   holds = passed.holds;
-  fits = subst (λ f. Fits f (slice_get p.commands p.finished) (session_at p passed.holds.rest) false [] false) (sym (ap (facts_of seen) passed.id))
-      (subst (λ o. Fits (facts_of seen was.progress.id) o (session_at p passed.holds.rest) false [] false) (sym next_command)
-      (subst (λ x. Fits (facts_of seen was.progress.id) next x false [] false) (sym passed.session)
-      (fits_pass (facts_of seen was.progress.id) (command_at was) (session_at was.progress now.holds.rest) was.looked was.frames was.told passed.command next passed.at passed.over now.fits)));
+  runs = then RunsFit (passed_runs scenario seen was p now passed next);
+  fits = then (λ f o x. Fits f o x false [] false) (fits_pass facts (command_at was) s was.looked was.frames was.told passed.command next passed.at passed.over now.runs now.fits);
   tells = pass_tells scenario seen was.progress p now.holds now.tells passed none;
   lines = pushed ∙ pass_lines scenario seen was.progress p now.holds now.tells passed was.lines line says now.lines;
   before = before_pass scenario seen was.progress p now.holds passed now.before;
@@ -184,8 +199,15 @@ pass_agrees scenario seen was p lines line now passed kept none says pushed = re
     next : Option Command
     next = slice_get was.progress.commands (was.progress.finished + 1)
 
-    next_command : slice_get p.commands p.finished ≡ next
-    next_command = ap (λ l. slice_get l p.finished) passed.commands ∙ ap (slice_get was.progress.commands) passed.finished
+    facts : Facts
+    facts = facts_of seen was.progress.id
+
+    s : Session
+    s = session_at was.progress now.holds.rest
+
+    then : (Held : Facts → Option Command → Session → Type 0) → Held facts next (next_session passed.command next s) → Held (facts_of seen p.id) (slice_get p.commands p.finished) (session_at p passed.holds.rest)
+    then Held held = subst (λ b. Held (facts_of seen b) (slice_get p.commands p.finished) (session_at p passed.holds.rest)) (sym passed.id)
+        (subst (λ o. Held facts o (session_at p passed.holds.rest)) (sym (λ i. slice_get (passed.commands i) (passed.finished i))) (subst (Held facts next) (sym passed.session) held))
 
 pub pass_goes : (was : Backend) (p : Progress) (frames : List Frame) (lines : List Line) (line : Line) → ((scenario : Scenario) (seen : List Entry) (held : Holds scenario seen was.progress) → HasPassed scenario seen was.progress held p) → kept_at p ≡ kept_at was.progress → p.answer ≡ None → frames ≡ [] → IsLineOf was.progress line → lines ≡ was.lines ++ line ∷ []
     → (scenario : Scenario) (seen : List Entry) → AgreesNow scenario seen was → GoesOn scenario seen was (record was { progress = p; lines = lines; looked = false; frames = frames; told = false })
@@ -200,9 +222,10 @@ pass_awaits scenario seen was p lines line now passed kept none says pushed = re
   agrees = pass_agrees scenario seen was p lines line now passed kept none says pushed;
   begins = passed.session ∙ at_next next ∙ ap (begins_at p passed.holds.rest) (sym next_command);
   ends = λ part number is. ends_pass scenario seen was.progress p now.holds passed now.before part number is;
+  runs = subst (λ f. RunsFit f None (begins_at p passed.holds.rest None)) (sym (ap (facts_of seen) passed.id)) (subst (RunsFit (facts_of seen was.progress.id) None) (at_next None) (passed_runs scenario seen was p now passed None));
   fits = subst (λ f. Fits f None (begins_at p passed.holds.rest None) false [] false) (sym (ap (facts_of seen) passed.id))
       (subst (λ x. Fits (facts_of seen was.progress.id) None x false [] false) (at_next None)
-      (fits_pass (facts_of seen was.progress.id) (command_at was) (session_at was.progress now.holds.rest) was.looked was.frames was.told passed.command None passed.at passed.over now.fits));
+      (fits_pass (facts_of seen was.progress.id) (command_at was) (session_at was.progress now.holds.rest) was.looked was.frames was.told passed.command None passed.at passed.over now.runs now.fits));
   last = now.keeps.life.last;
   alive = ap (life_of seen) passed.id ∙ now.keeps.life.alive;
   before = omega (arith, now.keeps.life.most, passed.finished);
@@ -227,6 +250,7 @@ pub rest_awaits : (scenario : Scenario) (seen : List Entry) (s : Backend) → Ag
 rest_awaits scenario seen s now settled = record {
   keeps = now.keeps;
   rests = record { holds = now.holds; still = settled.still };
+  runs = now.runs;
   fits = now.fits;
   tells = now.tells.tells;
   lines = now.lines;

@@ -4,7 +4,7 @@ use Rattle.history_model.specs.Lives.{life_of, last_event_of}
 use Rattle.history_model.specs.declared.life.Life.{Life}
 use Rattle.history_model.specs.declared.life.Life.TheVariants.{Unstarted, Alive, Stopped}
 use Rattle.history_model.specs.Transactions.{has_written}
-pub use Rattle.cacheless.specs.Answering.{AreLastScans, IsWhole, KeepsAbsent, PlacesFit}
+pub use Rattle.cacheless.specs.Answering.{PlacesFit}
 use Rattle.cacheless.specs.Facts.{facts_of}
 use Rattle.cacheless.specs.Holds.{Holds, Rests, HasNotStarted}
 use Rattle.cacheless.specs.Lines.{lines_of_backend}
@@ -12,9 +12,10 @@ use Rattle.cacheless.specs.OnCourse.{AllOnCourse}
 pub use Rattle.cacheless.specs.Played.{AreSpelled, IsPlayed}
 use Rattle.cacheless.specs.Sessions.{session_of}
 use Rattle.cacheless.specs.Silently.{is_to_answer_at}
-use Rattle.cacheless.specs.State.{kept_at, session_at}
+use Rattle.cacheless.specs.State.{session_at}
 use Rattle.cacheless.specs.State as progress
 use Rattle.cacheless.specs.Telling.{Tells, AreLines, TellsNow}
+pub use Rattle.cacheless.proofs.Allowed.EndsReleased.{Fits as RunsFit}
 use Rattle.backend_core.specs.Types.{Command, Scenario, Entry, Backend}
 use Rattle.backend_core.specs.declared.life.Life.TheVariants as lives
 use Rattle.backend_core.specs.Cuts.{HoldsBefore}
@@ -40,6 +41,7 @@ pub record Keeps (seen : List Entry) (s : Backend) : Type 0 where
 pub record AgreesNow (scenario : Scenario) (seen : List Entry) (s : Backend) : Type 0 where
   pub keeps : Keeps seen s
   pub holds : Holds scenario seen s.progress
+  pub runs : RunsFit (facts_of seen s.progress.id) (command_at s) (session_at s.progress holds.rest)
   pub fits : Fits (facts_of seen s.progress.id) (command_at s) (session_at s.progress holds.rest) s.looked s.frames s.told
   pub tells : TellsNow scenario seen s.progress holds
   pub lines : AreLines scenario seen s.progress (session_at s.progress holds.rest) s.lines
@@ -54,6 +56,7 @@ pub record GoesOn (scenario : Scenario) (seen : List Entry) (was now : Backend) 
 pub record AwaitsEntry (scenario : Scenario) (seen : List Entry) (s : Backend) : Type 0 where
   pub keeps : Keeps seen s
   pub rests : Rests scenario seen s.progress
+  pub runs : RunsFit (facts_of seen s.progress.id) (command_at s) (session_at s.progress rests.holds.rest)
   pub fits : Fits (facts_of seen s.progress.id) (command_at s) (session_at s.progress rests.holds.rest) s.looked s.frames s.told
   pub tells : Tells scenario seen s.progress (session_at s.progress rests.holds.rest)
   pub lines : AreLines scenario seen s.progress (session_at s.progress rests.holds.rest) s.lines
@@ -85,10 +88,9 @@ pub record HasNotJoined (scenario : Scenario) (seen : List Entry) (s : Backend) 
   pub life : life_of seen s.progress.id ≡ Unstarted
   pub unwritten : (c : ℕ) → has_written seen s.progress.id c ≡ false
 
--- a backend that has left: what it has read it keeps, its lines are those of all its commands, and none is left
+-- a backend that has left: its lines are those of all its commands, and none is left
 pub record HasLeft (scenario : Scenario) (seen : List Entry) (s : Backend) : Type 0 where
   pub holds : Holds scenario seen s.progress
-  pub kept : AreLastScans seen s.progress.id (kept_at s.progress)
   pub life : life_of seen s.progress.id ≡ Stopped
   pub lines : s.lines ≡ lines_of_backend scenario seen s.progress.id
   pub past : command_at s ≡ None

@@ -63,96 +63,6 @@ pub record LooksFit (facts : Facts) (s : Session) (looked : Bool) (frames : List
   pub within : s.tally.looks + looks_due (owed_after facts.due) + told_owed told frames ≤ 2 * s.tally.fetches + looks_owed facts s + looked_on_top looked frames + came_well s.left + one_if s.ended
   pub once : started_in (number_of s) facts + one_if s.ended ≤ 1
 
--- the first command of the running transaction, or 0
-abbrev pub first_at : Facts → ℕ
-first_at facts = option_map_or (λ t. t.first) facts.running 0
-
--- the transaction of a command that begins one
-pub record RunsAlone (facts : Facts) (o : Option Command) (s : Session) : Type 0 where
-  pub command : Command
-  pub at : o ≡ Some command
-  pub begins : begins_in command (work_of s) ≡ true
-  pub first : first_at facts ≡ number_of s
-
--- the first command of the outermost level, or this one where there is no level
-abbrev pub outermost : ℕ → List Level → ℕ
-outermost number [] = number
-outermost number (level ∷ levels) = level.first
-
--- the levels began one after another, none before the command of the first number, and all before that of the second
-abbrev pub LevelsRise : ℕ → ℕ → List Level → Type 0
-LevelsRise from number [] = from ≤ number
-LevelsRise from number (level ∷ levels) = (from ≤ level.first) × LevelsRise (level.first + 1) number levels
-
--- the outermost level is the block's own: no savepoint began it
-abbrev pub IsOutermostPlain : List Level → Type 0
-IsOutermostPlain [] = ⊤
-IsOutermostPlain (level ∷ levels) = level.savepoint ≡ None
-
--- the transaction of a block, whichever command runs: its outermost level began it
-pub record RunsBlock (facts : Facts) (levels : List Level) : Type 0 where
-  pub runs : is_some facts.running ≡ true
-  pub first : (command : ℕ) → first_at facts ≡ outermost command levels
-
--- the transaction of a block whose innermost level failed: none where that was the outermost one too
-abbrev pub RunsFailed : Facts → List Level → Type 0
-RunsFailed facts (level ∷ inner ∷ levels) = RunsBlock facts (level ∷ inner ∷ levels)
-RunsFailed facts levels = facts.running ≡ None
-
--- the transaction of a backend between two commands, by its levels and its block
-abbrev pub RunsAt : Facts → List Level → Block → Type 0
-RunsAt facts levels Outside = facts.running ≡ None
-RunsAt facts levels Inside = RunsBlock facts levels
-RunsAt facts levels Failed = RunsFailed facts levels
-
--- the same by its blocks
-abbrev pub RunsIn : Facts → Blocks → Type 0
-RunsIn facts blocks = RunsAt facts blocks.levels blocks.block
-
--- the transaction of a backend in a command, by the blocks before it: outside blocks that of the command
-abbrev pub RunsBy : Facts → Option Command → Session → Block → Type 0
-RunsBy facts o s Outside = (facts.running ≡ None) ⊎ RunsAlone facts o s
-RunsBy facts o s block = RunsAt facts s.blocks.levels block
-
--- the transaction once the release is made, by the blocks after the command: none after the last one
-abbrev pub RunsAfter : Facts → Option Command → Session → Type 0
-RunsAfter facts None s = facts.running ≡ None
-RunsAfter facts (Some command) s = RunsIn facts (blocks_after command s)
-
--- the transaction of a backend, before the release and after it
-abbrev pub TransactionFits : Facts → Option Command → Session → Bool → Type 0
-TransactionFits facts o s true = RunsAfter facts o s
-TransactionFits facts o s false = RunsBy facts o s s.blocks.block
-
--- a commit on its way: it is that of the running transaction, and nothing has to come before its next entry
-pub record OnCommit (facts : Facts) (o : Option Command) (s : Session) : Type 0 where
-  pub command : Command
-  pub at : o ≡ Some command
-  pub going : s.ended ≡ false
-  pub out : is_settled (outcome_of s.left) ≡ true
-  pub free : owed_in facts command (work_of s) ≡ []
-  pub end : end_in facts command (work_of s) ≡ Commits (first_at facts)
-  pub written : has_write_from (first_at facts) facts.lists ≡ true
-
--- the end of a command takes back the commands from this one on: nothing asks for an entry, and its answer rests on no scan
-pub record IsTakenBack (facts : Facts) (command : Command) (s : Session) (from : ℕ) : Type 0 where
-  pub end : end_in facts command (work_of s) ≡ TakesBack from
-  pub free : owed_after facts.due ≡ []
-  pub plain : left_rests_on s.left ≡ []
-
--- taking back on its way: nothing is left of it but the release
-pub record OnTakingBack (facts : Facts) (o : Option Command) (s : Session) (from : ℕ) : Type 0 where
-  pub runs : is_some facts.running ≡ true
-  pub going : s.ended ≡ false
-  pub out : is_settled (outcome_of s.left) ≡ true
-  pub end : elim o as (λ x. Type 0) [ Some command ↦ IsTakenBack facts command s from | None ↦ end_of_all facts ≡ TakesBack from ]
-  pub none : has_write_from from facts.lists ≡ false
-
--- after the last command
-pub record IsPast (facts : Facts) (s : Session) : Type 0 where
-  pub out : is_settled (outcome_of s.left) ≡ true
-  pub free : owed_after facts.due ≡ []
-
 -- the lock that a lookup took, or a further one, is held by a grant of its command; a lookup that found no relation took none
 abbrev pub TakesFit : ℕ → List OwnLock → Option Oid → Plan → Type 0
 TakesFit number locks (Some rel) (Do (Lookup name mode) rest) = list_any (λ lock. is_own rel mode lock && (lock.command == number)) locks ≡ true
@@ -210,18 +120,12 @@ pub record FramesFit (facts : Facts) (o : Option Command) (s : Session) (frames 
   pub badly : outcome_of s.left ≡ Badly → frames ≡ []
   pub past : o ≡ None → frames ≡ []
 
--- none is open outside a block
-abbrev pub OpensIn : Block → List OpenRelation → Type 0
-OpensIn Outside opens = opens ≡ []
-OpensIn block opens = ⊤
-
 -- what is so of no held descriptor is so of none of these
 abbrev pub AreHeld : List Opening → List Opening → Type 0
 AreHeld held those = (p : Opening → Bool) → list_any p held ≡ false → list_any p those ≡ false
 
--- the relations that are open before the command: until its release the descriptors are held that were held as it began, and after it those of the relations that stay open
+-- until its release a command holds the descriptors that were held as it began, and after it those of the relations that stay open
 pub record OpensFit (o : Option Command) (s : Session) : Type 0 where
-  pub inside : OpensIn s.blocks.block s.opens
   pub held : s.ended ≡ false → AreHeld s.opened (held_before s)
   pub over : s.ended ≡ true → (command : Command) → o ≡ Some command → s.opened ≡ map opening_of (opens_after command s)
 
@@ -229,21 +133,8 @@ pub record OpensFit (o : Option Command) (s : Session) : Type 0 where
 pub record Fits (facts : Facts) (o : Option Command) (s : Session) (looked : Bool) (frames : List Frame) (told : Bool) : Type 0 where
   pub looks : LooksFit facts s looked frames told
   pub rebuilds : FramesFit facts o s frames
-  pub transaction : TransactionFits facts o s s.ended
-  pub first : first_at facts ≤ number_of s
-  pub opens : is_open s.blocks ≡ not (is_empty s.blocks.levels)
-  pub levels : LevelsRise 0 (number_of s) s.blocks.levels
-  pub plain : IsOutermostPlain s.blocks.levels
-  pub blocked : s.blocked ≡ is_blocked s.blocks o
-  pub settled : is_settled (outcome_of (plan_first s.blocks s.opens o)) ≡ true → s.left ≡ plan_first s.blocks s.opens o
-  pub written : has_write_from 0 facts.lists ≡ true → option_map_or (λ t. is_some t.xid) facts.running false ≡ true
-  pub visible : is_visible facts.running ≡ true → OnCommit facts o s
-  pub taken : (from : ℕ) → facts.due ≡ dues.Gone from → OnTakingBack facts o s from
-  pub accepts : is_empty (owed_after facts.due) ≡ false → is_some facts.running ≡ true
-  pub past : o ≡ None → IsPast facts s
+  pub past : o ≡ None → owed_after facts.due ≡ []
   pub relations : OpensFit o s
-  pub since : opens_before (first_at facts) s.opens ≡ []
-  pub free : s.ended ≡ true → facts.running ≡ None → s.opened ≡ []
   pub sought : looked ≡ true → IsLookedFor facts frames s.taken s.left
   pub takes : TakesFit (number_of s) s.locks s.taken s.left
   pub unheld : looked ≡ true → IsUnheld s.opened s.left

@@ -9,7 +9,7 @@ use Rattle.cacheless.specs.Session.{Session, at_command}
 use Rattle.cacheless.specs.Sessions.{session_of}
 use Rattle.cacheless.specs.State.{Rest, session_at}
 use Rattle.backend_core.specs.Types.{Command, Scenario, Entry, Progress, Backend}
-use Rattle.backend_core.specs.Agrees.{IsPlayed, command_at, AgreesNow, Stands}
+use Rattle.backend_core.specs.Agrees.{IsPlayed, RunsFit, command_at, AgreesNow, Stands}
 use Rattle.backend_core.specs.Cuts.{IsCut}
 use Rattle.backend_core.specs.Fits.{Fits}
 
@@ -22,6 +22,7 @@ pub record AwaitsCommand (scenario : Scenario) (seen : List Entry) (s : Backend)
   pub agrees : AgreesNow scenario seen s
   pub begins : session_at s.progress agrees.holds.rest ≡ begins_at s.progress agrees.holds.rest (command_at s)
   pub ends : (part : Scenario) → IsBackend part.backends s.progress.id → commands_of part s.progress.id ≡ take s.progress.finished s.progress.commands → session_of part seen s.progress.id ≡ Some (begins_at s.progress agrees.holds.rest None)
+  pub runs : RunsFit (facts_of seen s.progress.id) None (begins_at s.progress agrees.holds.rest None)
   pub fits : Fits (facts_of seen s.progress.id) None (begins_at s.progress agrees.holds.rest None) false [] false
   pub last : ℕ
   pub alive : life_of seen s.progress.id ≡ Alive last

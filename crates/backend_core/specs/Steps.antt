@@ -1,16 +1,15 @@
 -- What a step of a backend does, and what it does next.
 use Rattle.std.specs.Prelude.{◌≡◌, ◌≢◌, ◌≤◌, ◌+◌, ◌⊎◌, ◌++◌, ◌∷◌, ℕ, Bool, true, false, Option, Some, None, List, [], slice_get, length, take}
-use Rattle.std.specs.Option.{IsSomeAnd}
 use Rattle.event_kinds.specs.declared.entry.Event.TheVariants as events
 use Rattle.ddl_effect.specs.Stages.{plan_at, want_of}
 use Rattle.ddl_effect.specs.declared.want.Want.TheVariants as wants
 use Rattle.seg_calls.specs.Calls.{IsUnchanged}
 use Rattle.cacheless.specs.declared.progress.Due.TheVariants as dues
-use Rattle.cacheless.specs.May.{is_next_at, is_next_of_act, has_failed, lacks_opened, lacks_any, owes_nothing, may_lock_at, may_unlock_at, may_end_at, is_next_of_end}
+use Rattle.cacheless.specs.May.{is_next_at, is_next_of_act, has_failed, lacks_opened, lacks_any, owes_nothing, may_play_now, may_lock_at, may_unlock_at}
 use Rattle.cacheless.specs.MayEnter.{MayEnter}
 use Rattle.cacheless.specs.Silently.{has_accepted_at}
-use Rattle.cacheless.specs.State.{owed_after, is_quiet, is_absent, is_kept, kept_at, owed_first, unsent_at, is_out, end_at, facts_at}
-use Rattle.cacheless.specs.Ends.{TakesBack, end_of_all}
+use Rattle.cacheless.specs.State.{owed_after, is_quiet, is_absent, is_kept, kept_at, owed_first, unsent_at, end_at}
+use Rattle.cacheless.specs.Ends.{TakesBack}
 use Rattle.backend_core.specs.Types.{Oid, Mode, Purpose, Command, Scenario, Entry, Event, Next, Frame, Progress, Backend}
 use Rattle.backend_core.specs.declared.life.Life.TheVariants as lives
 use Rattle.backend_core.specs.declared.next.Next.TheVariants as nexts
@@ -110,10 +109,11 @@ pub record IsWriteNext (s : Progress) : Type 0 where
   pub owes : owes_nothing command s ≡ true
   pub wants : want_of (plan_at s.opens s.exec) ≡ wants.Write
 
--- this entry of the end of a command that has come out comes next, where no lookup looks once more, or after the last command of taking back what still runs
-pub data EndsNext (s : Backend) (event : Event) : Type 0 where
-  InCommand : (command : Command) → IsFree s.progress command → is_out s.progress ≡ true → (owes_nothing command s.progress ≡ true) ⊎ (s.frames ≡ []) → accepts_again s ≡ false → may_end_at command s.progress event ≡ true → EndsNext s event
-  AfterAll : slice_get s.progress.commands s.progress.finished ≡ None → is_next_of_end s.progress event (end_of_all (facts_at s.progress)) ≡ true → EndsNext s event
+-- this entry of an end comes next: no look comes before it, the rule lets it come, and nothing is rebuilt
+pub record IsEndNext (s : Backend) (event : Event) : Type 0 where
+  pub free : (command : Command) → slice_get s.progress.commands s.progress.finished ≡ Some command → IsFree s.progress command × (accepts_again s ≡ false)
+  pub may : (oid : ℕ) → may_play_now oid s.progress event ≡ true
+  pub bare : s.frames ≡ []
 
 -- its writes were taken back: the release comes next, and no scan, though what is held may lack some
 pub record IsGone (s : Backend) (command : Command) : Type 0 where
@@ -137,20 +137,15 @@ pub record IsLookNext (rebuilds : Bool) (s : Backend) : Type 0 where
   pub next : IsScanNext s scan rebuilds
   pub unlooked : is_looked_for rebuilds s ≡ false
 
--- what the choice rests on: a lock that the running lookup took is held by a grant of its command, where a look was made for a lookup that has found no relation, the lookup ends, the rebuild on top is of a held descriptor that lacks a scan, and where nothing is rebuilt none does, unless the command's writes were taken back
+-- what the choice rests on: a lock that the running lookup took is held by a grant of its command, where a look was made for a lookup that has found no relation, the lookup ends, the rebuild on top is of a held descriptor that lacks a scan, and where nothing is rebuilt none does, unless the command's writes were taken back; a command that has failed rebuilds nothing, and after the last one nothing is owed or rebuilt
 pub record IsChoiceSound (s : Backend) : Type 0 where
   pub takes : TakesFit (s.progress.finished + 1) s.progress.locks.items s.progress.taken (plan_at s.progress.opens s.progress.exec)
   pub accepts : s.looked ≡ true → is_unfound s.progress (plan_at s.progress.opens s.progress.exec) ≡ true → owed_after s.progress.due ≡ [] → has_accepted_at s.progress ≡ true
   pub builds : (f : Frame) → top s.frames ≡ Some f → IsRebuilt (is_kept (kept_at s.progress)) s.progress.opened f
   pub whole : (command : Command) → slice_get s.progress.commands s.progress.finished ≡ Some command → s.frames ≡ [] → has_failed s.progress ≡ false → IsWhole s command
-
--- the event, where it is one of an end
-abbrev pub end_event : Progress → Next → Option Event
-end_event s (nexts.Commit xid) = Some (events.Visible xid)
-end_event s nexts.Publish = Some (events.Publish (length (take 64 (unsent_at s))))
-end_event s (nexts.TakeBack from) = Some (events.Gone from)
-end_event s (nexts.Release from) = Some (events.Release from)
-end_event s next = None
+  pub bare : has_failed s.progress ≡ true → s.frames ≡ []
+  pub past : slice_get s.progress.commands s.progress.finished ≡ None → owed_after s.progress.due ≡ []
+  pub over : slice_get s.progress.commands s.progress.finished ≡ None → s.frames ≡ []
 
 -- what comes next, with all that it needs
 abbrev pub IsNextOf : Backend → Next → Type 0
@@ -163,4 +158,7 @@ IsNextOf s (nexts.Lock rel mode) = IsLockNext s.progress rel mode
 IsNextOf s (nexts.Unlock rel mode) = IsUnlockNext s.progress rel mode
 IsNextOf s nexts.Write = IsWriteNext s.progress
 IsNextOf s nexts.Leave = (slice_get s.progress.commands s.progress.finished ≡ None) × (s.progress.running ≡ None)
-IsNextOf s next = IsSomeAnd (end_event s.progress next) (EndsNext s)
+IsNextOf s (nexts.Commit xid) = IsEndNext s (events.Visible xid)
+IsNextOf s nexts.Publish = IsEndNext s (events.Publish (length (take 64 (unsent_at s.progress))))
+IsNextOf s (nexts.TakeBack from) = IsEndNext s (events.Gone from)
+IsNextOf s (nexts.Release from) = IsEndNext s (events.Release from)

@@ -44,6 +44,7 @@ impl Backend {
 
     // After the last command: it takes back what its transaction holds still, and leaves.
     fn next_after_all(&self) -> Next
+        requires chosen { IsChoiceSound self.now }
         requires none { slice_get self.now.progress.commands self.now.progress.finished ≡ None }
         ensures next { IsNextOf self.now result }
         ensures is { next_after_last (facts_at self.now.progress) ≡ Some result }
@@ -263,6 +264,7 @@ impl Backend {
         requires free { IsFree self.now.progress command.now }
         requires out { is_out self.now.progress ≡ true }
         requires whole { WaitsForNone self.now command.now }
+        requires bare { self.now.frames ≡ [] }
         requires accepted { accepts_once_more self.now ≡ false }
         ensures next { IsNextOf self.now result }
         ensures is { next_by_end (facts_at self.now.progress) command.now (work_at self.now.progress) ≡ Some result }

@@ -26,7 +26,8 @@ use Rattle.cacheless.proofs.Same.{free_is, owes_nothing_is}
 use Rattle.backend_core.specs.Types.{Command, Scenario, Entry, Event, Progress, Backend}
 use Rattle.backend_core.specs.Agrees.{command_at, AwaitsEntry}
 use Rattle.backend_core.proofs.Own.{waiting}
-use Rattle.backend_core.specs.Fits.{first_at, IsTakenBack, is_gone_due}
+use Rattle.cacheless.proofs.Allowed.NextTransaction.{first_at}
+use Rattle.backend_core.specs.Fits.{is_gone_due}
 use Rattle.txn_blocks.specs.Blocks.{innermost}
 use Rattle.ddl_effect.specs.Plans.{Absent, Plan}
 use Rattle.ddl_effect.specs.Stages.{plan_at}
@@ -146,22 +147,22 @@ module _ (scenario : Scenario) (seen : List Entry) (s : Backend) (waits : Awaits
     where
       by_test : (t : Bool) → is_visible facts.running ≡ t → is_visible facts.running ≡ false
       by_test false is = is
-      by_test true is = absurd (let c = waits.fits.visible is in let one : c.command ≡ command = (let both : Some c.command ≡ Some command = sym c.at ∙ at in cc both) in
+      by_test true is = absurd (let c = waits.runs.visible is in let one : c.command ≡ command = (let both : Some c.command ≡ Some command = sym c.at ∙ at in cc both) in
           not_busy (subst (λ x. owed_in facts x (work_of (waiting waits)) ≡ []) one c.free) c.out busy (λ absent quiet. never_commits (first_at facts) (subst (λ x. end_in facts x (work_of (waiting waits)) ≡ Commits (first_at facts)) one c.end) absent))
 
   -- and the last entry took nothing back
   pub standing : Busy facts.due s.progress command → is_gone_due facts.due ≡ false
   standing busy = by_due facts.due refl
     where
-      none_gone : (from : ℕ) → facts.due ≡ dues.Gone from → IsTakenBack facts command (waiting waits) from → Busy facts.due s.progress command → ⊥
-      none_gone from is back (Due due) = both_ways _ due (ap is_empty (sym (ap (λ f. owed_after f.due) waits.rests.holds.facts) ∙ back.free))
-      none_gone from is back (Begins owes) = both_ways _ (ap (λ r. is_some r) ((ap (λ f. f.running) waits.rests.holds.facts) ∙ (starts_now s.progress command owes).none)) (waits.fits.taken from is).runs
-      none_gone from is back (Scans lacks stays) = both_ways _ stays (ap is_gone_due is)
-      none_gone from is back (Acts busy) = both_ways _ busy (waits.fits.taken from is).out
-      none_gone from is back (Sought absent quiet) = never_gone from is quiet
+      none_gone : (from : ℕ) → facts.due ≡ dues.Gone from → Busy facts.due s.progress command → ⊥
+      none_gone from is (Due due) = both_ways _ due (ap is_empty (sym (ap (λ f. owed_after f.due) waits.rests.holds.facts) ∙ ap owed_after is))
+      none_gone from is (Begins owes) = both_ways _ (ap (λ r. is_some r) ((ap (λ f. f.running) waits.rests.holds.facts) ∙ (starts_now s.progress command owes).none)) (waits.runs.taken from is).runs
+      none_gone from is (Scans lacks stays) = both_ways _ stays (ap is_gone_due is)
+      none_gone from is (Acts busy) = both_ways _ busy (waits.runs.taken from is).out
+      none_gone from is (Sought absent quiet) = never_gone from is quiet
 
       by_due : (due : DueNext) → facts.due ≡ due → is_gone_due due ≡ false
-      by_due (dues.Gone from) is = absurd (none_gone from is (subst (λ o. elim o as (λ x. Type 0) [ Some c ↦ IsTakenBack facts c (waiting waits) from | None ↦ end_of_all facts ≡ TakesBack from ]) at (waits.fits.taken from is).end) busy)
+      by_due (dues.Gone from) is = absurd (none_gone from is busy)
       by_due due is = refl
 
   -- so it may ask for something

@@ -18,16 +18,17 @@ use Rattle.txn_blocks.specs.declared.transaction.RunningTransaction.{RunningTran
 use Rattle.history_model.specs.Changing.{is_empty}
 use Rattle.cacheless.specs.ActsDone.{reached, made_in, opening_by}
 use Rattle.cacheless.specs.Ends.{End, Ends, Commits, TakesBack, xid_of, next_sent, next_of_commit, next_of_taking_back, next_of_end, end_of_all, end_left_in}
-use Rattle.cacheless.specs.Rule.{same_end, comes_next}
-use Rattle.cacheless.proofs.CommandEnds.{publishes_next, unsent_same, least_64}
+use Rattle.cacheless.specs.Rule.{same_end, comes_next, may_come}
+use Rattle.cacheless.proofs.Allowed.EndsReleased.{PublishesNow, comes_now}
+use Rattle.cacheless.proofs.CommandEnds.{publishes_next, unsent_same}
 use Rattle.cacheless.proofs.Resting.{over_is}
 use Rattle.cacheless.proofs.Same.{free_is, next_is}
 use Rattle.ddl_effect.specs.declared.want.Want.{Want}
-use Rattle.cacheless.specs.May.{owes_no_end, has_failed, is_first_missing, is_next_of_act, lacks_opened, lacks_any, owes_nothing}
+use Rattle.cacheless.specs.May.{may_end_at, may_play_at, may_last_at, owes_no_end, has_failed, is_first_missing, is_next_of_act, lacks_opened, lacks_any, owes_nothing}
 use Rattle.cacheless.specs.OnCourse.{Way, Begun, Wrote, Over, FollowsPlan, IsOnCourse, AllOnCourse}
 use Rattle.cacheless.specs.OpenedReads.{ReadsOpened}
 use Rattle.cacheless.specs.Settled.{opened_by}
-use Rattle.cacheless.specs.Session.{held_before, plan_admitted}
+use Rattle.cacheless.specs.Session.{held_before, outcome_of, is_settled, plan_admitted}
 use Rattle.cacheless.specs.Silently.{is_ends, IsAtRest}
 use Rattle.cacheless.specs.State.{facts_at, work_at, lists_at, has_write_since, unsent_at, kept_at, is_kept, is_absent, is_quiet, act_missing, is_out, end_at, owed_after, owed_first}
 use Rattle.cacheless.specs.Suspects.{lacks}
@@ -36,25 +37,12 @@ use Rattle.cacheless.proofs.Tests.{both_true, not_both, empty_is}
 use Rattle.backend_core.specs.Types.{Event, Message, Row, Purpose, Command, CommandError, Opening, Scenario, Entry, Next, Frame, Progress, Backend}
 use Rattle.backend_core.specs.declared.next.Next.TheVariants as nexts
 use Rattle.backend_core.specs.Agrees.{command_at, AwaitsEntry}
-use Rattle.backend_core.specs.Steps.{IsWhole, WaitsForNone, IsFree, IsScanNext, IsLookNext, IsChoiceSound, Says, IsAcceptNext, EndsNext, InCommand, AfterAll, end_event, IsNextOf}
+use Rattle.backend_core.specs.Steps.{IsWhole, WaitsForNone, IsFree, IsScanNext, IsLookNext, IsChoiceSound, Says, IsAcceptNext, IsEndNext, IsNextOf}
 use Rattle.backend_core.specs.Frames.{top, IsRebuilt}
 use Rattle.backend_core.specs.Choice.{look_or_scan, next_on_top, as_next, next_by_end, next_after_last, accepts_again}
 use Rattle.backend_core.specs.Words.{is_looked_for}
 use Rattle.backend_core.proofs.Fitting.Rebuilding.{kept_lacks}
 use Rattle.backend_core.proofs.Own.{waiting, waiting_course}
-
--- an end's entry comes next
-ends_next : (s : Backend) (next : Next) → IsSomeAnd (end_event s.progress next) (EndsNext s) → IsNextOf s next
-ends_next s nexts.Look ends = absurd ends
-ends_next s (nexts.LookBeforeScan rebuilds) ends = absurd ends
-ends_next s nexts.LookBeforeAbsent ends = absurd ends
-ends_next s nexts.Fetch ends = absurd ends
-ends_next s (nexts.Scan scan rebuilds) ends = absurd ends
-ends_next s (nexts.Lock rel mode) ends = absurd ends
-ends_next s (nexts.Unlock rel mode) ends = absurd ends
-ends_next s nexts.Write ends = absurd ends
-ends_next s nexts.Leave ends = absurd ends
-ends_next s next ends = ends
 
 -- an entry of an end is itself
 same_itself : (event : Event) (next : Next) → as_next event ≡ Some next → same_end event event ≡ true
@@ -64,33 +52,23 @@ same_itself (events.Gone from) next is = eq-eqb from from refl
 same_itself (events.Release from) next is = eq-eqb from from refl
 same_itself event next is = absurd (cc is)
 
--- the next entry of a commit, as what comes next
-commit_event : (p : Progress) (first : ℕ) (next : Next) → as_next (next_of_commit (facts_at p) first) ≡ Some next → end_event p next ≡ Some (next_of_commit (facts_at p) first)
-commit_event p first next = by_written (has_write_since first p)
-  where
-    Comes : Event → Type 0
-    Comes event = as_next event ≡ Some next → end_event p next ≡ Some event
+-- and its command may make it, where nothing has to come before it
+may_end_now : (oid : ℕ) (command : Command) (p : Progress) (event : Event) (next : Next) → as_next event ≡ Some next → may_end_at command p event ≡ true → may_play_at oid command p event ≡ true
+may_end_now oid command p (events.Visible xid) next is may = may
+may_end_now oid command p (events.Publish count) next is may = may
+may_end_now oid command p (events.Gone from) next is may = may
+may_end_now oid command p (events.Release from) next is may = may
+may_end_now oid command p event next is may = absurd (cc is)
 
-    by_unsent : (n : ℕ) → length (unsent_in (lists_at p) p.running) ≡ n → is_visible p.running ≡ true → Comes (next_sent first n)
-    by_unsent zero none shown is = let one : nexts.Release first ≡ next = cc is in ap (end_event p) (sym one)
-    by_unsent (suc n) some shown is = let one : nexts.Publish ≡ next = cc is in ap (end_event p) (sym one)
-        ∙ ap (λ k. Some (events.Publish k)) (length-take 64 (unsent_at p) ∙ ap (λ l. min 64 (length l)) (sym (unsent_same p.running (lists_at p) shown)) ∙ ap (min 64) some ∙ sym (least_64 (suc n)))
-
-    by_visible : (t : Bool) → is_visible p.running ≡ t → Comes (elim t as (λ x. Event) [ true ↦ next_sent first (length (unsent_in (lists_at p) p.running)) | false ↦ events.Visible (record { 0 = xid_of (facts_at p) }) ])
-    by_visible true shown is = by_unsent (length (unsent_in (lists_at p) p.running)) refl shown is
-    by_visible false hidden is = let one : nexts.Commit (record { 0 = xid_of (facts_at p) }) ≡ next = cc is in ap (end_event p) (sym one)
-
-    by_written : (t : Bool) → Comes (elim t as (λ x. Event) [ true ↦ elim (is_visible p.running) [ true ↦ next_sent first (length (unsent_in (lists_at p) p.running)) | false ↦ events.Visible (record { 0 = xid_of (facts_at p) }) ] | false ↦ events.Release first ])
-    by_written true is = by_visible (is_visible p.running) refl is
-    by_written false is = let one : nexts.Release first ≡ next = cc is in ap (end_event p) (sym one)
-
--- and that of taking back
-back_event : (p : Progress) (from : ℕ) (next : Next) → as_next (next_of_taking_back (facts_at p) from) ≡ Some next → end_event p next ≡ Some (next_of_taking_back (facts_at p) from)
-back_event p from next = by_written (has_write_since from p)
-  where
-    by_written : (t : Bool) → as_next (elim t as (λ x. Event) [ true ↦ events.Gone from | false ↦ events.Release from ]) ≡ Some next → end_event p next ≡ Some (elim t as (λ x. Event) [ true ↦ events.Gone from | false ↦ events.Release from ])
-    by_written true is = let one : nexts.TakeBack from ≡ next = cc is in ap (end_event p) (sym one)
-    by_written false is = let one : nexts.Release from ≡ next = cc is in ap (end_event p) (sym one)
+-- where it comes next of an end, what it is named for comes next
+named_next : (s : Backend) (end : End) (event : Event) (next : Next) → next_of_end (facts_at s.progress) end ≡ Some event → as_next event ≡ Some next → IsEndNext s event → IsNextOf s next
+named_next s end (events.Visible xid) next comes is ends = let one : nexts.Commit xid ≡ next = cc is in subst (IsNextOf s) one ends
+named_next s end (events.Gone from) next comes is ends = let one : nexts.TakeBack from ≡ next = cc is in subst (IsNextOf s) one ends
+named_next s end (events.Release from) next comes is ends = let one : nexts.Release from ≡ next = cc is in subst (IsNextOf s) one ends
+named_next s end (events.Publish count) next comes is ends = let one : nexts.Publish ≡ next = cc is in
+    let now : PublishesNow (facts_at s.progress) end count = comes_now (facts_at s.progress) end (events.Publish count) comes in
+    subst (IsNextOf s) one (subst (λ n. IsEndNext s (events.Publish n)) (now.most ∙ ap (λ l. min 64 (length l)) (unsent_same s.progress.running (lists_at s.progress) now.visible) ∙ sym (length-take 64 (unsent_at s.progress))) ends)
+named_next s end event next comes is ends = absurd (cc is)
 
 -- a command that owes no first look, and whose last entry asks for nothing
 pub free_of : (p : Progress) (command : Command) (owes : Bool) → slice_get p.commands p.finished ≡ Some command → owed_after p.due ≡ [] → not owes ≡ is_empty (owed_first p command) → owes ≡ false → IsFree p command
@@ -135,35 +113,43 @@ once_more s command free again = record { command = command; free = free; finds 
     by_noted true told is = inr is
 
 -- so the next entry of its end comes next
-ends_now : (s : Backend) (command : Command) (next : Next) (end : End) (event : Event) → IsFree s.progress command → is_out s.progress ≡ true → (owes_nothing command s.progress ≡ true) ⊎ (s.frames ≡ []) → accepts_again s ≡ false → s.progress.ended ≡ false → end_at s.progress command ≡ end → owes_no_end command s.progress end ≡ true
-    → next_of_end (facts_at s.progress) end ≡ Some event → as_next event ≡ Some next → end_event s.progress next ≡ Some event → IsNextOf s next × (next_by_end (facts_at s.progress) command (work_at s.progress) ≡ Some next)
-ends_now s command next end event free out owes accepted going is rests comes named same = (
-  ends_next s next (subst (λ o. IsSomeAnd o (EndsNext s)) (sym same) (InCommand command free out owes accepted (both_true (owes_no_end command s.progress (end_at s.progress command)) (comes_next (end_left_in (facts_at s.progress) command (work_at s.progress)) event)
-      (ap (owes_no_end command s.progress) is ∙ rests) (ap (λ o. comes_next o event) left ∙ same_itself event next named)))),
+ends_now : (s : Backend) (command : Command) (next : Next) (end : End) (event : Event) → IsFree s.progress command → s.frames ≡ [] → accepts_again s ≡ false → s.progress.ended ≡ false → end_at s.progress command ≡ end → owes_no_end command s.progress end ≡ true
+    → next_of_end (facts_at s.progress) end ≡ Some event → as_next event ≡ Some next → IsNextOf s next × (next_by_end (facts_at s.progress) command (work_at s.progress) ≡ Some next)
+ends_now s command next end event free bare accepted going is rests comes named = (
+  named_next s end event next comes named (record {
+    free = λ c at. subst (λ x. IsFree s.progress x × (accepts_again s ≡ false)) (let both : Some command ≡ Some c = sym free.at ∙ at in cc both) (free, accepted);
+    may = λ oid. ap (λ o. may_come oid (facts_at s.progress) o (work_at s.progress) event) free.at ∙ may_end_now oid command s.progress event next named (both_true (owes_no_end command s.progress (end_at s.progress command)) (comes_next (end_left_in (facts_at s.progress) command (work_at s.progress)) event)
+        (ap (owes_no_end command s.progress) is ∙ rests) (ap (λ o. comes_next o event) left ∙ same_itself event next named));
+    bare = bare;
+  }),
   ap (option_and_then as_next) left ∙ named,
 )
   where
     left : end_left_in (facts_at s.progress) command (work_at s.progress) ≡ Some event
     left = ap (λ t. elim t as (λ x. Option Event) [ true ↦ None | false ↦ next_of_end (facts_at s.progress) (end_at s.progress command) ]) going ∙ ap (next_of_end (facts_at s.progress)) is ∙ comes
 
-pub commits_next : (s : Backend) (command : Command) (next : Next) (first : ℕ) → IsAtRest s.progress → IsFree s.progress command → is_out s.progress ≡ true → WaitsForNone s command → accepts_again s ≡ false → end_at s.progress command ≡ Commits first → as_next (next_of_commit (facts_at s.progress) first) ≡ Some next
+pub commits_next : (s : Backend) (command : Command) (next : Next) (first : ℕ) → IsAtRest s.progress → IsFree s.progress command → is_out s.progress ≡ true → WaitsForNone s command → s.frames ≡ [] → accepts_again s ≡ false → end_at s.progress command ≡ Commits first → as_next (next_of_commit (facts_at s.progress) first) ≡ Some next
     → IsNextOf s next × (next_by_end (facts_at s.progress) command (work_at s.progress) ≡ Some next)
-commits_next s command next first still free out (inl lacks) accepted end comes = ends_now s command next (Commits first) (next_of_commit (facts_at s.progress) first) free out (inl (out_owes s.progress command free lacks)) accepted
-    (end_is s.progress command (Commits first) still free out lacks end).0 end (out_owes s.progress command free lacks) refl comes (commit_event s.progress first next comes)
-commits_next s command next first still free out (inr gone) accepted end comes = absurd (let no : Commits first ≡ TakesBack gone.from = sym end ∙ gone.end in cc no)
+commits_next s command next first still free out (inl lacks) bare accepted end comes = ends_now s command next (Commits first) (next_of_commit (facts_at s.progress) first) free bare accepted
+    (end_is s.progress command (Commits first) still free out lacks end).0 end (out_owes s.progress command free lacks) refl comes
+commits_next s command next first still free out (inr gone) bare accepted end comes = absurd (let no : Commits first ≡ TakesBack gone.from = sym end ∙ gone.end in cc no)
 
-pub takes_back_next : (s : Backend) (command : Command) (next : Next) (from : ℕ) → IsAtRest s.progress → IsFree s.progress command → is_out s.progress ≡ true → WaitsForNone s command → accepts_again s ≡ false → end_at s.progress command ≡ TakesBack from → as_next (next_of_taking_back (facts_at s.progress) from) ≡ Some next
+pub takes_back_next : (s : Backend) (command : Command) (next : Next) (from : ℕ) → IsAtRest s.progress → IsFree s.progress command → is_out s.progress ≡ true → WaitsForNone s command → s.frames ≡ [] → accepts_again s ≡ false → end_at s.progress command ≡ TakesBack from → as_next (next_of_taking_back (facts_at s.progress) from) ≡ Some next
     → IsNextOf s next × (next_by_end (facts_at s.progress) command (work_at s.progress) ≡ Some next)
-takes_back_next s command next from still free out ready accepted end comes = ends_now s command next (TakesBack from) (next_of_taking_back (facts_at s.progress) from) free out (by_ready ready).1 accepted (by_ready ready).0 end (ap is_empty free.due) refl comes (back_event s.progress from next comes)
+takes_back_next s command next from still free out ready bare accepted end comes = ends_now s command next (TakesBack from) (next_of_taking_back (facts_at s.progress) from) free bare accepted (by_ready ready) end (ap is_empty free.due) refl comes
   where
-    by_ready : WaitsForNone s command → (s.progress.ended ≡ false) × ((owes_nothing command s.progress ≡ true) ⊎ (s.frames ≡ []))
-    by_ready (inl lacks) = ((end_is s.progress command (TakesBack from) still free out lacks end).0, inl (out_owes s.progress command free lacks))
-    by_ready (inr gone) = (gone.going, inr gone.bare)
+    by_ready : WaitsForNone s command → s.progress.ended ≡ false
+    by_ready (inl lacks) = (end_is s.progress command (TakesBack from) still free out lacks end).0
+    by_ready (inr gone) = gone.going
 
 -- after the last command what still runs is taken back
-pub after_last : (s : Backend) (t : Running) (next : Next) → command_at s ≡ None → s.progress.running ≡ Some t → as_next (next_of_taking_back (facts_at s.progress) t.first) ≡ Some next → IsNextOf s next × (next_after_last (facts_at s.progress) ≡ Some next)
-after_last s t next past runs comes = (
-  ends_next s next (subst (λ o. IsSomeAnd o (EndsNext s)) (sym (back_event s.progress t.first next comes)) (AfterAll past (ap (λ o. comes_next o event) left ∙ same_itself event next comes))),
+pub after_last : (s : Backend) (t : Running) (next : Next) → IsChoiceSound s → command_at s ≡ None → s.progress.running ≡ Some t → as_next (next_of_taking_back (facts_at s.progress) t.first) ≡ Some next → IsNextOf s next × (next_after_last (facts_at s.progress) ≡ Some next)
+after_last s t next sound past runs comes = (
+  named_next s (TakesBack t.first) event next refl comes (record {
+    free = λ command at. absurd (let no : None ≡ Some command = sym past ∙ at in cc no);
+    may = λ oid. ap (λ o. may_come oid (facts_at s.progress) o (work_at s.progress) event) past ∙ by_written (has_write_since t.first s.progress) (ap (λ o. comes_next o event) left ∙ same_itself event next comes);
+    bare = sound.over past;
+  }),
   ap (λ o. elim o as (λ x. Option Next) [ Some e ↦ as_next e | None ↦ Some nexts.Leave ]) left ∙ comes,
 )
   where
@@ -172,6 +158,10 @@ after_last s t next past runs comes = (
 
     left : next_of_end (facts_at s.progress) (end_of_all (facts_at s.progress)) ≡ Some event
     left = ap (λ r. next_of_end (facts_at s.progress) (option_map_or (λ (x : Running). TakesBack x.first) r Ends)) runs
+
+    by_written : (w : Bool) → let e : Event = elim w as (λ x. Event) [ true ↦ events.Gone t.first | false ↦ events.Release t.first ] in comes_next (next_of_end (facts_at s.progress) (end_of_all (facts_at s.progress))) e ≡ true → may_last_at s.progress e ≡ true
+    by_written true is = both_true (is_empty (owed_after s.progress.due)) _ (ap is_empty (sound.past past)) is
+    by_written false is = both_true (is_empty (owed_after s.progress.due)) _ (ap is_empty (sound.past past)) is
 
 -- a publish comes next of a commit that is visible, where a message is unsent
 pub publish_comes : (p : Progress) (first : ℕ) (unsent : List Message) → has_write_since first p ≡ true → is_visible p.running ≡ true → unsent ≡ take 64 (unsent_at p) → (length unsent == 0) ≡ false → as_next (next_of_commit (facts_at p) first) ≡ Some nexts.Publish
@@ -240,7 +230,7 @@ reads_now scenario seen s waits courses = by_command (command_at s) refl
     by_refused command follows (Some error) is = subst (ReadsOpened s.progress.opened) (sym (follows.refused error is)) tt
 
     by_command : (o : Option Command) → command_at s ≡ o → ReadsOpened s.progress.opened (plan_at s.progress.opens s.progress.exec)
-    by_command None at = reads_out s.progress.opened (plan_at s.progress.opens s.progress.exec) (waits.fits.past at).out
+    by_command None at = reads_out s.progress.opened (plan_at s.progress.opens s.progress.exec) (ap (λ p. is_settled (outcome_of p)) (waits.runs.past at))
     by_command (Some command) at = by_refused command (on.follows command (ap (slice_get (commands_of scenario s.progress.id)) waits.rests.holds.count ∙ ap (λ l. slice_get l s.progress.finished) (sym waits.rests.holds.commands) ∙ at)) (waiting waits).refused refl
 
 -- a scan is lacking where one is found

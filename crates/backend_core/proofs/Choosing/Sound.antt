@@ -8,7 +8,7 @@ use Rattle.cacheless.specs.OnCourse.{AllOnCourse}
 use Rattle.cacheless.specs.Owed.{started_in, has_looked_in}
 use Rattle.cacheless.specs.declared.progress.Due.{Due as DueNext}
 use Rattle.cacheless.specs.declared.progress.Due.TheVariants as dues
-use Rattle.cacheless.specs.Session.{number_of, Badly, outcome_of, is_settled}
+use Rattle.cacheless.specs.Session.{Outcome, Unsettled, Well, Badly, number_of, outcome_of, is_settled}
 use Rattle.cacheless.specs.Silently.{has_accepted_at}
 use Rattle.cacheless.specs.May.{has_looked_at, has_failed, lacks_opened}
 use Rattle.cacheless.specs.State.{owed_after, is_quiet, one_if, kept_at}
@@ -16,10 +16,11 @@ use Rattle.cacheless.specs.Suspects.{lacks}
 use Rattle.cacheless.proofs.Same.{work_same}
 use Rattle.backend_core.specs.Types.{Purpose, Command, Scenario, Entry, Event, Backend}
 use Rattle.backend_core.specs.Agrees.{command_at, AwaitsEntry}
-use Rattle.backend_core.specs.Fits.{looks_due, LooksFit, TakesFit, IsLookedFor, Lacks, Unfound, Said, finds_no_name, is_look, is_gone_due, OnTakingBack, IsTakenBack}
+use Rattle.backend_core.specs.Fits.{looks_due, LooksFit, TakesFit, IsLookedFor, Lacks, Unfound, Said, finds_no_name, is_look, is_gone_due}
 use Rattle.backend_core.specs.Steps.{IsChoiceSound, IsGone, IsWhole}
 use Rattle.backend_core.proofs.Fitting.Sought.{unfound_facts, finds_serves}
 use Rattle.backend_core.proofs.Own.{waiting, unlost}
+use Rattle.backend_core.proofs.Choosing.TakenBack.{taken_end, taken_plain}
 use Rattle.backend_core.proofs.Fitting.Rebuilding.{top_rebuilt, usable_is, kept_lacks, none_lacks}
 use Rattle.backend_core.specs.Frames.{IsStack, IsRebuilt}
 use Rattle.std.specs.List.{list_any, cons_option}
@@ -40,12 +41,20 @@ pub choice_sound : (scenario : Scenario) (seen : List Entry) (s : Backend) → A
 choice_sound scenario seen s waits courses = record {
   takes = subst (λ n. TakesFit (n + 1) s.progress.locks.items s.progress.taken (plan_at s.progress.opens s.progress.exec)) waits.rests.holds.count waits.fits.takes;
   builds = λ f on. subst (λ h. IsRebuilt h s.progress.opened f) (usable_is facts s.progress waits.rests.holds.facts) (top_rebuilt facts (command_at s) (waiting waits) s.frames f waits.fits.rebuilds on);
+  bare = λ failed. waits.fits.rebuilds.badly (by_failed (outcome_of (plan_at s.progress.opens s.progress.exec)) failed);
+  past = λ past. sym (ap (λ f. owed_after f.due) waits.rests.holds.facts) ∙ waits.fits.past past;
+  over = waits.fits.rebuilds.past;
   whole = λ command at bare goes. whole_now command at bare goes facts.due refl;
   accepts = λ looked unfound none. by_command looked (unfound_facts facts s.progress (plan_at s.progress.opens s.progress.exec) waits.rests.holds.facts unfound) none (command_at s) refl;
 }
   where
     facts : Facts
     facts = facts_of seen s.progress.id
+
+    by_failed : (x : Outcome) → elim x as (λ y. Bool) [ Badly ↦ true | other ↦ false ] ≡ true → x ≡ Badly
+    by_failed Badly is = refl
+    by_failed Well is = absurd (cc is)
+    by_failed Unsettled is = absurd (cc is)
 
     -- it isn't an error by which the command has come out
     no_error : has_failed s.progress ≡ false → has_error (plan_at s.progress.opens s.progress.exec) ≡ false
@@ -60,13 +69,13 @@ choice_sound scenario seen s waits courses = record {
     lacks_none none = kept_lacks s.progress ∙ ap (λ h. list_any (lacks h) s.progress.opened) (sym (usable_is facts s.progress waits.rests.holds.facts)) ∙ none
 
     -- where writes were taken back the answer rests on no scan
-    gone_now : (command : Command) → s.frames ≡ [] → has_failed s.progress ≡ false → (from : ℕ) → OnTakingBack facts (command_at s) (waiting waits) from → IsTakenBack facts command (waiting waits) from → IsGone s command
-    gone_now command bare goes from taking back = record {
+    gone_now : (command : Command) → command_at s ≡ Some command → s.frames ≡ [] → has_failed s.progress ≡ false → (from : ℕ) → facts.due ≡ dues.Gone from → IsGone s command
+    gone_now command at bare goes from gone = record {
       bare = bare;
-      wants = by_plan (plan_at s.progress.opens s.progress.exec) goes taking.out back.plain;
+      wants = by_plan (plan_at s.progress.opens s.progress.exec) goes (waits.runs.taken from gone).out (taken_plain scenario seen s waits command at from gone);
       from = from;
-      end = sym (end_same facts command s.progress waits.rests.holds.rest waits.rests.holds.facts waits.rests.holds.count) ∙ back.end;
-      going = taking.going;
+      end = sym (end_same facts command s.progress waits.rests.holds.rest waits.rests.holds.facts waits.rests.holds.count) ∙ taken_end scenario seen s waits command at from gone;
+      going = (waits.runs.taken from gone).going;
     }
       where
         by_plan : (p : Plan) → elim (outcome_of p) as (λ x. Bool) [ Badly ↦ true | other ↦ false ] ≡ false → is_settled (outcome_of p) ≡ true → left_rests_on p ≡ [] → want_of p ≡ wants.Done None
@@ -79,8 +88,7 @@ choice_sound scenario seen s waits courses = record {
         by_plan p well out plain = absurd (cc well)
 
     whole_now : (command : Command) → command_at s ≡ Some command → s.frames ≡ [] → has_failed s.progress ≡ false → (due : DueNext) → facts.due ≡ due → IsWhole s command
-    whole_now command at bare goes (dues.Gone from) is = inr (gone_now command bare goes from (waits.fits.taken from is)
-        (subst (λ o. elim o as (λ x. Type 0) [ Some c ↦ IsTakenBack facts c (waiting waits) from | None ↦ end_of_all facts ≡ TakesBack from ]) at (waits.fits.taken from is).end))
+    whole_now command at bare goes (dues.Gone from) is = inr (gone_now command at bare goes from is)
     whole_now command at bare goes due is = inl (lacks_none (none_lacks (is_kept facts.kept) s.progress.opened (subst (IsStack (is_kept facts.kept) s.progress.opened) bare
         (waits.fits.rebuilds.stack (λ i. not (is_gone_due (is i)) && not (unlost scenario seen s waits courses command at i) && not (no_error goes i))))))
 
@@ -101,7 +109,7 @@ choice_sound scenario seen s waits courses = record {
             ∙ lt-ltb (s.progress.tally.scans + s.progress.tally.grants + started_in (number_of (waiting waits)) facts + s.progress.tally.full) s.progress.tally.looks (omega (arith, before.enough, ap looks_due owed, ap one_if looked))
 
     by_command : s.looked ≡ true → finds_no_name facts s.progress.taken (plan_at s.progress.opens s.progress.exec) ≡ true → owed_after s.progress.due ≡ [] → (o : Option Command) → command_at s ≡ o → has_accepted_at s.progress ≡ true
-    by_command looked finds none None at = absurd (both_ways _ (finds_serves facts s.progress.taken (plan_at s.progress.opens s.progress.exec) finds).2 (waits.fits.past at).out)
+    by_command looked finds none None at = absurd (both_ways _ (finds_serves facts s.progress.taken (plan_at s.progress.opens s.progress.exec) finds).2 (ap (λ p. is_settled (outcome_of p)) (waits.runs.past at)))
     by_command looked finds none (Some command) at = by_case (waits.fits.sought looked)
       where
         by_case : IsLookedFor facts s.frames s.progress.taken (plan_at s.progress.opens s.progress.exec) → has_accepted_at s.progress ≡ true

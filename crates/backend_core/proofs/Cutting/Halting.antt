@@ -25,7 +25,7 @@ use Rattle.cacheless.proofs.Lacking.{with_known}
 use Rattle.cacheless.proofs.CommandEnds.{left_none}
 use Rattle.cacheless.proofs.Written.Putting.{puts_first}
 use Rattle.backend_core.specs.Types.{Command, Frame, Scenario, Entry, Progress, Backend}
-use Rattle.backend_core.specs.Agrees.{AwaitsEntry}
+use Rattle.backend_core.specs.Agrees.{RunsFit, AwaitsEntry}
 use Rattle.backend_core.specs.Cuts.{IsCut, EndsBy}
 use Rattle.backend_core.specs.Fits.{Fits}
 use Rattle.backend_core.specs.Halts.{begins_at, AwaitsCommand, HaltsWherever}
@@ -141,6 +141,7 @@ module _ (scenario : Scenario) (seen : List Entry) (was : Backend) (awaits : Awa
       places = record { kept = k.places.kept; absent = λ name says_absent. absurd (cc says_absent) };
     };
     rests = record { holds = holds; still = λ command at. absurd (let both : None ≡ Some command = sym none ∙ at in cc both) };
+    runs = subst (λ o. RunsFit facts o (session_at now rest)) (sym none) (subst (RunsFit facts None) (sym session) awaits.runs);
     fits = subst (λ l. Fits facts (slice_get now.commands n) (session_at now rest) false l false) (sym bare)
         (subst (λ o. Fits facts o (session_at now rest) false [] false) (sym none)
         (subst (λ x. Fits facts None x false [] false) (sym session) awaits.fits));

@@ -61,6 +61,7 @@ module _ (one two : Scenario) (seen : List Entry) where
       };
       still = waits.rests.still;
     };
+    runs = waits.runs;
     fits = waits.fits;
     tells = record {
       answer = λ text command told at. waits.tells.answer text command told at ∙ sym (line_alike one two seen s.progress.id (number_of (session_at s.progress holds.rest)) (finished_as (session_at s.progress holds.rest)) command (λ n. protects_alike one two s.progress.id alike.commands (take n seen)));
@@ -94,7 +95,6 @@ module _ (one two : Scenario) (seen : List Entry) where
   left_alike : (s : Backend) → IsAlike s.progress.id one two → HasLeft one seen s → HasLeft two seen s
   left_alike s alike left = record {
     holds = holds_alike s.progress alike left.holds;
-    kept = left.kept;
     life = left.life;
     lines = left.lines ∙ sym (
         ap (λ o. lines_from two seen s.progress.id 1 (option_map_or (λ x. x.finished) o []) (commands_of two s.progress.id)) (sessions_alike one two s.progress.id alike.commands seen)

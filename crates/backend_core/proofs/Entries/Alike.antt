@@ -7,7 +7,7 @@ use Rattle.cacheless.specs.Settled.{settled}
 use Rattle.cacheless.specs.Silently.{IsAtRest, is_to_answer_at}
 use Rattle.cacheless.specs.State.{IsLockedIn, Rest, session_at}
 use Rattle.backend_core.specs.Types.{Oid, Mode, OwnLock, Scenario, Entry, Progress, Backend}
-use Rattle.backend_core.specs.Agrees.{command_at, AwaitsEntry}
+use Rattle.backend_core.specs.Agrees.{RunsFit, command_at, AwaitsEntry}
 use Rattle.backend_core.specs.Fits.{Fits}
 use Rattle.backend_core.specs.Steps.{MakesEntry, Enters, IsLockNext, IsWriteNext}
 
@@ -43,6 +43,7 @@ module _ (scenario : Scenario) (seen : List Entry) (s : Backend) (locks : Roomy 
       places = record { kept = k.places.kept; absent = λ name missed whole. k.places.absent name missed (record { untaken = whole.untaken; going = whole.going }) };
     };
     rests = record { holds = holds_same waits.rests.holds; still = still };
+    runs = subst (RunsFit (facts_of seen s.progress.id) (command_at s)) (sym (session_same waits.rests.holds.rest)) waits.runs;
     fits = subst (λ x. Fits (facts_of seen s.progress.id) (command_at s) x s.looked s.frames s.told) (sym (session_same waits.rests.holds.rest)) waits.fits;
     lines = waits.lines;
     tells = record { answer = waits.tells.answer; out = waits.tells.out };

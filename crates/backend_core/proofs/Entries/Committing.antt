@@ -19,17 +19,19 @@ use Rattle.cacheless.specs.Holds.{HasEntered}
 use Rattle.cacheless.specs.OnCourse.{AllOnCourse}
 use Rattle.cacheless.specs.Owed.{Owes, owed_after, owed_in}
 use Rattle.cacheless.specs.Plays.{MayPlayIn}
-use Rattle.cacheless.specs.Session.{Session, Well, outcome_of}
+use Rattle.cacheless.specs.Session.{Session, number_of}
 use Rattle.cacheless.specs.Sessions.{ends_command}
 use Rattle.cacheless.specs.State.{lists_at, unsent_at}
 use Rattle.cacheless.proofs.Allowed.Releases.{OwesNoScan, owes_no_scan}
 use Rattle.backend_core.specs.Types.{Xid, Command, Scenario, Entry, Event, Message, OwnLock, Progress, Backend, Frame}
-use Rattle.backend_core.specs.Agrees.{IsPlayed, command_at, AwaitsEntry}
+use Rattle.backend_core.specs.Agrees.{IsPlayed, RunsFit, command_at, AwaitsEntry}
 use Rattle.backend_core.specs.Fits.{is_gone_due, Fits}
-use Rattle.backend_core.specs.Steps.{EndsNext, Enters}
+use Rattle.backend_core.specs.Steps.{IsEndNext, Enters}
 use Rattle.backend_core.proofs.Entries.EndEntries.{end_plays, end_now, end_call, end_enters}
-use Rattle.backend_core.proofs.Choosing.EndsNow.{end_by, is_end, EndsBy, IsCommit, ShowsNow, PublishesNow, comes_now, back_end}
-use Rattle.backend_core.proofs.Fitting.FitsEnds.{later_at, GoesOn, fits_ending, commits_on, write_from_first, goes_first, begun_xid, written_runs}
+use Rattle.cacheless.proofs.Allowed.EndsReleased.{end_by, IsCommit, ShowsNow, PublishesNow, comes_now, back_end}
+use Rattle.cacheless.proofs.Allowed.TransactionEnds.{later_at, write_from_first, written_runs}
+use Rattle.backend_core.proofs.Choosing.Chosen.{started_still}
+use Rattle.backend_core.proofs.Fitting.FitsEnds.{fits_ending}
 use Rattle.backend_core.proofs.Own.{waiting}
 use Rattle.backend_core.proofs.Fitting.Rebuilding.{same_fits}
 use Rattle.history_model.specs.Lives.{last_event_of}
@@ -46,35 +48,22 @@ xid_own (Some t) xid some is = by_xid t.xid some is
     by_xid (Some x) there at = eq-eqb x.0 xid (sym at)
 
 -- where a commit comes next nothing was taken back
-untaken : (facts : Facts) (o : Option Command) (s : Session) (looked : Bool) (frames : List Frame) (told : Bool) → Fits facts o s looked frames told → IsCommit facts (end_by facts o s) → (from : ℕ) → facts.due ≡ dues.Gone from → ⊥
-untaken facts o s looked frames told fits commit from is = let no : TakesBack from ≡ Commits commit.first = sym (back_end facts o s looked frames told from fits is) ∙ commit.is in cc no
+untaken : (facts : Facts) (o : Option Command) (s : Session) → RunsFit facts o s → IsCommit facts (end_by facts o s) → (from : ℕ) → facts.due ≡ dues.Gone from → ⊥
+untaken facts o s runs commit from is = let no : TakesBack from ≡ Commits commit.first = sym (back_end facts o s from runs is) ∙ commit.is in cc no
 
 not_back : (due : DueNext) → ((from : ℕ) → due ≡ dues.Gone from → ⊥) → is_gone_due due ≡ false
 not_back (dues.Gone from) never = absurd (never from refl)
 not_back due never = refl
 
-none_gone : (facts : Facts) (o : Option Command) (s : Session) (looked : Bool) (frames : List Frame) (told : Bool) (last : Option Event) (event : Event) → Fits facts o s looked frames told → IsCommit facts (end_by facts o s) → facts.due ≡ due_last last → FollowsGone last event
-none_gone facts o s looked frames told (Some (events.Gone from)) event fits commit is = absurd (untaken facts o s looked frames told fits commit from is)
-none_gone facts o s looked frames told last event fits commit is = tt
-
-module _ (facts : Facts) (o : Option Command) (s : Session) (looked : Bool) (frames : List Frame) (told : Bool) (next : ℕ) (event : Event) (ends : ends_command event ≡ true) (fits : Fits facts o s looked frames told) (plays : MayPlayIn next facts o s event) (commit : IsCommit facts (end_by facts o s)) where
-  -- its command owes no scan
-  commit_free : outcome_of s.left ≡ Well → OwesNoScan facts s
-  commit_free well = by_command o plays commit
-    where
-      by_command : (x : Option Command) → MayPlayIn next facts x s event → IsCommit facts (end_by facts x s) → OwesNoScan facts s
-      by_command None may own = absurd (all_back facts.running own.is)
-        where
-          all_back : (r : Option Running) → option_map_or (λ t. TakesBack t.first) r Ends ≡ Commits own.first → ⊥
-          all_back None is = cc is
-          all_back (Some t) is = cc is
-      by_command (Some command) may own = owes_no_scan facts command s well (sym (ap (λ e. elim e as (λ x. List Owes) [ TakesBack from ↦ owed_after facts.due | end ↦ owed_in facts command (work_of s) ]) own.is) ∙ (is_end next facts command s event ends may).0)
+none_gone : (facts : Facts) (o : Option Command) (s : Session) (last : Option Event) (event : Event) → RunsFit facts o s → IsCommit facts (end_by facts o s) → facts.due ≡ due_last last → FollowsGone last event
+none_gone facts o s (Some (events.Gone from)) event runs commit is = absurd (untaken facts o s runs commit from is)
+none_gone facts o s last event runs commit is = tt
 
 -- it may be entered
-pub commit_call : (scenario : Scenario) (seen : List Entry) (s : Backend) (xid : Xid) → AwaitsEntry scenario seen s → EndsNext s (events.Visible xid) → MayCall scenario seen (entry_of s.progress.id (s.progress.finished + 1) (events.Visible xid))
+pub commit_call : (scenario : Scenario) (seen : List Entry) (s : Backend) (xid : Xid) → AwaitsEntry scenario seen s → IsEndNext s (events.Visible xid) → MayCall scenario seen (entry_of s.progress.id (s.progress.finished + 1) (events.Visible xid))
 commit_call scenario seen s xid waits next = end_call scenario seen s waits (events.Visible xid) refl next (subst (λ v. FollowsVisible v (events.Visible xid)) (sym now.hidden) tt)
-    (none_gone facts (command_at s) (waiting waits) s.looked s.frames s.told (last_event_of seen s.progress.id) (events.Visible xid) waits.fits now.commit refl)
-    (xid_own facts.running xid.0 (waits.fits.written (write_from_first now.commit.first facts.lists now.commit.written)) now.xid_is, write_from_first now.commit.first facts.lists now.commit.written)
+    (none_gone facts (command_at s) (waiting waits) (last_event_of seen s.progress.id) (events.Visible xid) waits.runs now.commit refl)
+    (xid_own facts.running xid.0 (waits.runs.written (write_from_first now.commit.first facts.lists now.commit.written)) now.xid_is, write_from_first now.commit.first facts.lists now.commit.written)
   where
     facts : Facts
     facts = facts_of seen s.progress.id
@@ -96,9 +85,9 @@ shown true count = tt
 shown false count = tt
 
 -- the messages of a publish that comes next
-module _ (scenario : Scenario) (seen : List Entry) (s : Backend) (messages : List Message) (waits : AwaitsEntry scenario seen s) (next : EndsNext s (events.Publish (length (take 64 (unsent_at s.progress))))) (is : messages ≡ take 64 (unsent_at s.progress)) where
-  publish_next : EndsNext s (events.Publish (length messages))
-  publish_next = subst (λ l. EndsNext s (events.Publish (length l))) (sym is) next
+module _ (scenario : Scenario) (seen : List Entry) (s : Backend) (messages : List Message) (waits : AwaitsEntry scenario seen s) (next : IsEndNext s (events.Publish (length (take 64 (unsent_at s.progress))))) (is : messages ≡ take 64 (unsent_at s.progress)) where
+  publish_next : IsEndNext s (events.Publish (length messages))
+  publish_next = subst (λ l. IsEndNext s (events.Publish (length l))) (sym is) next
 
   abbrev facts : Facts
   facts = facts_of seen s.progress.id
@@ -113,14 +102,14 @@ module _ (scenario : Scenario) (seen : List Entry) (s : Backend) (messages : Lis
   -- it may be entered
   pub publish_call : MayCall scenario seen (entry_of s.progress.id (s.progress.finished + 1) (events.Publish (length messages)))
   publish_call = end_call scenario seen s waits (events.Publish (length messages)) refl publish_next (shown (is_visible facts.running) (length messages))
-      (none_gone facts (command_at s) (waiting waits) s.looked s.frames s.told (last_event_of seen s.progress.id) (events.Publish (length messages)) waits.fits publish_now.commit refl) (publish_now.visible, publish_now.some, publish_now.most)
+      (none_gone facts (command_at s) (waiting waits) (last_event_of seen s.progress.id) (events.Publish (length messages)) waits.runs publish_now.commit refl) (publish_now.visible, publish_now.some, publish_now.most)
 
   -- and these are the next
   pub publish_these : ArePublishedNext seen s.progress.id messages
   publish_these = is ∙ sym (take_min 64 (unsent_at s.progress)) ∙ ap (λ n. take n (unsent_at s.progress)) (sym (ap length is ∙ length-take 64 (unsent_at s.progress))) ∙ ap (take (length messages)) (sym unsent_same)
 
 -- an entry of a commit, which leaves its messages and its scans
-module _ (scenario : Scenario) (old : List Entry) (was : Backend) (event : Event) (waits : AwaitsEntry scenario old was) (ends : ends_command event ≡ true) (next : EndsNext was event)
+module _ (scenario : Scenario) (old : List Entry) (was : Backend) (event : Event) (waits : AwaitsEntry scenario old was) (ends : ends_command event ≡ true) (next : IsEndNext was event)
     (commit : IsCommit (facts_of old was.progress.id) (end_by (facts_of old was.progress.id) (command_at was) (waiting waits))) (published : ℕ) (visible : Bool) where
   abbrev before : Facts
   before = facts_of old was.progress.id
@@ -130,24 +119,12 @@ module _ (scenario : Scenario) (old : List Entry) (was : Backend) (event : Event
   after_commit = record before { due = due_after event; running = Some (record { first = (begun (was.progress.finished + 1) before.running).first; xid = (begun (was.progress.finished + 1) before.running).xid; published = published; visible = visible }) }
 
   commit_fits : (locks : List OwnLock) (at : ℕ) → owed_after (due_after event) ≡ [] → ((from : ℕ) → due_after event ≡ dues.Gone from → ⊥) → Fits after_commit (command_at was) (later_at (waiting waits) locks at) was.looked was.frames was.told
-  commit_fits locks at free standing = fits_ending before after_commit (command_at was) (waiting waits) was.looked was.frames was.told event locks at waits.fits now goes
-      (same_fits before after_commit (command_at was) (waiting waits) (later_at (waiting waits) locks at) was.frames refl refl refl refl (not_back (due_after event) standing ∙ sym (not_back before.due (untaken before (command_at was) (waiting waits) was.looked was.frames was.told waits.fits commit))) waits.fits.rebuilds) (λ scan none. none)
-      (λ is. begun_xid (was.progress.finished + 1) before.running (waits.fits.written is))
-      (λ is. commits_on before after_commit (command_at was) (waiting waits) was.looked was.frames was.told event locks at waits.fits now goes commit refl
-      (commit_free before (command_at was) (waiting waits) was.looked was.frames was.told (next_oid old) event ends waits.fits (end_plays scenario old was waits event ends next) commit))
-      (λ from is. absurd (standing from is))
-    where
-      now : EndsBy before (command_at was) (waiting waits) event
-      now = end_now scenario old was waits event ends next
-
-      runs_it : is_some before.running ≡ true
-      runs_it = written_runs before.running (waits.fits.written (write_from_first commit.first before.lists commit.written))
-
-      goes : GoesOn before after_commit
-      goes = record { runs = runs_it; some = refl; same = goes_first (was.progress.finished + 1) before.running runs_it; free = free }
+  commit_fits locks at free standing = fits_ending before after_commit (command_at was) (waiting waits) was.looked was.frames was.told event locks at waits.fits (end_now scenario old was waits event ends next)
+      (started_still (number_of (waiting waits)) (was.progress.finished + 1) before.running (written_runs before.running (waits.runs.written (write_from_first commit.first before.lists commit.written)))) free
+      (same_fits before after_commit (command_at was) (waiting waits) (later_at (waiting waits) locks at) was.frames refl refl refl refl (not_back (due_after event) standing ∙ sym (not_back before.due (untaken before (command_at was) (waiting waits) waits.runs commit))) waits.fits.rebuilds) (λ scan none. none)
 
 -- the state after its visibility step
-pub commit_enters : (scenario : Scenario) (old new : List Entry) (had has : ℕ → ℕ) (was : Backend) (xid : Xid) (p : Progress) (waits : AwaitsEntry scenario old was) → IsPlayed scenario old → AllOnCourse scenario old → EndsNext was (events.Visible xid)
+pub commit_enters : (scenario : Scenario) (old new : List Entry) (had has : ℕ → ℕ) (was : Backend) (xid : Xid) (p : Progress) (waits : AwaitsEntry scenario old was) → IsPlayed scenario old → AllOnCourse scenario old → IsEndNext was (events.Visible xid)
     → HasEntered scenario old was.progress (events.Visible xid) waits.rests p → p.answer ≡ was.progress.answer → Appends old new had has (entry_of was.progress.id (was.progress.finished + 1) (events.Visible xid)) → Enters scenario old new had has was (record was { progress = p })
 commit_enters scenario old new had has was xid p waits played courses next goes same appends =
     end_enters scenario old new had has was event p was.frames waits refl played courses next goes same
@@ -164,7 +141,7 @@ commit_enters scenario old new had has was xid p waits played courses next goes 
 
 -- the state after a publish
 pub publish_enters : (scenario : Scenario) (old new : List Entry) (had has : ℕ → ℕ) (was : Backend) (messages : List Message) (p : Progress) (waits : AwaitsEntry scenario old was) → IsPlayed scenario old → AllOnCourse scenario old
-    → EndsNext was (events.Publish (length (take 64 (unsent_at was.progress)))) → messages ≡ take 64 (unsent_at was.progress)
+    → IsEndNext was (events.Publish (length (take 64 (unsent_at was.progress)))) → messages ≡ take 64 (unsent_at was.progress)
     → HasEntered scenario old was.progress (events.Publish (length messages)) waits.rests p → p.answer ≡ was.progress.answer
     → Appends old new had has (entry_of was.progress.id (was.progress.finished + 1) (events.Publish (length messages))) → Enters scenario old new had has was (record was { progress = p })
 publish_enters scenario old new had has was messages p waits played courses next is goes same appends =
@@ -177,5 +154,5 @@ publish_enters scenario old new had has was messages p waits played courses next
     facts : Facts
     facts = facts_of old was.progress.id
 
-    now_next : EndsNext was event
+    now_next : IsEndNext was event
     now_next = publish_next scenario old was messages waits next is

@@ -30,37 +30,14 @@ use Rattle.cacheless.specs.Awaiting.{answer_after}
 use Rattle.backend_core.specs.Types.{Command, Scenario, Entry, Event, Progress, Frame, Backend}
 use Rattle.backend_core.specs.Agrees.{IsPlayed, command_at, AwaitsEntry}
 use Rattle.backend_core.specs.Fits.{Fits}
-use Rattle.backend_core.specs.Steps.{EndsNext, InCommand, AfterAll, Enters}
-use Rattle.backend_core.proofs.Choosing.EndsNow.{EndsBy, ends_by}
+use Rattle.backend_core.specs.Steps.{IsEndNext, Enters}
+use Rattle.cacheless.proofs.Allowed.EndsReleased.{EndsBy, ends_by}
 use Rattle.backend_core.proofs.Fitting.Entered.{fits_at}
 use Rattle.backend_core.proofs.Own.{waiting, OwnEntry, own_enters}
 use Rattle.backend_core.proofs.Fitting.Rebuilding.{owed_bare}
 use Rattle.cacheless.specs.Owed.{owed_in}
 use Rattle.cacheless.proofs.Same.{owes_nothing_is}
 use Rattle.cacheless.proofs.Plans.SilentActs.{empty_list}
-
-may_end : (next : ℕ) (command : Command) (p : Progress) (event : Event) → ends_command event ≡ true → may_end_at command p event ≡ true → may_play_at next command p event ≡ true
-may_end next command p (events.Visible xid) ends may = may
-may_end next command p (events.Publish count) ends may = may
-may_end next command p (events.Gone from) ends may = may
-may_end next command p (events.Release from) ends may = may
-may_end next command p event ends may = absurd (cc ends)
-
--- what still runs after the last command is taken back
-no_back : (p : Progress) (event : Event) → ((n : ℕ) → same_end (events.Gone n) event ≡ false) → ((n : ℕ) → same_end (events.Release n) event ≡ false) → (own : Option RunningTransaction) → is_next_of_end p event (option_map_or (λ t. TakesBack t.first) own Ends) ≡ true → ⊥
-no_back p event gone release None is = cc is
-no_back p event gone release (Some t) is = by_write (has_write_since t.first p) is
-  where
-    by_write : (w : Bool) → same_end (elim w as (λ x. Event) [ true ↦ events.Gone t.first | false ↦ events.Release t.first ]) event ≡ true → ⊥
-    by_write true same = both_ways _ (gone t.first) same
-    by_write false same = both_ways _ (release t.first) same
-
-may_last : (p : Progress) (event : Event) → ends_command event ≡ true → owed_after p.due ≡ [] → is_next_of_end p event (end_of_all (facts_at p)) ≡ true → may_last_at p event ≡ true
-may_last p (events.Gone from) ends free next = both_true (is_empty (owed_after p.due)) (is_next_of_end p (events.Gone from) (end_of_all (facts_at p))) (ap (λ l. is_empty l) free) next
-may_last p (events.Release from) ends free next = both_true (is_empty (owed_after p.due)) (is_next_of_end p (events.Release from) (end_of_all (facts_at p))) (ap (λ l. is_empty l) free) next
-may_last p (events.Visible xid) ends free next = absurd (no_back p (events.Visible xid) (λ n. refl) (λ n. refl) p.running next)
-may_last p (events.Publish count) ends free next = absurd (no_back p (events.Publish count) (λ n. refl) (λ n. refl) p.running next)
-may_last p event ends free next = absurd (cc ends)
 
 -- what is so of each event of an end
 record IsPlain (scenario : Scenario) (old : List Entry) (b c : ℕ) (event : Event) : Type 0 where
@@ -78,31 +55,13 @@ is_plain scenario old b c (events.Gone from) ends = record { truly = tt; queue =
 is_plain scenario old b c (events.Release from) ends = record { truly = tt; queue = tt; lives = refl; follows = λ last low. low; on = λ stop. cc stop; answers = λ answer. refl }
 is_plain scenario old b c event ends = absurd (cc ends)
 
-module _ (scenario : Scenario) (seen : List Entry) (s : Backend) (waits : AwaitsEntry scenario seen s) (event : Event) (ends : ends_command event ≡ true) (next : EndsNext s event) where
-  may_now : may_play_now (next_oid seen) s.progress event ≡ true
-  may_now = by_case next
-    where
-      by_case : EndsNext s event → may_play_now (next_oid seen) s.progress event ≡ true
-      by_case (InCommand command free out owes accepted may) = ap (λ o. may_come (next_oid seen) (facts_at s.progress) o (work_at s.progress) event) free.at ∙ may_end (next_oid seen) command s.progress event ends may
-      by_case (AfterAll past comes) = ap (λ o. may_come (next_oid seen) (facts_at s.progress) o (work_at s.progress) event) past
-          ∙ may_last s.progress event ends (sym (ap (λ f. owed_after f.due) waits.rests.holds.facts) ∙ (waits.fits.past past).free) comes
-
-  -- nothing is rebuilt
-  pub end_bare : s.frames ≡ []
-  end_bare = by_case next
-    where
-      by_case : EndsNext s event → s.frames ≡ []
-      by_case (InCommand command free out (inr bare) accepted may) = bare
-      by_case (InCommand command free out (inl owes) accepted may) = owed_bare (facts_of seen s.progress.id) (command_at s) (waiting waits) s.frames command waits.fits.rebuilds
-          (empty_list (owed_in (facts_of seen s.progress.id) command (work_of (waiting waits))) (owes_nothing_is (facts_of seen s.progress.id) command s.progress waits.rests.holds.rest waits.rests.holds.facts ∙ owes))
-      by_case (AfterAll past comes) = waits.fits.rebuilds.past past
-
+module _ (scenario : Scenario) (seen : List Entry) (s : Backend) (waits : AwaitsEntry scenario seen s) (event : Event) (ends : ends_command event ≡ true) (next : IsEndNext s event) where
   -- it may come next by the script
   pub end_plays : MayPlayIn (next_oid seen) (facts_of seen s.progress.id) (command_at s) (waiting waits) event
-  end_plays = (holds_decides s.progress (next_oid seen) event true (sym may_now) scenario seen waits.rests.holds).0 refl
+  end_plays = (holds_decides s.progress (next_oid seen) event true (sym (next.may (next_oid seen))) scenario seen waits.rests.holds).0 refl
 
   pub end_now : EndsBy (facts_of seen s.progress.id) (command_at s) (waiting waits) event
-  end_now = ends_by (next_oid seen) (facts_of seen s.progress.id) (command_at s) (waiting waits) s.looked s.frames s.told event ends waits.fits end_plays
+  end_now = ends_by (next_oid seen) (facts_of seen s.progress.id) (command_at s) (waiting waits) event ends waits.runs end_plays
 
   -- it may be called for
   pub end_call : FollowsVisible (is_visible (running_transaction_of seen s.progress.id)) event → FollowsGone (last_event_of seen s.progress.id) event → AllowsEvent seen s.progress.id (s.progress.finished + 1) event → MayCall scenario seen (entry_of s.progress.id (s.progress.finished + 1) event)
@@ -118,12 +77,12 @@ module _ (scenario : Scenario) (seen : List Entry) (s : Backend) (waits : Awaits
   }
 
 -- what the script and the segment ask of it
-pub end_own : (scenario : Scenario) (old : List Entry) (was : Backend) (waits : AwaitsEntry scenario old was) (event : Event) → ends_command event ≡ true → EndsNext was event → OwnEntry scenario old was event waits
+pub end_own : (scenario : Scenario) (old : List Entry) (was : Backend) (waits : AwaitsEntry scenario old was) (event : Event) → ends_command event ≡ true → IsEndNext was event → OwnEntry scenario old was event waits
 end_own scenario old was waits event ends next = let plain = is_plain scenario old was.progress.id (was.progress.finished + 1) event ends in
     record { plays = end_plays scenario old was waits event ends next; truly = plain.truly; queue = plain.queue }
 
 -- after an entry of an end the backend agrees
-pub end_enters : (scenario : Scenario) (old new : List Entry) (had has : ℕ → ℕ) (was : Backend) (event : Event) (p : Progress) (frames : List Frame) (waits : AwaitsEntry scenario old was) → ends_command event ≡ true → IsPlayed scenario old → AllOnCourse scenario old → EndsNext was event
+pub end_enters : (scenario : Scenario) (old new : List Entry) (had has : ℕ → ℕ) (was : Backend) (event : Event) (p : Progress) (frames : List Frame) (waits : AwaitsEntry scenario old was) → ends_command event ≡ true → IsPlayed scenario old → AllOnCourse scenario old → IsEndNext was event
     → HasEntered scenario old was.progress event waits.rests p → p.answer ≡ was.progress.answer
     → Fits (facts_by old was.progress.id (was.progress.finished + 1) event (facts_of old was.progress.id)) (command_at was)
     (entered (facts_of (with_own old was.progress event) was.progress.id) (drop was.progress.finished was.progress.commands) (length old + 1) (was.progress.finished + 1) event (waiting waits)) was.looked frames was.told

@@ -53,8 +53,6 @@ pub record ShowsError (scenario : Scenario) (old : List Entry) (was : Backend) (
   on : event ≢ events.Stop
   unanswered : (answer : Option (List ℕ)) → answer_after event answer ≡ None
   running : (later_of old was event).running ≡ Some (begun (was.progress.finished + 1) (facts_of old was.progress.id).running)
-  lists : (later_of old was event).lists ≡ (facts_of old was.progress.id).lists
-  last : (from : ℕ) → due_after event ≡ dues.Gone from → ⊥
   owes : owed_after (due_after event) ≡ []
   blocks : (now_of old was event s).blocks ≡ s.blocks
   opened : (now_of old was event s).opened ≡ s.opened
@@ -66,11 +64,11 @@ pub record ShowsError (scenario : Scenario) (old : List Entry) (was : Backend) (
   tally : (now_of old was event s).tally ≡ s.tally
 
 pub held_shows : (scenario : Scenario) (old : List Entry) (was : Backend) (s : Session) (rel : Oid) (mode : Mode) (holder : ℕ) (held : Mode) → ShowsError scenario old was s (events.LockHeld rel mode holder held) (errors.Locked rel holder held)
-held_shows scenario old was s rel mode holder held = record { truly = tt; queue = tt; lives = refl; on = λ stop. cc stop; unanswered = λ answer. refl; running = refl; lists = refl; last = λ from is. cc is; owes = refl; blocks = refl; opens = refl; opened = refl; finished = refl; blocked = refl; ended = refl; left = refl; tally = refl }
+held_shows scenario old was s rel mode holder held = record { truly = tt; queue = tt; lives = refl; on = λ stop. cc stop; unanswered = λ answer. refl; running = refl; owes = refl; blocks = refl; opens = refl; opened = refl; finished = refl; blocked = refl; ended = refl; left = refl; tally = refl }
 
 pub clash_shows : (scenario : Scenario) (old : List Entry) (was : Backend) (s : Session) (name : List ℕ) (clash : Clash) → ShowsError scenario old was s (clash_event name clash) (error_of name clash)
-clash_shows scenario old was s name (clashes.Row rel) = record { truly = tt; queue = tt; lives = refl; on = λ stop. cc stop; unanswered = λ answer. refl; running = refl; lists = refl; last = λ from is. cc is; owes = refl; blocks = refl; opens = refl; opened = refl; finished = refl; blocked = refl; ended = refl; left = refl; tally = refl }
-clash_shows scenario old was s name (clashes.Running xid) = record { truly = tt; queue = tt; lives = refl; on = λ stop. cc stop; unanswered = λ answer. refl; running = refl; lists = refl; last = λ from is. cc is; owes = refl; blocks = refl; opens = refl; opened = refl; finished = refl; blocked = refl; ended = refl; left = refl; tally = refl }
+clash_shows scenario old was s name (clashes.Row rel) = record { truly = tt; queue = tt; lives = refl; on = λ stop. cc stop; unanswered = λ answer. refl; running = refl; owes = refl; blocks = refl; opens = refl; opened = refl; finished = refl; blocked = refl; ended = refl; left = refl; tally = refl }
+clash_shows scenario old was s name (clashes.Running xid) = record { truly = tt; queue = tt; lives = refl; on = λ stop. cc stop; unanswered = λ answer. refl; running = refl; owes = refl; blocks = refl; opens = refl; opened = refl; finished = refl; blocked = refl; ended = refl; left = refl; tally = refl }
 
 -- a backend before such an entry: an act of its command comes next
 pub record IsActing (scenario : Scenario) (old : List Entry) (was : Backend) (command : Command) : Type 0 where
@@ -87,8 +85,8 @@ pub failed_enters : (scenario : Scenario) (old new : List Entry) (had has : ℕ 
 failed_enters scenario old new had has was p event error command waits played courses acting unlooked shows plays goes none appends =
     own_enters scenario old new had has was (record was { progress = p }) event waits played courses (record { plays = plays; truly = shows.truly; queue = shows.queue }) goes
     (fits_at scenario old was event waits p goes was.looked was.frames was.told
-    (inside_fits scenario old was waits courses command acting.at later now was.looked was.frames was.told same shows.lists shows.last
-    (record { blocks = shows.blocks; opens = shows.opens; held = inl shows.opened; finished = ap length shows.finished; blocked = shows.blocked; ended = shows.ended; left = λ is there. absurd (both_ways _ acting.unsettled is) }) acting.runs (Acts acting.unsettled) looks rebuilds (λ made. absurd (unlooked made)) (subst (TakesFit (number_of now) now.locks now.taken) (sym shows.left) (takes_none now.taken))))
+    (inside_fits scenario old was waits courses command acting.at later now was.looked was.frames was.told
+    (record { blocks = shows.blocks; opens = shows.opens; held = inl shows.opened; finished = ap length shows.finished; blocked = shows.blocked; ended = shows.ended; left = λ is there. absurd (both_ways _ acting.unsettled is) }) looks rebuilds (λ made. absurd (unlooked made)) (subst (TakesFit (number_of now) now.locks now.taken) (sym shows.left) (takes_none now.taken))))
     refl shows.lives refl shows.on (none ∙ sym (shows.unanswered was.progress.answer)) appends
   where
     takes_none : (o : Option Oid) → TakesFit (number_of (now_of old was event (waiting waits))) (now_of old was event (waiting waits)).locks o (Fails error)

@@ -42,9 +42,8 @@ use Rattle.backend_core.specs.declared.next.Next.TheVariants as nexts
 use Rattle.backend_core.specs.Words.{is_unfound, finds_none, has_begun, marks_build, told_after, has_error, looked_after, frames_given, frames_reset_of}
 use Rattle.backend_core.proofs.Choosing.Chosen.{Busy, Due, may_call, hidden, one_at_most, started_still}
 use Rattle.backend_core.proofs.Fitting.Entered.{fits_at}
-use Rattle.backend_core.proofs.Fitting.FitsEntries.{StaysAt, Goes, fits_inside}
+use Rattle.backend_core.proofs.Fitting.FitsEntries.{StaysAt, fits_inside}
 use Rattle.backend_core.proofs.Fitting.Sought.{takes_cleared, unfound_held, well_there}
-use Rattle.backend_core.proofs.Entries.Looking.{begun_written}
 use Rattle.backend_core.proofs.Entries.WhereLeft.{entered_here}
 use Rattle.cacheless.proofs.Tests.{not_true}
 use Rattle.backend_core.proofs.Own.{waiting, over, unlost, OwnEntry, own_enters, follows, own_makes}
@@ -78,8 +77,8 @@ is_due scenario seen s waits due = by_command (command_at s) refl
     owed = (ap (λ f. owed_after f.due) waits.rests.holds.facts) ∙ ap owed_after due
 
     by_command : (o : Option Command) → command_at s ≡ o → IsDue seen s
-    by_command (Some command) is = record { command = command; at = is; owed = owed; runs = waits.fits.accepts (ap is_empty owed); busy = Due (ap (λ d. is_empty (owed_after d)) due) }
-    by_command None is = absurd (let none : OwesFetch ∷ [] ≡ [] = sym owed ∙ (waits.fits.past is).free in cc none)
+    by_command (Some command) is = record { command = command; at = is; owed = owed; runs = waits.runs.accepts (ap is_empty owed); busy = Due (ap (λ d. is_empty (owed_after d)) due) }
+    by_command None is = absurd (let none : OwesFetch ∷ [] ≡ [] = sym owed ∙ waits.fits.past is in cc none)
 
 -- a fetch is owed after a look that said yes alone
 fetch_due : (due : DueNext) → owed_after due ≡ OwesFetch ∷ [] → due ≡ dues.Fetch
@@ -132,7 +131,6 @@ record IsFetched (s now : Session) (event : Event) : Type 0 where
   grants : now.tally.grants ≡ s.tally.grants
   fetches : now.tally.fetches ≡ s.tally.fetches + 1
   due : looks_due (owed_after (due_after event)) ≤ 1
-  last : (from : ℕ) → due_after event ≡ dues.Gone from → ⊥
   left : is_absent s.left ≡ false → now.left ≡ s.left
   taken : now.taken ≡ s.taken
   opened : now.opened ≡ s.opened
@@ -161,10 +159,9 @@ record IsToldOf (facts later : Facts) (o : Option Command) (s now : Session) (ev
   rebuilds : FramesFit later o now frames_now
 
 -- what the choice keeps after it
-fetch_fits : (facts : Facts) (o : Option Command) (s now : Session) (event : Event) (kept : Kept) (command : Command) (looked : Bool) (frames : List Frame) (told unfound marked : Bool) (frames_now : List Frame) (told_now : Bool) → ((scan : Purpose) → is_kept facts.kept scan ≡ false → is_kept kept scan ≡ false) → (is_absent s.left ≡ true → unfound ≡ true) → (finds_no_name facts s.taken s.left ≡ true → unfound ≡ true) → o ≡ Some command → Fits facts o s looked frames told → IsFetched s now event → is_some facts.running ≡ true → is_visible facts.running ≡ false
+fetch_fits : (facts : Facts) (o : Option Command) (s now : Session) (event : Event) (kept : Kept) (command : Command) (looked : Bool) (frames : List Frame) (told unfound marked : Bool) (frames_now : List Frame) (told_now : Bool) → ((scan : Purpose) → is_kept facts.kept scan ≡ false → is_kept kept scan ≡ false) → (is_absent s.left ≡ true → unfound ≡ true) → (finds_no_name facts s.taken s.left ≡ true → unfound ≡ true) → o ≡ Some command → Fits facts o s looked frames told → IsFetched s now event → is_some facts.running ≡ true
     → IsWellOnceOver s → owed_after facts.due ≡ OwesFetch ∷ [] → IsToldOf facts (fetched_facts facts s event kept) o s now event looked frames told (looked && not unfound && not marked) frames_now told_now → Fits (fetched_facts facts s event kept) o now (looked && not unfound && not marked) frames_now told_now
-fetch_fits facts o s now event kept command looked frames told unfound marked frames_now told_now spares says finds at fits fetched runs hides goes owed tells = fits_inside facts later o s now looked frames told (looked && not unfound && not marked) frames_now told_now command at fits
-    (record { runs = refl; written = λ is. begun_written (number_of s) facts.running (fits.written is); last = fetched.last }) fetched.stays (Goes runs) hides goes looks tells.rebuilds sought (fetched.takes fits.takes)
+fetch_fits facts o s now event kept command looked frames told unfound marked frames_now told_now spares says finds at fits fetched runs goes owed tells = fits_inside later o s now (looked && not unfound && not marked) frames_now told_now command at fits.relations fetched.stays goes looks tells.rebuilds sought (fetched.takes fits.takes)
   where
     later : Facts
     later = fetched_facts facts s event kept
@@ -235,7 +232,7 @@ fetch_agrees : (scenario : Scenario) (old new : List Entry) (had has : ℕ → �
 fetch_agrees scenario old new had has was p event unfound marked frames waits unfound_is played courses is_fetch brings tells goes none appends =
     own_enters scenario old new had has was (record was { progress = p; looked = looked_after was unfound marked; frames = frames; told = told_after was unfound marked }) event waits played courses brings.own goes
     (fits_at scenario old was event waits p goes (looked_after was unfound marked) frames (told_after was unfound marked) (subst (λ f. Fits f (command_at was) (entered (facts_of (with_own old was.progress event) b) (drop was.progress.finished was.progress.commands) (length old + 1) (was.progress.finished + 1) event s) (looked_after was unfound marked) frames (told_after was unfound marked)) (sym brings.facts)
-    (fetch_fits (facts_of old b) (command_at was) s _ event brings.kept due.command was.looked was.frames was.told unfound marked frames (told_after was unfound marked) brings.spares (λ absent. unfound_is ∙ ap (λ t. t || is_unfound was.progress (plan_at was.progress.opens was.progress.exec)) absent) (λ finds. unfound_is ∙ ap (λ t. is_absent (plan_at was.progress.opens was.progress.exec) || t) (unfound_held (facts_of old b) was.progress (plan_at was.progress.opens was.progress.exec) waits.rests.holds.facts finds) ∙ or-true (is_absent (plan_at was.progress.opens was.progress.exec))) due.at waits.fits brings.fetched due.runs (hidden scenario old was waits due.command due.at due.busy) (over scenario old was waits courses due.command due.at) due.owed tells)))
+    (fetch_fits (facts_of old b) (command_at was) s _ event brings.kept due.command was.looked was.frames was.told unfound marked frames (told_after was unfound marked) brings.spares (λ absent. unfound_is ∙ ap (λ t. t || is_unfound was.progress (plan_at was.progress.opens was.progress.exec)) absent) (λ finds. unfound_is ∙ ap (λ t. is_absent (plan_at was.progress.opens was.progress.exec) || t) (unfound_held (facts_of old b) was.progress (plan_at was.progress.opens was.progress.exec) waits.rests.holds.facts finds) ∙ or-true (is_absent (plan_at was.progress.opens was.progress.exec))) due.at waits.fits brings.fetched due.runs (over scenario old was waits courses due.command due.at) due.owed tells)))
     refl brings.lives refl brings.on (none ∙ sym (brings.unanswered was.progress.answer)) appends
   where
     b : ℕ
@@ -287,7 +284,6 @@ messages_bring scenario old was count waits due served = record {
     grants = full_same full more (λ t. t.grants) (λ n. refl);
     fetches = full_same full more (λ t. t.fetches) (λ n. refl);
     due = omega (arith, looks_fetched count, one_at_most (count == 32));
-    last = λ from is. both_ways _ (fetched_stands count) (ap is_gone_due is);
     left = (is_resumed s.left s).left;
     taken = (is_resumed s.left s).taken;
     opened = (is_resumed s.left s).opened;
@@ -323,7 +319,6 @@ reset_brings scenario old was waits due lapped = record {
     grants = refl;
     fetches = refl;
     due = omega arith;
-    last = λ from is. cc is;
     left = (is_resumed s.left s).left;
     taken = (is_resumed s.left s).taken;
     opened = (is_resumed s.left s).opened;

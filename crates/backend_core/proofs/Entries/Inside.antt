@@ -1,4 +1,4 @@
--- What the choice keeps with an entry of a command whose transaction runs, if the entry isn't a write.
+-- What the choice keeps with an entry of a command that runs.
 use Rattle.std.proofs.Common.{◌≡◌, ◌∙◌, ℕ, Bool, true, false, Option, Some, None, List, Result, Ok, Err, OnErr, refl, sym, ap, subst, is_some, OnOk}
 use Rattle.std.specs.Option.{option_map_or}
 use Rattle.event_kinds.specs.declared.entry.Event.TheVariants as events
@@ -12,8 +12,7 @@ use Rattle.backend_core.specs.Types.{Command, Scenario, Entry, Backend, Frame}
 use Rattle.backend_core.specs.Agrees.{command_at, AwaitsEntry}
 use Rattle.backend_core.specs.Fits.{LooksFit, FramesFit, IsUnheld, Fits, IsLookedFor, TakesFit}
 use Rattle.backend_core.specs.Steps.{MakesEntry, IsRefused, After}
-use Rattle.backend_core.proofs.Choosing.Chosen.{Busy, hidden}
-use Rattle.backend_core.proofs.Fitting.FitsEntries.{StaysInside, StaysAt, Goes, fits_inside}
+use Rattle.backend_core.proofs.Fitting.FitsEntries.{StaysAt, fits_inside}
 use Rattle.backend_core.proofs.Own.{waiting, over}
 use Rattle.cacheless.specs.declared.progress.Due.TheVariants as dues
 
@@ -27,27 +26,10 @@ pub runs_on : (number : ℕ) (own : Option Running) → is_some own ≡ true →
 runs_on number None runs = absurd (cc runs)
 runs_on number (Some t) runs = refl
 
-stays_begun : (number : ℕ) (own later : Option Running) → is_some own ≡ true → later ≡ own → later ≡ Some (record (begun number own) { xid = option_map_or (λ t. t.xid) later None })
-stays_begun number None later runs same = absurd (cc runs)
-stays_begun number (Some t) later runs same = same ∙ (λ i. Some (record t { xid = option_map_or (λ (r : Running). r.xid) (sym same i) None }))
-
-module _ (scenario : Scenario) (old : List Entry) (was : Backend) (waits : AwaitsEntry scenario old was) (courses : AllOnCourse scenario old) (command : Command) (at : command_at was ≡ Some command) where
-  -- where the entry's facts and session are known
-  pub entry_fits : (later : Facts) (now : Session) (looked : Bool) (frames : List Frame) (told : Bool) → StaysInside (facts_of old was.progress.id) later (number_of (waiting waits)) → StaysAt (waiting waits) now → is_some (facts_of old was.progress.id).running ≡ true → Busy (facts_of old was.progress.id).due was.progress command
-      → LooksFit later now looked frames told → FramesFit later (command_at was) now frames → (looked ≡ true → IsLookedFor later frames now.taken now.left × IsUnheld now.opened now.left) → TakesFit (number_of now) now.locks now.taken now.left → Fits later (command_at was) now looked frames told
-  entry_fits later now looked frames told inside stays runs busy looks rebuilds sought takes = subst (λ o. Fits later o now looked frames told) (sym at)
-      (fits_inside (facts_of old was.progress.id) later (Some command) (waiting waits) now was.looked was.frames was.told looked frames told command refl
-      (subst (λ o. Fits (facts_of old was.progress.id) o (waiting waits) was.looked was.frames was.told) at waits.fits)
-      inside stays (Goes runs) (hidden scenario old was waits command at busy) (over scenario old was waits courses command at) looks (subst (λ o. FramesFit later o now frames) at rebuilds) sought takes)
-
-  -- an entry that leaves the transaction and its lists
-  pub inside_fits : (later : Facts) (now : Session) (looked : Bool) (frames : List Frame) (told : Bool) → later.running ≡ (facts_of old was.progress.id).running → later.lists ≡ (facts_of old was.progress.id).lists → ((from : ℕ) → later.due ≡ dues.Gone from → ⊥) → StaysAt (waiting waits) now
-      → is_some (facts_of old was.progress.id).running ≡ true → Busy (facts_of old was.progress.id).due was.progress command → LooksFit later now looked frames told → FramesFit later (command_at was) now frames → (looked ≡ true → IsLookedFor later frames now.taken now.left × IsUnheld now.opened now.left) → TakesFit (number_of now) now.locks now.taken now.left → Fits later (command_at was) now looked frames told
-  inside_fits later now looked frames told same lists last stays runs busy looks rebuilds sought takes = entry_fits later now looked frames told (record {
-    runs = stays_begun (number_of (waiting waits)) (facts_of old was.progress.id).running later.running runs same;
-    written = λ is. ap (λ o. option_map_or (λ (t : Running). is_some t.xid) o false) same ∙ waits.fits.written (ap (has_write_from 0) (sym lists) ∙ is);
-    last = last;
-  }) stays runs busy looks rebuilds sought takes
+-- where the entry's facts and session are known
+pub inside_fits : (scenario : Scenario) (old : List Entry) (was : Backend) (waits : AwaitsEntry scenario old was) → AllOnCourse scenario old → (command : Command) → command_at was ≡ Some command → (later : Facts) (now : Session) (looked : Bool) (frames : List Frame) (told : Bool) → StaysAt (waiting waits) now
+    → LooksFit later now looked frames told → FramesFit later (command_at was) now frames → (looked ≡ true → IsLookedFor later frames now.taken now.left × IsUnheld now.opened now.left) → TakesFit (number_of now) now.locks now.taken now.left → Fits later (command_at was) now looked frames told
+inside_fits scenario old was waits courses command at later now looked frames told stays = fits_inside later (command_at was) (waiting waits) now looked frames told command at waits.fits.relations stays (over scenario old was waits courses command at)
 
 -- what is so of a backend that a call leaves, unless it is refused memory
 pub left_so : {E : Type 0} (P : Backend → Type 0) (now left : Backend) (result : Result (Unit {0}) E) → OnOk result (now ≡ left) → P left → OnOk result (P now)

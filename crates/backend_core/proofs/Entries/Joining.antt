@@ -20,13 +20,14 @@ use Rattle.cacheless.specs.Owed.{owed_after, started_in}
 use Rattle.cacheless.specs.Plays.{MayPlayAt}
 use Rattle.cacheless.specs.Session.{none_open, at_command}
 use Rattle.cacheless.specs.State.{kept_at, session_at}
+use Rattle.cacheless.proofs.Allowed.TransactionsKept.{transactions_kept}
 use Rattle.cacheless.proofs.Reading.{facts_of-own}
 use Rattle.cacheless.specs.Awaiting.{AnswersNow}
 use Rattle.cacheless.proofs.OwnAnswers.{start_answers}
 use Rattle.backend_core.specs.Types.{Command, Scenario, Entry, Progress, Backend}
 use Rattle.backend_core.specs.declared.life.Life.TheVariants as lives
-use Rattle.backend_core.specs.Agrees.{IsPlayed, AgreesNow, HasNotJoined}
-use Rattle.backend_core.specs.Fits.{looks_due, IsPast, Fits}
+use Rattle.backend_core.specs.Agrees.{IsPlayed, RunsFit, AgreesNow, HasNotJoined}
+use Rattle.backend_core.specs.Fits.{looks_due, Fits}
 use Rattle.backend_core.specs.Halts.{AwaitsCommand, begins_at}
 use Rattle.backend_core.specs.Steps.{Enters}
 use Rattle.backend_core.proofs.Cutting.Before.{before_start, ends_start}
@@ -48,25 +49,12 @@ join_call scenario seen s before = record {
 }
 
 -- what its choice keeps from then on
-fits_first : (facts : Facts) (o : Option Command) (at : ℕ) → facts.running ≡ None → facts.lists ≡ [] → facts.due ≡ dues.Nothing → Fits facts o (at_command no_block none_open [] [] at o) false [] false
-fits_first facts o at runs lists last = record {
+fits_first : (facts : Facts) (o : Option Command) (at : ℕ) → facts.running ≡ None → facts.due ≡ dues.Nothing → Fits facts o (at_command no_block none_open [] [] at o) false [] false
+fits_first facts o at runs last = record {
   rebuilds = bare_fits facts o (at_command no_block none_open [] [] at o) (λ keeps. refl);
   looks = record { once = omega (arith, none); enough = omega (arith, none, ap (λ l. looks_due (owed_after l)) last); within = omega (arith, none, ap (λ l. looks_due (owed_after l)) last) };
-  transaction = inl runs;
-  first = omega (arith, ap (λ r. option_map_or (λ (t : Running). t.first) r 0) runs);
-  opens = refl;
-  levels = omega arith;
-  plain = tt;
-  since = refl;
-  free = λ over. absurd (cc over);
-  blocked = refl;
-  settled = λ is. refl;
-  relations = record { inside = refl; held = λ going p none. none; over = λ over. absurd (cc over) };
-  written = λ is. absurd (both_ways _ (ap (has_write_from 0) lists) is);
-  visible = λ is. absurd (both_ways _ (ap (λ r. is_visible r) runs) is);
-  taken = λ from is. absurd (let both : dues.Nothing ≡ dues.Gone from = sym last ∙ is in cc both);
-  accepts = λ owes. absurd (both_ways _ owes (ap (λ l. is_empty (owed_after l)) last));
-  past = λ none. subst (λ x. IsPast facts (at_command no_block none_open [] [] at x)) (sym none) (record { out = refl; free = ap owed_after last });
+  past = λ over. ap owed_after last;
+  relations = record { held = λ going p none. none; over = λ over. absurd (cc over) };
   sought = λ is. absurd (cc is);
   takes = tt;
   unheld = λ is. absurd (cc is);
@@ -74,6 +62,10 @@ fits_first facts o at runs lists last = record {
   where
     none : started_in 1 facts ≡ 0
     none = ap (λ r. option_map_or (λ (t : Running). elim (t.first == 1) as (λ x. ℕ) [ true ↦ 1 | false ↦ 0 ]) r 0) runs
+
+-- nor does a transaction run
+runs_first : (scenario : Scenario) (old : List Entry) (was : Backend) (o : Option Command) → HasNotJoined scenario old was → RunsFit (facts_by old was.progress.id 0 events.Start (facts_of old was.progress.id)) o (at_command no_block none_open [] [] (length old + 1) o)
+runs_first scenario old was o before = (transactions_kept scenario).starts old was.progress.id 0 o (ap (λ f. has_write_from 0 f.lists) before.facts)
 
 -- the state after it
 join_agrees : (scenario : Scenario) (old : List Entry) (was : Backend) (p : Progress) → HasNotJoined scenario old was → IsPlayed scenario old → MayFollow old (entry_of was.progress.id 0 events.Start) → HasStarted scenario old was.progress p → kept_at p ≡ kept_at was.progress → p.answer ≡ was.progress.answer
@@ -86,13 +78,16 @@ join_agrees scenario old was p before played follows started kept same = record 
     places = answers.places;
   };
   holds = started.holds;
+  runs = subst (λ f. RunsFit f (slice_get p.commands p.finished) (session_at p started.holds.rest)) (sym facts_are)
+      (subst (RunsFit facts (slice_get p.commands p.finished)) (sym started.session)
+      (subst (λ o. RunsFit facts o (at_command no_block none_open [] [] (length old + 1) (slice_get was.progress.commands 0))) (sym first_command) (runs_first scenario old was (slice_get was.progress.commands 0) before)));
   fits = subst (λ f. Fits f (slice_get p.commands p.finished) (session_at p started.holds.rest) was.looked was.frames was.told) (sym facts_are)
       (subst (λ x. Fits facts (slice_get p.commands p.finished) x was.looked was.frames was.told) (sym started.session)
       (subst (λ o. Fits facts o (at_command no_block none_open [] [] (length old + 1) (slice_get was.progress.commands 0)) was.looked was.frames was.told) (sym first_command)
       (subst (λ t. Fits facts (slice_get was.progress.commands 0) (at_command no_block none_open [] [] (length old + 1) (slice_get was.progress.commands 0)) was.looked was.frames t) (sym before.new.told)
       (subst (λ t. Fits facts (slice_get was.progress.commands 0) (at_command no_block none_open [] [] (length old + 1) (slice_get was.progress.commands 0)) was.looked t false) (sym before.new.frames)
       (subst (λ t. Fits facts (slice_get was.progress.commands 0) (at_command no_block none_open [] [] (length old + 1) (slice_get was.progress.commands 0)) t [] false) (sym before.new.looked)
-      (fits_first facts (slice_get was.progress.commands 0) (length old + 1) refl (ap (λ f. f.lists) before.facts) refl))))));
+      (fits_first facts (slice_get was.progress.commands 0) (length old + 1) refl refl))))));
   tells = answers.tells;
   lines = before.new.lines ∙ answers.lines_are;
   before = before_start scenario old was.progress p started before.new.progress.finished;
@@ -135,8 +130,9 @@ start_awaits scenario old was p before played follows started kept same = record
   agrees = join_agrees scenario old was p before played follows started kept same;
   begins = started.session ∙ at_first (slice_get was.progress.commands 0) ∙ ap (begins_at p started.holds.rest) (sym first_command);
   ends = λ part number is. ends_start scenario old was.progress p started before.new.progress.finished part is;
+  runs = subst (λ f. RunsFit f None (begins_at p started.holds.rest None)) (sym facts_are) (subst (RunsFit facts None) (at_first None) (runs_first scenario old was None before));
   fits = subst (λ f. Fits f None (begins_at p started.holds.rest None) false [] false) (sym facts_are)
-      (subst (λ x. Fits facts None x false [] false) (at_first None) (fits_first facts None (length old + 1) refl (ap (λ f. f.lists) before.facts) refl));
+      (subst (λ x. Fits facts None x false [] false) (at_first None) (fits_first facts None (length old + 1) refl refl));
   last = 0;
   alive = ap (life_of (old ++ e ∷ [])) started.moves.id ∙ life_of-own old e b own;
   before = omega arith;

@@ -16,7 +16,6 @@ use Rattle.cacheless.specs.Holds.{HasEntered}
 use Rattle.cacheless.specs.OnCourse.{AllOnCourse}
 use Rattle.cacheless.specs.Plays.{MayPlayIn}
 use Rattle.cacheless.proofs.OwnAnswers.{stop_lines}
-use Rattle.cacheless.proofs.OwnPlaces.{last_scans}
 use Rattle.backend_core.specs.Types.{Event, Scenario, Entry, Progress, Backend}
 use Rattle.backend_core.specs.declared.life.Life.TheVariants as lives
 use Rattle.backend_core.specs.Agrees.{IsPlayed, command_at, AwaitsEntry, HasLeft}
@@ -46,7 +45,7 @@ leave_call scenario seen s waits none = record {
     runs_none = none_runs scenario seen s waits none
 
     by_last : (last : Option Event) → last_event_of seen s.progress.id ≡ last → FollowsGone last events.Stop
-    by_last (Some (events.Gone from)) is = absurd (both_ways _ (ap (λ r. is_some r) runs_none) (waits.fits.taken from (ap due_last is)).runs)
+    by_last (Some (events.Gone from)) is = absurd (both_ways _ (ap (λ r. is_some r) runs_none) (waits.runs.taken from (ap due_last is)).runs)
     by_last last is = tt
 
 -- the state after it
@@ -74,7 +73,6 @@ leave_steps scenario old new had has was p waits played courses past none goes a
     has_left : HasLeft scenario (old ++ e ∷ []) left
     has_left = record {
       holds = goes.holds;
-      kept = last_scans (old ++ e ∷ []) p goes.holds.facts;
       life = ap (life_of (old ++ e ∷ [])) goes.moves.id ∙ life_of-own old e b (eq-eqb b b refl);
       lines = stop_lines scenario old was.progress p was.lines (session_waits waits) plays goes;
       past = (λ i. slice_get (goes.moves.commands i) (goes.moves.finished i)) ∙ past;

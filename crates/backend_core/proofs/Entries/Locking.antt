@@ -36,7 +36,7 @@ use Rattle.backend_core.specs.Types.{Oid, Mode, Row, Scenario, Entry, Event, Pro
 use Rattle.backend_core.specs.Agrees.{IsPlayed, command_at, AwaitsEntry}
 use Rattle.backend_core.specs.Fits.{looks_due, LooksFit, IsLookedFor, lacks_scan}
 use Rattle.backend_core.specs.Steps.{IsLockNext, Enters}
-use Rattle.backend_core.proofs.Choosing.ActsRun.{act_runs}
+use Rattle.backend_core.proofs.Choosing.Running.{entry_runs}
 use Rattle.backend_core.proofs.Entries.Alike.{alike_enters}
 use Rattle.backend_core.proofs.Choosing.Chosen.{Acts, may_request, now_plays, standing}
 use Rattle.backend_core.proofs.Fitting.Entered.{fits_at}
@@ -115,7 +115,7 @@ module _ (scenario : Scenario) (old : List Entry) (was : Backend) (waits : Await
   acting = record {
     at = next.free.at;
     unsettled = ap (λ p. is_settled (outcome_of p)) is_act.is;
-    runs = act_runs scenario old was waits courses next.command next.free.at is_act.act is_act.rest is_act.is next.free.first;
+    runs = entry_runs scenario old was waits courses next.command next.free.at next.free.first;
     owed = (ap (λ f. owed_after f.due) waits.rests.holds.facts) ∙ next.free.due;
     bare = owed_bare facts (command_at was) s was.frames next.command waits.fits.rebuilds asks.0;
   }
@@ -151,7 +151,7 @@ module _ (scenario : Scenario) (old : List Entry) (was : Backend) (waits : Await
     granted_enters goes appends = alike_enters scenario old new had has first was (record was { progress = p; told = false }) id (
         own_enters scenario old new had has was (record was { progress = p; told = false }) event waits played courses (record { plays = plays event next.may; truly = tt; queue = tt }) goes
         (fits_at scenario old was event waits p goes was.looked was.frames false
-        (inside_fits scenario old was waits courses next.command next.free.at later now was.looked was.frames false same refl (λ from is. cc is) (record { blocks = refl; opens = refl; held = inl refl; finished = refl; blocked = refl; ended = refl; left = λ is there. refl }) acting.runs (Acts acting.unsettled)
+        (inside_fits scenario old was waits courses next.command next.free.at later now was.looked was.frames false (record { blocks = refl; opens = refl; held = inl refl; finished = refl; blocked = refl; ended = refl; left = λ is there. refl })
         (record { enough = omega (arith, before.enough, ap looks_due acting.owed, started); within = omega (arith, told_none was.told was.frames, before.within, ap looks_due acting.owed, started); once = omega (arith, before.once, started) })
         (same_fits facts later (command_at was) s now was.frames refl refl refl refl (sym (standing scenario old was waits next.command next.free.at (Acts acting.unsettled))) waits.fits.rebuilds)
         (λ made. unlooked (waits.fits.sought made)) (takes_cleared _ (number_of s) (s.locks ++ record { rel = rel; mode = mode; command = was.progress.finished + 1; clear = false } ∷ []) (Some rel) s.left

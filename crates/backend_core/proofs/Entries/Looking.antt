@@ -30,7 +30,7 @@ use Rattle.cacheless.specs.Sessions.{entered}
 use Rattle.cacheless.specs.State.{kept_at, owed_first, one_if, is_kept, is_absent}
 use Rattle.backend_core.specs.Types.{Command, Scenario, Entry, Event, Progress, Backend, Frame, Purpose, Opening}
 use Rattle.backend_core.specs.Agrees.{IsPlayed, command_at, AgreesNow, AwaitsEntry, IsReady}
-use Rattle.backend_core.specs.Fits.{looks_due, LooksFit, Fits, IsLookedFor, Lacks, Unfound, Said, FramesFit, IsTakenBack, IsUnheld, looked_in, looked_on_top, told_owed, lacks_scan, is_lost, is_look, is_gone_due}
+use Rattle.backend_core.specs.Fits.{looks_due, LooksFit, Fits, IsLookedFor, Lacks, Unfound, Said, FramesFit, IsUnheld, looked_in, looked_on_top, told_owed, lacks_scan, is_lost, is_look, is_gone_due}
 use Rattle.backend_core.specs.Looks.{next_of_look, look_of, LooksWell}
 use Rattle.backend_core.specs.Noted.{ComesAs}
 use Rattle.backend_core.specs.declared.look_for.LookFor.{LookFor}
@@ -38,10 +38,11 @@ use Rattle.backend_core.specs.declared.look_for.LookFor.TheVariants as looks
 use Rattle.backend_core.specs.Steps.{OwesLookNow, IsLookNext, Enters, IsScanNext, FindsNone, Looks, Says, IsAcceptNext, IsInTurn, IsNextOf}
 use Rattle.backend_core.specs.Words.{has_error, is_looked_for, is_unfound, scan_on_top, frames_looked}
 use Rattle.backend_core.proofs.Entries.WhereLeft.{entered_here}
-use Rattle.backend_core.proofs.Choosing.ActsRun.{scan_runs, find_runs}
+use Rattle.backend_core.proofs.Choosing.Running.{entry_runs}
+use Rattle.backend_core.proofs.Choosing.TakenBack.{taken_plain}
 use Rattle.backend_core.proofs.Choosing.Chosen.{Busy, Due, Begins, Scans, StartsNow, starts_now, may_call, hidden, started_most, started_by, started_now, started_still, look_may, Acts, Sought, standing}
 use Rattle.backend_core.proofs.Fitting.Entered.{fits_at}
-use Rattle.backend_core.proofs.Fitting.FitsEntries.{RunsHere, Goes, Starts, fits_inside}
+use Rattle.backend_core.proofs.Entries.Inside.{inside_fits}
 use Rattle.backend_core.proofs.Own.{waiting, over, unlost, plays_next, own_agrees, next_makes}
 use Rattle.backend_core.proofs.Fitting.Sought.{takes_cleared, unfound_facts, sought_looked, sought_rebuilt, next_act, well_most, unheld_lacking}
 use Rattle.ddl_effect.specs.Stages.{plan_at}
@@ -77,10 +78,6 @@ looked_due : (some_wait : Bool) → looks_due (owed_after (due_looked some_wait)
 looked_due true = refl
 looked_due false = refl
 
-pub begun_written : (number : ℕ) (own : Option Running) → option_map_or (λ t. is_some t.xid) own false ≡ true → is_some (begun number own).xid ≡ true
-begun_written number None is = absurd (cc is)
-begun_written number (Some t) is = is
-
 -- where the running command begins a transaction no block is open
 begins_outside : (command : Command) (s : Session) → begins_in command (work_of s) ≡ true → s.blocks.block ≡ Outside
 begins_outside command s is = by_block s.blocks.block is
@@ -114,7 +111,6 @@ looked_facts facts s some_wait = record facts { due = due_looked some_wait; runn
 
 -- a look that the choice makes: its transaction runs, or begins with it, and it is counted once at most; where it isn't, messages had come since a lookup began
 pub record LookCounts (facts : Facts) (s : Session) (command : Command) (looked : Bool) (frames : List Frame) (told looked_now : Bool) (frames_now : List Frame) (told_now : Bool) : Type 0 where
-  pub goes : RunsHere facts (Some command) s
   pub owes : (owed_after facts.due ≡ []) ⊎ (owed_after facts.due ≡ OwesLook ∷ [])
   pub most : looks_due (owed_after facts.due) + (started_by (number_of s) (Some (begun (number_of s) facts.running)) + one_if looked_now + looked_in frames_now) ≤ started_in (number_of s) facts + one_if looked + looked_in frames + 1
   pub once : started_in (number_of s) facts + one_if s.ended ≤ 1 → started_by (number_of s) (Some (begun (number_of s) facts.running)) + one_if s.ended ≤ 1
@@ -122,11 +118,11 @@ pub record LookCounts (facts : Facts) (s : Session) (command : Command) (looked 
 
 -- in an accept
 counts_due : (facts : Facts) (s : Session) (command : Command) (looked : Bool) (frames : List Frame) (told : Bool) → owed_after facts.due ≡ OwesLook ∷ [] → is_some facts.running ≡ true → LookCounts facts s command looked frames told looked frames told
-counts_due facts s command looked frames told owed runs = record { goes = Goes runs; owes = inr owed; once = λ one. omega (arith, one, started_still (number_of s) (number_of s) facts.running runs); most = omega (arith, ap looks_due owed, started_still (number_of s) (number_of s) facts.running runs); least = omega (arith, ap looks_due owed, started_still (number_of s) (number_of s) facts.running runs) }
+counts_due facts s command looked frames told owed runs = record { owes = inr owed; once = λ one. omega (arith, one, started_still (number_of s) (number_of s) facts.running runs); most = omega (arith, ap looks_due owed, started_still (number_of s) (number_of s) facts.running runs); least = omega (arith, ap looks_due owed, started_still (number_of s) (number_of s) facts.running runs) }
 
 -- at the transaction's start
 counts_start : (facts : Facts) (s : Session) (command : Command) (looked : Bool) (frames : List Frame) (told : Bool) → owed_after facts.due ≡ [] → begins_in command (work_of s) ≡ true → facts.running ≡ None → LookCounts facts s command looked frames told looked frames told
-counts_start facts s command looked frames told owed starts none = record { goes = Starts command refl starts (begins_outside command s starts) none; owes = inl owed; once = λ one. omega (arith, started_now (number_of s) facts.running none, ap one_if (begins_going command s starts)); most = omega (arith, ap looks_due owed, started_now (number_of s) facts.running none, none_before); least = omega (arith, ap looks_due owed, started_now (number_of s) facts.running none, none_before) }
+counts_start facts s command looked frames told owed starts none = record { owes = inl owed; once = λ one. omega (arith, started_now (number_of s) facts.running none, ap one_if (begins_going command s starts)); most = omega (arith, ap looks_due owed, started_now (number_of s) facts.running none, none_before); least = omega (arith, ap looks_due owed, started_now (number_of s) facts.running none, none_before) }
   where
     none_before : started_in (number_of s) facts ≡ 0
     none_before = ap (λ o. started_by (number_of s) o) none
@@ -134,7 +130,6 @@ counts_start facts s command looked frames told owed starts none = record { goes
 -- before a scan of the next act, where nothing is rebuilt
 counts_act : (facts : Facts) (s : Session) (command : Command) (looked told : Bool) → owed_after facts.due ≡ [] → is_some facts.running ≡ true → looked ≡ false → LookCounts facts s command looked [] told true [] told
 counts_act facts s command looked told owed runs unlooked = record {
-  goes = Goes runs;
   owes = inl owed;
   once = λ one. omega (arith, one, started_still (number_of s) (number_of s) facts.running runs);
   most = omega (arith, ap looks_due owed, started_still (number_of s) (number_of s) facts.running runs, ap one_if unlooked);
@@ -144,7 +139,6 @@ counts_act facts s command looked told owed runs unlooked = record {
 -- before one of the rebuild on top
 counts_rebuild : (facts : Facts) (s : Session) (command : Command) (looked told : Bool) (under : List Frame) (f : Frame) → owed_after facts.due ≡ [] → is_some facts.running ≡ true → f.looked ≡ false → LookCounts facts s command looked (under ++ f ∷ []) told looked (under ++ with_look f ∷ []) told
 counts_rebuild facts s command looked told under f owed runs unlooked = record {
-  goes = Goes runs;
   owes = inl owed;
   once = λ one. omega (arith, one, started_still (number_of s) (number_of s) facts.running runs);
   most = omega (arith, ap looks_due owed, started_still (number_of s) (number_of s) facts.running runs, in_push under f, in_push under (with_look f), ap one_if unlooked);
@@ -161,7 +155,6 @@ told_less false false side = omega arith
 -- before a lookup says that there is no relation
 counts_accept : (facts : Facts) (s : Session) (command : Command) (looked told : Bool) → owed_after facts.due ≡ [] → is_some facts.running ≡ true → (looked ≡ false) ⊎ (told ≡ true) → LookCounts facts s command looked [] told true [] (told && not looked)
 counts_accept facts s command looked told owed runs side = record {
-  goes = Goes runs;
   owes = inl owed;
   once = λ one. omega (arith, one, started_still (number_of s) (number_of s) facts.running runs);
   most = omega (arith, ap looks_due owed, started_still (number_of s) (number_of s) facts.running runs);
@@ -205,11 +198,10 @@ module _ (scenario : Scenario) (old : List Entry) (was : Backend) (waits : Await
     look_rebuilds busy rebuilds = subst (λ o. FramesFit (looked_facts facts s some_wait) o now frames) at
         (same_fits facts (looked_facts facts s some_wait) (command_at was) s now frames refl refl refl refl (looked_stands some_wait ∙ sym (standing scenario old was waits command at busy)) rebuilds)
 
-    look_fits : is_visible facts.running ≡ false → FramesFit (looked_facts facts s some_wait) (Some command) now frames → MadeFor → Fits (facts_by old was.progress.id (was.progress.finished + 1) event facts) (command_at was) now looked frames told
-    look_fits hides rebuilds sought = subst (λ f. Fits f (command_at was) now looked frames told) (sym later_is) (subst (λ o. Fits (looked_facts facts s some_wait) o now looked frames told) (sym at)
-        (fits_inside facts (looked_facts facts s some_wait) (Some command) s now was.looked was.frames was.told looked frames told command refl (subst (λ o. Fits facts o s was.looked was.frames was.told) at waits.fits)
-        (record { runs = refl; written = λ is. begun_written (number_of s) facts.running (waits.fits.written is); last = λ from is. both_ways _ (looked_stands some_wait) (ap is_gone_due is) })
-        (record { blocks = refl; opens = refl; held = inl refl; finished = refl; blocked = refl; ended = refl; left = λ is there. refl }) counts.goes hides (over scenario old was waits courses command at) looks_more rebuilds sought (takes_cleared _ (number_of s) s.locks s.taken s.left waits.fits.takes)))
+    look_fits : FramesFit (looked_facts facts s some_wait) (Some command) now frames → MadeFor → Fits (facts_by old was.progress.id (was.progress.finished + 1) event facts) (command_at was) now looked frames told
+    look_fits rebuilds sought = subst (λ f. Fits f (command_at was) now looked frames told) (sym later_is)
+        (inside_fits scenario old was waits courses command at (looked_facts facts s some_wait) now looked frames told (record { blocks = refl; opens = refl; held = inl refl; finished = refl; blocked = refl; ended = refl; left = λ is there. refl })
+        looks_more (subst (λ o. FramesFit (looked_facts facts s some_wait) o now frames) (sym at) rebuilds) sought (takes_cleared _ (number_of s) s.locks s.taken s.left waits.fits.takes))
 
     -- so after it the backend agrees
     pub look_agrees : (p : Progress) → IsPlayed scenario old → MayFollow old (look_of was some_wait) → Busy (facts_of old was.progress.id).due was.progress command → FramesFit facts (command_at was) s frames → MadeFor → HasEntered scenario old was.progress event waits.rests p → p.answer ≡ None
@@ -217,7 +209,7 @@ module _ (scenario : Scenario) (old : List Entry) (was : Backend) (waits : Await
     look_agrees p played follows busy rebuilds sought goes none = record {
       next = plays_next scenario old was event waits plays;
       agrees = own_agrees scenario old was (record was { progress = p; looked = looked; frames = frames; told = told }) event waits played courses plays follows goes
-          (fits_at scenario old was event waits p goes looked frames told (look_fits (hidden scenario old was waits command at busy) (look_rebuilds busy rebuilds) sought))
+          (fits_at scenario old was event waits p goes looked frames told (look_fits (look_rebuilds busy rebuilds) sought))
           refl refl refl (λ stop. cc stop) none;
       goes = entered_here scenario old (old ++ look_of was some_wait ∷ []) was.progress p event waits.rests goes refl;
       id = goes.moves.id;
@@ -240,7 +232,7 @@ look_well scenario old was p some_wait waits played courses next follows goes no
 
     by_side : (was.progress.due ≡ dues.Look) ⊎ ((owed_after was.progress.due ≡ []) × (owed_first was.progress next.command ≢ [])) → LookCounts facts (waiting waits) next.command was.looked was.frames was.told was.looked was.frames was.told
     by_side (inl due) = let owed : owed_after facts.due ≡ OwesLook ∷ [] = (ap (λ f. owed_after f.due) waits.rests.holds.facts) ∙ ap owed_after due in
-        counts_due facts (waiting waits) next.command was.looked was.frames was.told owed (waits.fits.accepts (ap is_empty owed))
+        counts_due facts (waiting waits) next.command was.looked was.frames was.told owed (waits.runs.accepts (ap is_empty owed))
     by_side (inr (due, owes)) = let starts : StartsNow was.progress next.command = starts_now was.progress next.command owes in
         counts_start facts (waiting waits) next.command was.looked was.frames was.told ((ap (λ f. owed_after f.due) waits.rests.holds.facts) ∙ due) starts.begins ((ap (λ f. f.running) waits.rests.holds.facts) ∙ starts.none)
 
@@ -260,14 +252,13 @@ scan_stands scenario seen s scan rebuilds waits next = by_due (facts_of seen s.p
     rests_on (Do act rest) at out plain = absurd (cc out)
     rests_on p at out plain = refl
 
-    none_gone : (t : Bool) (from : ℕ) → facts.due ≡ dues.Gone from → IsTakenBack facts next.command (waiting waits) from → IsInTurn t s scan → ⊥
-    none_gone true from is back turn = let none : s.frames ≡ [] = waits.fits.rebuilds.over (λ i. not (is_gone_due (is i)) && not (is_lost (waiting waits)) && not (has_error (plan_at s.progress.opens s.progress.exec))) in
+    none_gone : (t : Bool) (from : ℕ) → facts.due ≡ dues.Gone from → left_rests_on (waiting waits).left ≡ [] → IsInTurn t s scan → ⊥
+    none_gone true from is plain turn = let none : s.frames ≡ [] = waits.fits.rebuilds.over (λ i. not (is_gone_due (is i)) && not (is_lost (waiting waits)) && not (has_error (plan_at s.progress.opens s.progress.exec))) in
         let no : None ≡ Some scan = sym (ap (λ l. elim (top l) as (λ x. Option Purpose) [ Some f ↦ find (λ d. not (is_kept (kept_at s.progress) d)) (build_scans f.opening.kind f.opening.rel) | None ↦ None ]) none) ∙ turn in cc no
-    none_gone false from is back turn = both_ways _ (rests_on (plan_at s.progress.opens s.progress.exec) refl (waits.fits.taken from is).out back.plain) turn.1
+    none_gone false from is plain turn = both_ways _ (rests_on (plan_at s.progress.opens s.progress.exec) refl (waits.runs.taken from is).out plain) turn.1
 
     by_due : (due : DueNext) → facts.due ≡ due → is_gone_due due ≡ false
-    by_due (dues.Gone from) is = absurd (none_gone rebuilds from is
-        (subst (λ o. elim o as (λ x. Type 0) [ Some c ↦ IsTakenBack facts c (waiting waits) from | None ↦ end_of_all facts ≡ TakesBack from ]) next.free.at (waits.fits.taken from is).end) next.turn)
+    by_due (dues.Gone from) is = absurd (none_gone rebuilds from is (taken_plain scenario seen s waits next.command next.free.at from is) next.turn)
     by_due due is = refl
 
 pub scan_busy : (scenario : Scenario) (seen : List Entry) (s : Backend) (scan : Purpose) (rebuilds : Bool) (waits : AwaitsEntry scenario seen s) (next : IsScanNext s scan rebuilds) → Busy (facts_of seen s.progress.id).due s.progress next.command
@@ -328,7 +319,7 @@ look_before_well scenario old was p some_wait rebuilds waits played courses next
     owed = (ap (λ f. owed_after f.due) waits.rests.holds.facts) ∙ next.next.free.due
 
     runs : is_some facts.running ≡ true
-    runs = scan_runs scenario old was waits courses next.next.command next.next.free.at next.scan next.next.next next.next.free.first
+    runs = entry_runs scenario old was waits courses next.next.command next.next.free.at next.next.free.first
 
     -- what a look of the act was made for before stays
     stays : IsScanNext was next.scan true → (was.looked || false) ≡ true → IsLookedFor later (on_top with_look was.frames) (waiting waits).taken (waiting waits).left × IsUnheld (waiting waits).opened (waiting waits).left
@@ -415,7 +406,7 @@ accept_well scenario old was p some_wait told waits played courses next follows 
     by_side (Says absent quiet) = (Said absent, absent_unheld was.progress.opened (plan_at was.progress.opens was.progress.exec) absent)
 
     runs : is_some facts.running ≡ true
-    runs = find_runs scenario old was waits courses next.command next.free.at next.free.first next.finds
+    runs = entry_runs scenario old was waits courses next.command next.free.at next.free.first
 
 -- each look comes as one
 pub look_comes : (refusal : Option Event) (look : LookFor) (some_wait : Bool) → ComesAs refusal (next_of_look look) (events.Look some_wait)

@@ -18,25 +18,27 @@ use Rattle.cacheless.specs.Holds.{Rests, HasEntered}
 use Rattle.cacheless.specs.May.{has_failed}
 use Rattle.cacheless.specs.Owed.{started_in}
 use Rattle.ddl_effect.specs.Opens.{opens_before}
-use Rattle.ddl_effect.specs.Plans.{Plan, Done, Fails, Absent, Do}
+use Rattle.ddl_effect.specs.Plans.{Plan, Done, Fails, Absent, Do, left_rests_on}
 use Rattle.ddl_effect.specs.Stages.{plan_at}
 use Rattle.cacheless.specs.OnCourse.{AllOnCourse}
 use Rattle.cacheless.specs.Session.{Session, Well, opening_of, number_of, outcome_of, is_settled}
 use Rattle.cacheless.specs.State.{kept_at, is_kept, one_if, is_out}
 use Rattle.backend_core.specs.Types.{Command, Scenario, Entry, Event, OwnLock, Opening, Message, Progress, Backend, Frame}
-use Rattle.backend_core.specs.Agrees.{IsPlayed, command_at, AwaitsEntry}
-use Rattle.backend_core.specs.Fits.{first_at, looked_on_top, told_owed, LooksFit, RunsAfter, Fits}
+use Rattle.backend_core.specs.Agrees.{IsPlayed, RunsFit, command_at, AwaitsEntry}
+use Rattle.backend_core.specs.Fits.{looked_on_top, told_owed, LooksFit, Fits}
 use Rattle.backend_core.specs.Frames.{unless, with_rest}
 use Rattle.backend_core.specs.Noted.{noted_of, IsNoted}
 use Rattle.backend_core.specs.declared.next.Next.TheVariants as nexts
-use Rattle.backend_core.specs.Steps.{EndsNext, InCommand, AfterAll, MakesEntry, Enters}
+use Rattle.backend_core.specs.Steps.{IsEndNext, MakesEntry, Enters}
 use Rattle.backend_core.proofs.Entries.WhereLeft.{entered_here}
-use Rattle.backend_core.proofs.Entries.EndEntries.{end_now, end_own, end_call, end_enters, end_bare}
+use Rattle.backend_core.proofs.Entries.EndEntries.{end_now, end_own, end_call, end_enters}
 use Rattle.backend_core.proofs.Fitting.Released.{fails_at, frames_left, left_fits, left_unlooked, left_top, left_looks, plain_unlooked}
 use Rattle.backend_core.proofs.Fitting.Rebuilding.{usable_is}
-use Rattle.backend_core.proofs.Fitting.OpenRelations.{since_none}
-use Rattle.backend_core.proofs.Choosing.EndsNow.{end_by, EndsBy, LetsGo, AllSent, NoWrite, IsInner, Releases, Whole, Inner, comes_now, from_of, first_begun, commit_first, end_releases, commit_end, back_end}
-use Rattle.backend_core.proofs.Fitting.FitsEnds.{released_at, fits_released, ended_running, ended_lists, kept_running, kept_lists}
+use Rattle.cacheless.proofs.Allowed.EndsReleased.{end_by, EndsBy, LetsGo, AllSent, NoWrite, IsInner, Releases, Whole, Inner, comes_now, from_of, first_begun, commit_first, end_releases, commit_end, back_end}
+use Rattle.cacheless.proofs.Allowed.NextTransaction.{first_at}
+use Rattle.cacheless.proofs.Allowed.TransactionEnds.{ended_running, kept_running}
+use Rattle.backend_core.proofs.Entries.TakingBack.{back_hidden}
+use Rattle.backend_core.proofs.Fitting.FitsEnds.{released_at, fits_released, back_plain}
 use Rattle.backend_core.proofs.Own.{waiting, own_makes}
 
 -- where a publish would send nothing, all is published
@@ -68,17 +70,14 @@ first_visible None n from visible is = absurd (cc visible)
 first_visible (Some t) n from visible is = ap Some is
 
 -- without a write the transaction isn't visible
-bare_hidden : (facts : Facts) (o : Option Command) (s : Session) (looked : Bool) (frames : List Frame) (told : Bool) (from : ℕ) → Fits facts o s looked frames told → (end_by facts o s ≡ Commits from) ⊎ (end_by facts o s ≡ TakesBack from) → has_write_from from facts.lists ≡ false → is_visible facts.running ≡ false
-bare_hidden facts o s looked frames told from fits end bare = false_from_ne_true (is_visible facts.running) (λ is. by_end is end)
-  where
-    by_end : is_visible facts.running ≡ true → (end_by facts o s ≡ Commits from) ⊎ (end_by facts o s ≡ TakesBack from) → ⊥
-    by_end is (inl commits) = let same : first_at facts ≡ from = (let both : Commits (first_at facts) ≡ Commits from = sym (commit_end facts o s looked frames told fits is) ∙ commits in cc both) in
-        both_ways _ bare (subst (λ n. has_write_from n facts.lists ≡ true) same (fits.visible is).written)
-    by_end is (inr back) = let no : Commits (first_at facts) ≡ TakesBack from = sym (commit_end facts o s looked frames told fits is) ∙ back in cc no
+bare_hidden : (facts : Facts) (o : Option Command) (s : Session) (from : ℕ) → RunsFit facts o s → (end_by facts o s ≡ Commits from) ⊎ (end_by facts o s ≡ TakesBack from) → has_write_from from facts.lists ≡ false → is_visible facts.running ≡ false
+bare_hidden facts o s from runs (inr back) bare = back_hidden facts o s from runs back
+bare_hidden facts o s from runs (inl commits) bare = false_from_ne_true (is_visible facts.running) (λ is. let same : first_at facts ≡ from = (let both : Commits (first_at facts) ≡ Commits from = sym (commit_end facts o s runs is) ∙ commits in cc both) in
+    both_ways _ bare (subst (λ n. has_write_from n facts.lists ≡ true) same (runs.visible is).written))
 
 -- what was taken back is what is released
-release_gone : (facts : Facts) (o : Option Command) (s : Session) (looked : Bool) (frames : List Frame) (told : Bool) (from : ℕ) → Fits facts o s looked frames told → LetsGo facts (end_by facts o s) from → (last : Option Event) → facts.due ≡ due_last last → FollowsGone last (events.Release from)
-release_gone facts o s looked frames told from fits lets = by_last
+release_gone : (facts : Facts) (o : Option Command) (s : Session) (from : ℕ) → RunsFit facts o s → LetsGo facts (end_by facts o s) from → (last : Option Event) → facts.due ≡ due_last last → FollowsGone last (events.Release from)
+release_gone facts o s from runs lets = by_last
   where
     by_case : (n : ℕ) → end_by facts o s ≡ TakesBack n → LetsGo facts (end_by facts o s) from → from ≡ n
     by_case n back (AllSent commits visible sent) = absurd (let no : Commits from ≡ TakesBack n = sym commits ∙ back in cc no)
@@ -86,14 +85,14 @@ release_gone facts o s looked frames told from fits lets = by_last
     by_case n back (NoWrite (inr takes) bare) = let both : TakesBack from ≡ TakesBack n = sym takes ∙ back in cc both
 
     by_last : (last : Option Event) → facts.due ≡ due_last last → FollowsGone last (events.Release from)
-    by_last (Some (events.Gone n)) is = by_case n (back_end facts o s looked frames told n fits is) lets
+    by_last (Some (events.Gone n)) is = by_case n (back_end facts o s n runs is) lets
     by_last last is = tt
 
 released : (v : Bool) (from : ℕ) → FollowsVisible v (events.Release from)
 released true from = tt
 released false from = tt
 
-module _ (scenario : Scenario) (old : List Entry) (was : Backend) (from : ℕ) (waits : AwaitsEntry scenario old was) (next : EndsNext was (events.Release from)) where
+module _ (scenario : Scenario) (old : List Entry) (was : Backend) (from : ℕ) (waits : AwaitsEntry scenario old was) (next : IsEndNext was (events.Release from)) where
   abbrev facts : Facts
   facts = facts_of old was.progress.id
 
@@ -108,7 +107,7 @@ module _ (scenario : Scenario) (old : List Entry) (was : Backend) (from : ℕ) (
 
   -- what it releases
   part : Releases facts (command_at was) s from
-  part = end_releases facts (command_at was) s was.looked was.frames was.told from waits.fits now.going (from_of facts (end_by facts (command_at was) s) from lets)
+  part = end_releases facts (command_at was) s from waits.runs now.going (from_of facts (end_by facts (command_at was) s) from lets)
 
   -- where that is all of its transaction, it is released from its first command on
   first_here : first_begun facts s ≡ from → option_map_or (λ (t : Running). t.first) facts.running (was.progress.finished + 1) ≡ from
@@ -116,20 +115,20 @@ module _ (scenario : Scenario) (old : List Entry) (was : Backend) (from : ℕ) (
 
   -- so is a commit
   first_committed : end_by facts (command_at was) s ≡ Commits from → option_map_or (λ (t : Running). t.first) facts.running (was.progress.finished + 1) ≡ from
-  first_committed commits = first_here (commit_first facts (command_at was) s was.looked was.frames was.told from waits.fits now.going commits)
+  first_committed commits = first_here (commit_first facts (command_at was) s from waits.runs now.going commits)
 
   -- no later command is released
   from_low : Releases facts (command_at was) s from → from ≤ was.progress.finished + 1
-  from_low (Whole is bare none) = low_from facts.running (was.progress.finished + 1) from (first_here is) (subst (λ n. first_at facts ≤ n + 1) waits.rests.holds.count waits.fits.first)
+  from_low (Whole is bare none) = low_from facts.running (was.progress.finished + 1) from (first_here is) (subst (λ n. first_at facts ≤ n + 1) waits.rests.holds.count waits.runs.first)
   from_low (Inner inner) = subst (λ n. from ≤ n + 1) waits.rests.holds.count inner.low
 
   may_release : LetsGo facts (end_by facts (command_at was) s) from → MayRelease (is_visible facts.running) old was.progress.id from
   may_release (AllSent commits visible sent) = subst (λ v. MayRelease v old was.progress.id from) (sym visible) (first_visible facts.running (was.progress.finished + 1) from visible (first_committed commits), all_left facts.lists facts.running sent)
-  may_release (NoWrite end bare) = subst (λ v. MayRelease v old was.progress.id from) (sym (bare_hidden facts (command_at was) s was.looked was.frames was.told from waits.fits end bare)) bare
+  may_release (NoWrite end bare) = subst (λ v. MayRelease v old was.progress.id from) (sym (bare_hidden facts (command_at was) s from waits.runs end bare)) bare
 
   -- it may be entered
   pub release_call : MayCall scenario old (entry_of was.progress.id (was.progress.finished + 1) (events.Release from))
-  release_call = end_call scenario old was waits (events.Release from) refl next (released (is_visible facts.running) from) (release_gone facts (command_at was) s was.looked was.frames was.told from waits.fits lets (last_event_of old was.progress.id) refl)
+  release_call = end_call scenario old was waits (events.Release from) refl next (released (is_visible facts.running) from) (release_gone facts (command_at was) s from waits.runs lets (last_event_of old was.progress.id) refl)
       (from_low part, may_release lets)
 
   abbrev pub later : Facts
@@ -150,22 +149,14 @@ module _ (scenario : Scenario) (old : List Entry) (was : Backend) (from : ℕ) (
       then = released_at facts later (command_at was) s was.looked was.frames was.told (events.Release from) locks at waits.fits now from
 
       before : LooksFit facts s was.looked [] was.told
-      before = subst (λ l. LooksFit facts s was.looked l was.told) (end_bare scenario old was waits (events.Release from) refl next) waits.fits.looks
+      before = subst (λ l. LooksFit facts s was.looked l was.told) next.bare waits.fits.looks
 
-      fits_here : first_at later ≤ number_of s → (has_write_from 0 later.lists ≡ true → option_map_or (λ (t : Running). is_some t.xid) later.running false ≡ true) → is_visible later.running ≡ false → RunsAfter later (command_at was) s
-          → opens_before (first_at later) s.opens ≡ [] → (later.running ≡ None → opens_before from s.opens ≡ []) → (command_at was ≡ None → held_now ≡ []) → started_in (number_of s) later ≡ 0
-          → told_owed was.told frames_now + one_if was.looked + started_in (number_of s) facts ≤ one_if was.told + looked_on_top was.looked frames_now + 1 → Fits later (command_at was) then was.looked frames_now was.told
-      fits_here low written hidden runs since free past started top = fits_released facts later (command_at was) s was.looked was.frames was.told (events.Release from) locks at waits.fits now from frames_now refl
-          (from_of facts (end_by facts (command_at was) s) from lets) (λ scan none. none) low written hidden runs since free
+      fits_here : (command_at was ≡ None → held_now ≡ []) → started_in (number_of s) later ≡ 0 → told_owed was.told frames_now + one_if was.looked + started_in (number_of s) facts ≤ one_if was.told + looked_on_top was.looked frames_now + 1 → Fits later (command_at was) then was.looked frames_now was.told
+      fits_here past started top = fits_released facts later (command_at was) s was.looked was.frames was.told (events.Release from) locks at waits.fits now from frames_now refl waits.runs (from_of facts (end_by facts (command_at was) s) from lets) (λ scan none. none)
           (left_looks facts later s held_now locks at was.looked frames_now was.told before now.going now.after refl started (left_unlooked (is_kept facts.kept) s.left held_now) top)
           (left_fits later (command_at was) then now.out refl refl past)
 
-      -- a level that is released alone isn't that of a commit
-      inner_hidden : IsInner facts (command_at was) s from → LetsGo facts (end_by facts (command_at was) s) from → is_visible facts.running ≡ false
-      inner_hidden inner (AllSent commits visible sent) = absurd (omega (arith, inner.above, first_running facts.running (was.progress.finished + 1) from inner.runs (first_committed commits)))
-      inner_hidden inner (NoWrite end bare) = bare_hidden facts (command_at was) s was.looked was.frames was.told from waits.fits end bare
-
-      -- and no look is made for what a command tells that takes one back
+      -- no look is made for what a command tells that takes an inner level back
       inner_unlooked : IsInner facts (command_at was) s from → fails_at s.left ≡ false → was.looked ≡ false
       inner_unlooked inner goes = by_looked was.looked refl
         where
@@ -175,34 +166,33 @@ module _ (scenario : Scenario) (old : List Entry) (was : Backend) (from : ℕ) (
           by_plan (Absent name) out is = absurd (cc is)
           by_plan (Do act rest) out is = absurd (cc out)
 
+          -- it isn't a commit, which would release its transaction
+          back : LetsGo facts (end_by facts (command_at was) s) from → end_by facts (command_at was) s ≡ TakesBack from
+          back (AllSent commits visible sent) = absurd (omega (arith, inner.above, first_running facts.running (was.progress.finished + 1) from inner.runs (first_committed commits)))
+          back (NoWrite (inl commits) bare) = absurd (omega (arith, inner.above, first_running facts.running (was.progress.finished + 1) from inner.runs (first_committed commits)))
+          back (NoWrite (inr takes) bare) = takes
+
+          plain : (o : Option Command) → command_at was ≡ o → left_rests_on s.left ≡ []
+          plain None none = absurd (inner.command none)
+          plain (Some command) here = back_plain facts command s from (subst (λ o. RunsFit facts o s) here waits.runs) (ap (λ o. end_by facts o s) (sym here) ∙ back lets)
+
           by_looked : (t : Bool) → was.looked ≡ t → t ≡ false
           by_looked false is = refl
-          by_looked true is = let well = by_plan s.left now.out goes in absurd (plain_unlooked facts was.frames s.taken s.left well (inner.plain well) (waits.fits.sought is))
+          by_looked true is = absurd (plain_unlooked facts was.frames s.taken s.left (by_plan s.left now.out goes) (plain (command_at was) refl) (waits.fits.sought is))
 
       by_part : Releases facts (command_at was) s from → Fits later (command_at was) then was.looked frames_now was.told
-      by_part (Whole is none on) = fits_here (subst (λ n. n ≤ number_of s) (sym (ap (λ r. option_map_or (λ (t : Running). t.first) r 0) ended)) (omega arith))
-          (λ some. absurd (both_ways _ (ended_lists facts.running facts.lists (was.progress.finished + 1) from (first_here is) waits.fits.written) some)) (ap (λ r. is_visible r) ended) (on later ended)
-          (ap (λ r. opens_before (option_map_or (λ (t : Running). t.first) r 0) s.opens) ended ∙ since_none s.opens) (λ over. none) (λ past. ap (map opening_of) none) (ap (λ r. option_map_or (λ (t : Running). elim (t.first == number_of s) as (λ x. ℕ) [ true ↦ 1 | false ↦ 0 ]) r 0) ended)
+      by_part (Whole is none on) = fits_here (λ past. ap (map opening_of) none) (ap (λ r. option_map_or (λ (t : Running). elim (t.first == number_of s) as (λ x. ℕ) [ true ↦ 1 | false ↦ 0 ]) r 0) (ended_running facts.running (was.progress.finished + 1) from (first_here is)))
           (subst (λ l. told_owed was.told l + one_if was.looked + started_in (number_of s) facts ≤ one_if was.told + looked_on_top was.looked l + 1) (sym (bare_left none)) (omega (arith, before.once)))
         where
-          ended : later.running ≡ None
-          ended = ended_running facts.running (was.progress.finished + 1) from (first_here is)
-
           bare_left : opens_before from s.opens ≡ [] → frames_now ≡ []
           bare_left without = ap (λ l. frames_left (is_kept facts.kept) s.left (map opening_of l)) without ∙ by_fails (fails_at s.left)
             where
               by_fails : (t : Bool) → unless t [] [] ≡ []
               by_fails true = refl
               by_fails false = refl
-      by_part (Inner inner) = fits_here (subst (λ n. n ≤ number_of s) (sym (ap (λ r. option_map_or (λ (t : Running). t.first) r 0) same)) waits.fits.first)
-          (λ some. ap (λ r. option_map_or (λ (t : Running). is_some t.xid) r false) same ∙ waits.fits.written (ap (has_write_from 0) (sym (kept_lists facts.running facts.lists from inner.runs inner.above)) ∙ some))
-          (ap (λ r. is_visible r) same ∙ inner_hidden inner lets) (inner.on later same)
-          (ap (λ r. opens_before (option_map_or (λ (t : Running). t.first) r 0) s.opens) same ∙ waits.fits.since) (λ over. absurd (both_ways _ (ap (λ r. is_some r) (sym same ∙ over)) inner.runs)) (λ none. absurd (inner.command none)) (ap (λ r. option_map_or (λ (t : Running). elim (t.first == number_of s) as (λ x. ℕ) [ true ↦ 1 | false ↦ 0 ]) r 0) same ∙ started_before)
+      by_part (Inner inner) = fits_here (λ none. absurd (inner.command none)) (ap (λ r. option_map_or (λ (t : Running). elim (t.first == number_of s) as (λ x. ℕ) [ true ↦ 1 | false ↦ 0 ]) r 0) (kept_running facts.running (was.progress.finished + 1) from inner.runs inner.above) ∙ started_before)
           (omega (arith, started_before, left_top (is_kept facts.kept) s.left held_now was.looked was.told (inner_unlooked inner)))
         where
-          same : later.running ≡ facts.running
-          same = kept_running facts.running (was.progress.finished + 1) from inner.runs inner.above
-
           started_before : started_in (number_of s) facts ≡ 0
           started_before = by_own facts.running inner.above
             where
@@ -211,7 +201,7 @@ module _ (scenario : Scenario) (old : List Entry) (was : Backend) (from : ℕ) (
               by_own (Some t) above = ap (λ x. elim x as (λ y. ℕ) [ true ↦ 1 | false ↦ 0 ]) (ne_eqb t.first (number_of s) (λ is. absurd (omega (arith, is, above, inner.low))))
 
 -- the state after it
-pub release_enters : (scenario : Scenario) (old new : List Entry) (had has : ℕ → ℕ) (was : Backend) (from : ℕ) (p : Progress) (frames : List Frame) (waits : AwaitsEntry scenario old was) → IsPlayed scenario old → AllOnCourse scenario old → EndsNext was (events.Release from)
+pub release_enters : (scenario : Scenario) (old new : List Entry) (had has : ℕ → ℕ) (was : Backend) (from : ℕ) (p : Progress) (frames : List Frame) (waits : AwaitsEntry scenario old was) → IsPlayed scenario old → AllOnCourse scenario old → IsEndNext was (events.Release from)
     → HasEntered scenario old was.progress (events.Release from) waits.rests p → kept_at p ≡ kept_at was.progress → p.answer ≡ was.progress.answer → frames ≡ unless (has_failed p) was.frames (with_rest (is_kept (kept_at p)) p.opened was.frames)
     → Appends old new had has (entry_of was.progress.id (was.progress.finished + 1) (events.Release from)) → Enters scenario old new had has was (record was { progress = p; frames = frames })
 release_enters scenario old new had has was from p frames waits played courses next goes kept same are appends =
@@ -219,7 +209,7 @@ release_enters scenario old new had has was from p frames waits played courses n
     (end_enters scenario old new had has was (events.Release from) p (frames_now scenario old was from waits next) waits refl played courses next goes same (release_fits scenario old was from waits next _ (length old + 1)) appends)
   where
     bare : was.frames ≡ []
-    bare = end_bare scenario old was waits (events.Release from) refl next
+    bare = next.bare
 
     usable : is_kept (kept_at p) ≡ is_kept (facts_of old was.progress.id).kept
     usable = ap is_kept kept ∙ sym (usable_is (facts_of old was.progress.id) was.progress waits.rests.holds.facts)
@@ -228,7 +218,7 @@ release_enters scenario old new had has was from p frames waits played courses n
     frames_are = λ i. unless (fails_at (ap (λ (x : Session). x.left) goes.session i)) (bare i) (with_rest (usable i) (ap (λ (x : Session). x.opened) goes.session i) (bare i))
 
 -- out of memory, its entry is made
-pub release_makes : (scenario : Scenario) (old new : List Entry) (had has : ℕ → ℕ) (was : Backend) (from : ℕ) (waits : AwaitsEntry scenario old was) → IsPlayed scenario old → AllOnCourse scenario old → EndsNext was (events.Release from)
+pub release_makes : (scenario : Scenario) (old new : List Entry) (had has : ℕ → ℕ) (was : Backend) (from : ℕ) (waits : AwaitsEntry scenario old was) → IsPlayed scenario old → AllOnCourse scenario old → IsEndNext was (events.Release from)
     → Appends old new had has (entry_of was.progress.id (was.progress.finished + 1) (events.Release from)) → MakesEntry scenario old new had has was.progress.id
 release_makes scenario old new had has was from waits played courses next appends = own_makes scenario old new had has was (events.Release from) waits played courses (end_own scenario old was waits (events.Release from) refl next) appends
 
@@ -248,6 +238,5 @@ pub rest_is : (p : Progress) (was frames : List Frame) (fails : Bool) (held : Li
 rest_is p was frames fails held fails_is held_is are = are ∙ (λ i. unless (fails_is i) was (with_rest (is_kept (kept_at p)) (held_is i) was))
 
 -- before it its command has come out
-pub release_out : (scenario : Scenario) (old : List Entry) (was : Backend) (from : ℕ) → AwaitsEntry scenario old was → EndsNext was (events.Release from) → is_out was.progress ≡ true
-release_out scenario old was from waits (InCommand command free out owes again may) = out
-release_out scenario old was from waits (AfterAll past next) = (waits.fits.past past).out
+pub release_out : (scenario : Scenario) (old : List Entry) (was : Backend) (from : ℕ) → AwaitsEntry scenario old was → IsEndNext was (events.Release from) → is_out was.progress ≡ true
+release_out scenario old was from waits next = (now scenario old was from waits next).out

@@ -27,7 +27,7 @@ use Rattle.backend_core.specs.Agrees.{IsPlayed, command_at, AwaitsEntry}
 use Rattle.backend_core.specs.Fits.{looks_due, LooksFit, Fits, IsLookedFor, Lacks, Unfound, Said, FramesFit, IsUnheld, looked_in, looked_on_top, told_owed}
 use Rattle.backend_core.specs.Steps.{IsScanNext, MakesEntry, Enters, IsInTurn}
 use Rattle.backend_core.specs.Words.{is_looked_for, has_error, frames_noted, frames_with_scan}
-use Rattle.backend_core.proofs.Choosing.ActsRun.{scan_runs}
+use Rattle.backend_core.proofs.Choosing.Running.{entry_runs}
 use Rattle.backend_core.proofs.Choosing.Chosen.{may_request, standing}
 use Rattle.backend_core.proofs.Fitting.Entered.{fits_at}
 use Rattle.backend_core.proofs.Entries.Inside.{runs_on, inside_fits}
@@ -131,7 +131,7 @@ module _ (scenario : Scenario) (old : List Entry) (was : Backend) (waits : Await
   scan_makes new had has played appends = own_makes scenario old new had has was event waits played courses scan_own appends
 
   same : later.running ≡ facts.running
-  same = runs_on (was.progress.finished + 1) facts.running (scan_runs scenario old was waits courses next.command next.free.at scan next.next next.free.first)
+  same = runs_on (was.progress.finished + 1) facts.running (entry_runs scenario old was waits courses next.command next.free.at next.free.first)
 
   looks_less : LooksFit later now (was.looked && rebuilds) (frames_now rebuilds) was.told
   looks_less = record {
@@ -194,8 +194,8 @@ module _ (scenario : Scenario) (old : List Entry) (was : Backend) (waits : Await
   }
 
   scan_fits : AreBegun (is_kept facts.kept) → Fits later (command_at was) now (was.looked && rebuilds) (frames_now rebuilds) was.told
-  scan_fits begun = inside_fits scenario old was waits courses next.command next.free.at later now (was.looked && rebuilds) (frames_now rebuilds) was.told same refl (λ from is. cc is) (record { blocks = refl; opens = refl; held = inl refl; finished = refl; blocked = refl; ended = refl; left = λ is there. refl })
-      (scan_runs scenario old was waits courses next.command next.free.at scan next.next next.free.first) (scan_busy scenario old was scan rebuilds waits next) looks_less rebuilds_now
+  scan_fits begun = inside_fits scenario old was waits courses next.command next.free.at later now (was.looked && rebuilds) (frames_now rebuilds) was.told (record { blocks = refl; opens = refl; held = inl refl; finished = refl; blocked = refl; ended = refl; left = λ is there. refl })
+      looks_less rebuilds_now
       (λ made. sought rebuilds next.turn (and_parts was.looked rebuilds made)) (takes_cleared _ (number_of s) s.locks s.taken s.left waits.fits.takes)
     where
       -- what a look of the act was made for it lacks still, after a scan of a rebuild

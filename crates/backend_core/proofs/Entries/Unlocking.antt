@@ -30,7 +30,7 @@ use Rattle.backend_core.specs.Agrees.{IsPlayed, command_at, AwaitsEntry}
 use Rattle.cacheless.specs.OnCourse.{OnItsWay, AllOnCourse}
 use Rattle.backend_core.specs.Fits.{looks_due, LooksFit, TakesFit, IsLookedFor, lacks_scan, is_gone_due}
 use Rattle.backend_core.specs.Steps.{IsUnlockNext, Enters}
-use Rattle.backend_core.proofs.Choosing.ActsRun.{act_runs}
+use Rattle.backend_core.proofs.Choosing.Running.{entry_runs}
 use Rattle.backend_core.proofs.Choosing.Chosen.{Acts, may_call, now_plays, standing as not_gone}
 use Rattle.backend_core.proofs.Entries.Failing.{IsActing}
 use Rattle.backend_core.proofs.Entries.Inside.{runs_on, inside_fits}
@@ -94,7 +94,7 @@ module _ (scenario : Scenario) (old : List Entry) (was : Backend) (waits : Await
   acting = record {
     at = next.free.at;
     unsettled = ap (λ p. is_settled (outcome_of p)) lookup.is;
-    runs = act_runs scenario old was waits courses next.command next.free.at act lookup.rest lookup.is next.free.first;
+    runs = entry_runs scenario old was waits courses next.command next.free.at next.free.first;
     owed = (ap (λ f. owed_after f.due) waits.rests.holds.facts) ∙ next.free.due;
     bare = owed_bare facts (command_at was) s was.frames next.command waits.fits.rebuilds asks.0;
   }
@@ -147,7 +147,7 @@ module _ (scenario : Scenario) (old : List Entry) (was : Backend) (waits : Await
   unlock_enters new had has p goes none appends =
       own_enters scenario old new had has was (record was { progress = p }) event waits played courses (record { plays = plays; truly = tt; queue = tt }) goes
       (fits_at scenario old was event waits p goes was.looked was.frames was.told
-      (inside_fits scenario old was waits courses next.command next.free.at later now was.looked was.frames was.told same refl (λ from is. cc is) (record { blocks = refl; opens = refl; held = inl refl; finished = refl; blocked = refl; ended = refl; left = λ is there. refl }) acting.runs (Acts acting.unsettled)
+      (inside_fits scenario old was waits courses next.command next.free.at later now was.looked was.frames was.told (record { blocks = refl; opens = refl; held = inl refl; finished = refl; blocked = refl; ended = refl; left = λ is there. refl })
       (record { enough = omega (arith, before.enough, ap looks_due acting.owed, started); within = omega (arith, before.within, ap looks_due acting.owed, started); once = omega (arith, before.once, started) })
       (same_fits facts later (command_at was) s now was.frames refl refl refl refl (sym not_taken_back) waits.fits.rebuilds)
       (λ made. unlooked (waits.fits.sought made)) tt))

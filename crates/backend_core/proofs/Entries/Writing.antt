@@ -55,13 +55,13 @@ use Rattle.backend_core.specs.Fits.{looks_due, looked_on_top, came_well, LooksFi
 use Rattle.backend_core.specs.Steps.{IsWriteNext, MakesEntry, Enters, IsRefused}
 use Rattle.backend_core.specs.Noted.{noted_of, noted_by, ComesAs, refusal_left, IsNoted}
 use Rattle.backend_core.specs.declared.next.Next.TheVariants as nexts
-use Rattle.backend_core.proofs.Choosing.ActsRun.{act_runs}
+use Rattle.backend_core.proofs.Choosing.Running.{entry_runs}
 use Rattle.backend_core.proofs.Entries.Alike.{alike_enters}
 use Rattle.backend_core.proofs.Entries.WhereLeft.{entered_here}
 use Rattle.backend_core.proofs.Choosing.Chosen.{Acts, may_request, started_still}
 use Rattle.backend_core.proofs.Fitting.Entered.{fits_at}
 use Rattle.backend_core.proofs.Entries.Failing.{IsActing, clash_shows, failed_enters}
-use Rattle.backend_core.proofs.Entries.Inside.{made_refused, entry_fits}
+use Rattle.backend_core.proofs.Entries.Inside.{made_refused, inside_fits}
 use Rattle.backend_core.proofs.Own.{waiting, waiting_is, waiting_course, at_session, follows, going, OwnEntry, own_makes, own_enters}
 use Rattle.backend_core.proofs.Fitting.Sought.{no_look}
 use Rattle.backend_core.proofs.Fitting.Rebuilding.{owed_bare, owed_whole, owed_builds, each_whole}
@@ -119,7 +119,7 @@ module _ (scenario : Scenario) (old : List Entry) (was : Backend) (draft : Draft
   acting = record {
     at = next.free.at;
     unsettled = ap (λ p. is_settled (outcome_of p)) at;
-    runs = act_runs scenario old was waits courses next.command next.free.at (Write draft) (λ given. Done tells.Ok) at next.free.first;
+    runs = entry_runs scenario old was waits courses next.command next.free.at next.free.first;
     owed = (ap (λ f. owed_after f.due) waits.rests.holds.facts) ∙ next.free.due;
     bare = owed_bare facts (command_at was) s was.frames next.command waits.fits.rebuilds owed_none;
   }
@@ -199,10 +199,9 @@ module _ (scenario : Scenario) (old : List Entry) (was : Backend) (draft : Draft
   wrote_enters new had has p kept_then xid goes none appends =
       own_enters scenario old new had has was (record was { progress = p; frames = frames_wrote kept_then }) event waits played courses (write_own xid) goes
       (fits_at scenario old was event waits p goes was.looked (frames_wrote kept_then) was.told
-      (entry_fits scenario old was waits courses next.command next.free.at later now was.looked (frames_wrote kept_then) was.told
-      (record { runs = λ i. Some (record (begun (sym waits.rests.holds.count i + 1) facts.running) { xid = Some xid }); written = λ is. refl; last = λ from is. cc is })
+      (inside_fits scenario old was waits courses next.command next.free.at later now was.looked (frames_wrote kept_then) was.told
       (record { blocks = ap (λ q. (written q s).blocks) at; opens = ap (λ q. (written q s).opens) at; held = inr (ap (λ q. (written q s).opened) at, going_on); finished = ap (λ q. length (written q s).finished) at; blocked = ap (λ q. (written q s).blocked) at; ended = ap (λ q. (written q s).ended) at; left = λ is there. absurd (both_ways _ acting.unsettled is) })
-      acting.runs (Acts acting.unsettled) looks rebuilds
+      looks rebuilds
       (λ made. absurd (unlooked made)) (subst (λ q. TakesFit (number_of now) now.locks (written q s).taken (written q s).left) (sym at) tt)))
       refl refl refl (λ stop. cc stop) none appends
     where

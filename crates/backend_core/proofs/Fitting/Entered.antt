@@ -10,7 +10,7 @@ use Rattle.cacheless.proofs.Reading.{facts_of-own}
 use Rattle.backend_core.specs.Types.{Scenario, Entry, Event, Progress, Backend, Frame}
 use Rattle.backend_core.specs.Agrees.{command_at, AwaitsEntry}
 use Rattle.backend_core.specs.Fits.{Fits}
-use Rattle.backend_core.proofs.Own.{waiting}
+use Rattle.backend_core.proofs.Own.{waiting, entered_holds}
 
 -- its counts have room for one more, where the history is short
 pub has_room : (scenario : Scenario) (seen : List Entry) (s : Backend) → AwaitsEntry scenario seen s → length seen ≤ 72057594037927936 → HasRoom s.progress
@@ -31,9 +31,4 @@ module _ (scenario : Scenario) (old : List Entry) (was : Backend) (event : Event
   pub fits_at : (looked : Bool) (frames : List Frame) (told : Bool) → Fits (facts_by old was.progress.id (was.progress.finished + 1) event (facts_of old was.progress.id)) (command_at was)
       (entered (facts_of (with_own old was.progress event) was.progress.id) (drop was.progress.finished was.progress.commands) (length old + 1) (was.progress.finished + 1) event (waiting waits)) looked frames told
       → Fits (facts_of (with_own old was.progress event) p.id) (slice_get p.commands p.finished) (session_at p goes.holds.rest) looked frames told
-  fits_at looked frames told fits =
-      subst (λ f. Fits f (slice_get p.commands p.finished) (session_at p goes.holds.rest) looked frames told)
-      (sym (ap (facts_of (with_own old was.progress event)) goes.moves.id ∙ facts_of-own old (entry_of was.progress.id (was.progress.finished + 1) event) was.progress.id (eq-eqb was.progress.id was.progress.id refl)))
-      (subst (λ o. Fits (facts_by old was.progress.id (was.progress.finished + 1) event (facts_of old was.progress.id)) o (session_at p goes.holds.rest) looked frames told)
-      (sym (ap (λ l. slice_get l p.finished) goes.moves.commands ∙ ap (slice_get was.progress.commands) goes.moves.finished))
-      (subst (λ x. Fits (facts_by old was.progress.id (was.progress.finished + 1) event (facts_of old was.progress.id)) (command_at was) x looked frames told) (sym goes.session) fits))
+  fits_at looked frames told = entered_holds scenario old was event waits p goes (λ facts o s. Fits facts o s looked frames told)

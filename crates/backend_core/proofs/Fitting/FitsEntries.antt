@@ -18,18 +18,11 @@ use Rattle.cacheless.specs.Owed.{begins_in}
 use Rattle.cacheless.specs.State.{is_absent}
 use Rattle.cacheless.proofs.Entries.EnteredLooks.{not_absent}
 use Rattle.backend_core.specs.Types.{Command, Frame}
-use Rattle.backend_core.specs.Fits.{LooksFit, FramesFit, IsUnheld, first_at, LevelsRise, IsOutermostPlain, RunsBlock, RunsFailed, RunsAt, RunsIn, RunsBy, RunsAfter, TransactionFits, Fits, IsLookedFor, TakesFit, OpensIn, AreHeld, OpensFit}
+use Rattle.backend_core.specs.Fits.{LooksFit, FramesFit, IsUnheld, Fits, IsLookedFor, TakesFit, AreHeld, OpensFit}
 use Rattle.backend_core.proofs.Fitting.Over.{IsWellOnceOver, well_present}
-use Rattle.backend_core.proofs.Fitting.NextTransaction.{some_first, failed_on}
 use Rattle.cacheless.specs.declared.progress.Due.TheVariants as dues
 
--- what such an entry leaves of the facts: its transaction runs, with its first command, and isn't visible
-pub record StaysInside (facts later : Facts) (number : ℕ) : Type 0 where
-  pub runs : later.running ≡ Some (record (begun number facts.running) { xid = option_map_or (λ t. t.xid) later.running None })
-  pub written : has_write_from 0 later.lists ≡ true → option_map_or (λ t. is_some t.xid) later.running false ≡ true
-  pub last : (from : ℕ) → later.due ≡ dues.Gone from → ⊥
-
--- and of the session
+-- what such an entry leaves of the session
 pub record StaysAt (s later : Session) : Type 0 where
   pub blocks : later.blocks ≡ s.blocks
   pub opens : later.opens ≡ s.opens
@@ -46,7 +39,6 @@ plan_stays s now same well = same.left (ap is_settled well) (well_present s.left
 -- what is held of the relations that are open goes on
 opens_stay : (o : Option Command) (s now : Session) → StaysAt s now → IsWellOnceOver s → OpensFit o s → OpensFit o now
 opens_stay o s now same over fits = record {
-  inside = subst (λ b. OpensIn b.block now.opens) (sym same.blocks) (subst (OpensIn s.blocks.block) (sym same.opens) fits.inside);
   held = λ on. subst (AreHeld now.opened) (λ i. held_in (sym same.blocks i).block (sym same.opens i)) (by_held same.held on);
   over = λ ended command at. by_over same.held (sym same.ended ∙ ended) command at;
 }
@@ -59,115 +51,15 @@ opens_stay o s now same over fits = record {
     by_over (inr (is, going)) ended command at = absurd (both_ways _ going ended)
     by_over (inl is) ended command at = is ∙ fits.over ended command at ∙ (λ i. map opening_of (opens_passed (sym (plan_stays s now same (over ended)) i) (sym same.finished i + 1) command (sym same.blocked i) (sym same.blocks i).levels (sym is i) (sym same.opens i)))
 
--- the plan with which the command began
-plan_then : (o : Option Command) (s later : Session) → StaysAt s later → plan_first s.blocks s.opens o ≡ plan_first later.blocks later.opens o
-plan_then o s later same = λ i. plan_first (sym same.blocks i) (sym same.opens i) o
-
-begun_first : (number : ℕ) (own : Option Running) → (begun number own).first ≡ option_map_or (λ t. t.first) own number
-begun_first number None = refl
-begun_first number (Some t) = refl
-
-begun_hidden : (number : ℕ) (own : Option Running) → is_visible own ≡ false → (begun number own).visible ≡ false
-begun_hidden number None hidden = refl
-begun_hidden number (Some t) hidden = hidden
-
--- a transaction runs, or one begins with this command
-pub data RunsHere (facts : Facts) (o : Option Command) (s : Session) : Type 0 where
-  Goes : is_some facts.running ≡ true → RunsHere facts o s
-  Starts : (command : Command) → o ≡ Some command → begins_in command (work_of s) ≡ true → s.blocks.block ≡ Outside → facts.running ≡ None → RunsHere facts o s
-
-module _ (facts later : Facts) (o : Option Command) (s now : Session) (command : Command) (at : o ≡ Some command) (fits_first : (first_at facts ≤ number_of s)) (stays : StaysInside facts later (number_of s)) (same : StaysAt s now) (goes : RunsHere facts o s) where
-  number_same : number_of now ≡ number_of s
-  number_same = ap (λ n. n + 1) same.finished
-
-  -- the first command of the transaction
-  first_now : first_at later ≡ option_map_or (λ t. t.first) facts.running (number_of s)
-  first_now = ap (λ r. option_map_or (λ (t : Running). t.first) r 0) stays.runs ∙ begun_first (number_of s) facts.running
-
-  first_kept : is_some facts.running ≡ true → first_at later ≡ first_at facts
-  first_kept some = first_now ∙ by_own facts.running some
-    where
-      by_own : (own : Option Running) → is_some own ≡ true → option_map_or (λ (t : Running). t.first) own (number_of s) ≡ option_map_or (λ (t : Running). t.first) own 0
-      by_own None is = absurd (cc is)
-      by_own (Some t) is = refl
-
-  first_low : first_at later ≤ number_of now
-  first_low = subst (λ n. n ≤ number_of now) (sym first_now) (subst (λ n. option_map_or (λ (t : Running). t.first) facts.running (number_of s) ≤ n) (sym number_same) (by_own facts.running fits_first))
-    where
-      by_own : (own : Option Running) → option_map_or (λ (t : Running). t.first) own 0 ≤ number_of s → option_map_or (λ (t : Running). t.first) own (number_of s) ≤ number_of s
-      by_own None low = omega arith
-      by_own (Some t) low = low
-
-  begins_same : (c : Command) → begins_in c (work_of now) ≡ begins_in c (work_of s)
-  begins_same c = λ i. elim (same.blocks i).block as (λ x. Bool) [ Outside ↦ not (ends_block c) && not (same.ended i) && is_none (refused_by no_block c) | block ↦ false ]
-
-  block_now : (levels : List Level) → RunsBlock facts levels → RunsBlock later levels
-  block_now levels block = record { runs = ap (λ r. is_some r) stays.runs; first = λ c. first_kept block.runs ∙ block.first c }
-
-  runs_now : (block : Block) → s.blocks.block ≡ block → RunsBy facts o s block → RunsBy later o now block
-  runs_now Outside is (inl none) = by_goes goes
-    where
-      by_goes : RunsHere facts o s → RunsBy later o now Outside
-      by_goes (Goes some) = absurd (both_ways _ (ap (λ r. is_some r) none) some)
-      by_goes (Starts c here starts outside none') = inr (record { command = c; at = here; begins = begins_same c ∙ starts; first = first_now ∙ ap (λ r. option_map_or (λ (t : Running). t.first) r (number_of s)) none ∙ sym number_same })
-  runs_now Outside is (inr alone) = inr (record { command = alone.command; at = alone.at; begins = begins_same alone.command ∙ alone.begins; first = first_kept (some_first facts.running _ alone.first) ∙ alone.first ∙ sym number_same })
-  runs_now Inside is block = subst (λ b. RunsBlock later b.levels) (sym same.blocks) (block_now s.blocks.levels block)
-  runs_now Failed is failed = subst (λ b. RunsFailed later b.levels) (sym same.blocks) (failed_on facts later s.blocks.levels (block_now s.blocks.levels) (λ none. none_runs none goes) failed)
-    where
-      none_runs : {X : Type 0} → facts.running ≡ None → RunsHere facts o s → X
-      none_runs none (Goes some) = absurd (both_ways _ (ap (λ r. is_some r) none) some)
-      none_runs none (Starts c here starts outside none') = absurd (let both : Failed ≡ Outside = sym is ∙ outside in cc both)
-
-  -- once the release is made
-  after_now : IsWellOnceOver s → s.ended ≡ true → RunsIn facts (blocks_after command s) → RunsIn later (blocks_after command now)
-  after_now over ended runs = subst (RunsIn later) (λ i. elim (outcome_of (sym (plan_stays s now same (over ended)) i)) as (λ x. Blocks) [ Well ↦ blocks_well (sym number_same i) command (sym same.blocks i) | outcome ↦ blocks_badly (sym same.blocks i) ])
-      (by_block (blocks_after command s).levels (blocks_after command s).block runs)
-    where
-      none_runs : {X : Type 0} → facts.running ≡ None → RunsHere facts o s → X
-      none_runs none (Goes some) = absurd (both_ways _ (ap (λ r. is_some r) none) some)
-      none_runs none (Starts c here starts outside none') = absurd (both_ways _ (ap (λ b. elim b as (λ x. Bool) [ Outside ↦ not (ends_block c) && not s.ended && is_none (refused_by no_block c) | other ↦ false ]) outside
-          ∙ ap (λ t. not (ends_block c) && not t && is_none (refused_by no_block c)) ended ∙ ap (λ t. t && is_none (refused_by no_block c)) (and-false (not (ends_block c)))) starts)
-
-      by_block : (levels : List Level) (block : Block) → RunsAt facts levels block → RunsAt later levels block
-      by_block levels Outside none = none_runs none goes
-      by_block levels Inside block = block_now levels block
-      by_block levels Failed failed = failed_on facts later levels (block_now levels) (λ none. none_runs none goes) failed
-
-  -- the relations that are open are of its transaction
-  since_now : OpensIn s.blocks.block s.opens → opens_before (first_at facts) s.opens ≡ [] → opens_before (first_at later) now.opens ≡ []
-  since_now inside since = ap (opens_before (first_at later)) same.opens ∙ by_goes goes
-    where
-      by_goes : RunsHere facts o s → opens_before (first_at later) s.opens ≡ []
-      by_goes (Goes some) = ap (λ n. opens_before n s.opens) (first_kept some) ∙ since
-      by_goes (Starts c here starts outside none) = ap (opens_before (first_at later)) (subst (λ b. OpensIn b s.opens) outside inside)
-
 -- what the choice keeps
-pub fits_inside : (facts later : Facts) (o : Option Command) (s now : Session) (looked : Bool) (frames : List Frame) (told looked_now : Bool) (frames_now : List Frame) (told_now : Bool) (command : Command) → o ≡ Some command → Fits facts o s looked frames told → StaysInside facts later (number_of s) → StaysAt s now → RunsHere facts o s → is_visible facts.running ≡ false → IsWellOnceOver s
-    → LooksFit later now looked_now frames_now told_now → FramesFit later o now frames_now → (looked_now ≡ true → IsLookedFor later frames_now now.taken now.left × IsUnheld now.opened now.left) → TakesFit (number_of now) now.locks now.taken now.left → Fits later o now looked_now frames_now told_now
-fits_inside facts later o s now looked frames told looked_now frames_now told_now command at fits stays same goes hidden over looks rebuilds sought takes = record {
+pub fits_inside : (later : Facts) (o : Option Command) (s now : Session) (looked : Bool) (frames : List Frame) (told : Bool) (command : Command) → o ≡ Some command → OpensFit o s → StaysAt s now → IsWellOnceOver s
+    → LooksFit later now looked frames told → FramesFit later o now frames → (looked ≡ true → IsLookedFor later frames now.taken now.left × IsUnheld now.opened now.left) → TakesFit (number_of now) now.locks now.taken now.left → Fits later o now looked frames told
+fits_inside later o s now looked frames told command at opens same over looks rebuilds sought takes = record {
   looks = looks;
   rebuilds = rebuilds;
-  transaction = subst (TransactionFits later o now) (sym same.ended) (by_ended s.ended refl fits.transaction);
-  first = first_low facts later o s now command at fits.first stays same goes;
-  opens = subst (λ b. is_open b ≡ not (is_empty b.levels)) (sym same.blocks) fits.opens;
-  levels = subst (λ b. LevelsRise 0 (number_of now) b.levels) (sym same.blocks) (subst (λ n. LevelsRise 0 n s.blocks.levels) (sym (ap (λ n. n + 1) same.finished)) fits.levels);
-  plain = subst (λ b. IsOutermostPlain b.levels) (sym same.blocks) fits.plain;
-  blocked = same.blocked ∙ fits.blocked ∙ ap (λ b. is_blocked b o) (sym same.blocks);
-  settled = λ is. let before = plan_then o s now same in let first = fits.settled (ap (λ p. is_settled (outcome_of p)) before ∙ is) in
-      same.left (ap (λ p. is_settled (outcome_of p)) first ∙ ap (λ p. is_settled (outcome_of p)) before ∙ is) (ap is_absent first ∙ not_absent s.blocks s.opens o) ∙ first ∙ before;
-  written = stays.written;
-  visible = λ is. absurd (both_ways _ (ap (λ r. is_visible r) stays.runs ∙ begun_hidden (number_of s) facts.running hidden) is);
-  taken = λ from is. absurd (stays.last from is);
-  accepts = λ _. ap (λ r. is_some r) stays.runs;
   past = λ none. absurd (let both : Some command ≡ None = sym at ∙ none in cc both);
-  relations = opens_stay o s now same over fits.relations;
-  since = since_now facts later o s now command at fits.first stays same goes fits.relations.inside fits.since;
-  free = λ ended none. absurd (let no : None ≡ Some (record (begun (number_of s) facts.running) { xid = option_map_or (λ t. t.xid) later.running None }) = sym none ∙ stays.runs in cc no);
+  relations = opens_stay o s now same over opens;
   sought = λ made. (sought made).0;
   takes = takes;
   unheld = λ made. (sought made).1;
 }
-  where
-    by_ended : (t : Bool) → s.ended ≡ t → TransactionFits facts o s t → TransactionFits later o now t
-    by_ended false going runs = subst (λ b. RunsBy later o now b.block) (sym same.blocks) (runs_now facts later o s now command at fits.first stays same goes s.blocks.block refl runs)
-    by_ended true ended runs = subst (λ x. RunsAfter later x now) (sym at) (after_now facts later o s now command at fits.first stays same goes over ended (subst (λ x. RunsAfter facts x s) at runs))

@@ -19,13 +19,14 @@ use Rattle.cacheless.specs.Ends.{End, Ends, Commits, TakesBack, end_well_in, end
 use Rattle.cacheless.specs.Settled.{act_done, is_finished_in, blocks_after, finished_as, next_session, class_oid, opened_by, opens_well, opens_badly}
 use Rattle.cacheless.proofs.Plans.SilentActs.{both_empty, empty_list, IsDoneHere, gives_class}
 use Rattle.backend_core.specs.Types.{Row, Command, Event, Frame, Opening}
-use Rattle.backend_core.specs.Fits.{looks_due, first_at, LevelsRise, RunsAt, RunsIn, RunsBy, RunsAfter, TransactionFits, IsPast, Fits, IsLookedFor, Lacks, Unfound, Said, FramesFit, IsUnheld, AreHeld, IsTakenBack, came_well, told_owed}
-use Rattle.backend_core.proofs.Fitting.NextTransaction.{LevelsFit, levels_next, next_silent, well_admitted, failed_mends}
+use Rattle.cacheless.proofs.Allowed.EndsReleased.{Fits as RunsFit}
+use Rattle.cacheless.proofs.Allowed.NextTransaction.{well_admitted, failed_mends}
+use Rattle.backend_core.specs.Fits.{looks_due, Fits, IsLookedFor, Lacks, Unfound, Said, FramesFit, IsUnheld, AreHeld, came_well, told_owed}
 use Rattle.cacheless.specs.Types.{Mode}
 use Rattle.cacheless.specs.State.{is_absent}
 use Rattle.backend_core.proofs.Fitting.Sought.{no_class, act_serves}
 use Rattle.backend_core.proofs.Fitting.Rebuilding.{bare_fits, builds_bare, owed_whole, owed_builds}
-use Rattle.backend_core.proofs.Fitting.OpenRelations.{held_front, well_none, held_badly, opens_next, since_next}
+use Rattle.backend_core.proofs.Fitting.OpenRelations.{held_front, well_none, held_badly}
 use Rattle.cacheless.specs.Types.{OpenRelation}
 use Rattle.cacheless.specs.Suspects.{lacks}
 use Rattle.std.specs.List.{list_any}
@@ -63,47 +64,21 @@ pub fits_quieter : (facts : Facts) (o : Option Command) (s : Session) (looked : 
 fits_quieter facts o s looked frames told keeps quiet is fits = record {
   looks = let l = fits.looks in record { enough = l.enough; within = omega (arith, l.within, told_less told keeps quiet frames is); once = l.once };
   rebuilds = fits.rebuilds;
-  transaction = fits.transaction;
-  first = fits.first;
-  opens = fits.opens;
-  levels = fits.levels;
-  plain = fits.plain;
-  blocked = fits.blocked;
-  settled = fits.settled;
-  written = fits.written;
-  visible = fits.visible;
-  taken = fits.taken;
-  accepts = fits.accepts;
   past = fits.past;
   relations = fits.relations;
-  since = fits.since;
-  free = fits.free;
   sought = fits.sought;
   takes = fits.takes;
   unheld = fits.unheld;
 }
 
 -- an act that is done without an entry
-pub fits_act : (facts : Facts) (o : Option Command) (s : Session) (looked : Bool) (frames : List Frame) (told : Bool) (command : Command) (act : Act) (further : List Row → Plan) (given : List Row) → o ≡ Some command → s.left ≡ Do act further → s.ended ≡ false → IsDoneHere facts s act further given → ((name : List ℕ) (mode : Mode) → act ≡ Lookup name mode → class_oid given ≡ None → is_absent (further given) ≡ true) → Fits facts o s looked frames told → Fits facts o (act_done act given (further given) s) looked frames told
-fits_act facts o s looked frames told command act further given at left going done says fits = record {
+pub fits_act : (facts : Facts) (o : Option Command) (s : Session) (looked : Bool) (frames : List Frame) (told : Bool) (act : Act) (further : List Row → Plan) (given : List Row) → s.left ≡ Do act further → s.ended ≡ false → IsDoneHere facts s act further given → ((name : List ℕ) (mode : Mode) → act ≡ Lookup name mode → class_oid given ≡ None → is_absent (further given) ≡ true) → Fits facts o s looked frames told → Fits facts o (act_done act given (further given) s) looked frames told
+fits_act facts o s looked frames told act further given left going done says fits = record {
+  past = fits.past;
   rebuilds = subst (FramesFit facts o (act_done act given (further given) s)) (sym (builds_bare facts o s frames fits.rebuilds done.builds)) (bare_fits facts o (act_done act given (further given) s)
       (λ keeps. list_any-append (lacks (is_kept facts.kept)) s.opened (opened_by act) ∙ or_from (list_any (lacks (is_kept facts.kept)) s.opened) (list_any (lacks (is_kept facts.kept)) (opened_by act)) (owed_whole facts s.opened done.builds) (opened_whole facts act further done.owed)));
   looks = let l = fits.looks in record { enough = l.enough; within = omega (arith, l.within, ap came_well left); once = l.once };
-  transaction = subst (TransactionFits facts o (act_done act given (further given) s)) (sym going) (by_block s.blocks.block (subst (TransactionFits facts o s) going fits.transaction));
-  first = fits.first;
-  opens = fits.opens;
-  levels = fits.levels;
-  plain = fits.plain;
-  since = fits.since;
-  free = λ over. absurd (both_ways _ going over);
-  blocked = fits.blocked;
-  settled = λ is. absurd (unsettled (ap (λ p. is_settled (outcome_of p)) (fits.settled is) ∙ is));
-  written = fits.written;
-  visible = λ is. absurd (unsettled (fits.visible is).out);
-  taken = λ from is. absurd (unsettled (fits.taken from is).out);
-  accepts = fits.accepts;
-  past = λ none. absurd (let both : Some command ≡ None = sym at ∙ none in cc both);
-  relations = record { inside = fits.relations.inside; held = λ on. held_front s.opened (opened_by act) (held_before s) (fits.relations.held on); over = λ over. absurd (both_ways _ going over) };
+  relations = record { held = λ on. held_front s.opened (opened_by act) (held_before s) (fits.relations.held on); over = λ over. absurd (both_ways _ going over) };
   sought = λ is. Said (absent is);
   takes = tt;
   unheld = λ is. absent_unheld (s.opened ++ opened_by act) (further given) (absent is);
@@ -112,25 +87,14 @@ fits_act facts o s looked frames told command act further given at left going do
     absent : looked ≡ true → is_absent (further given) ≡ true
     absent made = absent_after facts s frames act further given done says (subst (IsLookedFor facts frames s.taken) left (fits.sought made))
 
-    unsettled : is_settled (outcome_of s.left) ≡ true → ⊥
-    unsettled out = both_ways _ (ap (λ p. is_settled (outcome_of p)) left) out
-
-    by_block : (block : Block) → RunsBy facts o s block → RunsBy facts o (act_done act given (further given) s) block
-    by_block Outside (inl none) = inl none
-    by_block Outside (inr alone) = inr (record { command = alone.command; at = alone.at; begins = alone.begins; first = alone.first })
-    by_block Inside runs = runs
-    by_block Failed runs = runs
-
 -- the parts of a finished command
 record IsFinished (facts : Facts) (command : Command) (s : Session) : Type 0 where
-  out : is_settled (outcome_of s.left) ≡ true
   none : is_none (end_left_in facts command (work_of s)) ≡ true
-  first : owed_first_in facts command (work_of s) ≡ []
   after : owed_after facts.due ≡ []
   owed : owed_in facts command (work_of s) ≡ []
 
 parts_of : (facts : Facts) (command : Command) (s : Session) → is_finished_in facts command (work_of s) ≡ true → IsFinished facts command s
-parts_of facts command s is = record { out = front.0; none = front.1; first = (both_empty (owed_first_in facts command (work_of s)) (owed_after facts.due) owed).0; after = (both_empty (owed_first_in facts command (work_of s)) (owed_after facts.due) owed).1; owed = empty_list (owed_in facts command (work_of s)) both.1 }
+parts_of facts command s is = record { none = front.1; after = (both_empty (owed_first_in facts command (work_of s)) (owed_after facts.due) owed).1; owed = empty_list (owed_in facts command (work_of s)) both.1 }
   where
     both : (is_settled (outcome_of s.left) && is_none (end_left_in facts command (work_of s)) ≡ true) × (is_empty (owed_in facts command (work_of s)) ≡ true)
     both = and_parts (is_settled (outcome_of s.left) && is_none (end_left_in facts command (work_of s))) (is_empty (owed_in facts command (work_of s))) is
@@ -147,58 +111,21 @@ none_ends facts Ends is = refl
 none_ends facts (Commits first) is = absurd (cc)
 none_ends facts (TakesBack from) is = absurd (cc)
 
--- the transaction before the next command
-passes_to : (facts : Facts) (o : Option Command) (s : Session) (looked : Bool) (frames : List Frame) (told : Bool) (command : Command) → o ≡ Some command → IsFinished facts command s → Fits facts o s looked frames told → RunsIn facts (blocks_after command s)
-passes_to facts o s looked frames told command at done fits = by_ended s.ended refl fits.transaction done.none
-  where
-    by_ended : (t : Bool) → s.ended ≡ t → TransactionFits facts o s t → is_none (elim t as (λ x. Option Event) [ true ↦ None | false ↦ next_of_end facts (end_in facts command (work_of s)) ]) ≡ true → RunsIn facts (blocks_after command s)
-    by_ended true is runs over = subst (λ x. RunsAfter facts x s) at runs
-    by_ended false is runs over = next_silent facts o s command at fits.blocked (record { opens = fits.opens; rise = fits.levels; plain = fits.plain }) (well_admitted o s command at fits.settled) is done.out done.first runs (none_ends facts (end_in facts command (work_of s)) over)
-
--- by which it runs then
-runs_next : (facts : Facts) (o : Option Command) (s : Session) (block : Block) → RunsAt facts s.blocks.levels block → RunsBy facts o s block
-runs_next facts o s Outside none = inl none
-runs_next facts o s Inside runs = runs
-runs_next facts o s Failed runs = runs
-
--- an end on its way isn't finished
-on_its_way : (facts : Facts) (command : Command) (s : Session) (event : Event) → IsFinished facts command s → s.ended ≡ false → next_of_end facts (end_in facts command (work_of s)) ≡ Some event → ⊥
-on_its_way facts command s event done going comes = both_ways _ (ap (λ e. is_none e) comes) (subst (λ t. is_none (elim t as (λ x. Option Event) [ true ↦ None | false ↦ next_of_end facts (end_in facts command (work_of s)) ]) ≡ true) going done.none)
-
--- where the last entry took writes back the command isn't finished
-gone_unfinished : (facts : Facts) (o : Option Command) (s : Session) (looked : Bool) (frames : List Frame) (told : Bool) (command : Command) (from : ℕ) → o ≡ Some command → is_finished_in facts command (work_of s) ≡ true → Fits facts o s looked frames told → facts.due ≡ dues.Gone from → ⊥
-gone_unfinished facts o s looked frames told command from at finished fits is = on_its_way facts command s _ (parts_of facts command s finished) (fits.taken from is).going
-    (ap (next_of_end facts) (subst (λ x. elim x as (λ y. Type 0) [ Some c ↦ IsTakenBack facts c s from | None ↦ end_of_all facts ≡ TakesBack from ]) at (fits.taken from is).end).end)
-
 not_started : (number : ℕ) (own : Option Running) → option_map_or (λ t. t.first) own 0 ≤ number → option_map_or (λ t. elim (t.first == number + 1) as (λ x. ℕ) [ true ↦ 1 | false ↦ 0 ]) own 0 ≡ 0
 not_started number None low = refl
 not_started number (Some t) low = ap (λ x. elim x as (λ y. ℕ) [ true ↦ 1 | false ↦ 0 ]) (ne_eqb t.first (number + 1) (λ same. absurd (omega (arith, same, low))))
 
 -- a command that is finished is passed over
-pub fits_pass : (facts : Facts) (o : Option Command) (s : Session) (looked : Bool) (frames : List Frame) (told : Bool) (command : Command) (next : Option Command) → o ≡ Some command → is_finished_in facts command (work_of s) ≡ true → Fits facts o s looked frames told → Fits facts next (next_session command next s) false [] false
-fits_pass facts o s looked frames told command next at finished fits = record {
+pub fits_pass : (facts : Facts) (o : Option Command) (s : Session) (looked : Bool) (frames : List Frame) (told : Bool) (command : Command) (next : Option Command) → o ≡ Some command → is_finished_in facts command (work_of s) ≡ true → RunsFit facts o s → Fits facts o s looked frames told → Fits facts next (next_session command next s) false [] false
+fits_pass facts o s looked frames told command next at finished runs fits = record {
   rebuilds = bare_fits facts next now (λ keeps. open_whole);
   looks = record {
     enough = omega (arith, started);
     within = omega (arith, ap looks_due done.after);
     once = omega (arith, started);
   };
-  transaction = runs_next facts next now now.blocks.block (passes_to facts o s looked frames told command at done fits);
-  first = subst (λ n. first_at facts ≤ n) (sym counts) (omega (arith, fits.first));
-  opens = levels.opens;
-  levels = subst (λ n. LevelsRise 0 n now.blocks.levels) (sym counts) levels.rise;
-  plain = levels.plain;
-  since = since_next (first_at facts) s command fits.first fits.since;
-  free = λ over. absurd (cc over);
-  blocked = refl;
-  settled = λ is. refl;
-  written = fits.written;
-  visible = λ is. absurd (on_its_way facts command s _ done (fits.visible is).going (let c = fits.visible is in
-      ap (next_of_end facts) (subst (λ x. end_in facts x (work_of s) ≡ Commits (first_at facts)) (one c.command c.at) c.end)));
-  taken = λ from is. absurd (gone_unfinished facts o s looked frames told command from at finished fits is);
-  accepts = fits.accepts;
-  relations = opens_next o next s command at fits.settled fits.relations;
-  past = λ none. subst (λ x. IsPast facts (next_session command x s)) (sym none) (record { out = refl; free = done.after });
+  past = λ none. done.after;
+  relations = record { held = λ going p none. none; over = λ over. absurd (cc over) };
   sought = λ is. absurd (cc is);
   takes = tt;
   unheld = λ is. absurd (cc is);
@@ -240,7 +167,7 @@ fits_pass facts o s looked frames told command next at finished fits = record {
             by_block : (block : Block) → s.blocks.block ≡ block → AreHeld s.opened (held_in block s.opens) → list_any (lacks (is_kept facts.kept)) (map opening_of (opens_well (number_of s) command s.blocks.levels s.opened s.opens)) ≡ false
             by_block Outside is are = held_whole are
             by_block Inside is are = held_whole are
-            by_block Failed is are = ends_none command (failed_mends s.blocks command is (well_admitted o s command at fits.settled well)) silent
+            by_block Failed is are = ends_none command (failed_mends s.blocks command is (well_admitted o s command at runs.settled well)) silent
 
         by_ended : (t : Bool) → s.ended ≡ t → outcome_of s.left ≡ Well → list_any (lacks (is_kept facts.kept)) (map opening_of (opens_well (number_of s) command s.blocks.levels s.opened s.opens)) ≡ false
         by_ended false going well = going_well going well
@@ -248,7 +175,7 @@ fits_pass facts o s looked frames told command next at finished fits = record {
             ∙ ap (list_any (lacks (is_kept facts.kept))) (sym (fits.relations.over over command at)) ∙ whole well
 
         badly : list_any (lacks (is_kept facts.kept)) (held_in (blocks_badly s.blocks).block (opens_badly (number_of s) s.blocked s.blocks.levels s.opens)) ≡ false
-        badly = ap (list_any (lacks (is_kept facts.kept))) (held_badly s (opens_badly (number_of s) s.blocked s.blocks.levels s.opens) fits.relations.inside (none_badly s.blocked))
+        badly = ap (list_any (lacks (is_kept facts.kept))) (held_badly s (opens_badly (number_of s) s.blocked s.blocks.levels s.opens) runs.inside (none_badly s.blocked))
           where
             none_badly : (t : Bool) → s.opens ≡ [] → opens_badly (number_of s) t s.blocks.levels s.opens ≡ []
             none_badly true none = none
@@ -264,10 +191,4 @@ fits_pass facts o s looked frames told command next at finished fits = record {
     counts = ap (λ n. n + 1) (length_push s.finished (finished_as s))
 
     started : started_in (number_of now) facts ≡ 0
-    started = ap (λ n. started_in n facts) counts ∙ not_started (number_of s) facts.running fits.first
-
-    levels : LevelsFit (number_of s + 1) (blocks_after command s)
-    levels = levels_next s command (well_admitted o s command at fits.settled) (record { opens = fits.opens; rise = fits.levels; plain = fits.plain })
-
-    one : (c : Command) → o ≡ Some c → c ≡ command
-    one c is = let both : Some c ≡ Some command = sym is ∙ at in cc both
+    started = ap (λ n. started_in n facts) counts ∙ not_started (number_of s) facts.running runs.first

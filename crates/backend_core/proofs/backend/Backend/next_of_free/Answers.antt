@@ -9,6 +9,9 @@ next_of_end-requires-clause-free c = free_of c.args.self.now.progress c.args.com
 pub next_of_end-requires-clause-whole : goal.next_of_end-requires-clause-whole
 next_of_end-requires-clause-whole c = failed_lacks c.args.self.now _ (sym c.has_failed.ensures ∙ c.if-has_failed.true)
 
+pub next_of_end-requires-clause-bare : goal.next_of_end-requires-clause-bare
+next_of_end-requires-clause-bare c = c.requires.chosen.bare (sym c.has_failed.ensures ∙ c.if-has_failed.true)
+
 pub next_of_going-requires-clause-free : goal.next_of_going-requires-clause-free
 next_of_going-requires-clause-free c = free_of c.args.self.now.progress c.args.command.now _ c.requires.at c.requires.due c.owes_first_look.ensures c.if-owes_first_look.false
 
