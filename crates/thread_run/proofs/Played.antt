@@ -1,6 +1,6 @@
 -- What is shared, after looks and after entries of a backend.
 use Rattle.std.proofs.Common.{◌≡◌, ◌≢◌, ◌≤◌, ◌<◌, ◌+◌, ◌∙◌, ◌^◌, ◌⊎◌, inl, inr, ◌==◌, ℕ, zero, suc, Bool, true, false, not, List, [], ◌∷◌, ◌++◌, refl, sym, ap, subst, append_assoc, append-nil, length, max, Result, Ok, Err, OnOk, OnErr, IfOk, arith}
-use Rattle.std.proofs.lemmas.Bool.{both_ways}
+use Rattle.std.proofs.lemmas.Bool.{both_ways, cases_lt}
 use Rattle.std.proofs.lemmas.List.{length-append}
 use Rattle.std.proofs.lemmas.Bool.Decides.{eqb_tells}
 use Rattle.base_types.specs.Scenario.{Scenario, IsBackend}
@@ -30,7 +30,7 @@ use Rattle.backend_core.proofs.Stepped.{awaits_stands}
 use Rattle.thread_run.specs.Runs.{IsRunSoFar}
 use Rattle.thread_run.specs.Turns.{backend_of, HasMore, EntersInTurn, HasTakenTurn}
 use Rattle.backend_core.specs.Places.{WantsPlaces}
-use Rattle.thread_run.specs.Entering.{MayEnterNext, PlaysOn, PromisesWanted, ComesTo}
+use Rattle.thread_run.specs.Entering.{MayEnterNext, PromisesOnly, Always, Wanted, PlaysOn, PromisesWanted, ComesTo}
 
 -- what holds of each entry holds of looks that come after
 pub each_looked : (P : List Entry → Entry → Type 0) (history : List Entry) (b : ℕ) (held : List HeldLook) → ((before : List Entry) (look : HeldLook) → P before (entry_held b look)) → EachEntry P history → EachEntry P (history ++ entries_of b held)
@@ -127,34 +127,62 @@ next_made : {scenario : Scenario} {old new : List Entry} {had has : ℕ → ℕ}
 next_made (Remains enters) = enters.makes
 next_made (Left gone steps) = steps.makes
 
+-- no more is promised, where no more was before that
+more_always : (scenario : Scenario) (b had mid has : ℕ) → PromisesOnly scenario b had mid → has ≤ max mid 48 → PromisesOnly scenario b had has
+more_always scenario b had mid has (Always one) two = Always (omega (arith, one, two))
+more_always scenario b had mid has (Wanted history s places stands id wants one) two = Wanted history s places stands id wants (omega (arith, one, two))
+
+more_wanted : (scenario : Scenario) (b had mid has places : ℕ) (history : List Entry) (s : Backend) → Stands scenario history s → s.progress.id ≡ b → WantsPlaces s places → PromisesOnly scenario b had mid → has ≤ max mid (max places 48) → PromisesOnly scenario b had has
+more_wanted scenario b had mid has places history s stands id wants (Always one) two = Wanted history s places stands id wants (omega (arith, one, two))
+more_wanted scenario b had mid has places history s stands id wants (Wanted seen t fewer stood same wanted one) two = by_more (cases_lt places fewer)
+  where
+    by_more : (places < fewer) ⊎ (fewer ≤ places) → PromisesOnly scenario b had has
+    by_more (inl less) = Wanted seen t fewer stood same wanted (omega (arith, one, two, less))
+    by_more (inr less) = Wanted history s places stands id wants (omega (arith, one, two, less))
+
+pub only_then : (scenario : Scenario) (b had mid has : ℕ) → PromisesOnly scenario b had mid → PromisesOnly scenario b mid has → PromisesOnly scenario b had has
+only_then scenario b had mid has one (Always two) = more_always scenario b had mid has one two
+only_then scenario b had mid has one (Wanted history s places stands id wants two) = more_wanted scenario b had mid has places history s stands id wants one two
+
 -- what is as it was
-pub plays_same : {b : ℕ} {scenario later : Scenario} {old new : List Entry} {had has : ℕ → ℕ} → later ≡ scenario → new ≡ old → IsRunSoFar scenario old → ((a : ℕ) → a ≢ b → has a ≡ had a) → PlaysOn b scenario later old new had has
-plays_same {b} {scenario} {later} {old} {new} same is run others = record {
+pub plays_same : {b : ℕ} {scenario later : Scenario} {old new : List Entry} {had has : ℕ → ℕ} → later ≡ scenario → new ≡ old → IsRunSoFar scenario old → ((a : ℕ) → a ≢ b → has a ≡ had a) → PromisesOnly scenario b (had b) (has b) → PlaysOn b scenario later old new had has
+plays_same {b} {scenario} {later} {old} {new} same is run others own = record {
   script = same;
   run = subst (λ (k : Scenario). IsRunSoFar k new) (sym same) (subst (IsRunSoFar scenario) (sym is) run);
   grew = grew_not b old new is;
   others = others;
+  own = own;
 }
+
+-- so too where it was refused places
+pub kept_only : {scenario : Scenario} {b had has : ℕ} → has ≡ had → PromisesOnly scenario b had has
+kept_only {scenario} {b} {had} {has} same = Always (omega (arith, same))
 
 -- once and then again
 pub plays_then : {b : ℕ} {scenario later last : Scenario} {old now new : List Entry} {had mid has : ℕ → ℕ} → PlaysOn b scenario later old now had mid → PlaysOn b later last now new mid has → PlaysOn b scenario last old new had has
-plays_then {b} {scenario} {later} {last} {old} {now} {new} one two = record {
+plays_then {b} {scenario} {later} {last} {old} {now} {new} {had} {mid} {has} one two = record {
   script = two.script ∙ one.script;
   run = two.run;
   grew = grew_then b old now new one.grew two.grew;
   others = λ a apart. two.others a apart ∙ one.others a apart;
+  own = only_then scenario b (had b) (mid b) (has b) one.own (subst (λ (k : Scenario). PromisesOnly k b (mid b) (has b)) one.script two.own);
 }
 
 -- by looks that were handed over
-pub plays_looks : {b : ℕ} {scenario later : Scenario} {old new : List Entry} {had has : ℕ → ℕ} (held : List HeldLook) → later ≡ scenario → new ≡ old ++ entries_of b held → IsRunSoFar scenario old → IsPlayed scenario (old ++ entries_of b held) → ((a : ℕ) → a ≢ b → has a ≡ had a) → PlaysOn b scenario later old new had has
-plays_looks {b} {scenario} {later} {old} {new} held same is run played others = record {
+pub plays_looks : {b : ℕ} {scenario later : Scenario} {old new : List Entry} {had has : ℕ → ℕ} (held : List HeldLook) → later ≡ scenario → new ≡ old ++ entries_of b held → IsRunSoFar scenario old → IsPlayed scenario (old ++ entries_of b held) → ((a : ℕ) → a ≢ b → has a ≡ had a) → has b ≤ max (had b) 48 → PlaysOn b scenario later old new had has
+plays_looks {b} {scenario} {later} {old} {new} held same is run played others most = record {
   script = same;
   run = subst (λ (k : Scenario). IsRunSoFar k new) (sym same) (subst (IsRunSoFar scenario) (sym is) (run_looked scenario old b held run played));
   grew = grew_looked b old new held is;
   others = others;
+  own = Always most;
 }
 
 -- by an entry that was made, or none
+fewer_refused : (scenario : Scenario) (old new : List Entry) (had has : ℕ → ℕ) (b : ℕ) → IsRefused scenario old new had has b → has b ≤ had b
+fewer_refused scenario old new had has b (Before same) = let kept = same.places b in omega (arith, kept)
+fewer_refused scenario old new had has b (After makes) = makes.most
+
 others_refused : (scenario : Scenario) (old new : List Entry) (had has : ℕ → ℕ) (b : ℕ) → IsRefused scenario old new had has b → (a : ℕ) → a ≢ b → has a ≡ had a
 others_refused scenario old new had has b (Before same) a apart = same.places a
 others_refused scenario old new had has b (After makes) a apart = makes.others a apart
@@ -165,6 +193,7 @@ plays_refused {b} {n} {scenario} {later} {old} {new} {had} {has} same id run ref
   run = subst (λ (k : Scenario). IsRunSoFar k new) (sym same) (run_refused scenario old new had has n run refused);
   grew = subst (λ m. Grew backend_of m old new) id (grew_refused scenario old new had has n refused);
   others = subst (λ m. (a : ℕ) → a ≢ m → has a ≡ had a) id (others_refused scenario old new had has n refused);
+  own = Always (let fewer = subst (λ m. has m ≤ had m) id (fewer_refused scenario old new had has n refused) in omega (arith, fewer));
 }
 
 -- once places were promised it may enter still
@@ -180,23 +209,29 @@ pub has_place : {n b : ℕ} (has : ℕ → ℕ) → n ≡ b → 17 ≤ has b →
 has_place {n} {b} has id some = let same = ap has id in omega (arith, same, some)
 
 -- an entry that was refused memory
-pub entry_refused : {b : ℕ} {scenario later last : Scenario} {old now new : List Entry} {was had has : ℕ → ℕ} {s : Backend} → later ≡ scenario → now ≡ old → MayEnterNext scenario b old s → ((a : ℕ) → a ≢ b → had a ≡ was a) → last ≡ later → IsRefused later now new had has s.progress.id → PlaysOn b scenario last old new was has
-entry_refused same is may others then refused = plays_then (plays_same same is may.run others) (plays_refused then may.id (renewed_may same is may).run refused)
+pub entry_refused : {b n : ℕ} {scenario later last : Scenario} {old now new : List Entry} {was had has : ℕ → ℕ} {s : Backend} → later ≡ scenario → now ≡ old → MayEnterNext scenario b old s → ((a : ℕ) → a ≢ b → had a ≡ was a) → WantsPlaces s n → had b ≤ max (was b) (max n 48) → last ≡ later → IsRefused later now new had has s.progress.id → PlaysOn b scenario last old new was has
+entry_refused {b} {n} {scenario} {later} {last} {old} {now} {new} {was} {had} {has} {s} same is may others wants most then refused = plays_then (plays_same same is may.run others (Wanted old s n may.stands may.id wants most)) (plays_refused then may.id (renewed_may same is may).run refused)
 
 -- one that was made
-pub entry_plays : {b : ℕ} {scenario later last : Scenario} {old now new : List Entry} {first had has : ℕ → ℕ} {was s : Backend} → later ≡ scenario → now ≡ old → MayEnterNext scenario b old was → ((a : ℕ) → a ≢ b → had a ≡ first a) → last ≡ later → MakesNext later now new had has was s → PlaysOn b scenario last old new first has
-entry_plays same is may others then makes = entry_refused same is may others then (After (next_made makes))
+pub entry_plays : {b n : ℕ} {scenario later last : Scenario} {old now new : List Entry} {first had has : ℕ → ℕ} {was s : Backend} → later ≡ scenario → now ≡ old → MayEnterNext scenario b old was → ((a : ℕ) → a ≢ b → had a ≡ first a) → WantsPlaces was n → had b ≤ max (first b) (max n 48) → last ≡ later → MakesNext later now new had has was s → PlaysOn b scenario last old new first has
+entry_plays same is may others wants most then makes = entry_refused same is may others wants most then (After (next_made makes))
 
 -- before it the places that it wants were promised, and no more
-pub promised_wanted : {b n : ℕ} {scenario later : Scenario} {old now new : List Entry} {was : Backend} (first had has : ℕ → ℕ) → MayEnterNext scenario b old was → WantsPlaces was n → n ≤ had b → had b ≤ max (first b) (max n 48) → MakesEntry later now new had has was.progress.id → PromisesWanted was (first b) (has b)
-promised_wanted {b} {n} first had has may wants enough most makes = let place = makes.place in let fewer = makes.most in let one = ap had may.id in let two = ap has may.id in record { places = n; wants = wants; enough = omega (arith, enough, place, one, two); most = omega (arith, most, fewer, one, two) }
+pub promised_wanted : {b n : ℕ} {scenario later : Scenario} {old now new : List Entry} {was : Backend} (first had has : ℕ → ℕ) → MayEnterNext scenario b old was → WantsPlaces was n → n ≤ had b → had b ≤ max (first b) (max n 48) → (n ≡ 0 → 17 ≤ first b → had b ≡ first b) → MakesEntry later now new had has was.progress.id → PromisesWanted was (first b) (has b)
+promised_wanted {b} {n} first had has may wants enough most none makes = let place = makes.place in let fewer = makes.most in let one = ap had may.id in let two = ap has may.id in record {
+  places = n;
+  wants = wants;
+  enough = omega (arith, enough, place, one, two);
+  most = omega (arith, most, fewer, one, two);
+  none = λ zero some. let same = none zero some in omega (arith, same, fewer, one, two);
+}
 
-pub promised_next : {b n : ℕ} {scenario later : Scenario} {old now new : List Entry} {was s : Backend} (first had has : ℕ → ℕ) → MayEnterNext scenario b old was → WantsPlaces was n → n ≤ had b → had b ≤ max (first b) (max n 48) → MakesNext later now new had has was s → PromisesWanted was (first b) (has b)
-promised_next first had has may wants enough most makes = promised_wanted first had has may wants enough most (next_made makes)
+pub promised_next : {b n : ℕ} {scenario later : Scenario} {old now new : List Entry} {was s : Backend} (first had has : ℕ → ℕ) → MayEnterNext scenario b old was → WantsPlaces was n → n ≤ had b → had b ≤ max (first b) (max n 48) → (n ≡ 0 → 17 ≤ first b → had b ≡ first b) → MakesNext later now new had has was s → PromisesWanted was (first b) (has b)
+promised_next first had has may wants enough most none makes = promised_wanted first had has may wants enough most none (next_made makes)
 
-pub promised_step : {E : Type 0} {b n : ℕ} {scenario : Scenario} {old : List Entry} {was : Backend} (later : Scenario) (now new : List Entry) (first had has : ℕ → ℕ) (s : Backend) (result : Result (Unit {0}) E) → MayEnterNext scenario b old was → WantsPlaces was n → n ≤ had b → had b ≤ max (first b) (max n 48) → OnOk result (Steps later now new had has was s) → OnOk result (PromisesWanted was (first b) (has b))
-promised_step later now new first had has s (Ok x) may wants enough most steps = promised_wanted first had has may wants enough most steps.makes
-promised_step later now new first had has s (Err e) may wants enough most steps = tt
+pub promised_step : {E : Type 0} {b n : ℕ} {scenario : Scenario} {old : List Entry} {was : Backend} (later : Scenario) (now new : List Entry) (first had has : ℕ → ℕ) (s : Backend) (result : Result (Unit {0}) E) → MayEnterNext scenario b old was → WantsPlaces was n → n ≤ had b → had b ≤ max (first b) (max n 48) → (n ≡ 0 → 17 ≤ first b → had b ≡ first b) → OnOk result (Steps later now new had has was s) → OnOk result (PromisesWanted was (first b) (has b))
+promised_step later now new first had has s (Ok x) may wants enough most none steps = promised_wanted first had has may wants enough most none steps.makes
+promised_step later now new first had has s (Err e) may wants enough most none steps = tt
 
 -- by which at most one entry came
 pub refused_few : {scenario : Scenario} {first old new : List Entry} {had has : ℕ → ℕ} {b : ℕ} → old ≡ first → IsRefused scenario old new had has b → length new ≤ length first + 1
@@ -388,10 +423,10 @@ comes_first scenario b history was now enters (Ok over) comes = λ does starts. 
 comes_first scenario b history was now enters (Err e) comes = tt
 
 -- a step, or none
-pub step_plays : {E : Type 0} {b : ℕ} {scenario later last : Scenario} {old now : List Entry} {first : ℕ → ℕ} {was : Backend} (new : List Entry) (had has : ℕ → ℕ) (s : Backend) (result : Result (Unit {0}) E) → later ≡ scenario → now ≡ old → MayEnterNext scenario b old was → ((a : ℕ) → a ≢ b → had a ≡ first a) → last ≡ later
+pub step_plays : {E : Type 0} {b n : ℕ} {scenario later last : Scenario} {old now : List Entry} {first : ℕ → ℕ} {was : Backend} (new : List Entry) (had has : ℕ → ℕ) (s : Backend) (result : Result (Unit {0}) E) → later ≡ scenario → now ≡ old → MayEnterNext scenario b old was → ((a : ℕ) → a ≢ b → had a ≡ first a) → WantsPlaces was n → had b ≤ max (first b) (max n 48) → last ≡ later
     → OnOk result (Steps later now new had has was s) → OnErr result (IsRefused later now new had has was.progress.id) → PlaysOn b scenario last old new first has
-step_plays new had has s (Ok x) same is may others then steps refused = entry_refused same is may others then (After steps.makes)
-step_plays new had has s (Err e) same is may others then steps refused = entry_refused same is may others then refused
+step_plays new had has s (Ok x) same is may others wants most then steps refused = entry_refused same is may others wants most then (After steps.makes)
+step_plays new had has s (Err e) same is may others wants most then steps refused = entry_refused same is may others wants most then refused
 
 pub step_more : {E : Type 0} {b : ℕ} {scenario : Scenario} {old now : List Entry} {was : Backend} (later : Scenario) (new : List Entry) (had has : ℕ → ℕ) (s : Backend) (result : Result (Unit {0}) E) → now ≡ old → MayEnterNext scenario b old was → OnOk result (Steps later now new had has was s) → OnOk result (HasMore b old new)
 step_more later new had has s (Ok x) is may steps = one_more is may steps.makes

@@ -1,5 +1,5 @@
 -- What goes round, as a turn finds it and as it leaves it.
-use Rattle.std.proofs.Common.{◌≡◌, ◌≢◌, ◌∙◌, ◌==◌, ◌⊎◌, inl, inr, ℕ, Bool, true, false, List, sym, ap, subst, length}
+use Rattle.std.proofs.Common.{◌≡◌, ◌≢◌, ◌≤◌, ◌∙◌, ◌==◌, ◌⊎◌, inl, inr, ℕ, max, Bool, true, false, List, sym, ap, subst, length, arith}
 use Rattle.std.proofs.lemmas.Bool.Decides.{eqb_tells}
 use Rattle.base_types.specs.Scenario.{Scenario, IsBackend}
 use Rattle.event_kinds.specs.declared.entry.Entry.{Entry}
@@ -12,9 +12,11 @@ use Rattle.backend_core.specs.Agrees.{IsPlayed}
 use Rattle.backend_core.specs.Apart.{IsHolding}
 use Rattle.backend_core.specs.Cuts.{cut}
 use Rattle.backend_core.proofs.Cutting.Scripts.{cut_is}
+use Rattle.thread_run.specs.Entering.{PromisesOnly, Always}
 use Rattle.thread_run.specs.Runs.{IsRunSoFar}
 use Rattle.thread_run.specs.Scripts.{Play, IsLeft, commands_left}
 use Rattle.thread_run.specs.Turns.{backend_of, right_before, IsHalting}
+use Rattle.thread_run.proofs.Played.{only_then}
 use Rattle.thread_run.proofs.Scripts.{left_backend}
 
 -- what callers said of the value holds of what is inside
@@ -36,6 +38,18 @@ grew_outside k now b new is grew = subst (λ (x : Play). Grew backend_of b x.sha
 -- and of what is promised to somebody
 pub promises_outside : (k now : Play) (a n : ℕ) → k ≡ now → n ≡ places_in k.shared a → n ≡ places_in now.shared a
 promises_outside k now a n is same = same ∙ ap (λ (x : Play). places_in x.shared a) is
+
+-- and to the backend itself
+pub only_outside : (k now : Play) (b n : ℕ) → k ≡ now → PromisesOnly k.shared.script b (places_in k.shared b) n → PromisesOnly now.shared.script b (places_in now.shared b) n
+only_outside k now b n is only = subst (λ (x : Play). PromisesOnly x.shared.script b (places_in x.shared b) n) is only
+
+pub most_outside : (k now : Play) (script : Scenario) (b n : ℕ) → k ≡ now → n ≤ max (places_in k.shared b) 48 → PromisesOnly script b (places_in now.shared b) n
+most_outside k now script b n is most = Always (subst (λ (x : Play). n ≤ max (places_in x.shared b) 48) is most)
+
+-- after its looks, by a script that was told anew
+pub stop_only : (k now : Play) (script later : Scenario) (b handed retold n : ℕ) → k ≡ now → handed ≤ max (places_in k.shared b) 48 → retold ≡ handed → later ≡ script → PromisesOnly script b retold n → PromisesOnly later b (places_in now.shared b) n
+stop_only k now script later b handed retold n is most same then only =
+    only_then later b (places_in now.shared b) retold n (most_outside k now later b retold is (omega (arith, most, same))) (subst (λ (s : Scenario). PromisesOnly s b retold n) (sym then) only)
 
 -- a script that is cut has all commands of the others
 pub others_keep : (k now : Play) (b n a : ℕ) (part : Scenario) → k ≡ now → part ≡ cut b n k.shared.script → a ≢ b → length (commands_of part a) ≡ commands_left now a

@@ -129,6 +129,10 @@ AgreesWherever was now = (scenario : Scenario) (seen : List Entry) → AgreesNow
 pub on_its_way : (was now : Backend) → AgreesWherever was now → IsOnItsWay was → IsOnItsWay now
 on_its_way was now agrees way = record { scenario = way.scenario; seen = way.seen; agrees = (agrees way.scenario way.seen way.agrees).0 }
 
+-- one that waits for its next entry hasn't left
+pub waits_alive : (was now : Backend) → IsOnItsWay was → WaitsWherever was now → has_left now.life ≡ false
+waits_alive was now way waits = ap has_left (waits way.scenario way.seen way.agrees).0.keeps.alive
+
 -- it goes on to its next command
 pub goes_over : (over : Bool) (was now later : Backend) → AgreesWherever was now → GoesWherever over now later → AgreesWherever was later
 goes_over over was now later agrees goes = λ scenario seen is. let at = agrees scenario seen is in let on = goes scenario seen at.0 in (on.agrees, on.id ∙ at.1)

@@ -19,19 +19,26 @@ pub record MayEnterNext (scenario : Scenario) (b : ℕ) (history : List Entry) (
   pub stands : Stands scenario history s
   pub alive : has_left s.life ≡ false
 
--- the script is as it was; the history was run so far, and grew by own entries alone; promises to others are as they were
+-- no more is promised to it than was, than is promised always, or than it wanted where it stood in a history of the script
+pub data PromisesOnly (scenario : Scenario) (b had has : ℕ) : Type 0 where
+  Always : has ≤ max had 48 → PromisesOnly scenario b had has
+  Wanted : (history : List Entry) (s : Backend) (places : ℕ) → Stands scenario history s → s.progress.id ≡ b → WantsPlaces s places → has ≤ max had (max places 48) → PromisesOnly scenario b had has
+
+-- the script is as it was; the history was run so far, and grew by own entries alone; promises to others are as they were, and to itself no more than it wanted
 pub record PlaysOn (b : ℕ) (scenario later : Scenario) (old new : List Entry) (had has : ℕ → ℕ) : Type 0 where
   pub script : later ≡ scenario
   pub run : IsRunSoFar later new
   pub grew : Grew backend_of b old new
   pub others : (a : ℕ) → a ≢ b → has a ≡ had a
+  pub own : PromisesOnly scenario b (had b) (has b)
 
--- before its entry, which takes one at most, it was promised the places that it wants, and no more than these, those that are promised always or those that it had
+-- before its entry, which takes one at most, it was promised the places that it wants, and no more than these, those that are promised always or those that it had, and none more where it wants none and has enough
 pub record PromisesWanted (was : Backend) (had has : ℕ) : Type 0 where
   pub places : ℕ
   pub wants : WantsPlaces was places
   pub enough : places ≤ has + 1
   pub most : has ≤ max had (max places 48)
+  pub none : places ≡ 0 → 17 ≤ had → has ≤ had
 
 -- what its entries leave in a turn, where it went on to its next command at most, and says whether it did; one that joins is at its first command
 pub record ComesTo (scenario : Scenario) (b : ℕ) (history : List Entry) (over : Bool) (was now : Backend) : Type 0 where

@@ -85,9 +85,11 @@ pub data DoesNext (was now : Worker) (result : Result Bool NoMemory) : Type 0 wh
   Turns : NeedsTurn was.backend → OnOk result (TakesTurn true was now) → IfOk result (λ over. GoesAsked was.pass.number over was.backend now.backend) → DoesNext was now result
   HasLeft : has_left was.backend.life ≡ true → now ≡ was → DoesNext was now result
 
--- in a step the gate of its backend was asked for each command that this came to after its look or its turn, up to that which it is in then
-pub record AsksOn (was : Worker) (now : Backend) (old new : List Asked) : Type 0 where
+-- in a step the gate of its backend was asked for each command that this came to after its look or its turn, up to that which it is in then; its pass and the looks that it holds back are as these left them
+pub record AsksOn (was now : Worker) (old new : List Asked) : Type 0 where
   pub after : Worker
   pub over : Bool
   pub does : DoesNext was after (Ok over)
-  pub asks : AsksTo was.pass.number (asked_before over after.backend) (now.progress.finished + 1) old new
+  pub pass : now.pass ≡ after.pass
+  pub held : now.held.items ≡ after.held.items
+  pub asks : AsksTo was.pass.number (asked_before over after.backend) (now.backend.progress.finished + 1) old new

@@ -10,7 +10,7 @@ ghost use Rattle.backend_core.specs.Looks.{entries_of, MayCallAll};
 ghost use Rattle.backend_core.specs.Words.{has_left, has_joined};
 ghost use Rattle.thread_run.specs.Runs.{IsRunSoFar};
 ghost use Rattle.thread_run.specs.Turns.{backend_of, right_before, HasMore, EntersInTurn, HasTakenTurn};
-ghost use Rattle.thread_run.specs.Entering.{MayEnterNext, PlaysOn, PromisesWanted, ComesTo};
+ghost use Rattle.thread_run.specs.Entering.{MayEnterNext, PromisesOnly, PlaysOn, PromisesWanted, ComesTo};
 
 use backend_core::{Backend, HeldLook, PLACES};
 use base_types::NoMemory;
@@ -47,6 +47,7 @@ pub(crate) fn work_in_turn<L: Seg>(
     ensures run { IsRunSoFar (L.script seg.new) (L.history seg.new) }
     ensures grew { Grew backend_of b (L.history seg.old) (L.history seg.new) }
     ensures others { (a : ℕ) → a ≢ b → L.promised seg.new a ≡ L.promised seg.old a }
+    ensures own { PromisesOnly (L.script seg.old) b (L.promised seg.old b) (L.promised seg.new b) }
     ensures few { length (L.history seg.new) ≤ length (L.history seg.old) + length looks.now + (1 + most) }
     ensures enters { OnOk result (EntersInTurn enters b looks.now (L.history seg.old) (L.history seg.new)) }
     ensures works { IfOk result (λ over. HasTakenTurn (L.script seg.new) b (L.history seg.new) over backend.new) }
@@ -75,7 +76,7 @@ pub(crate) fn hand_over<L: Seg>(
     ensures script { L.script seg.new ≡ L.script seg.old }
     ensures hands { OnOk result (L.history seg.new ≡ L.history seg.old ++ entries_of b looks.now) }
     ensures room { OnOk result (16 ≤ L.promised seg.new b) }
-    ensures most { OnOk result (L.promised seg.new b ≤ max (L.promised seg.old b) 48) }
+    ensures most { L.promised seg.new b ≤ max (L.promised seg.old b) 48 }
     ensures refused { OnErr result (L.history seg.new ≡ L.history seg.old) }
     ensures others { (a : ℕ) → a ≢ b → L.promised seg.new a ≡ L.promised seg.old a }
 {
@@ -94,6 +95,8 @@ fn renew<L: Seg>(seg: &mut L, b: u32, wanted: u32, enough: u32) -> Result<(), No
     ensures room { OnOk result (enough ≤ L.promised seg.new b) }
     ensures wanted { OnOk result (wanted ≤ L.promised seg.new b) }
     ensures most { OnOk result (L.promised seg.new b ≤ max (L.promised seg.old b) (max wanted 48)) }
+    ensures kept { OnErr result (L.promised seg.new b ≡ L.promised seg.old b) }
+    ensures none { OnOk result (wanted ≡ 0 → enough ≤ L.promised seg.old b → L.promised seg.new b ≡ L.promised seg.old b) }
     ensures others { (a : ℕ) → a ≢ b → L.promised seg.new a ≡ L.promised seg.old a }
 {
     if wanted == 0 && enough <= seg.promised(b) {
@@ -188,6 +191,7 @@ pub(crate) fn stop_in_turn<R: Wait, L: Seg>(
     ensures run { IsRunSoFar (L.script seg.new) (L.history seg.new) }
     ensures grew { Grew backend_of b (L.history seg.old) (L.history seg.new) }
     ensures others { (a : ℕ) → a ≢ b → L.promised seg.new a ≡ L.promised seg.old a }
+    ensures own { PromisesOnly (L.script seg.old) b (L.promised seg.old b) (L.promised seg.new b) }
     ensures left { OnOk result (has_left backend.new.life ≡ true) }
     ensures stands { OnOk result (Stands (L.script seg.new) (L.history seg.new) backend.new) }
 {

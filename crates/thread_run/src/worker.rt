@@ -114,7 +114,8 @@ impl Worker {
         ensures between { OnOk result.1 (IsBetween (start_of table.now).whole self.pass.number (seen_by result.0.pass) result.0.held.items result.0.backend) }
         ensures halted { result.1 ≡ Err RunRefusal.Stopped → result.0.halt_refused ≡ false → has_left result.0.backend.life ≡ true }
         ensures stops { StopsBy (G.stops gate.old) (G.stops gate.new) result.1 }
-        ensures asks { OnOk result.1 (has_left result.0.backend.life ≡ false → AsksOn self result.0.backend (G.asked gate.old) (G.asked gate.new)) }
+        ensures asks { OnOk result.1 (has_left result.0.backend.life ≡ false → AsksOn self result.0 (G.asked gate.old) (G.asked gate.new)) }
+        ensures unasked { OnOk result.1 (has_left result.0.backend.life ≡ true → G.asked gate.new ≡ G.asked gate.old) }
         ensures own { AsksOwn self.pass.number (G.asked gate.old) (G.asked gate.new) }
     {
         let (mut worker, made) = self.next(rt, alloc, table);
@@ -325,6 +326,7 @@ fn go_on<R: Wait, G: Gate>(
     ensures command { result ≡ Err RunRefusal.Stopped → IsAtCommand over backend.old backend.new }
     ensures stops { StopsBy (G.stops gate.old) (G.stops gate.new) result }
     ensures asks { OnOk result (AsksTo backend.old.progress.id (asked_before over backend.old) (backend.new.progress.finished + 1) (G.asked gate.old) (G.asked gate.new)) }
+    ensures stopped { result ≡ Err RunRefusal.Stopped → AsksTo backend.old.progress.id (asked_before over backend.old) (backend.new.progress.finished + 1) (G.asked gate.old) (G.asked gate.new) }
     ensures some { AsksSome backend.old.progress.id (asked_before over backend.old) (G.asked gate.old) (G.asked gate.new) }
 {
     ask_at(rt, gate, backend, over)?;

@@ -1,9 +1,9 @@
 use Rattle.std.proofs.Common.{◌∙◌, refl, sym, arith}
-use Rattle.thread_run.proofs.Played.{plays_same, plays_then, comes_here, comes_over, comes_then, taken_right, goes_to, goes_far, goes_may, backend_still}
+use Rattle.thread_run.proofs.Played.{kept_only, plays_same, plays_then, comes_here, comes_over, comes_then, taken_right, goes_to, goes_far, goes_may, backend_still}
 use Rattle.thread_run.proofs.turn_work.enter_more.Goals as goal
 
 pub entering-init : goal.entering-init
-entering-init g c = record { plays = plays_same refl refl c.requires.taken.run (λ a apart. refl); few = omega arith; comes = comes_here c.requires.taken }
+entering-init g c = record { plays = plays_same refl refl c.requires.taken.run (λ a apart. refl) (kept_only refl); few = omega arith; comes = comes_here c.requires.taken }
 
 pub returns-then-is_stopped-clause-plays : goal.returns-then-is_stopped-clause-plays
 returns-then-is_stopped-clause-plays g c = c.entering.invariant.plays

@@ -1,6 +1,6 @@
 use Rattle.std.proofs.Common.{refl, ap, length, arith}
 use Rattle.history_model.proofs.Sound.{sound_is_legal}
-use Rattle.thread_run.proofs.Played.{plays_same, renewed_may, enters_right, has_place, entry_refused, entry_plays, entry_more, refused_few, entry_few, entry_comes, promised_next}
+use Rattle.thread_run.proofs.Played.{kept_only, plays_same, renewed_may, enters_right, has_place, entry_refused, entry_plays, entry_more, refused_few, entry_few, entry_comes, promised_next}
 use Rattle.thread_run.proofs.turn_work.enter_one.Goals as goal
 
 pub places_wanted-requires : goal.places_wanted-requires
@@ -10,7 +10,7 @@ pub renew-requires-clause-backend : goal.renew-requires-clause-backend
 renew-requires-clause-backend g c = c.requires.may.backend
 
 pub returns-in_err-renew-clause-plays : goal.returns-in_err-renew-clause-plays
-returns-in_err-renew-clause-plays g c = plays_same c.in_err-renew.ensures.script c.in_err-renew.ensures.history c.requires.may.run c.in_err-renew.ensures.others
+returns-in_err-renew-clause-plays g c = plays_same c.in_err-renew.ensures.script c.in_err-renew.ensures.history c.requires.may.run c.in_err-renew.ensures.others (kept_only c.in_err-renew.ensures.kept)
 
 pub returns-in_err-renew-clause-few : goal.returns-in_err-renew-clause-few
 returns-in_err-renew-clause-few g c = let e = ap length c.in_err-renew.ensures.history in omega (arith, e)
@@ -34,13 +34,13 @@ pub enter_in_turn-requires-clause-alive : goal.enter_in_turn-requires-clause-ali
 enter_in_turn-requires-clause-alive g c = c.requires.may.alive
 
 pub returns-in_err-enter_in_turn-clause-plays : goal.returns-in_err-enter_in_turn-clause-plays
-returns-in_err-enter_in_turn-clause-plays g c = entry_refused c.in_ok-renew.ensures.script c.in_ok-renew.ensures.history c.requires.may c.in_ok-renew.ensures.others c.in_err-enter_in_turn.ensures.script c.in_err-enter_in_turn.ensures.refused
+returns-in_err-enter_in_turn-clause-plays g c = entry_refused c.in_ok-renew.ensures.script c.in_ok-renew.ensures.history c.requires.may c.in_ok-renew.ensures.others c.places_wanted.ensures c.in_ok-renew.ensures.most c.in_err-enter_in_turn.ensures.script c.in_err-enter_in_turn.ensures.refused
 
 pub returns-in_err-enter_in_turn-clause-few : goal.returns-in_err-enter_in_turn-clause-few
 returns-in_err-enter_in_turn-clause-few g c = refused_few c.in_ok-renew.ensures.history c.in_err-enter_in_turn.ensures.refused
 
 pub returns-clause-plays : goal.returns-clause-plays
-returns-clause-plays g c = entry_plays c.in_ok-renew.ensures.script c.in_ok-renew.ensures.history c.requires.may c.in_ok-renew.ensures.others c.in_ok-enter_in_turn.ensures.script c.in_ok-enter_in_turn.ensures.makes
+returns-clause-plays g c = entry_plays c.in_ok-renew.ensures.script c.in_ok-renew.ensures.history c.requires.may c.in_ok-renew.ensures.others c.places_wanted.ensures c.in_ok-renew.ensures.most c.in_ok-enter_in_turn.ensures.script c.in_ok-enter_in_turn.ensures.makes
 
 pub returns-clause-few : goal.returns-clause-few
 returns-clause-few g c = entry_few c.in_ok-renew.ensures.history c.in_ok-enter_in_turn.ensures.makes
@@ -53,4 +53,4 @@ returns-clause-comes g c = entry_comes c.in_ok-renew.ensures.script c.in_ok-rene
     c.in_ok-enter_in_turn.ensures.makes c.in_ok-enter_in_turn.ensures.starts c.in_ok-enter_in_turn.ensures.noted
 
 pub returns-clause-promises : goal.returns-clause-promises
-returns-clause-promises g c = promised_next (g.L.Seg.promised c.args.seg.now) (g.L.Seg.promised c.renew.new.seg) (g.L.Seg.promised c.enter_in_turn.new.seg) c.requires.may c.places_wanted.ensures c.in_ok-renew.ensures.wanted c.in_ok-renew.ensures.most c.in_ok-enter_in_turn.ensures.makes
+returns-clause-promises g c = promised_next (g.L.Seg.promised c.args.seg.now) (g.L.Seg.promised c.renew.new.seg) (g.L.Seg.promised c.enter_in_turn.new.seg) c.requires.may c.places_wanted.ensures c.in_ok-renew.ensures.wanted c.in_ok-renew.ensures.most c.in_ok-renew.ensures.none c.in_ok-enter_in_turn.ensures.makes

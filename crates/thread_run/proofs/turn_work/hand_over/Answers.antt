@@ -1,4 +1,4 @@
-use Rattle.std.proofs.Common.{◌∙◌, ◌++◌, ap}
+use Rattle.std.proofs.Common.{◌∙◌, ◌++◌, ap, arith}
 use Rattle.backend_core.specs.Looks.{entries_of}
 use Rattle.thread_run.proofs.Played.{renewed_calls, looks_fit, looks_promised, looks_left}
 use Rattle.thread_run.proofs.turn_work.hand_over.Goals as goal
@@ -17,6 +17,9 @@ returns-clause-room g c = looks_left c.requires.id c.requires.few c.in_ok-renew.
 
 pub returns-clause-others : goal.returns-clause-others
 returns-clause-others g c = λ a apart. c.hand_looks.ensures.places.others a (λ same. apart (same ∙ c.requires.id)) ∙ c.in_ok-renew.ensures.others a apart
+
+pub returns-in_err-renew-clause-most : goal.returns-in_err-renew-clause-most
+returns-in_err-renew-clause-most g c = let kept = c.in_err-renew.ensures.kept in omega (arith, kept)
 
 pub returns-clause-most : goal.returns-clause-most
 returns-clause-most g c = looks_promised (g.L.Seg.promised c.args.seg.now c.args.b) c.requires.id c.in_ok-renew.ensures.most c.hand_looks.ensures.places

@@ -1,5 +1,5 @@
 use Rattle.history_model.proofs.Sound.{sound_is_legal}
-use Rattle.thread_run.proofs.Played.{plays_same, renewed_may, enters_right, has_place, step_plays, step_more, step_id, step_stands, promised_step}
+use Rattle.thread_run.proofs.Played.{kept_only, plays_same, renewed_may, enters_right, has_place, step_plays, step_more, step_id, step_stands, promised_step}
 use Rattle.thread_run.proofs.turn_work.step_in_turn.Goals as goal
 
 pub places_wanted-wanted-requires : goal.places_wanted-wanted-requires
@@ -9,7 +9,7 @@ pub renew-requires-clause-backend : goal.renew-requires-clause-backend
 renew-requires-clause-backend g c = c.requires.may.backend
 
 pub returns-in_err-renew-clause-plays : goal.returns-in_err-renew-clause-plays
-returns-in_err-renew-clause-plays g c = plays_same c.in_err-renew.ensures.script c.in_err-renew.ensures.history c.requires.may.run c.in_err-renew.ensures.others
+returns-in_err-renew-clause-plays g c = plays_same c.in_err-renew.ensures.script c.in_err-renew.ensures.history c.requires.may.run c.in_err-renew.ensures.others (kept_only c.in_err-renew.ensures.kept)
 
 pub step-requires-clause-stands : goal.step-requires-clause-stands
 step-requires-clause-stands g c = (renewed_may c.in_ok-renew.ensures.script c.in_ok-renew.ensures.history c.requires.may).stands
@@ -30,7 +30,7 @@ pub step-requires-clause-alive : goal.step-requires-clause-alive
 step-requires-clause-alive g c = c.requires.may.alive
 
 pub returns-clause-plays : goal.returns-clause-plays
-returns-clause-plays g c = step_plays (g.L.Seg.history c.step.new.seg) (g.L.Seg.promised c.renew.new.seg) (g.L.Seg.promised c.step.new.seg) c.step.new.self c.step.result c.in_ok-renew.ensures.script c.in_ok-renew.ensures.history c.requires.may c.in_ok-renew.ensures.others c.step.ensures.script c.step.ensures.steps c.step.ensures.refused
+returns-clause-plays g c = step_plays (g.L.Seg.history c.step.new.seg) (g.L.Seg.promised c.renew.new.seg) (g.L.Seg.promised c.step.new.seg) c.step.new.self c.step.result c.in_ok-renew.ensures.script c.in_ok-renew.ensures.history c.requires.may c.in_ok-renew.ensures.others c.places_wanted-wanted.ensures c.in_ok-renew.ensures.most c.step.ensures.script c.step.ensures.steps c.step.ensures.refused
 
 pub returns-clause-more : goal.returns-clause-more
 returns-clause-more g c = step_more (g.L.Seg.script c.renew.new.seg) (g.L.Seg.history c.step.new.seg) (g.L.Seg.promised c.renew.new.seg) (g.L.Seg.promised c.step.new.seg) c.step.new.self c.step.result c.in_ok-renew.ensures.history c.requires.may c.step.ensures.steps
@@ -42,4 +42,4 @@ pub returns-clause-stands : goal.returns-clause-stands
 returns-clause-stands g c = step_stands (g.L.Seg.history c.renew.new.seg) (g.L.Seg.history c.step.new.seg) (g.L.Seg.promised c.renew.new.seg) (g.L.Seg.promised c.step.new.seg) c.args.backend.now c.step.new.self c.step.result c.step.ensures.script c.step.ensures.steps
 
 pub returns-clause-promises : goal.returns-clause-promises
-returns-clause-promises g c = promised_step (g.L.Seg.script c.renew.new.seg) (g.L.Seg.history c.renew.new.seg) (g.L.Seg.history c.step.new.seg) (g.L.Seg.promised c.args.seg.now) (g.L.Seg.promised c.renew.new.seg) (g.L.Seg.promised c.step.new.seg) c.step.new.self c.step.result c.requires.may c.places_wanted-wanted.ensures c.in_ok-renew.ensures.wanted c.in_ok-renew.ensures.most c.step.ensures.steps
+returns-clause-promises g c = promised_step (g.L.Seg.script c.renew.new.seg) (g.L.Seg.history c.renew.new.seg) (g.L.Seg.history c.step.new.seg) (g.L.Seg.promised c.args.seg.now) (g.L.Seg.promised c.renew.new.seg) (g.L.Seg.promised c.step.new.seg) c.step.new.self c.step.result c.requires.may c.places_wanted-wanted.ensures c.in_ok-renew.ensures.wanted c.in_ok-renew.ensures.most c.in_ok-renew.ensures.none c.step.ensures.steps

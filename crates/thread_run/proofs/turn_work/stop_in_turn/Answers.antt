@@ -1,9 +1,9 @@
 use Rattle.std.proofs.Common.{◌∙◌, refl, sym}
-use Rattle.thread_run.proofs.Played.{plays_same, plays_then, backend_still}
+use Rattle.thread_run.proofs.Played.{kept_only, plays_same, plays_then, backend_still}
 use Rattle.thread_run.proofs.turn_work.stop_in_turn.Goals as goal
 
 pub stopping-init : goal.stopping-init
-stopping-init g c = record { plays = plays_same refl refl c.requires.run (λ a apart. refl); id = c.requires.id; stands = c.requires.stands }
+stopping-init g c = record { plays = plays_same refl refl c.requires.run (λ a apart. refl) (kept_only refl); id = c.requires.id; stands = c.requires.stands }
 
 pub returns-then-is_stopped-clause-script : goal.returns-then-is_stopped-clause-script
 returns-then-is_stopped-clause-script g c = c.stopping.invariant.plays.script
@@ -16,6 +16,9 @@ returns-then-is_stopped-clause-grew g c = c.stopping.invariant.plays.grew
 
 pub returns-then-is_stopped-clause-others : goal.returns-then-is_stopped-clause-others
 returns-then-is_stopped-clause-others g c = c.stopping.invariant.plays.others
+
+pub returns-then-is_stopped-clause-own : goal.returns-then-is_stopped-clause-own
+returns-then-is_stopped-clause-own g c = c.stopping.invariant.plays.own
 
 pub returns-then-is_stopped-clause-left : goal.returns-then-is_stopped-clause-left
 returns-then-is_stopped-clause-left g c = sym c.is_stopped.ensures ∙ c.if-is_stopped.true
@@ -39,6 +42,9 @@ returns-in_err-step_in_turn-clause-grew g c = (plays_then c.stopping.invariant.p
 
 pub returns-in_err-step_in_turn-clause-others : goal.returns-in_err-step_in_turn-clause-others
 returns-in_err-step_in_turn-clause-others g c = (plays_then c.stopping.invariant.plays c.in_err-step_in_turn.ensures.plays).others
+
+pub returns-in_err-step_in_turn-clause-own : goal.returns-in_err-step_in_turn-clause-own
+returns-in_err-step_in_turn-clause-own g c = (plays_then c.stopping.invariant.plays c.in_err-step_in_turn.ensures.plays).own
 
 pub stopping-preserved : goal.stopping-preserved
 stopping-preserved g c = record { plays = plays_then c.stopping.invariant.plays c.in_ok-step_in_turn.ensures.plays; id = c.in_ok-step_in_turn.ensures.id; stands = c.in_ok-step_in_turn.ensures.stands }

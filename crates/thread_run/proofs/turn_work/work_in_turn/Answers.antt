@@ -2,8 +2,9 @@ use Rattle.std.proofs.Common.{◌∙◌, ◌++◌, sym, subst}
 use Rattle.std.proofs.lemmas.Bool.{both_ways}
 use Rattle.backend_core.specs.Agrees.{AgreesNow, Stands}
 use Rattle.backend_core.specs.Looks.{entries_of}
+use Rattle.thread_run.specs.Entering.{PromisesOnly, Always}
 use Rattle.thread_run.specs.Turns.{right_before, EntersInTurn}
-use Rattle.thread_run.proofs.Played.{none_over, grew_not, grew_then, plays_same, plays_looks, handed_turn, handed_right, backend_still, enters_more, comes_taken, comes_number, comes_first}
+use Rattle.thread_run.proofs.Played.{only_then, none_over, grew_not, grew_then, plays_same, plays_looks, handed_turn, handed_right, backend_still, enters_more, comes_taken, comes_number, comes_first}
 use Rattle.thread_run.proofs.turn_work.work_in_turn.Goals as goal
 
 pub hand_over-requires-clause-id : goal.hand_over-requires-clause-id
@@ -13,16 +14,16 @@ pub hand_over-requires-clause-calls : goal.hand_over-requires-clause-calls
 hand_over-requires-clause-calls g c = c.requires.holds.calls
 
 pub returns-in_err-hand_over-clause-run : goal.returns-in_err-hand_over-clause-run
-returns-in_err-hand_over-clause-run g c = (plays_same {b = c.args.b} c.in_err-hand_over.ensures.script c.in_err-hand_over.ensures.refused c.requires.run c.in_err-hand_over.ensures.others).run
+returns-in_err-hand_over-clause-run g c = (plays_same {b = c.args.b} c.in_err-hand_over.ensures.script c.in_err-hand_over.ensures.refused c.requires.run c.in_err-hand_over.ensures.others (Always c.hand_over.ensures.most)).run
 
 pub returns-in_err-hand_over-clause-grew : goal.returns-in_err-hand_over-clause-grew
 returns-in_err-hand_over-clause-grew g c = grew_not c.args.b (g.L.Seg.history c.args.seg.now) (g.L.Seg.history c.hand_over.new.seg) c.in_err-hand_over.ensures.refused
 
 pub returns-then-not-enters-clause-run : goal.returns-then-not-enters-clause-run
-returns-then-not-enters-clause-run g c = (plays_looks {b = c.args.b} c.args.looks.now c.in_ok-hand_over.ensures.script c.in_ok-hand_over.ensures.hands c.requires.run c.requires.holds.played c.in_ok-hand_over.ensures.others).run
+returns-then-not-enters-clause-run g c = (plays_looks {b = c.args.b} c.args.looks.now c.in_ok-hand_over.ensures.script c.in_ok-hand_over.ensures.hands c.requires.run c.requires.holds.played c.in_ok-hand_over.ensures.others c.hand_over.ensures.most).run
 
 pub returns-then-not-enters-clause-grew : goal.returns-then-not-enters-clause-grew
-returns-then-not-enters-clause-grew g c = (plays_looks {b = c.args.b} c.args.looks.now c.in_ok-hand_over.ensures.script c.in_ok-hand_over.ensures.hands c.requires.run c.requires.holds.played c.in_ok-hand_over.ensures.others).grew
+returns-then-not-enters-clause-grew g c = (plays_looks {b = c.args.b} c.args.looks.now c.in_ok-hand_over.ensures.script c.in_ok-hand_over.ensures.hands c.requires.run c.requires.holds.played c.in_ok-hand_over.ensures.others c.hand_over.ensures.most).grew
 
 pub returns-then-not-enters-clause-enters : goal.returns-then-not-enters-clause-enters
 returns-then-not-enters-clause-enters g c = subst (λ e. EntersInTurn e c.args.b c.args.looks.now (g.L.Seg.history c.args.seg.now) (g.L.Seg.history c.hand_over.new.seg)) (sym c.if-not-enters.true) c.in_ok-hand_over.ensures.hands
@@ -31,7 +32,7 @@ pub returns-then-not-enters-clause-works : goal.returns-then-not-enters-clause-w
 returns-then-not-enters-clause-works g c =
     let seg = c.hand_over.new.seg in let hands = c.in_ok-hand_over.ensures in
     let right = subst (λ e. right_before e (g.L.Seg.script c.args.seg.now) (g.L.Seg.history c.args.seg.now ++ entries_of c.args.b c.args.looks.now) c.args.backend.now) c.if-not-enters.true c.requires.holds.right in
-    handed_turn (g.L.Seg.promised seg) c.requires.holds.id (plays_looks {b = c.args.b} c.args.looks.now hands.script hands.hands c.requires.run c.requires.holds.played c.in_ok-hand_over.ensures.others).run (g.met.L.Seg.short seg) (backend_still hands.script c.requires.backend) hands.room
+    handed_turn (g.L.Seg.promised seg) c.requires.holds.id (plays_looks {b = c.args.b} c.args.looks.now hands.script hands.hands c.requires.run c.requires.holds.played c.in_ok-hand_over.ensures.others c.hand_over.ensures.most).run (g.met.L.Seg.short seg) (backend_still hands.script c.requires.backend) hands.room
     (handed_right AgreesNow c.args.b (g.L.Seg.history c.args.seg.now) c.args.looks.now hands.script hands.hands right)
 
 pub returns-then-not-enters-clause-number : goal.returns-then-not-enters-clause-number
@@ -48,7 +49,7 @@ enter_all-requires g c =
       may = record {
         backend = backend_still hands.script c.requires.backend;
         id = c.requires.holds.id;
-        run = (plays_looks {b = c.args.b} c.args.looks.now hands.script hands.hands c.requires.run c.requires.holds.played c.in_ok-hand_over.ensures.others).run;
+        run = (plays_looks {b = c.args.b} c.args.looks.now hands.script hands.hands c.requires.run c.requires.holds.played c.in_ok-hand_over.ensures.others c.hand_over.ensures.most).run;
         stands = handed_right Stands c.args.b (g.L.Seg.history c.args.seg.now) c.args.looks.now hands.script hands.hands right;
         alive = c.requires.alive c.if-not-enters.false;
       };
@@ -62,7 +63,7 @@ returns-clause-run g c = c.enter_all.ensures.plays.run
 
 pub returns-clause-grew : goal.returns-clause-grew
 returns-clause-grew g c = grew_then c.args.b (g.L.Seg.history c.args.seg.now) (g.L.Seg.history c.hand_over.new.seg) (g.L.Seg.history c.enter_all.new.seg)
-    (plays_looks {b = c.args.b} c.args.looks.now c.in_ok-hand_over.ensures.script c.in_ok-hand_over.ensures.hands c.requires.run c.requires.holds.played c.in_ok-hand_over.ensures.others).grew c.enter_all.ensures.plays.grew
+    (plays_looks {b = c.args.b} c.args.looks.now c.in_ok-hand_over.ensures.script c.in_ok-hand_over.ensures.hands c.requires.run c.requires.holds.played c.in_ok-hand_over.ensures.others c.hand_over.ensures.most).grew c.enter_all.ensures.plays.grew
 
 pub returns-clause-others : goal.returns-clause-others
 returns-clause-others g c = λ a apart. c.enter_all.ensures.plays.others a apart ∙ c.in_ok-hand_over.ensures.others a apart
@@ -78,3 +79,13 @@ returns-clause-number g c = comes_number (g.L.Seg.script c.enter_all.new.seg) c.
 
 pub returns-clause-first : goal.returns-clause-first
 returns-clause-first g c = comes_first (g.L.Seg.script c.enter_all.new.seg) c.args.b (g.L.Seg.history c.enter_all.new.seg) c.args.backend.now c.enter_all.new.backend c.args.enters c.enter_all.result c.enter_all.ensures.comes
+
+pub returns-in_err-hand_over-clause-own : goal.returns-in_err-hand_over-clause-own
+returns-in_err-hand_over-clause-own g c = Always c.hand_over.ensures.most
+
+pub returns-then-not-enters-clause-own : goal.returns-then-not-enters-clause-own
+returns-then-not-enters-clause-own g c = Always c.hand_over.ensures.most
+
+pub returns-clause-own : goal.returns-clause-own
+returns-clause-own g c = only_then (g.L.Seg.script c.args.seg.now) c.args.b (g.L.Seg.promised c.args.seg.now c.args.b) (g.L.Seg.promised c.hand_over.new.seg c.args.b) (g.L.Seg.promised c.enter_all.new.seg c.args.b) (Always c.hand_over.ensures.most)
+    (subst (λ k. PromisesOnly k c.args.b (g.L.Seg.promised c.hand_over.new.seg c.args.b) (g.L.Seg.promised c.enter_all.new.seg c.args.b)) c.in_ok-hand_over.ensures.script c.enter_all.ensures.plays.own)

@@ -14,6 +14,9 @@ ask_at-requires-clause-count g c κs within = way_counted c.args.backend.now c.r
 pub returns-in_err-ask_at-clause-command : goal.returns-in_err-ask_at-clause-command
 returns-in_err-ask_at-clause-command g c = λ is. inl (c.in_err-ask_at.ensures.command, refl)
 
+pub returns-in_err-ask_at-clause-stopped : goal.returns-in_err-ask_at-clause-stopped
+returns-in_err-ask_at-clause-stopped g c = λ is. c.ask_at.ensures.asks
+
 pub returns-in_err-ask_at-clause-some : goal.returns-in_err-ask_at-clause-some
 returns-in_err-ask_at-clause-some g c = record { upto = c.args.backend.now.progress.finished + 1; asks = c.ask_at.ensures.asks }
 
@@ -50,6 +53,12 @@ going-preserved g c = let now = c.go_to_command.new.self in let over = c.in_ok-g
 
 pub returns-in_err-ask-clause-command : goal.returns-in_err-ask-clause-command
 returns-in_err-ask-clause-command g c = λ is. inr (comes_over c.in_ok-go_to_command.field-0 c.args.backend.now c.going.backend c.go_to_command.new.self c.going.invariant.agrees c.in_ok-go_to_command.ensures c.if-not-branch.false)
+
+pub returns-in_err-ask-clause-stopped : goal.returns-in_err-ask-clause-stopped
+returns-in_err-ask-clause-stopped g c = let now = c.go_to_command.new.self in let over = c.in_ok-go_to_command.field-0 in
+    let agrees = goes_over over c.args.backend.now c.going.backend now c.going.invariant.agrees c.in_ok-go_to_command.ensures in
+    λ is. asked_next over c.args.backend.now c.going.backend now (asked_before c.args.over c.args.backend.now) (length now.lines + 1) (g.G.Gate.asked c.args.gate.now) (g.G.Gate.asked c.going.gate) (g.G.Gate.asked c.ask.new.gate)
+    c.requires.right c.going.invariant.agrees c.in_ok-go_to_command.ensures c.if-not-branch.false (ap (λ n. n + 1) (way_counted now (on_its_way c.args.backend.now now agrees c.requires.right))) c.going.invariant.asks c.ask.ensures.asked
 
 pub returns-in_err-ask-clause-some : goal.returns-in_err-ask-clause-some
 returns-in_err-ask-clause-some g c = let now = c.go_to_command.new.self in let over = c.in_ok-go_to_command.field-0 in

@@ -4,7 +4,7 @@ use Rattle.backend_core.specs.Cuts.{cut}
 use Rattle.thread_run.proofs.CutRuns.{run_halted, stands_halted}
 use Rattle.thread_run.proofs.Played.{grew_looked, grew_then}
 use Rattle.thread_run.proofs.Scripts.{left_less}
-use Rattle.thread_run.proofs.SharedPlays.{backend_inside, backend_cut, halts_inside, grew_outside, promises_outside, others_keep}
+use Rattle.thread_run.proofs.SharedPlays.{backend_inside, backend_cut, halts_inside, grew_outside, promises_outside, most_outside, stop_only, others_keep}
 use Rattle.thread_run.proofs.shared_play.SharedPlay.stop.Goals as goal
 
 pub hand_over-requires-clause-backend : goal.hand_over-requires-clause-backend
@@ -53,3 +53,10 @@ returns-in_err-hand_over-clause-promises g c = λ a apart. promises_outside _ _ 
 
 pub returns-clause-promises : goal.returns-clause-promises
 returns-clause-promises g c = λ a apart. promises_outside _ _ a _ c.self.view_is (c.stop_in_turn.ensures.others a apart ∙ ap (λ p. promised_in p a) c.retell.ensures.promised ∙ c.in_ok-hand_over.ensures.others a apart)
+
+pub returns-in_err-hand_over-clause-own : goal.returns-in_err-hand_over-clause-own
+returns-in_err-hand_over-clause-own g c = most_outside _ _ _ c.args.at.now.backend _ c.self.view_is c.hand_over.ensures.most
+
+pub returns-clause-own : goal.returns-clause-own
+returns-clause-own g c = let b = c.args.at.now.backend in
+    stop_only _ _ c.retell.new.self.script c.stop_in_turn.new.seg.script b _ _ _ c.self.view_is c.hand_over.ensures.most (ap (λ p. promised_in p b) c.retell.ensures.promised) c.stop_in_turn.ensures.script c.stop_in_turn.ensures.own

@@ -1,4 +1,4 @@
-use Rattle.thread_run.proofs.SharedPlays.{backend_inside, promises_outside}
+use Rattle.thread_run.proofs.SharedPlays.{backend_inside, promises_outside, only_outside}
 use Rattle.thread_run.proofs.shared_play.SharedPlay.work.Goals as goal
 
 pub work_in_turn-requires-clause-backend : goal.work_in_turn-requires-clause-backend
@@ -6,3 +6,6 @@ work_in_turn-requires-clause-backend c = backend_inside _ _ c.args.b c.self.view
 
 pub returns-clause-promises : goal.returns-clause-promises
 returns-clause-promises c = λ a apart. promises_outside _ _ a _ c.self.view_is (c.work_in_turn.ensures.others a apart)
+
+pub returns-clause-own : goal.returns-clause-own
+returns-clause-own c = only_outside _ _ c.args.b _ c.self.view_is c.work_in_turn.ensures.own

@@ -7,7 +7,7 @@ use Rattle.thread_run.specs.Stops.{StopsBy}
 use Rattle.thread_run.specs.Turns.{MayHalt}
 use Rattle.thread_run.specs.Workers.{HasAllAt, DoesNext}
 use Rattle.thread_run.proofs.Asking.{asks_as, owns_none, owns_then}
-use Rattle.thread_run.proofs.Workers.{at_kept, goes_kept, goes_then, where_ok, was_refused, gone_between, stays_right, went_between, stopped_may}
+use Rattle.thread_run.proofs.Workers.{waits_alive, at_kept, goes_kept, goes_then, where_ok, was_refused, gone_between, stays_right, went_between, stopped_may}
 use Rattle.thread_run.proofs.worker.Worker.step.Goals as goal
 
 pub returns-in_default-clause-goes : goal.returns-in_default-clause-goes
@@ -97,9 +97,16 @@ returns-in-Ok-go_on-clause-asks g c = let worker = c.next-worker.result.0 in λ 
   after = worker;
   over = c.in-Ok.over;
   does = subst (DoesNext c.args.self worker) c.in-Ok.is c.next-worker.ensures.does;
+  pass = refl;
+  held = refl;
   asks = asks_as worker.backend.progress.id c.args.self.pass.number (asked_before c.in-Ok.over worker.backend) (c.go_on.new.backend.progress.finished + 1) (c.go_on.new.backend.progress.finished + 1) (g.G.Gate.asked c.args.gate.now) (g.G.Gate.asked c.go_on.new.gate)
       (where_ok (worker.backend.progress.id ≡ c.args.self.pass.number) c.next-worker.result.1 c.in-Ok.over c.in-Ok.is c.next-worker.ensures.id) refl c.in-Ok-go_on.ensures.asks;
 }
+
+pub returns-in-Ok-go_on-clause-unasked : goal.returns-in-Ok-go_on-clause-unasked
+returns-in-Ok-go_on-clause-unasked g c = let worker = c.next-worker.result.0 in
+    let right = stays_right (start_of c.args.table.now).whole c.args.self.pass.number (seen_by worker.pass) worker.held.items worker.backend c.next-worker.result.1 c.in-Ok.over c.in-Ok.is c.next-worker.ensures.underway c.is_stopped.result c.is_stopped.ensures c.if-is_stopped.false in
+    λ left. absurd (both_ways _ (waits_alive worker.backend c.go_on.new.backend right c.in-Ok-go_on.ensures.waits) left)
 
 pub returns-in-Ok-go_on-clause-own : goal.returns-in-Ok-go_on-clause-own
 returns-in-Ok-go_on-clause-own g c = owns_then c.args.self.pass.number c.next-worker.result.0.backend.progress.id (asked_before c.in-Ok.over c.next-worker.result.0.backend) c.go_on.ensures.some.upto (g.G.Gate.asked c.args.gate.now) (g.G.Gate.asked c.args.gate.now) (g.G.Gate.asked c.go_on.new.gate)
