@@ -6,3 +6,7 @@ use Rattle.backend_core.proofs.backend.Backend.says_absent.Goals as goal
 pub returns-in_default : goal.returns-in_default
 returns-in_default c =
     sym (absent_wanted (plan_at c.args.self.now.progress.opens c.args.self.now.progress.exec) ∙ ap absent_of_want (sym (c.next.ensures c.args.self.now.progress.opens)) ∙ not_absent c.next.result c.in_default.not-Absent)
+
+pub returns-in-Absent : goal.returns-in-Absent
+returns-in-Absent c =
+    sym (absent_wanted (plan_at c.args.self.now.progress.opens c.args.self.now.progress.exec) ∙ ap absent_of_want (sym (c.next.ensures c.args.self.now.progress.opens) ∙ c.in-Absent.is))

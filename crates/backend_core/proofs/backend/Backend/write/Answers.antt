@@ -11,37 +11,37 @@ use Rattle.backend_core.proofs.Entries.Noting.{written_noted}
 use Rattle.backend_core.proofs.backend.Backend.write.Goals as goal
 
 pub write-requires-clause-call : goal.write-requires-clause-call
-write-requires-clause-call g c = write_request _ _ _ c.in-Some.draft.now (writing_is _ _ c.in-Some.draft.now (c.in-Some.ensures _)) (reserved_awaits _ _ c.args.self.now _ c.reserve_lock.ensures.same c.requires.ready.waits) c.requires.ready.played c.requires.ready.course (reserved_write _ _ c.reserve_lock.ensures.same c.requires.next)
+write-requires-clause-call g c = write_request _ _ _ c.in-Some.draft.now (writing_is c.reserve_lock.new.self.opens c.reserve_lock.new.self.exec c.in-Some.draft.now (c.in-Some.ensures c.reserve_lock.new.self.opens)) (reserved_awaits _ _ c.args.self.now _ c.reserve_lock.ensures.same c.requires.ready.waits) c.requires.ready.played c.requires.ready.course (reserved_write _ _ c.reserve_lock.ensures.same c.requires.next)
 
 pub write-requires-clause-write : goal.write-requires-clause-write
-write-requires-clause-write g c = may_write _ _ _ c.in-Some.draft.now (writing_is _ _ c.in-Some.draft.now (c.in-Some.ensures _)) (reserved_awaits _ _ c.args.self.now _ c.reserve_lock.ensures.same c.requires.ready.waits) c.requires.ready.played c.requires.ready.course (reserved_write _ _ c.reserve_lock.ensures.same c.requires.next)
+write-requires-clause-write g c = may_write _ _ _ c.in-Some.draft.now (writing_is c.reserve_lock.new.self.opens c.reserve_lock.new.self.exec c.in-Some.draft.now (c.in-Some.ensures c.reserve_lock.new.self.opens)) (reserved_awaits _ _ c.args.self.now _ c.reserve_lock.ensures.same c.requires.ready.waits) c.requires.ready.played c.requires.ready.course (reserved_write _ _ c.reserve_lock.ensures.same c.requires.next)
 
 pub enter_write-requires-clause-order : goal.enter_write-requires-clause-order
-enter_write-requires-clause-order g c = lists_before _ _ _ c.in-Some.draft.now (writing_is _ _ c.in-Some.draft.now (c.in-Some.ensures _)) (reserved_awaits _ _ c.args.self.now _ c.reserve_lock.ensures.same c.requires.ready.waits) c.requires.ready.played c.requires.ready.course (reserved_write _ _ c.reserve_lock.ensures.same c.requires.next)
+enter_write-requires-clause-order g c = lists_before _ _ _ c.in-Some.draft.now (writing_is c.reserve_lock.new.self.opens c.reserve_lock.new.self.exec c.in-Some.draft.now (c.in-Some.ensures c.reserve_lock.new.self.opens)) (reserved_awaits _ _ c.args.self.now _ c.reserve_lock.ensures.same c.requires.ready.waits) c.requires.ready.played c.requires.ready.course (reserved_write _ _ c.reserve_lock.ensures.same c.requires.next)
 
 pub enter_write-requires-clause-new : goal.enter_write-requires-clause-new
-enter_write-requires-clause-new g c = made_free _ _ _ c.in-Some.draft.now (writing_is _ _ c.in-Some.draft.now (c.in-Some.ensures _)) (reserved_awaits _ _ c.args.self.now _ c.reserve_lock.ensures.same c.requires.ready.waits) c.requires.ready.played c.requires.ready.course (reserved_write _ _ c.reserve_lock.ensures.same c.requires.next) _ _ c.relation_made-made.ensures c.in-Ok.ensures.writes.first
+enter_write-requires-clause-new g c = made_free _ _ _ c.in-Some.draft.now (writing_is c.reserve_lock.new.self.opens c.reserve_lock.new.self.exec c.in-Some.draft.now (c.in-Some.ensures c.reserve_lock.new.self.opens)) (reserved_awaits _ _ c.args.self.now _ c.reserve_lock.ensures.same c.requires.ready.waits) c.requires.ready.played c.requires.ready.course (reserved_write _ _ c.reserve_lock.ensures.same c.requires.next) _ _ c.relation_made-made.ensures c.in-Ok.ensures.writes.first
 
 pub returns-in_ok-enter_write-in-Ok-clause-enters : goal.returns-in_ok-enter_write-in-Ok-clause-enters
-returns-in_ok-enter_write-in-Ok-clause-enters g c = wrote_agrees _ _ _ c.in-Some.draft.now (writing_is _ _ c.in-Some.draft.now (c.in-Some.ensures _)) (reserved_awaits _ _ c.args.self.now _ c.reserve_lock.ensures.same c.requires.ready.waits) c.requires.ready.played c.requires.ready.course (reserved_write _ _ c.reserve_lock.ensures.same c.requires.next)
+returns-in_ok-enter_write-in-Ok-clause-enters g c = wrote_agrees _ _ _ c.in-Some.draft.now (writing_is c.reserve_lock.new.self.opens c.reserve_lock.new.self.exec c.in-Some.draft.now (c.in-Some.ensures c.reserve_lock.new.self.opens)) (reserved_awaits _ _ c.args.self.now _ c.reserve_lock.ensures.same c.requires.ready.waits) c.requires.ready.played c.requires.ready.course (reserved_write _ _ c.reserve_lock.ensures.same c.requires.next)
     c.args.self.now (reserved_id _ _ c.reserve_lock.ensures.same) _ _ _ _ (is_kept (kept_of c.enter_write.new.self.caches)) _ c.tell_each.result c.in-Ok.written _ _ c.relation_made-made.ensures c.in-Ok.ensures.writes c.as_slice.ensures.value c.in_ok-enter_write-in-Ok.ensures.answer c.in_ok-enter_write-in-Ok.ensures.holds _ _ refl c.as_slice-in-Ok.ensures.value c.tell_each.ensures
 
 pub returns-in_ok-enter_write-in-Ok-clause-refused : goal.returns-in_ok-enter_write-in-Ok-clause-refused
-returns-in_ok-enter_write-in-Ok-clause-refused g c = wrote_refused _ _ _ c.in-Some.draft.now (writing_is _ _ c.in-Some.draft.now (c.in-Some.ensures _)) (reserved_awaits _ _ c.args.self.now _ c.reserve_lock.ensures.same c.requires.ready.waits) c.requires.ready.played c.requires.ready.course (reserved_write _ _ c.reserve_lock.ensures.same c.requires.next) c.args.self.now (reserved_id _ _ c.reserve_lock.ensures.same) _ _ _ c.tell_each.result c.in-Ok.written c.in-Ok.ensures.writes
+returns-in_ok-enter_write-in-Ok-clause-refused g c = wrote_refused _ _ _ c.in-Some.draft.now (writing_is c.reserve_lock.new.self.opens c.reserve_lock.new.self.exec c.in-Some.draft.now (c.in-Some.ensures c.reserve_lock.new.self.opens)) (reserved_awaits _ _ c.args.self.now _ c.reserve_lock.ensures.same c.requires.ready.waits) c.requires.ready.played c.requires.ready.course (reserved_write _ _ c.reserve_lock.ensures.same c.requires.next) c.args.self.now (reserved_id _ _ c.reserve_lock.ensures.same) _ _ _ c.tell_each.result c.in-Ok.written c.in-Ok.ensures.writes
 
 pub returns-in_err-enter_write-in-Ok-clause-refused : goal.returns-in_err-enter_write-in-Ok-clause-refused
-returns-in_err-enter_write-in-Ok-clause-refused g c = wrote_refused _ _ _ c.in-Some.draft.now (writing_is _ _ c.in-Some.draft.now (c.in-Some.ensures _)) (reserved_awaits _ _ c.args.self.now _ c.reserve_lock.ensures.same c.requires.ready.waits) c.requires.ready.played c.requires.ready.course (reserved_write _ _ c.reserve_lock.ensures.same c.requires.next) c.args.self.now (reserved_id _ _ c.reserve_lock.ensures.same) _ _ _ _ c.in-Ok.written c.in-Ok.ensures.writes
+returns-in_err-enter_write-in-Ok-clause-refused g c = wrote_refused _ _ _ c.in-Some.draft.now (writing_is c.reserve_lock.new.self.opens c.reserve_lock.new.self.exec c.in-Some.draft.now (c.in-Some.ensures c.reserve_lock.new.self.opens)) (reserved_awaits _ _ c.args.self.now _ c.reserve_lock.ensures.same c.requires.ready.waits) c.requires.ready.played c.requires.ready.course (reserved_write _ _ c.reserve_lock.ensures.same c.requires.next) c.args.self.now (reserved_id _ _ c.reserve_lock.ensures.same) _ _ _ _ c.in-Ok.written c.in-Ok.ensures.writes
 
 pub returns-in-Clash-clause-enters : goal.returns-in-Clash-clause-enters
-returns-in-Clash-clause-enters g c = clash_enters _ _ _ c.in-Some.draft.now (writing_is _ _ c.in-Some.draft.now (c.in-Some.ensures _)) (reserved_awaits _ _ c.args.self.now _ c.reserve_lock.ensures.same c.requires.ready.waits) c.requires.ready.played c.requires.ready.course (reserved_write _ _ c.reserve_lock.ensures.same c.requires.next)
+returns-in-Clash-clause-enters g c = clash_enters _ _ _ c.in-Some.draft.now (writing_is c.reserve_lock.new.self.opens c.reserve_lock.new.self.exec c.in-Some.draft.now (c.in-Some.ensures c.reserve_lock.new.self.opens)) (reserved_awaits _ _ c.args.self.now _ c.reserve_lock.ensures.same c.requires.ready.waits) c.requires.ready.played c.requires.ready.course (reserved_write _ _ c.reserve_lock.ensures.same c.requires.next)
     c.args.self.now (reserved_id _ _ c.reserve_lock.ensures.same) _ _ _ _ c.in-Clash.name c.in-Clash.clash (c.enter_clash.ensures.holds _ _ _) c.enter_clash.ensures.answer (rw c.in-Clash.is at c.in-Err.ensures.writes)
 
 pub returns-in_ok-enter_write-in-Ok-clause-noted : goal.returns-in_ok-enter_write-in-Ok-clause-noted
-returns-in_ok-enter_write-in-Ok-clause-noted g c = then_so c.tell_each.result (written_noted _ _ _ c.args.self.now _ _ _ _ refl c.reserve_lock.ensures.same) (wrote_noted _ _ _ c.in-Some.draft.now (writing_is _ _ c.in-Some.draft.now (c.in-Some.ensures _)) (reserved_awaits _ _ c.args.self.now _ c.reserve_lock.ensures.same c.requires.ready.waits) c.requires.ready.played c.requires.ready.course (reserved_write _ _ c.reserve_lock.ensures.same c.requires.next)
+returns-in_ok-enter_write-in-Ok-clause-noted g c = then_so c.tell_each.result (written_noted _ _ _ c.args.self.now _ _ _ _ refl c.reserve_lock.ensures.same) (wrote_noted _ _ _ c.in-Some.draft.now (writing_is c.reserve_lock.new.self.opens c.reserve_lock.new.self.exec c.in-Some.draft.now (c.in-Some.ensures c.reserve_lock.new.self.opens)) (reserved_awaits _ _ c.args.self.now _ c.reserve_lock.ensures.same c.requires.ready.waits) c.requires.ready.played c.requires.ready.course (reserved_write _ _ c.reserve_lock.ensures.same c.requires.next)
     _ _ _ _ _ c.tell_each.result c.in-Ok.written _ _ c.relation_made-made.ensures c.in-Ok.ensures.writes c.as_slice.ensures.value c.in_ok-enter_write-in-Ok.ensures.kept c.in_ok-enter_write-in-Ok.ensures.holds _ _ refl c.as_slice-in-Ok.ensures.value c.tell_each.ensures)
 
 pub returns-in-Clash-clause-noted : goal.returns-in-Clash-clause-noted
-returns-in-Clash-clause-noted g c = written_noted _ _ _ c.args.self.now _ _ _ _ refl c.reserve_lock.ensures.same (clash_noted _ _ _ c.in-Some.draft.now (writing_is _ _ c.in-Some.draft.now (c.in-Some.ensures _)) (reserved_awaits _ _ c.args.self.now _ c.reserve_lock.ensures.same c.requires.ready.waits) c.requires.ready.played c.requires.ready.course (reserved_write _ _ c.reserve_lock.ensures.same c.requires.next)
+returns-in-Clash-clause-noted g c = written_noted _ _ _ c.args.self.now _ _ _ _ refl c.reserve_lock.ensures.same (clash_noted _ _ _ c.in-Some.draft.now (writing_is c.reserve_lock.new.self.opens c.reserve_lock.new.self.exec c.in-Some.draft.now (c.in-Some.ensures c.reserve_lock.new.self.opens)) (reserved_awaits _ _ c.args.self.now _ c.reserve_lock.ensures.same c.requires.ready.waits) c.requires.ready.played c.requires.ready.course (reserved_write _ _ c.reserve_lock.ensures.same c.requires.next)
     _ _ _ _ c.in-Clash.name c.in-Clash.clash (c.enter_clash.ensures.holds _ _ _) (rw c.in-Clash.is at c.in-Err.ensures.writes))
 
 pub enter_write-requires-clause-few : goal.enter_write-requires-clause-few
@@ -55,3 +55,6 @@ overflow_add-self g c = omega (arith, is_few _ _ _ (reserved_awaits _ _ c.args.s
 
 pub returns-in-NoMemory-clause-refused : goal.returns-in-NoMemory-clause-refused
 returns-in-NoMemory-clause-refused g c = Before (rw c.in-NoMemory.is at c.in-Err.ensures.writes)
+
+pub unreachable-requires : goal.unreachable-requires
+unreachable-requires g c = c.in_default.ensures c.reserve_lock.new.self.opens (reserved_write _ _ c.reserve_lock.ensures.same c.requires.next).wants
