@@ -143,9 +143,8 @@ pub(crate) fn drop_constraint(
         return fails(CommandError::NoConstraint { name });
     };
     let other = refers_to(&row);
-    let draft = dropped_constraint(alloc, row.key(), rel, other)?;
-    let rels = other_table(alloc, other)?;
-    given.lock_all(opens, rels.as_slice(), draft)
+    given.lock_all(opens, other_table(alloc, other)?.as_slice())?;
+    given.write(dropped_constraint(alloc, row.key(), rel, other)?)
 }
 
 // The table's own constraint of a name.
