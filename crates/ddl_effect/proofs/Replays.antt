@@ -1,5 +1,5 @@
 -- What is left of a plan over what its acts gave.
-use Rattle.std.proofs.Common.{◌≡◌, ◌<◌, ◌≤◌, ◌+◌, ◌∙◌, ℕ, Option, Some, Result, Ok, Err, List, [], ◌∷◌, ◌++◌, drop, get_or, slice_get, length, refl, ap, sym, subst, add-one, drop-cons, drop_of_length-le}
+use Rattle.std.proofs.Common.{◌≡◌, ◌<◌, ◌≤◌, ◌+◌, ◌∙◌, ℕ, Option, Some, Result, Ok, Err, List, [], ◌∷◌, ◌++◌, drop, get_or, slice_get, length, refl, ap, sym, add-one, drop-cons, drop_of_length-le}
 use Rattle.command_answers.specs.declared.error.CommandError.{CommandError}
 use Rattle.ddl_effect.specs.Types.{Oid, Mode, AccessExclusive, Row, Told, Draft, OpenRelation}
 use Rattle.ddl_effect.specs.declared.leave.Leave.{Leave}
@@ -77,9 +77,5 @@ comes_fails given plan error is = ap (λ p. came_at (Err (leaves.At (steps.Fails
 pub comes_wrote : (left : List (List Row)) (rows : List Row) (draft : Draft) → slice_get left 0 ≡ Some rows → Comes (Ok (steps.Done tells.Ok)) left (writing draft)
 comes_wrote [] rows draft is = absurd (cc is)
 comes_wrote (first ∷ more) rows draft is = ap (λ p. came_at (Ok (steps.Done tells.Ok)) (step_of p)) (after_done more tells.Ok)
-
--- it ended before the locks were had
-pub comes_stays : (given : List (List Row)) (plan : Plan) (leave : Leave) → leaves.At (step_of (after_all given plan)) ≡ leave → Comes (Err leave) given plan
-comes_stays given plan leave is = subst (λ l. Comes (Err l) given plan) is refl
 
 pub ruleset settled = (after_done, after_fails, after_absent)

@@ -56,11 +56,11 @@ pub record HasAltered (kind : Kind) (opens : List OpenRelation) (given left : Li
   pub gave : given ≡ (Class rel own kind fill ∷ more) ∷ opened ∷ left
   pub closed : has_open rel opens ≡ false
 
--- it was left before that, whatever comes after it
+-- the acts ended before the descriptor was open: at this step, whatever comes after it
 pub record LeftAltering (former : List OpenRelation → List ℕ → (Oid → Plan) → Oid → Kind → Plan) (opens : List OpenRelation) (name : List ℕ) (mode : Mode) (given : List (List Row)) (leave : Leave) : Type 0 where
   pub stays : (rest : Oid → Plan) → left_at leave (step_of (after_all given (looking_up name mode (former opens name rest)))) ≡ leave
 
--- either
+-- opened, or stopped before
 abbrev pub Alters : (List OpenRelation → List ℕ → (Oid → Plan) → Oid → Kind → Plan) → Kind → List OpenRelation → List ℕ → Mode → List (List Row) → List (List Row) → Result Oid Leave → Type 0
 Alters former kind opens name mode given left (Ok rel) = HasAltered kind opens given left rel
 Alters former kind opens name mode given left (Err leave) = LeftAltering former opens name mode given leave

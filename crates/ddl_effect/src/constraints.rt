@@ -44,7 +44,7 @@ pub(crate) fn add_check(
     given.write(adding_draft(alloc, None, row, rel)?)
 }
 
-/// `add constraint .. foreign key` (`ATExecAddConstraint` in `src/backend/commands/tablecmds.c`).
+/// `add constraint .. foreign key` (`ATAddForeignKeyConstraint` in `src/backend/commands/tablecmds.c`).
 #[tactic(auto, using(crate::proofs::Replays::settled))]
 pub(crate) fn add_foreign(
     alloc: Global,
@@ -66,7 +66,7 @@ pub(crate) fn add_foreign(
     refer(alloc, given, rel, key, row)
 }
 
-// The same by the row of the table's own column: the other relation is looked up, and has to be a table with that column.
+// `add constraint .. foreign key`, by the row of the table's own column: the other relation has to be a table with that column.
 #[tactic(auto, using(crate::proofs::Replays::settled))]
 fn refer(
     alloc: Global,

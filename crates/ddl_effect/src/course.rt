@@ -71,7 +71,7 @@ impl Course {
         &self.step
     }
 
-    /// Its act gave these rows; where it has come out, nothing changes. Out of memory, nothing changes either.
+    /// Its act was done and gave these rows. A command that has ended stays as it is; out of memory, nothing changes.
     pub(crate) fn give(&mut self, alloc: Global, rows: &[Row]) -> Result<(), NoMemory>
         ensures on { OnOk result (acts (step_of (plan_left self.old)) ≡ true → self.new ≡ record self.old { given = self.old.given ++ rows.now ∷ [] }) }
         ensures out { OnOk result (acts (step_of (plan_left self.old)) ≡ false → self.new ≡ self.old) }

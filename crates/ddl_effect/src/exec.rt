@@ -55,7 +55,7 @@ impl Exec {
         }
     }
 
-    /// What it answers, once it has done what it says; nothing stands for [`Told::Ok`].
+    /// What it answers, once it has done what it says; `None` means [`Told::Ok`].
     pub fn told(&self) -> Option<&Told>
         ensures { MatchOption result ((opens : List OpenRelation) → told_of (plan_at opens self.now) ≡ Told.Ok) (λ told. (opens : List OpenRelation) → told_of (plan_at opens self.now) ≡ told.now) }
     {
@@ -76,7 +76,7 @@ impl Exec {
         ensures again { OnOk result ((opens : List OpenRelation) (name : List ℕ) → 0 < acts_left self.old → plan_at opens self.new ≡ Absent name → plan_again opens self.new ≡ plan_at opens self.old) }
         ensures err { OnErr result (self.new ≡ self.old) }
     {
-        // No list has as many rows as `acts_left` counts for one that isn't read yet.
+        // A slice has fewer than 2^64 items, which the count of acts needs: the length is taken for the proof alone.
         let count = rows.len();
         match self {
             Exec::Done(_) | Exec::Failing(_) => Ok(()),

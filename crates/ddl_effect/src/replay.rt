@@ -13,9 +13,10 @@ use base_types::{Kind, Listed, Mode, Name, Oid, Purpose, Row};
 use command_answers::CommandError;
 use std::marker::Model;
 
-/// What the acts of a command gave, one after another, as far as the command hasn't gone over it.
+/// What the acts of a command gave, one after another, from where its run has come. An act that wasn't done is an `Err`: the
+/// command does it next.
 #[derive(Drop)]
-pub struct Replay<'a> {
+pub(crate) struct Replay<'a> {
     left: &'a [Listed<Row>],
 }
 
@@ -136,7 +137,7 @@ impl<'a> Replay<'a> {
         }
     }
 
-    /// The same of an index.
+    /// Looks for an index that is to be altered, which the session must not have open, and opens its descriptor.
     #[tactic(auto, using(crate::proofs::Replays::settled))]
     pub(crate) fn alter_index(
         &mut self,
