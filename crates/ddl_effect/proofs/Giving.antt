@@ -10,7 +10,7 @@ use Rattle.ddl_effect.specs.Plans.{Plan, Done, Fails, Absent, Do, Lookup, Open, 
 use Rattle.ddl_effect.specs.Commands.{plan_of}
 use Rattle.ddl_effect.specs.Replays.{after_all, step_of}
 use Rattle.ddl_effect.specs.Taken.{Taken}
-use Rattle.ddl_effect.specs.Courses.{plan_left, plan_before, left_again, unless_absent, after_found, CameBy, IsCourse, is_act, acts_at, acts_by, rows_by, most_rows}
+use Rattle.ddl_effect.specs.Courses.{plan_left, plan_before, left_again, unless_absent, after_found, CameBy, IsCourse, is_act, acts_at, acts_by, constraints_read, indexes_read, rows_by, most_rows}
 use Rattle.ddl_effect.proofs.Replays.{after_more, after_absent}
 
 -- the same with the rows of one act more
@@ -67,7 +67,7 @@ by_more (first ∷ given) rows zero few = omega arith
 by_more (first ∷ given) rows (suc k) few = by_more given rows k few
 
 acts_more : (command : Command) (given : List (List Row)) (rows : List Row) → length rows < most_rows → acts_by command (given ++ rows ∷ []) ≤ acts_by command given
-acts_more (commands.DropTable name) given rows few = omega (arith, by_more given rows 2 few, by_more given rows 3 few)
+acts_more (commands.DropTable name) given rows few = omega (arith, by_more given rows constraints_read few, by_more given rows indexes_read few)
 acts_more command given rows few = omega arith
 
 -- as many acts as are left
@@ -119,7 +119,7 @@ pub found_before : (given : List (List Row)) (rows : List Row) (plan : Plan) →
 found_before [] rows plan was is = goes_back plan (after_act rows plan) (after_act rows plan) is
 found_before (first ∷ given) rows plan was is = goes_on plan (after_found (given ++ rows ∷ []) (after_act first plan)) (after_act first plan) (not_yet given (after_act first plan) was) ∙ found_before given rows (after_act first plan) was is
 
--- and never finds at once that there is none, for a plan that hasn't
+-- a plan that isn't absent isn't so where its last lookup is made anew
 pub never_absent : (given : List (List Row)) (plan : Plan) → is_absent plan ≡ false → is_absent (after_found given plan) ≡ false
 never_absent [] plan is = is
 never_absent (rows ∷ given) plan is = by_test (is_absent (after_act rows plan)) refl (never_absent given (after_act rows plan))

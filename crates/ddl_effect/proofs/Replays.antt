@@ -1,11 +1,12 @@
 -- What is left of a plan over what its acts gave.
-use Rattle.std.proofs.Common.{◌≡◌, ◌<◌, ◌≤◌, ◌+◌, ◌∙◌, ℕ, Result, Err, List, [], ◌∷◌, ◌++◌, drop, get_or, length, refl, ap, sym, add-one, drop-cons, drop_of_length-le}
+use Rattle.std.proofs.Common.{◌≡◌, ◌<◌, ◌≤◌, ◌+◌, ◌∙◌, ℕ, Option, Some, Result, Ok, Err, List, [], ◌∷◌, ◌++◌, drop, get_or, slice_get, length, refl, ap, sym, add-one, drop-cons, drop_of_length-le}
 use Rattle.command_answers.specs.declared.error.CommandError.{CommandError}
 use Rattle.ddl_effect.specs.Types.{Oid, Mode, AccessExclusive, Row, Told, Draft, OpenRelation}
 use Rattle.ddl_effect.specs.declared.leave.Leave.{Leave}
 use Rattle.ddl_effect.specs.declared.leave.Leave.TheVariants as leaves
 use Rattle.ddl_effect.specs.declared.step.Step.{Step}
 use Rattle.ddl_effect.specs.declared.step.Step.TheVariants as steps
+use Rattle.ddl_effect.specs.declared.told.Told.TheVariants as tells
 use Rattle.ddl_effect.specs.Parts.{looking_up, altering, altering_index, locking_all, locking_further, if_closed, writing, with_column}
 use Rattle.ddl_effect.specs.Indexes.{numbering, numbered_too, adding_index}
 use Rattle.ddl_effect.specs.Plans.{Plan, Done, Fails, Absent, after_act}
@@ -71,5 +72,10 @@ comes_left given plan step none is = ap (λ g. came_at (Err (leaves.At step)) (s
 -- it fails
 pub comes_fails : (given : List (List Row)) (plan : Plan) (error : CommandError) → plan ≡ Fails error → Comes (Err (leaves.At (steps.Fails error))) given plan
 comes_fails given plan error is = ap (λ p. came_at (Err (leaves.At (steps.Fails error))) (step_of p)) (ap (after_all given) is ∙ after_fails given error)
+
+-- a write that was done
+pub comes_wrote : (left : List (List Row)) (rows : List Row) (draft : Draft) → slice_get left 0 ≡ Some rows → Comes (Ok (steps.Done tells.Ok)) left (writing draft)
+comes_wrote [] rows draft is = absurd (cc is)
+comes_wrote (first ∷ more) rows draft is = ap (λ p. came_at (Ok (steps.Done tells.Ok)) (step_of p)) (after_done more tells.Ok)
 
 pub ruleset settled = (after_done, after_fails, after_absent)

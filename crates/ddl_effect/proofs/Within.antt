@@ -28,7 +28,7 @@ IsWithin n plan = ⊤
 out_is_out : (given : List (List Row)) (plan : Plan) → after_all given plan ≡ plan → is_act (step_of plan) ≡ false → is_act (step_of (after_all given plan)) ≡ true → ⊥
 out_is_out given plan stays out is = let no : false ≡ true = sym out ∙ sym (ap (λ p. is_act (step_of p)) stays) ∙ is in cc no
 
--- a plan that is at an act has had fewer
+-- a plan that is at an act has done fewer acts
 pub within_act : (n : ℕ) (plan : Plan) (given : List (List Row)) → IsWithin n plan → is_act (step_of (after_all given plan)) ≡ true → length given < n
 within_act zero (Do act rest) given within is = absurd within
 within_act (suc n) (Do act rest) [] within is = omega arith

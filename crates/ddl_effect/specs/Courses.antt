@@ -29,7 +29,7 @@ abbrev pub unless_absent : Plan → Plan → Plan → Plan
 unless_absent old new (Absent name) = old
 unless_absent old new plan = new
 
--- the plan after its first acts, up to the one after which it is absent
+-- the plan after these acts; where the last of them found no relation, the plan before it
 abbrev pub after_found : List (List Row) → Plan → Plan
 after_found [] plan = plan
 after_found (rows ∷ given) plan = unless_absent plan (after_found given (after_act rows plan)) (after_act rows plan)
@@ -38,7 +38,7 @@ after_found (rows ∷ given) plan = unless_absent plan (after_found given (after
 abbrev pub left_again : Taken → Plan
 left_again taken = after_found taken.given (plan_of taken.opens taken.command)
 
--- the step before the last act, where there was one; a command that hasn't come to it by an act begins with no such step
+-- the step before the last act, or none: then nothing is to be made anew
 abbrev pub CameBy : Option Step → Taken → Type 0
 CameBy None taken = left_again taken ≡ plan_left taken
 CameBy (Some before) taken = (0 < length taken.given) × ((is_act before ≡ true) × (step_of (plan_before taken) ≡ before))
@@ -57,12 +57,23 @@ abbrev pub rows_by : Option (List Row) → ℕ
 rows_by None = most_rows
 rows_by (Some rows) = length rows
 
--- a command does at most so many acts, by what they gave so far: `drop table` locks the tables to which its constraints refer, and its indexes
-abbrev pub acts_by : Command → List (List Row) → ℕ
-acts_by (commands.DropTable name) given = rows_by (slice_get given 2) + rows_by (slice_get given 3) + 8
-acts_by command given = 40
+-- the acts of `drop table` that read its constraints and its indexes, after its lookup and its open
+abbrev pub constraints_read : ℕ
+constraints_read = 2
 
--- none once it has come out
+abbrev pub indexes_read : ℕ
+indexes_read = 3
+
+-- more acts than any other command does: `create index` looks up its table, opens it, searches for at most 32 columns and writes
+abbrev pub most_few : ℕ
+most_few = 40
+
+-- a command does at most so many acts, by what they gave so far: `drop table` locks the tables to which its constraints refer, and its indexes, and does eight acts beside
+abbrev pub acts_by : Command → List (List Row) → ℕ
+acts_by (commands.DropTable name) given = rows_by (slice_get given constraints_read) + rows_by (slice_get given indexes_read) + 8
+acts_by command given = most_few
+
+-- none once it has ended
 abbrev pub acts_at : Step → ℕ → ℕ
 acts_at (steps.Done told) count = 0
 acts_at (steps.Fails error) count = 0

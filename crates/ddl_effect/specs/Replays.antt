@@ -6,10 +6,10 @@ use Rattle.ddl_effect.specs.declared.step.Step.{Step}
 use Rattle.ddl_effect.specs.declared.step.Step.TheVariants as steps
 use Rattle.ddl_effect.specs.declared.leave.Leave.{Leave}
 use Rattle.ddl_effect.specs.declared.leave.Leave.TheVariants as leaves
-use Rattle.ddl_effect.specs.Types.{Oid, Kind, Mode, Row, OpenRelation}
+use Rattle.ddl_effect.specs.Types.{Oid, Kind, Mode, Row, Draft, OpenRelation}
 use Rattle.ddl_effect.specs.Opens.{has_open}
 use Rattle.ddl_effect.specs.Plans.{Plan, Done, Fails, Absent, Do, Lookup, Open, Search, Read, Lock, Write, after_act}
-use Rattle.ddl_effect.specs.Parts.{looking_up}
+use Rattle.ddl_effect.specs.Parts.{looking_up, locking_all, writing}
 
 -- the plan after its first acts, which gave these rows
 abbrev pub after_all : List (List Row) → Plan → Plan
@@ -56,11 +56,24 @@ pub record HasAltered (kind : Kind) (opens : List OpenRelation) (given left : Li
   pub gave : given ≡ (Class rel own kind fill ∷ more) ∷ opened ∷ left
   pub closed : has_open rel opens ≡ false
 
--- it was left before that, whatever comes after it
+-- the acts ended before the descriptor was open: at this step, whatever comes after it
 pub record LeftAltering (former : List OpenRelation → List ℕ → (Oid → Plan) → Oid → Kind → Plan) (opens : List OpenRelation) (name : List ℕ) (mode : Mode) (given : List (List Row)) (leave : Leave) : Type 0 where
   pub stays : (rest : Oid → Plan) → left_at leave (step_of (after_all given (looking_up name mode (former opens name rest)))) ≡ leave
 
--- either
+-- opened, or stopped before
 abbrev pub Alters : (List OpenRelation → List ℕ → (Oid → Plan) → Oid → Kind → Plan) → Kind → List OpenRelation → List ℕ → Mode → List (List Row) → List (List Row) → Result Oid Leave → Type 0
 Alters former kind opens name mode given left (Ok rel) = HasAltered kind opens given left rel
 Alters former kind opens name mode given left (Err leave) = LeftAltering former opens name mode given leave
+
+-- the first acts locked these relations, which the session hasn't open
+pub record HasLocked (opens : List OpenRelation) (rels : List Oid) (given left : List (List Row)) : Type 0 where
+  pub on : (draft : Draft) → after_all given (locking_all opens rels draft) ≡ after_all left (writing draft)
+
+-- the acts ended before all of these were locked: at this step, whatever is written then
+pub record LeftLocking (opens : List OpenRelation) (rels : List Oid) (given : List (List Row)) (leave : Leave) : Type 0 where
+  pub stays : (draft : Draft) → leaves.At (step_of (after_all given (locking_all opens rels draft))) ≡ leave
+
+-- locked, or stopped before
+abbrev pub Locks : List OpenRelation → List Oid → List (List Row) → List (List Row) → Result Unit Leave → Type 0
+Locks opens rels given left (Ok locked) = HasLocked opens rels given left
+Locks opens rels given left (Err leave) = LeftLocking opens rels given leave

@@ -56,12 +56,12 @@ pub(crate) fn drop_column(
     let Some(row) = given.search(Purpose::AttName(rel, column))?.first() else {
         return fails(CommandError::NoColumn { name: column });
     };
-    drop_found(alloc, given, rel, column, row)
+    drop_unless_used(alloc, given, rel, column, row)
 }
 
-// The same by the row of the column, which no constraint and no index may use.
+// `drop column`, by the row of the column, which no constraint and no index may use.
 #[tactic(auto, using(crate::proofs::Replays::settled))]
-fn drop_found(
+fn drop_unless_used(
     alloc: Global,
     given: &mut Replay,
     rel: Oid,
@@ -82,7 +82,7 @@ fn drop_found(
     drop_unused(alloc, given, rel, row)
 }
 
-// The same where nothing uses it; its default goes with it.
+// `drop column`, where nothing uses the column; its default goes with it.
 #[tactic(auto, using(crate::proofs::Replays::settled))]
 fn drop_unused(alloc: Global, given: &mut Replay, rel: Oid, row: &Row) -> Result<Step, Leave>
     ensures { Comes result given.old (reading (Purpose.AttrDef rel) (dropping row.now)) }
@@ -119,7 +119,7 @@ pub(crate) fn rename_column(
     given.write(replacing(alloc, None, renamed(row, to))?)
 }
 
-/// `set default` (`StoreAttrDefault` in `src/backend/catalog/pg_attrdef.c`): the old one goes.
+/// `set default` (`ATExecColumnDefault` in `src/backend/commands/tablecmds.c`): the old one goes.
 #[tactic(auto, using(crate::proofs::Replays::settled))]
 pub(crate) fn set_default(
     alloc: Global,

@@ -40,7 +40,7 @@ pub(crate) fn step_at(
     }
 }
 
-// The same as the command goes over them.
+// Runs a command over what its acts gave: its next step, or where it stopped.
 #[tactic(auto, using(crate::proofs::Replays::settled))]
 fn next_step(
     alloc: Global,
@@ -72,7 +72,7 @@ fn next_step(
         Command::CreateTable { name, columns } => {
             create_table(alloc, given, *name, columns.as_slice())
         }
-        Command::DropTable(name) => drop_found(alloc, opens, given, *name),
+        Command::DropTable(name) => drop_named(alloc, opens, given, *name),
         Command::CreateIndex {
             name,
             on_table,
@@ -87,7 +87,7 @@ fn next_step(
 
 // `drop table`, by its name.
 #[tactic(auto, using(crate::proofs::Replays::settled, crate::proofs::Replays::left_table))]
-fn drop_found(
+fn drop_named(
     alloc: Global,
     opens: &[OpenRelation],
     given: &mut Replay,

@@ -44,7 +44,7 @@ pub(crate) fn add_check(
     given.write(adding_draft(alloc, None, row, rel)?)
 }
 
-/// `add constraint .. foreign key` (`ATExecAddConstraint` in `src/backend/commands/tablecmds.c`).
+/// `add constraint .. foreign key` (`ATAddForeignKeyConstraint` in `src/backend/commands/tablecmds.c`).
 #[tactic(auto, using(crate::proofs::Replays::settled))]
 pub(crate) fn add_foreign(
     alloc: Global,
@@ -66,7 +66,7 @@ pub(crate) fn add_foreign(
     refer(alloc, given, rel, key, row)
 }
 
-// The same by the row of the table's own column: the other relation is looked up, and has to be a table with that column.
+// `add constraint .. foreign key`, by the row of the table's own column: the other relation has to be a table with that column.
 #[tactic(auto, using(crate::proofs::Replays::settled))]
 fn refer(
     alloc: Global,
@@ -143,9 +143,8 @@ pub(crate) fn drop_constraint(
         return fails(CommandError::NoConstraint { name });
     };
     let other = refers_to(&row);
-    let draft = dropped_constraint(alloc, row.key(), rel, other)?;
-    let rels = other_table(alloc, other)?;
-    given.lock_all(opens, rels.as_slice(), draft)
+    given.lock_all(opens, other_table(alloc, other)?.as_slice())?;
+    given.write(dropped_constraint(alloc, row.key(), rel, other)?)
 }
 
 // The table's own constraint of a name.

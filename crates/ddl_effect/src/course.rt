@@ -1,7 +1,9 @@
 ghost use Rattle.std.specs.Prelude.{◌≡◌, ◌++◌, ◌∷◌, [], true, false, OnOk, OnErr, IfOk};
+ghost use Rattle.ddl_effect.specs.Commands.{plan_of};
 ghost use Rattle.ddl_effect.specs.Courses.{plan_left, left_again, is_act as acts};
 ghost use Rattle.ddl_effect.specs.Replays.{step_of};
 
+use crate::command_copy::copied_command;
 use crate::commands::step_at;
 use crate::{OpenRelation, Step};
 use base_types::{Command, Listed, NoMemory, Row};
@@ -43,19 +45,19 @@ impl Model for Course {
 }
 
 impl Course {
-    /// A command at its beginning, by the relations that its session has open.
+    /// A command at its beginning, by the relations that its session has open. Condition: this is its first step.
     pub(crate) fn new(
         alloc: Global,
         opens: &[OpenRelation],
-        command: Command,
+        command: &Command,
+        step: Step,
     ) -> Result<Course, NoMemory>
-        ensures { IfOk result (λ course. course ≡ record { opens = opens.now; command = command; given = [] }) }
+        requires { step_of (plan_of opens.now command.now) ≡ step }
+        ensures { IfOk result (λ course. course ≡ record { opens = opens.now; command = command.now; given = [] }) }
     {
-        let opens = opens.to_vec(alloc)?;
-        let step = step_at(alloc, &opens, &command, &[])?;
         Ok(Course {
-            opens,
-            command,
+            opens: opens.to_vec(alloc)?,
+            command: copied_command(alloc, command)?,
             given: Vec::new(alloc),
             step,
             before: None,
@@ -69,7 +71,7 @@ impl Course {
         &self.step
     }
 
-    /// Its act gave these rows; where it has come out, nothing changes. Out of memory, nothing changes either.
+    /// Its act was done and gave these rows. A command that has ended stays as it is; out of memory, nothing changes.
     pub(crate) fn give(&mut self, alloc: Global, rows: &[Row]) -> Result<(), NoMemory>
         ensures on { OnOk result (acts (step_of (plan_left self.old)) ≡ true → self.new ≡ record self.old { given = self.old.given ++ rows.now ∷ [] }) }
         ensures out { OnOk result (acts (step_of (plan_left self.old)) ≡ false → self.new ≡ self.old) }

@@ -4,7 +4,7 @@ ghost use Rattle.ddl_effect.specs.Commands.{plan_of};
 ghost use Rattle.ddl_effect.specs.Replays.{step_of};
 ghost use Rattle.ddl_effect.specs.Stages.{plan_at, plan_again, want_of, told_of, acts_left, most_acts, want_at};
 
-use crate::command_copy::copied_command;
+use crate::commands::step_at;
 use crate::course::Course;
 use crate::{Draft, OpenRelation, Step, Told, Want};
 use base_types::{Command, NoMemory, Purpose, Row};
@@ -31,16 +31,19 @@ impl Drop for Exec {
 }
 
 impl Exec {
-    /// A command at its beginning, by the relations that its session has open.
+    /// A command at its beginning, by the relations that its session has open. One that does no act takes no memory for itself.
     pub fn new(alloc: Global, opens: &[OpenRelation], command: &Command) -> Result<Exec, NoMemory>
         ensures plan { IfOk result (λ exec. (any : List OpenRelation) → plan_at any exec ≡ plan_of opens.now command.now) }
         ensures few { IfOk result (λ exec. acts_left exec ≤ most_acts) }
     {
-        let own = copied_command(alloc, command)?;
-        Ok(Exec::Going(Course::new(alloc, opens, own)?))
+        match step_at(alloc, opens, command, &[])?.into_ended() {
+            Ok(exec) => Ok(exec),
+            Err(step) => Ok(Exec::Going(Course::new(alloc, opens, command, step)?)),
+        }
     }
 
     /// What it wants next.
+    #[inline(always)]
     #[tactic(auto, using(crate::proofs::Wanting::want_is))]
     pub fn next(&self) -> Want
         ensures { (opens : List OpenRelation) → result ≡ want_of (plan_at opens self.now) }
@@ -52,7 +55,7 @@ impl Exec {
         }
     }
 
-    /// What it answers, once it has done what it says; nothing stands for [`Told::Ok`].
+    /// What it answers, once it has done what it says; `None` means [`Told::Ok`].
     pub fn told(&self) -> Option<&Told>
         ensures { MatchOption result ((opens : List OpenRelation) → told_of (plan_at opens self.now) ≡ Told.Ok) (λ told. (opens : List OpenRelation) → told_of (plan_at opens self.now) ≡ told.now) }
     {
@@ -73,7 +76,7 @@ impl Exec {
         ensures again { OnOk result ((opens : List OpenRelation) (name : List ℕ) → 0 < acts_left self.old → plan_at opens self.new ≡ Absent name → plan_again opens self.new ≡ plan_at opens self.old) }
         ensures err { OnErr result (self.new ≡ self.old) }
     {
-        // No list has as many rows as `acts_left` counts for one that isn't read yet.
+        // A slice has fewer than 2^64 items, which the count of acts needs: the length is taken for the proof alone.
         let count = rows.len();
         match self {
             Exec::Done(_) | Exec::Failing(_) => Ok(()),
@@ -122,6 +125,7 @@ impl Exec {
 }
 
 // What a step wants.
+#[inline(always)]
 fn want(step: &Step) -> Want
     ensures { result ≡ want_at step.now }
 {

@@ -49,7 +49,7 @@ fn number_columns(
     requires few { length columns.now ≤ MOST }
     ensures { Comes result given.old (numbering name rel columns.now []) }
 {
-    let mut nums = Vec::new(alloc);
+    let mut nums = Vec::with_capacity(alloc, columns.len())?;
     for column in columns {
         let Some(row) = given.search(Purpose::AttName(rel, *column))?.first() else {
             return fails(CommandError::NoColumn { name: *column });
@@ -98,8 +98,8 @@ pub(crate) fn drop_index(
     let Some(Row::Ind { table, .. }) = given.read(Purpose::IndexRow(rel))?.first() else {
         return done(Told::Ok);
     };
-    let draft = dropped_index(alloc, rel, *table)?;
-    given.lock_all(opens, &[*table], draft)
+    given.lock_all(opens, &[*table])?;
+    given.write(dropped_index(alloc, rel, *table)?)
 }
 
 // The draft that deletes the rows of an index, of which its table is told.

@@ -6,10 +6,10 @@ use base_types::{Name, NoMemory};
 use command_answers::CommandError;
 use std::alloc::{AllocError, AllocFailed};
 
-/// Why a command goes no further over what its acts gave so far.
+/// Why a command stops: an act isn't done yet, it failed, or memory was short.
 #[derive(Drop)]
-pub enum Leave {
-    /// This is what it does next.
+pub(crate) enum Leave {
+    /// This is what it does next, or how it failed.
     At(Step),
     /// Out of memory.
     NoMemory,

@@ -77,7 +77,7 @@ pub(crate) fn column(given: &mut Replay, name: Name, column: Name) -> Result<Ste
     }
 }
 
-/// `regclass`.
+/// `regclass` (`regclassout` in `src/backend/utils/adt/regproc.c`).
 #[tactic(auto, using(crate::proofs::Replays::settled))]
 pub(crate) fn regclass(given: &mut Replay, oid: Oid) -> Result<Step, Leave>
     ensures { Comes result given.old (regclass_of oid) }
@@ -86,7 +86,7 @@ pub(crate) fn regclass(given: &mut Replay, oid: Oid) -> Result<Step, Leave>
     done(Told::Regclass(oid))
 }
 
-/// `lock table`: the relation has to be a table.
+/// `lock table` (`LockTableCommand` in `src/backend/commands/lockcmds.c`): the relation has to be a table.
 #[tactic(auto, using(crate::proofs::Replays::settled))]
 pub(crate) fn lock_table(given: &mut Replay, name: Name, mode: Mode) -> Result<Step, Leave>
     ensures { Comes result given.old (looking_up name mode (locking name)) }

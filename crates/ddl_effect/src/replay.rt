@@ -1,9 +1,10 @@
 // What a command's acts gave so far, which the command goes over from the first one.
 
-ghost use Rattle.std.specs.Prelude.{◌≡◌, ◌∷◌, List, [], MatchOption};
+ghost use Rattle.std.specs.Prelude.{◌≡◌, ◌∷◌, List, [], MatchOption, Ok, true};
 ghost use Rattle.base_types.specs.declared.kind.Kind.TheVariants.{Table, Index};
-ghost use Rattle.ddl_effect.specs.Parts.{writing, altering, altering_index, locking_all};
-ghost use Rattle.ddl_effect.specs.Replays.{Comes, Gives, Alters};
+ghost use Rattle.ddl_effect.specs.Parts.{writing, altering, altering_index};
+ghost use Rattle.ddl_effect.specs.Types.{Draft as Drafted};
+ghost use Rattle.ddl_effect.specs.Replays.{Comes, Gives, Alters, Locks};
 
 use crate::leave::{absent, fails};
 use crate::opens::has_open;
@@ -12,9 +13,10 @@ use base_types::{Kind, Listed, Mode, Name, Oid, Purpose, Row};
 use command_answers::CommandError;
 use std::marker::Model;
 
-/// What the acts of a command gave, one after another, as far as the command hasn't gone over it.
+/// What the acts of a command gave, one after another, from where its run has come. An act that wasn't done is an `Err`: the
+/// command does it next.
 #[derive(Drop)]
-pub struct Replay<'a> {
+pub(crate) struct Replay<'a> {
     left: &'a [Listed<Row>],
 }
 
@@ -135,7 +137,7 @@ impl<'a> Replay<'a> {
         }
     }
 
-    /// The same of an index.
+    /// Looks for an index that is to be altered, which the session must not have open, and opens its descriptor.
     #[tactic(auto, using(crate::proofs::Replays::settled))]
     pub(crate) fn alter_index(
         &mut self,
@@ -164,15 +166,11 @@ impl<'a> Replay<'a> {
         }
     }
 
-    /// Locks further relations, which the session must not have open, and then writes.
+    /// Locks further relations, which the session must not have open (`CheckTableNotInUse` in
+    /// `src/backend/commands/tablecmds.c`).
     #[tactic(auto, using(crate::proofs::Replays::settled))]
-    pub(crate) fn lock_all(
-        &mut self,
-        opens: &[OpenRelation],
-        rels: &[Oid],
-        draft: Draft,
-    ) -> Result<Step, Leave>
-        ensures { Comes result self.old (locking_all opens.now rels.now draft) }
+    pub(crate) fn lock_all(&mut self, opens: &[OpenRelation], rels: &[Oid]) -> Result<(), Leave>
+        ensures { Locks opens.now rels.now self.old self.new result }
     {
         for rel in rels {
             self.lock(*rel, Mode::AccessExclusive)?;
@@ -180,6 +178,17 @@ impl<'a> Replay<'a> {
                 return fails(CommandError::InUse { rel: *rel });
             }
         }
-        self.write(draft)
+        Ok(())
+    }
+
+    /// Whether the next act, a write, was done: then its draft needn't be made again.
+    #[tactic(auto, using(crate::proofs::Replays::settled))]
+    pub(crate) fn wrote(&self) -> bool
+        ensures { result ≡ true → (draft : Drafted) → Comes (Ok (Step.Done Told.Ok)) self.now (writing draft) }
+    {
+        match self.left.first() {
+            Some(_) => true,
+            None => false,
+        }
     }
 }

@@ -1,8 +1,10 @@
-ghost use Rattle.std.specs.Prelude.{◌≡◌};
-ghost use Rattle.ddl_effect.specs.Stages.{want_at};
+ghost use Rattle.std.specs.Prelude.{◌≡◌, List, MatchResult};
+ghost use Rattle.ddl_effect.specs.Plans.{Plan};
+ghost use Rattle.ddl_effect.specs.Replays.{step_of};
+ghost use Rattle.ddl_effect.specs.Stages.{acts_left, plan_at, want_at};
 ghost use Rattle.ddl_effect.specs.declared.want.Want.TheVariants as wants;
 
-use crate::{Draft, Told};
+use crate::{Draft, Exec, OpenRelation, Told};
 use base_types::{Kind, Mode, Name, Oid, Purpose};
 use command_answers::CommandError;
 
@@ -41,6 +43,17 @@ impl Drop for Step {
 }
 
 impl Step {
+    /// The command that ends at this step, where it is done or fails. `Err`: it is this step.
+    pub(crate) fn into_ended(self) -> Result<Exec, Step>
+        ensures { MatchResult result (λ exec. (acts_left exec ≡ 0) × ((opens : List OpenRelation) (plan : Plan) → step_of plan ≡ self → plan_at opens exec ≡ plan)) (λ step. step ≡ self) }
+    {
+        match self {
+            Step::Done(told) => Ok(Exec::Done(told)),
+            Step::Fails(error) => Ok(Exec::Failing(error)),
+            _ => Err(self),
+        }
+    }
+
     /// The draft that it writes, by value. Condition: it writes.
     pub(crate) fn into_draft(self) -> Draft
         requires { want_at self ≡ wants.Write }

@@ -4,8 +4,8 @@ ghost use Rattle.ddl_effect.specs.Tables.{creating, first_twice as first_repeate
 ghost use Rattle.ddl_effect.specs.Replays.{Comes};
 
 use crate::draft::NEW;
-use crate::leave::fails;
-use crate::{Draft, Leave, Replay, Step};
+use crate::leave::{done, fails};
+use crate::{Draft, Leave, Replay, Step, Told};
 use base_types::{Change, Kind, Listed, MOST_COLUMNS, Name, NewColumn, NoMemory, Row};
 use command_answers::CommandError;
 use std::alloc::{AllocError, Global};
@@ -28,6 +28,9 @@ pub(crate) fn create_table(
     let names = column_names(alloc, columns)?;
     if let Some(name) = first_twice(alloc, &names)? {
         return fails(CommandError::ColumnExists { name });
+    }
+    if given.wrote() {
+        return done(Told::Ok);
     }
     given.write(new_table(alloc, name, columns)?)
 }

@@ -6,7 +6,7 @@ use Rattle.ddl_effect.specs.Plans.{Fails}
 use Rattle.ddl_effect.specs.Parts.{reading}
 use Rattle.ddl_effect.specs.Columns.{drop_unreferred, drop_unindexed, dropping}
 use Rattle.ddl_effect.proofs.Replays.{comes_on, comes_left, comes_fails}
-use Rattle.ddl_effect.proofs.columns.drop_found.Goals as goal
+use Rattle.ddl_effect.proofs.columns.drop_unless_used.Goals as goal
 
 pub returns-then-is_used : goal.returns-then-is_used
 returns-then-is_used c =
