@@ -14,7 +14,7 @@ TOP = os.path.dirname(os.path.dirname(os.path.abspath(__file__)))
 PAGE = os.path.join(TOP, "docs", "DEFINITIONS.md")
 CITES = re.compile(r"^\s*(?:pub |ghost )?use Rattle\.(\w+)\.specs\.(\w+)\b", re.MULTILINE)
 COUNT = re.compile(r"these ([\d,]+) lines")
-BESIDES = re.compile(r"rest on ([\d,]+) lines besides")
+BESIDES = re.compile(r"rests on ([\d,]+) lines besides")
 SESSIONS = ("catsync_top", "Sessions")
 
 
@@ -56,7 +56,7 @@ def mended(page):
 
     after = re.sub(r"^\| (\w+) \| ([A-Z]\w* \d[^|]*) \|", row, after, flags=re.MULTILINE)
     after = COUNT.sub("these {:,} lines".format(sum(modules.values())), after, count=1)
-    after = BESIDES.sub("rest on {:,} lines besides".format(besides), after, count=1)
+    after = BESIDES.sub("rests on {:,} lines besides".format(besides), after, count=1)
     lacking = sorted({crate for crate, _ in modules} - listed)
     return before + "## What must be read" + after, lacking
 
