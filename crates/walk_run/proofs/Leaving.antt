@@ -1,5 +1,6 @@
 -- What a walk leaves, where memory was refused too.
-use Rattle.std.proofs.Common.{◌≡◌, ◌≢◌, ◌∙◌, ℕ, List, [], Result, Ok, Err, OnOk, OnErr, refl, sym, subst}
+use Rattle.std.proofs.Common.{◌≡◌, ◌≢◌, ◌≤◌, ◌∙◌, ◌⊎◌, inl, inr, ◌==◌, ℕ, true, false, max, List, [], Result, Ok, Err, OnOk, OnErr, refl, sym, ap, subst, arith}
+use Rattle.std.proofs.lemmas.Bool.Decides.{eqb_tells}
 use Rattle.base_types.specs.Scenario.{Scenario, IsBackend}
 use Rattle.event_kinds.specs.declared.entry.Entry.{Entry}
 use Rattle.history_model.specs.Prefixes.{EachEntry}
@@ -11,7 +12,7 @@ use Rattle.walk_run.proofs.ScheduleSteps.{entered_more}
 
 -- nothing was done
 pub leaves_same : (s : Scenario) (h : List Entry) (had : ℕ → ℕ) → EachEntry (MayEnter s) h → LeavesWell s h had had
-leaves_same s h had entered = record { entered = entered; others = λ a no. refl }
+leaves_same s h had entered = record { entered = entered; others = λ a no. refl; most = λ a. omega arith }
 
 -- nor before the first entry
 pub leaves_first : (s : Scenario) (h : List Entry) (had : ℕ → ℕ) → h ≡ [] → LeavesWell s h had had
@@ -21,15 +22,19 @@ leaves_first s h had none = leaves_same s h had (subst (EachEntry (MayEnter s)) 
 pub leaves_then : (s t : Scenario) (h h' : List Entry) (had mid has : ℕ → ℕ) → t ≡ s → LeavesWell s h had mid → LeavesWell t h' mid has → LeavesWell s h' had has
 leaves_then s t h h' had mid has same first later =
     let second : LeavesWell s h' mid has = subst (λ x. LeavesWell x h' mid has) same later in
-    record { entered = second.entered; others = λ a no. second.others a no ∙ first.others a no }
+    record { entered = second.entered; others = λ a no. second.others a no ∙ first.others a no; most = λ a. let one = first.most a in let two = second.most a in omega (arith, one, two) }
 
 -- only the places of one backend of the script have changed
-pub leaves_of : (s : Scenario) (h : List Entry) (had has : ℕ → ℕ) (b : ℕ) → IsBackend s.backends b → EachEntry (MayEnter s) h → ((a : ℕ) → a ≢ b → has a ≡ had a) → LeavesWell s h had has
-leaves_of s h had has b number entered others = record { entered = entered; others = λ a no. others a (λ same. no (subst (IsBackend s.backends) (sym same) number)) }
+pub leaves_of : (s : Scenario) (h : List Entry) (had has : ℕ → ℕ) (b : ℕ) → IsBackend s.backends b → EachEntry (MayEnter s) h → ((a : ℕ) → a ≢ b → has a ≡ had a) → has b ≤ max (had b) 48 → LeavesWell s h had has
+leaves_of s h had has b number entered others most = record { entered = entered; others = λ a no. others a (λ same. no (subst (IsBackend s.backends) (sym same) number)); most = λ a. of a (eqb_tells a b) }
+  where
+    of : (a : ℕ) → (((a == b) ≡ true) × (a ≡ b)) ⊎ (((a == b) ≡ false) × (a ≢ b)) → has a ≤ max (had a) 48
+    of a (inl same) = subst (λ n. has n ≤ max (had n) 48) (sym same.1) most
+    of a (inr apart) = let kept = others a apart.1 in omega (arith, kept)
 
 -- nor is anything said of others by a promise
-pub promised_leaves : (s : Scenario) (h g : List Entry) (had has : ℕ → ℕ) (b : ℕ) → IsBackend s.backends b → g ≡ h → EachEntry (MayEnter s) h → ((a : ℕ) → a ≢ b → has a ≡ had a) → LeavesWell s g had has
-promised_leaves s h g had has b number same entered others = leaves_of s g had has b number (subst (EachEntry (MayEnter s)) (sym same) entered) others
+pub promised_leaves : (s : Scenario) (h g : List Entry) (had has : ℕ → ℕ) (b : ℕ) → IsBackend s.backends b → g ≡ h → EachEntry (MayEnter s) h → ((a : ℕ) → a ≢ b → has a ≡ had a) → has b ≡ had b → LeavesWell s g had has
+promised_leaves s h g had has b number same entered others kept = leaves_of s g had has b number (subst (EachEntry (MayEnter s)) (sym same) entered) others (omega (arith, kept))
 
 -- an entry that is made
 made_entered : (s t : Scenario) (h g h' : List Entry) (had has : ℕ → ℕ) (n : ℕ) → t ≡ s → g ≡ h → EachEntry (MayEnter s) h → MakesEntry t g h' had has n → EachEntry (MayEnter s) h'
@@ -53,3 +58,13 @@ pub step_others : {T E : Type 0} (t : Scenario) (g h' : List Entry) (first had h
     → OnOk result (Steps t g h' had has was now) → OnErr result (IsRefused t g h' had has was.progress.id) → (a : ℕ) → a ≢ b → has a ≡ first a
 step_others t g h' first had has b was now (Ok x) id others steps refused a apart = steps.makes.others a (λ same. apart (same ∙ id)) ∙ others a apart
 step_others t g h' first had has b was now (Err e) id others steps refused a apart = refused_others refused a (λ same. apart (same ∙ id)) ∙ others a apart
+
+-- of its own places it has no more than were promised
+refused_most : {t : Scenario} {g h' : List Entry} {had has : ℕ → ℕ} (n : ℕ) → IsRefused t g h' had has n → has n ≤ had n
+refused_most n (Before same) = let kept = same.places n in omega (arith, kept)
+refused_most n (After makes) = makes.most
+
+pub step_most : {T E : Type 0} (t : Scenario) (g h' : List Entry) (first had has : ℕ → ℕ) (b : ℕ) (was now : Backend) (result : Result T E) → was.progress.id ≡ b → had b ≡ max (first b) 2
+    → OnOk result (Steps t g h' had has was now) → OnErr result (IsRefused t g h' had has was.progress.id) → has b ≤ max (first b) 48
+step_most t g h' first had has b was now (Ok x) id promised steps refused = let fewer = subst (λ n. has n ≤ had n) id steps.makes.most in omega (arith, promised, fewer)
+step_most t g h' first had has b was now (Err e) id promised steps refused = let fewer = subst (λ n. has n ≤ had n) id (refused_most was.progress.id refused) in omega (arith, promised, fewer)

@@ -4,7 +4,7 @@ use Rattle.history_model.proofs.Sound.{sound_is_legal}
 use Rattle.cacheless.specs.Plays.{Plays}
 use Rattle.backend_core.specs.Agrees.{AreSpelled}
 use Rattle.backend_core.proofs.Played.{entered_played}
-use Rattle.walk_run.proofs.Leaving.{leaves_of, promised_leaves, step_entered, step_others}
+use Rattle.walk_run.proofs.Leaving.{leaves_of, promised_leaves, step_entered, step_others, step_most}
 use Rattle.walk_run.proofs.ScheduleSteps.{found_at, stands_there, step_makes}
 use Rattle.walk_run.proofs.walking.Walker.make_step.Goals as goal
 
@@ -32,7 +32,7 @@ returns-clause-makes g c =
 
 pub returns-in_err-promise-clause-leaves : goal.returns-in_err-promise-clause-leaves
 returns-in_err-promise-clause-leaves g c = promised_leaves (g.L.Seg.script c.args.seg.now) (g.L.Seg.history c.args.seg.now) (g.L.Seg.history c.promise.new.self) (g.L.Seg.promised c.args.seg.now) (g.L.Seg.promised c.promise.new.self) c.args.b
-    c.requires.backend c.promise.ensures.promises.entries c.requires.stand.entered c.promise.ensures.promises.others
+    c.requires.backend c.promise.ensures.promises.entries c.requires.stand.entered c.promise.ensures.promises.others c.in_err-promise.ensures.promises.err
 
 pub returns-clause-leaves : goal.returns-clause-leaves
 returns-clause-leaves g c = leaves_of (g.L.Seg.script c.args.seg.now) (g.L.Seg.history c.step.new.seg) (g.L.Seg.promised c.args.seg.now) (g.L.Seg.promised c.step.new.seg) c.args.b c.requires.backend
@@ -40,6 +40,8 @@ returns-clause-leaves g c = leaves_of (g.L.Seg.script c.args.seg.now) (g.L.Seg.h
     c.index_mut-backend.result.now c.step.new.self c.step.result c.promise.ensures.script c.promise.ensures.promises.entries c.requires.stand.entered c.step.ensures.steps c.step.ensures.refused)
     (step_others (g.L.Seg.script c.promise.new.self) (g.L.Seg.history c.promise.new.self) (g.L.Seg.history c.step.new.seg) (g.L.Seg.promised c.args.seg.now) (g.L.Seg.promised c.promise.new.self) (g.L.Seg.promised c.step.new.seg) c.args.b
     c.index_mut-backend.result.now c.step.new.self c.step.result (stands_there _ _ _ _ _ c.requires.backend c.requires.stand c.index_mut-backend.ensures.value).id c.promise.ensures.promises.others c.step.ensures.steps c.step.ensures.refused)
+    (step_most (g.L.Seg.script c.promise.new.self) (g.L.Seg.history c.promise.new.self) (g.L.Seg.history c.step.new.seg) (g.L.Seg.promised c.args.seg.now) (g.L.Seg.promised c.promise.new.self) (g.L.Seg.promised c.step.new.seg) c.args.b
+    c.index_mut-backend.result.now c.step.new.self c.step.result (stands_there _ _ _ _ _ c.requires.backend c.requires.stand c.index_mut-backend.ensures.value).id c.in_ok-promise.ensures.promises.ok c.step.ensures.steps c.step.ensures.refused)
 
 pub returns-clause-others : goal.returns-clause-others
 returns-clause-others g c = step_others (g.L.Seg.script c.promise.new.self) (g.L.Seg.history c.promise.new.self) (g.L.Seg.history c.step.new.seg) (g.L.Seg.promised c.args.seg.now) (g.L.Seg.promised c.promise.new.self) (g.L.Seg.promised c.step.new.seg) c.args.b
