@@ -504,6 +504,14 @@ class Played(unittest.TestCase):
         finally:
             sessions.end()
 
+    def test_update_in_place(self):
+        """A row that is updated in place is told of before its transaction is visible, and once more afterwards."""
+        log = self.play(script_of("1: create table t (a int4)", "1: create index i on t (a)")).log
+        made = [each.event for each in log if each.command == 2]
+        at = made.index(("visible",))
+        for events in (made[:at], made[at:]):
+            self.assertTrue([event for event in events if event[0] == "publish" and event[2:]], events)
+
     def test_patience(self):
         """A backend that doesn't come ends the play, with what it waits for; and all goes on after it."""
         source = script_of("1: create table t (a int4)", "server 1.1: select pg_sleep(60)")
