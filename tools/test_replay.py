@@ -89,6 +89,11 @@ UNRELATED = ("setup 1: create table t (a int4)", "setup 1: create table u (a int
              "steps 1 to 3, 2 to scan class, 3 to 1, 2 to end, 1 to end, 3 to end")
 # As OVERTAKEN, but all messages are sent as the answer comes, and the lock isn't released.
 ALL_SENT = OVERTAKEN[:-1] + ("steps 2 to scan attribute, 1 to publish, 1 to publish, 2 to 4, 1 to end, 2 to end",)
+# One block sets a target and validates a check, and is visible after a first build's scan of pg_attribute.
+VALIDATED = ("setup 1: create table t (a int4)", "setup 1: alter table t CHANGE",
+             "setup 1: alter table t add constraint k check (a > 0) not valid", "1: begin", "1: alter table t alter column a set statistics 7",
+             "1: alter table t validate constraint k", "1: commit", "2: show t", "2: show t",
+             "steps 1 to 6, 2 to scan attribute, 1 to visible, 2 to 1, 1 to end, 2 to end")
 # What is shown in a block before its lock; the queries for it must not keep the rebuild from accepting.
 SHOWN_BEFORE = ("setup 1: create table t (a int4)", "setup 1: alter table t alter column a set default 5",
                 "1: alter table t alter column a set statistics 100", "1: alter table t alter column a set statistics 200", "2: begin",
@@ -330,6 +335,20 @@ class Places(unittest.TestCase):
         program.close()
 
 
+class Keeping(Play):
+    """A play of a script with one table that takes down what backend 2's descriptor of it says after each of its commands."""
+
+    def __init__(self, *parts):
+        super().__init__(*parts)
+        self.kept = []
+
+    def serve(self, backend):
+        """After a command."""
+        if backend.number == 2 and backend.command:
+            self.kept.append(backend.descriptor(*self.names))
+        super().serve(backend)
+
+
 @unittest.skipUnless(HAS_PROGRAM, NO_PROGRAM)
 @unittest.skipIf(NOT_PLAYED, NOT_PLAYED)
 class Played(unittest.TestCase):
@@ -429,6 +448,15 @@ class Played(unittest.TestCase):
                          [((2, 1), [("statistics", "half of one commit")])])
         self.assertFalse(outcome.differs)
 
+    def test_half_a_commit_by_a_scan_between(self):
+        """A scan of pg_attrdef takes a new snapshot, with which the scans after it go on: so a descriptor has half of a commit by two
+        scans of catalogs with caches, and none without a default."""
+        for change, checks in (("alter column a set default 5", "k:v"), ("set (fillfactor = 50)", "k:n")):
+            source = script_of(*[line.replace("CHANGE", change) for line in VALIDATED])
+            play = Keeping(self.stage, source, run_of(source, self.program))
+            play.play()
+            self.assertEqual([(kept["statistics"], kept["checks"]) for kept in play.kept], [("1:-1", checks), ("1:7", "k:v")])
+
     def test_what_is_not_half_a_commit(self):
         """A value that comes by no commit here isn't called half of one, nor is an old one of which all messages are sent."""
         unrelated, all_sent = (outcome_of(self.play(script_of(*lines))) for lines in (UNRELATED, ALL_SENT))
@@ -503,6 +531,14 @@ class Played(unittest.TestCase):
             self.assertEqual(sessions.backend(2).not_held, "in a critical section")
         finally:
             sessions.end()
+
+    def test_update_in_place(self):
+        """A row that is updated in place is told of before its transaction is visible, and once more afterwards."""
+        log = self.play(script_of("1: create table t (a int4)", "1: create index i on t (a)")).log
+        made = [each.event for each in log if each.command == 2]
+        at = made.index(("visible",))
+        for events in (made[:at], made[at:]):
+            self.assertTrue([event for event in events if event[0] == "publish" and event[2:]], events)
 
     def test_patience(self):
         """A backend that doesn't come ends the play, with what it waits for; and all goes on after it."""

@@ -3,7 +3,7 @@ import hashlib
 import re
 from typing import Dict, NamedTuple
 
-RELID = 72              # the relation's oid (13 to 17), by which rows are told apart, too
+RELID = 72              # the relation's oid (13 to 18), by which rows are told apart, too
 LIST_LENGTH, LIST_ITEMS, ITEM = 4, 16, 8        # of List (pg_list.h, 13 and later): its count, where its items are, and their size
 PIECE = 256             # bytes of a text that are read at once
 TABLE = b"r"            # of relkind

@@ -125,7 +125,8 @@ LOCKS = tuple((re.compile(pattern), mode, unsaid) for pattern, mode, unsaid in (
     (r"vacuum (?:\( .* \) |verbose |analyze |freeze )*(.+)", "share update exclusive", "the statistics"),
     (r"analyze (?:\( .* \) |verbose )*(.+)", "share update exclusive", "the statistics"),
     (r"reindex (?:\( .* \) )?table (%s)" % NAME, "share", "the locks on its indexes"),
-    ("comment on (?:table|column|constraint .* on|trigger .* on) (%s)(?: .*)?" % NAME, "share update exclusive", "the comment"),
+    ("comment on (?:table|column) (%s)(?: .*)?" % NAME, "share update exclusive", "the comment"),
+    ("comment on (?:constraint|trigger) .* on (%s)(?: .*)?" % NAME, "access share", "the comment"),
     (r"drop trigger (?:if exists )?%s on (%s)(?: cascade| restrict)?" % (NAME, NAME), "access exclusive", "that the trigger goes"),
 ))
 CHANGES = tuple(map(re.compile, (
@@ -140,6 +141,7 @@ ACTIONS = tuple((re.compile(pattern), mode) for pattern, mode in (
     ("alter (?:column )?%s (?:set storage|set compression|add generated|drop identity|drop expression).*" % NAME,
      "access exclusive"),
     (r"alter (?:column )?%s (?:set|reset) \(.*" % NAME, "share update exclusive"),
+    (r"(?:set|reset) \( .*user_catalog_table.*", "access exclusive"),
     (r"(?:set|reset) \( (?!fillfactor = ).*", "share update exclusive"), (r"reset \( fillfactor \)", "share update exclusive"),
     ("cluster on .*|set without cluster", "share update exclusive"),
     ("(?:enable|disable) (?:replica |always )?trigger (?:all|user)|enable (?:replica|always) trigger .*", "share row exclusive"),

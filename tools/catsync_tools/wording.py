@@ -4,6 +4,10 @@ import re
 CANT = "can only be used in transaction blocks"
 USED = "because it is being used by active queries in this session"
 
+# The alterations that an index can't have.
+NOT_OF_INDEX = ("add column", "drop column", "add constraint", "drop constraint", "validate constraint", "enable trigger",
+                "disable trigger", "alter column ... set default")
+
 # By the SQLSTATE of an answer, what the answer and the command are like, and the server's message.
 MESSAGES = tuple((code, re.compile(answer), re.compile(command), message) for code, answer, command, message in (
     ("25P02", ".*", ".*", "current transaction is aborted, commands ignored until end of transaction block"),
@@ -29,7 +33,10 @@ MESSAGES = tuple((code, re.compile(answer), re.compile(command), message) for co
     ("42703", "column (.*) does not exist", "(?:create index|alter table [^ ]* rename) .*", r'column "{0}" does not exist'),
     ("42703", "column (.*) does not exist", "alter table ([^ ]*) .*", r'column "{0}" of relation "\1" does not exist'),
     ("42809", "(.*) is not a table", "lock .*", r'cannot lock relation "{0}"'),
-    ("42809", "(.*) is not a table", ".*", r'"{0}" is not a table'),
+    ("42809", "(.*) is not a table", "create (?:index|trigger) .*", r'cannot open relation "{0}"'),
+    ("42809", "(.*) is not a table", "drop .*", r'"{0}" is not a table'),
+    ("42809", "(.*) is not a table", "alter table [^ ]* alter column ([^ ]*) set statistics .*",
+     r'cannot alter statistics on non-expression column "\1" of index "{0}"'),
     ("42809", "(.*) is not an index", ".*", r'"{0}" is not an index'),
     ("2BP01", "other objects depend on relation (.*)", ".*", r"cannot drop table {0} because other objects depend on it"),
     ("22023", ".*", ".* statistics (.*)", r"statistics target \1 is too low"),
@@ -39,7 +46,8 @@ MESSAGES = tuple((code, re.compile(answer), re.compile(command), message) for co
     ("55006", ".*", "drop table (.*)", r'cannot DROP TABLE "\1" ' + USED),
     ("55006", ".*", "create index .* on ([^ ]*) .*", r'cannot CREATE INDEX "\1" ' + USED),
     ("55006", ".*", "alter table ([^ ]*) .*", r'cannot ALTER TABLE "\1" ' + USED),
-))
+) + tuple(("42809", "(.*) is not a table", "alter table [^ ]* %s .*" % action.replace("...", "[^ ]*"),
+             'ALTER action %s cannot be performed on relation "{0}"' % action.upper()) for action in NOT_OF_INDEX))
 
 
 def message_of(answer, command, has_waited, is_victim):
