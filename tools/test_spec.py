@@ -415,6 +415,7 @@ class Reports(unittest.TestCase):
     def test_faults(self):
         """A fault is one line on standard error."""
         for words, expected in (([SPECS[0], "--most", "3"], "spec: --most is for --explore; spec --help says more\n"),
+                                ([SPECS[0], "/no/out"], "spec: /no/out: reading failed: No such file or directory\n"),
                                 (["/no/such"], "spec: /no/such: reading failed: No such file or directory\n"),
                                 ([SPECS[0], SPECS[0], "--explore"], "spec: --explore doesn't go with OUT; spec --help says more\n"),
                                 ([__file__], "spec: %s: line 1: a session is due here, not 'Tests'\n" % __file__)):
