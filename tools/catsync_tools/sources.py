@@ -148,9 +148,9 @@ class Reader:
             self.latest = COMMAND if self.latest != STEPS else STEPS
             self.take_command(line, text)
         else:
-            near = get_close_matches(words[0], FIRST_WORDS, 1, 0.75) if words[0] not in ("backends", "ring") else []
+            near = get_close_matches(first, FIRST_WORDS, 1, 0.75) if first not in (*FIRST_WORDS, "backends", "ring") else []
             if near:
-                raise Fault("line %d: UnknownBackend: no line begins with '%s'; is '%s' meant?" % (self.number, words[0], near[0]))
+                raise Fault("line %d: UnknownBackend: no line begins with '%s'; is '%s' meant?" % (self.number, first, near[0]))
             if words[0] == "backends" and len(words) == 2 and _NUMBER.fullmatch(words[1]):
                 self.backends = int(words[1])
             self.put(OTHER, line)
