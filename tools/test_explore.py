@@ -841,7 +841,8 @@ class Explorer(unittest.TestCase):
         for text in ("error 55P03", "lock 16384 as held 1 ax", "l 2 1 *55P03"):
             status, found, said = self.explore(CREATE_AND_SHOW, "--find", text)
             self.assertEqual((status, said), (0, ""))
-            _, line, *lines = found.splitlines()
+            where, line, *lines = found.splitlines()
+            self.assertRegex(where, "^found (in a serial order|after [1-9][0-9]* orders?):$")
             output = self.run_with(CREATE_AND_SHOW, line).output.decode()
             self.assertEqual([shown for shown in output.splitlines() if wanted_of(text).search(shown)], lines)
             self.assertTrue(lines)

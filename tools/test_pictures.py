@@ -794,7 +794,7 @@ class Browser(unittest.TestCase):
 
 HEAD = "h 1 0 start\nh 1 1 look no\n"
 FAULTY_OUTPUTS = (
-    ("", "line 1: no output of catsync, which begins with an entry: ''"),
+    ("", "line 1: no output of catsync, which begins with an entry: the input is empty"),
     ("hello\n", "line 1: no output of catsync, which begins with an entry: 'hello'"),
     ("end\n", "line 1: no output of catsync, which begins with an entry: 'end'"),
     (HEAD + "h 1 1 lok no\nend\n", "line 3: not an entry: 'h 1 1 lok no'"),

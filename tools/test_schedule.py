@@ -190,6 +190,8 @@ FAULTY = (
     (b"backends 1\n1: drop table IF EXISTS t\nend\n", "line 2: 'if exists' isn't the model's; leave it out"),
     (b"backends 1\n1: create table if not exists t (a int4, b text)\nend\n", "line 2: 'if not exists' isn't the model's; "),
     (b"backends 1\n1: begin\nexpect 1.2 ok\nend\n", "line 3: there is no command 2 of backend 1"),
+    (b"backends 1\n1: begin\nexpects 1.1 ok\nend\n", "line 3: UnknownBackend: no line begins with 'expects'; is 'expect' meant?\n"),
+    (b"backends 1\n1: begin\nstep 1\nend\n", "line 3: UnknownBackend: no line begins with 'step'; is 'steps' meant?\n"),
     (b"backends 1\n1: begin\nexpect 1 ok\nend\n", "line 3: an expectation must read 'expect B.C TEXT', "),
 )
 UNREACHABLE = (
@@ -201,7 +203,8 @@ UNREACHABLE = (
     (b"backends 1\n1: show t\nsteps 1 to scan clas\nend\n",
      "line 3: '1 to scan clas' can't be reached: no such entry comes before its stop; is 'class' meant?"),
     (b"backends 1\n1: show t\nsteps 1 to scan relname t rows 1\nend\n",
-     "line 3: '1 to scan relname t rows 1' can't be reached: no such entry comes before its stop\n"),
+     "line 3: '1 to scan relname t rows 1' can't be reached: no such entry comes before its stop; 1.1 is answered "
+     "'error 42P01 relation t does not exist'\n"),
     (b"backends 2\n1: show t\n2: show t\nsteps 1 to scan 2 to end, 1 to end\nend\n",
      "line 4: '1 to scan 2 to end' can't be reached: a comma comes after '1 to scan'\n"),
     (b"backends 1\n1: show t\nsteps 1 to scan relname to\nend\n", "line 3: '1 to scan relname to' can't be reached: no such entry "),

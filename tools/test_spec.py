@@ -282,6 +282,30 @@ class Reports(unittest.TestCase):
         status, shown = self.run_spec(blocked)
         self.assertEqual((status, shown.split("\n")[-2]), (1, "# it ends here: step s2r waits for ever"))
 
+    def test_let_by(self):
+        """Who closes a circle that goes over a place in a queue lets a waiter by, and nobody gives up; who checks first says which.
+        So does the server, of these and of its own deadlock-soft."""
+        text = ("setup { CREATE TABLE a1 (); CREATE TABLE a2 (); }\n"
+                "session d1 setup { BEGIN; SET deadlock_timeout = '100s'; } step d1a1 { LOCK a1 IN ACCESS SHARE MODE; }\n"
+                "step d1a2 { LOCK a2 IN ACCESS SHARE MODE; } step d1c { COMMIT; }\n"
+                "session d2 setup { BEGIN; SET deadlock_timeout = '10ms'; } step d2a2 { LOCK a2 IN ACCESS SHARE MODE; }\n"
+                "step d2a1 { LOCK a1 IN ACCESS SHARE MODE; } step d2c { COMMIT; }\n"
+                "session e1 setup { BEGIN; SET deadlock_timeout = '100s'; } step e1l { LOCK a1; } step e1c { COMMIT; }\n"
+                "session e2 setup { BEGIN; SET deadlock_timeout = '100s'; } step e2l { LOCK a2; } step e2c { COMMIT; }\n"
+                "permutation d1a1 d2a2 e1l e2l d1a2 d2a1 d1c e1c d2c e2c\n")
+        waits = ("Parsed test spec with 4 sessions\n\nstarting permutation: d1a1 d2a2 e1l e2l d1a2 d2a1 d1c e1c d2c e2c\n"
+                 "step d1a1: LOCK a1 IN ACCESS SHARE MODE;\nstep d2a2: LOCK a2 IN ACCESS SHARE MODE;\n"
+                 "step e1l: LOCK a1; <waiting ...>\nstep e2l: LOCK a2; <waiting ...>\n"
+                 "step d1a2: LOCK a2 IN ACCESS SHARE MODE; <waiting ...>\nstep d2a1: LOCK a1 IN ACCESS SHARE MODE; <waiting ...>\n")
+        self.assertEqual(self.run_spec(text), (0, waits + (
+            "step d1a2: <... completed>\nstep d1c: COMMIT;\nstep e1l: <... completed>\nstep e1c: COMMIT;\n"
+            "step d2a1: <... completed>\nstep d2c: COMMIT;\nstep e2l: <... completed>\nstep e2c: COMMIT;\n")))
+        swapped = text.replace("100s", "9s", 1).replace("10ms", "100s").replace("d2a1 d1c e1c d2c e2c", "d2a1 d2c e2c d1c e1c")
+        status, shown = self.run_spec(swapped)
+        self.assertEqual((status, shown.split("\n")[9:-1]), (0, [
+            "step d2a1: <... completed>", "step d2c: COMMIT;", "step e2l: <... completed>", "step e2c: COMMIT;",
+            "step d1a2: <... completed>", "step d1c: COMMIT;", "step e1l: <... completed>", "step e1c: COMMIT;"]))
+
     def test_unprinted(self):
         """The last line names the steps whose rows aren't printed, in the spec's order."""
         text = ("setup { CREATE TABLE t (a int4); }\nsession s1 step w { INSERT INTO t VALUES (1); } step x { SELECT a FROM t; }\n"
@@ -407,6 +431,7 @@ class Reports(unittest.TestCase):
     def test_faults(self):
         """A fault is one line on standard error."""
         for words, expected in (([SPECS[0], "--most", "3"], "spec: --most is for --explore; spec --help says more\n"),
+                                ([SPECS[0], "/no/out"], "spec: /no/out: reading failed: No such file or directory\n"),
                                 (["/no/such"], "spec: /no/such: reading failed: No such file or directory\n"),
                                 ([SPECS[0], SPECS[0], "--explore"], "spec: --explore doesn't go with OUT; spec --help says more\n"),
                                 ([__file__], "spec: %s: line 1: a session is due here, not 'Tests'\n" % __file__)):

@@ -9,7 +9,8 @@ made wrong, and at most two for each item.
 from typing import Dict, List, Optional
 
 from .faults import Fault
-from .items import Count, Item, Own, Stopped, comma_wanted
+from .items import NO_ENTRY, Count, Item, Own, Stopped, comma_wanted
+from .outputs import PLACE
 from .runs import Runs
 from .scripts import Turns, steps_line
 from .sources import STEPS, Line, Source
@@ -41,8 +42,22 @@ def refuse(items: List[Item], at, run):
     item = items[at]
     own = steps_of_backends(run.steps)[item.backend]
     place = sum(count for other, count in zip(items[:at], counts_in(items, run)) if other.backend == item.backend)
-    why = comma_wanted(item.text.split(" ")) or item.until.missing(own, min(place, len(own)))
+    why = comma_wanted(item.text.split(" "))
+    if not why:
+        why = item.until.missing(own, min(place, len(own)))
+    if why == NO_ENTRY:
+        why += refused_from(own[place:], item.backend, run)
     raise Fault("line %d: '%s' can't be reached: %s" % (item.line, item.text, why))
+
+
+def refused_from(own: Own, backend, run):
+    """The first command that is refused of those in which these steps of a backend are."""
+    commands = {command for command, _ in own}
+    for line in run.answers:
+        _, whose, number, answer = line.split(" ", 3)
+        if int(whose) == backend and int(number) in commands and answer.startswith("error "):
+            return "; %s.%s is answered '%s'" % (whose, number, PLACE.sub("", answer))
+    return ""
 
 
 def counts_of(items: List[Item], runs: Runs) -> Counts:

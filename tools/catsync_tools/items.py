@@ -15,6 +15,8 @@ Own = List[Tuple[int, str]]         # the steps of one backend: the command and 
 
 EVENT_WORDS = tuple(FORMS) + tuple(SCANS) + ("yes", "no", "reset", "ok", "held", "rows", "row", "running")
 
+NO_ENTRY = "no such entry comes before its stop"
+
 _COUNT = re.compile("[0-9]{1,9}")
 
 
@@ -67,7 +69,7 @@ class Made(NamedTuple):
         made = {word for _, text in own for word in text.split(" ")}
         near = [get_close_matches(word, EVENT_WORDS, 1) for word in self.words if word not in made and word not in EVENT_WORDS]
         meant = listed(repr(words[0]) for words in near if words)
-        return "no such entry comes before its stop" + ("; is %s meant?" % meant if any(near) else "")
+        return NO_ENTRY + ("; is %s meant?" % meant if any(near) else "")
 
 
 class Stopped(NamedTuple):

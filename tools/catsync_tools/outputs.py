@@ -104,5 +104,6 @@ def read_output(data):
     lines = lines_of(data)
     entries = _read_entries(lines)
     if not entries:
-        raise Fault("line 1: no output of catsync, which begins with an entry: %s" % shown(lines[0] if lines else ""))
+        raise Fault("line 1: no output of catsync, which begins with an entry: %s" % (
+            shown(lines[0]) if data.strip() else "the input is empty"))
     return Output(entries, _read_answers(lines, len(entries) + 1))

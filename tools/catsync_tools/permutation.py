@@ -313,19 +313,20 @@ class Permutation:
     # Deadlocks
 
     def end_deadlock(self, within):
-        """One of those who wait for each other is refused, if that comes within so many seconds; whether one was. Who has waited
-        for its deadlock_timeout looks once: the first to do so after all wait."""
+        """Of those who wait for each other one is let by, or else one is refused, if that comes within so many seconds; whether one
+        was. Who has waited for its deadlock_timeout looks once: the first to do so after all wait."""
         circle = self.play.deadlock()
         last = circle[-1:]
         times = {backend: self.timeouts.get(backend, STANDARD) for backend in circle}
         could = [backend for backend in circle if backend in last or times[backend] > SOON]
         if not could:
             return False
-        victim = min(could, key=lambda backend: (times[backend], self.active[backend].order))
-        if within is not None and times[victim] > within:
+        first = min(could, key=lambda backend: (times[backend], self.active[backend].order))
+        if within is not None and times[first] > within:
             return False
-        self.play.victims.add(victim)
-        self.play.refuse(victim)
-        self.go_on(self.active[victim])
+        if not self.play.let_by(first):
+            self.play.victims.add(first)
+            self.play.refuse(first)
+            self.go_on(self.active[first])
         self.settle()
         return True

@@ -154,7 +154,8 @@ def found_text(extent: Extent, wanted, turns: Turns, run: Run):
     """The schedule that was looked for, with what has the texts."""
     lines = [line for line, bare in zip(run.output.decode("ascii").splitlines(), lines_of(run))
              if any(pattern.search(bare) for pattern in wanted)]
-    return "\n".join(["found after %s:" % extent.ran, steps_line(turns)] + lines) + "\n"
+    where = "found after %s:" % extent.ran if extent.schedules else "found in a serial order:"
+    return "\n".join([where, steps_line(turns)] + lines) + "\n"
 
 
 def not_found(extent: Extent, texts):

@@ -155,7 +155,7 @@ class Exploration:
                 self.is_serial_over = False
                 break
             self.serial.setdefault(without_places(answers), kind)
-            self.progress.show(piece.schedules, MOST_SERIAL, "%d serial orders of %s" % (piece.schedules, kind))
+            self.progress.show(0, 1, "%d serial orders of %s" % (piece.schedules, kind))     # how many there are isn't known
             if self.add(piece, answers, history_of(runs.last.steps, self.accesses).steps):
                 break
 

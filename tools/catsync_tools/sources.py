@@ -12,6 +12,7 @@ expectations, comments behind a command, and PostgreSQL's usual spellings (docs/
 A script by the grammar is one of these, and what the program is given of it is the script itself, byte for byte.
 """
 import re
+from difflib import get_close_matches
 from typing import Dict, List, NamedTuple, Tuple
 
 from .expected import Expectation, check_expectation, read_expectation
@@ -22,6 +23,8 @@ from .spellings import refused, respelled, tokens_of, without_comment, words_of
 
 MOST_BYTES = 1048576
 OTHER, COMMAND, STEPS, EXPECT, SERVER = "other", "command", "steps", "expect", "server"
+
+FIRST_WORDS = ("expect", "server", "setup", "steps")
 
 _COMMAND = re.compile(r"([ \t]*([0-9]{1,9})[ \t]*:)(.*)", re.DOTALL)
 _NUMBER = re.compile("[0-9]{1,9}")
@@ -145,6 +148,9 @@ class Reader:
             self.latest = COMMAND if self.latest != STEPS else STEPS
             self.take_command(line, text)
         else:
+            near = get_close_matches(first, FIRST_WORDS, 1, 0.75) if first not in (*FIRST_WORDS, "backends", "ring") else []
+            if near:
+                raise Fault("line %d: UnknownBackend: no line begins with '%s'; is '%s' meant?" % (self.number, first, near[0]))
             if words[0] == "backends" and len(words) == 2 and _NUMBER.fullmatch(words[1]):
                 self.backends = int(words[1])
             self.put(OTHER, line)

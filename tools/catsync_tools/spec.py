@@ -66,14 +66,14 @@ def main(words):
     """Runs a spec."""
     options = arguments_of(words)
     read_file(options.spec)
+    out = text_of(options.out) if options.out else None
     whole = whole_of(options.spec, options.program or own_program())
     with faults_of(options.spec):
         if options.explore:
             text, differs = explored(whole, options.most or MOST_ORDERS)
             write_output(text + "".join(note + "\n" for note in notes_of(whole, None) + differing(differs)))
             return 0
-        expected = expected_in(text_of(options.out), whole.spec) if options.out else None
-        return tell(whole, expected)
+        return tell(whole, expected_in(out, whole.spec) if out is not None else None)
 
 
 def tell(whole: Whole, expected):

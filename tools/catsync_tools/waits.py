@@ -5,6 +5,7 @@ that wait already, but for who holds what these wait for.
 from typing import Dict, List, NamedTuple, Optional, Set, Tuple
 
 from .access import created
+from .deadlocks import Search
 from .events import MODES, read_event
 from .faults import Fault
 from .program import Run, Step
@@ -104,6 +105,12 @@ class Locks:
     def leave(self, wait: Wait):
         """A backend waits no more."""
         self.queues[wait.rel].remove(wait)
+
+    def ahead(self, wait: Wait, queue=None):
+        """Those who wait before a backend for what is in its way, in a queue or in one that would be put in its place."""
+        queue = self.queues.get(wait.rel, []) if queue is None else queue
+        place = queue.index(wait) if wait in queue else 0
+        return [other.backend for other in queue[:place] if other.mode in CONFLICTING[wait.mode]]
 
     def free(self):
         """The first of those whose turn has come, or None."""
@@ -256,7 +263,9 @@ class Play:
         reached: Set[int] = set()
         left = [backend]
         while left:
-            new = self.directly(left.pop()) - reached
+            other = left.pop()
+            ahead = self.locks.ahead(self.waits[other]) if other in self.waits else []
+            new = self.directly(other).union(ahead) - reached
             reached |= new
             left += new
         return reached
@@ -274,6 +283,12 @@ class Play:
             if first in self.blockers(first):
                 return [backend for backend in self.waits if backend in self.blockers(first) and first in self.blockers(backend)]
         return []
+
+    def let_by(self, backend):
+        """A backend that looks finds queues in which it doesn't wait for those who wait for it; whether there are such."""
+        queues = Search(self.locks, self.waits, self.directly).queues(backend)
+        self.locks.queues.update(queues or {})
+        return queues is not None
 
     def refuse(self, backend):
         """A backend's wait ends with an error; its command comes to its end."""
