@@ -74,7 +74,7 @@ says_how_far() {
     RT_BEGINS='sleep 1.5; : >"$folder/module.bc"; sleep 1.5; rm "$folder/module.bc"; sleep 1.5' RT_DOES='sleep 1.5' \
         python3 -c 'import pty, sys; pty.spawn(sys.argv[1:])' ./catsync make 1 </dev/null >"$temp/terminal" &&
         tr '\r' '\n' <"$temp/terminal" | sed -n 's/.*catsync: [0-9]* s: //p' | uniq |
-        diff - <(printf '%s\n' "reading the sources" compiling "trying it")
+        diff - <(printf '%s\n' "reading the sources" compiling "trying it") && kept 1 && rm -rf "$out"
 }
 
 # Of two runs at once one builds, and both print the output.
