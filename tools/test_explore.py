@@ -34,7 +34,7 @@ from catsync_tools.progress import Progress, duration
 from catsync_tools.report import Extent, Serial, Shown, head_of, led_to
 from catsync_tools.schedules import SWITCHES, random_schedule
 from catsync_tools.scripts import steps_line, turns_of
-from catsync_tools.search import Exploration, Far, Piece, Settings, guess_of, wanted_of
+from catsync_tools.search import Exploration, Far, Piece, Settings, far_in_words, guess_of, wanted_of
 from catsync_tools.sentences import about, estimate
 from catsync_tools.serial import SerialRuns, WholeAccesses, commands_of, transactions_of
 from catsync_tools.shares import shares
@@ -453,6 +453,13 @@ class HowFar(unittest.TestCase):
             serial = Serial({(key,): kind for key, kind in kinds.items()}, True)
             sets = [Shown((key,), None, None) for key in "abc"]
             self.assertEqual(head_of(extent, serial, sets), ["all 9 orders: 3 sets of answers, " + said])
+
+    def test_words(self):
+        """Where more schedules are run than are wanted no limit is named that they keep."""
+        self.assertEqual(far_in_words(7, 9, "orders", "2 sets of answers"), "7 of at most 9 orders, 2 sets of answers")
+        self.assertEqual(far_in_words(9, 9, "orders", "2 sets of answers"), "9 of at most 9 orders, 2 sets of answers")
+        self.assertEqual(far_in_words(12, 9, "orders", "1 of 3 expectations decided"),
+                         "12 orders, more than 9, 1 of 3 expectations decided")
 
     def test_lines(self):
         """Where standard error is no terminal there is a line now and then."""

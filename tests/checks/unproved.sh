@@ -15,7 +15,7 @@ check() {
     walks built && PATH=$without walks running && touch "$main" && walks running && builds 1 && tools_take_it &&
         echo "// changed" >>"$main" && walks built && kept 1 && git checkout --quiet "$main" && walks built && kept 1 && builds 3 &&
         rm -rf "$out" && RT_DOES='sleep 0.5; echo "// changed" >>src/main.rt' walks not_kept && kept 0 && git checkout --quiet "$main" &&
-        rm -rf "$out" && : >"$out" && walks not_kept && rm "$out" && builds 5 && refused && two_at_once && short_of_memory && killed
+        rm -rf "$out" && : >"$out" && walks not_kept && rm "$out" && builds 5 && refused && says_how_far && two_at_once && short_of_memory && killed
 }
 
 # Walks a script by ./catsync, and compares what it prints and what it says that it does.
@@ -32,7 +32,7 @@ told() {
 }
 
 said() {
-    [ "$1" = running ] || echo "${running%: *}: building the program without proof, once, in some 75 s of processor time"
+    [ "$1" = running ] || echo "${running%: *}: building the program without proof, once, in 75 to 130 s of processor time"
     [ "$1" != not_kept ] || echo "catsync: built in N s; it can't be kept, as $out can't be written or sources have changed"
     [ "$1" != built ] || echo "catsync: built in N s, and kept as $out/unproved-SUM"
     [ "$1" = not_kept ] || echo "$running"
@@ -66,6 +66,15 @@ refused() {
     done
     ended=$(PATH=$temp/tools ./catsync make 1 2>"$temp/said" || echo $?)
     [ "$ended" = 127 ] && diff "$temp/said" - <<<"${running%: *}, none built without proof, and no rt on PATH to build it"
+}
+
+# On a terminal it says what rt does, and nothing twice, though files of rt's go as it goes on.
+says_how_far() {
+    rm -rf "$out"
+    RT_BEGINS='sleep 1.5; : >"$folder/module.bc"; sleep 1.5; rm "$folder/module.bc"; sleep 1.5' RT_DOES='sleep 1.5' \
+        python3 -c 'import pty, sys; pty.spawn(sys.argv[1:])' ./catsync make 1 </dev/null >"$temp/terminal" &&
+        tr '\r' '\n' <"$temp/terminal" | sed -n 's/.*catsync: [0-9]* s: //p' | uniq |
+        diff - <(printf '%s\n' "reading the sources" compiling "trying it") && kept 1 && rm -rf "$out"
 }
 
 # Of two runs at once one builds, and both print the output.

@@ -71,7 +71,7 @@ def own_program():
     """The program that is run where the command line names none."""
     program = found_program()
     if program is None:
-        raise Fault("no executable that is up to date: './catsync make 1' builds one without proof, in some 75 s of "
+        raise Fault("no executable that is up to date: './catsync make 1' builds one without proof, in 75 to 130 s of "
                     "processor time, and ./prove a proved one; --program FILE or CATSYNC_PROGRAM names another")
     return program
 

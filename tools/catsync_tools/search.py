@@ -290,7 +290,7 @@ class Exploration:
     def show(self, far, most, kind):
         """Shows how far the search is; of orders also about how many there are."""
         done, guess = sum(one.schedules for one in far), guess_of(far)
-        text = "%d of at most %d %s, %s" % (done, most, kind, self.so_far()) if most else "%d %s" % (done, kind)
+        text = far_in_words(done, most, kind, self.so_far()) if most else "%d %s" % (done, kind)
         if guess is not None and guess >= done:
             text += "; some %s by an estimate" % about(guess) if int(about(guess)) >= done else ""
             most = min(guess, most or guess)
@@ -306,6 +306,14 @@ def guess_of(far):
     where nothing is known."""
     begun = [one.schedules / one.part for one in far if one.schedules and one.part]
     return round(sum(begun) * len(far) / len(begun)) if begun else None
+
+
+def far_in_words(done, most, kind, found):
+    """How many schedules are run, and what was found. Where several tasks look for something there may be more than are wanted: they
+    go on until the first ones alone have so many."""
+    if done > most:
+        return "%d %s, more than %d, %s" % (done, kind, most, found)
+    return "%d of at most %d %s, %s" % (done, most, kind, found)
 
 
 def lines_of(run):

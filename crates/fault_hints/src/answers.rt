@@ -1,3 +1,4 @@
+use crate::apart::push_apart;
 use crate::differing::push_line;
 use base_types::{LineBuffer, NoMemory};
 use check_tool::after_line;
@@ -53,14 +54,12 @@ fn push_expected(
     expected: &[u8],
     found: &[u8],
 ) -> Result<(), NoMemory> {
-    write!(text, "line {number} differs: it should be '")?;
-    push_line(text, expected)?;
-    if found.is_empty() {
-        text.push_str("', and the output ends")?;
-        return Ok(());
+    write!(text, "line {number} differs")?;
+    if !found.is_empty() {
+        return push_apart(text, expected, found);
     }
-    text.push_str("' and is '")?;
-    push_line(text, found)?;
-    text.push('\'')?;
+    text.push_str(": it should be '")?;
+    push_line(text, expected)?;
+    text.push_str("', and the output ends")?;
     Ok(())
 }

@@ -14,7 +14,7 @@ use std::fmt::Write;
 const MOST_READ: usize = 4_294_967_294;
 
 // How much of a line is shown.
-const MOST_SHOWN: usize = 200;
+pub(crate) const MOST_SHOWN: usize = 200;
 
 /// Where and why the output that the input has after its script isn't one of `walk` or of `run` for it: at the entry that
 /// the checker names, or at the line after all entries. `None` where the input isn't one that is checked.
@@ -170,10 +170,24 @@ fn missing_entry(
     Ok(text)
 }
 
+// The first line of a text, without its end.
+pub(crate) fn first_line(rest: &[u8]) -> &[u8] {
+    let end = rest.iter().position(|byte| *byte == b'\n');
+    rest.get(..end.unwrap_or(rest.len())).unwrap_or(&[])
+}
+
 // Puts the first line of a text to the end.
 pub(crate) fn push_line(text: &mut String, rest: &[u8]) -> Result<(), NoMemory> {
-    let end = rest.iter().position(|byte| *byte == b'\n');
-    let line = rest.get(..end.unwrap_or(rest.len())).unwrap_or(&[]);
+    let line = first_line(rest);
+    push_shown(text, line)?;
+    if line.len() == rest.len() {
+        text.push_str(" (without a line's end)")?;
+    }
+    Ok(())
+}
+
+// Puts a line or a part of one to the end.
+pub(crate) fn push_shown(text: &mut String, line: &[u8]) -> Result<(), NoMemory> {
     let shown = line.strip_suffix(b"\r".as_slice()).unwrap_or(line);
     for byte in shown.get(..MOST_SHOWN).unwrap_or(shown) {
         text.push(if byte.is_ascii_graphic() || *byte == b' ' {
@@ -187,9 +201,6 @@ pub(crate) fn push_line(text: &mut String, rest: &[u8]) -> Result<(), NoMemory> 
     }
     if shown.len() < line.len() {
         text.push_str(" (with a carriage return at its end)")?;
-    }
-    if end.is_none() {
-        text.push_str(" (without a line's end)")?;
     }
     Ok(())
 }

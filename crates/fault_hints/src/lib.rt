@@ -22,6 +22,7 @@
 #![tactic(auto)]
 
 mod answers;
+mod apart;
 mod arguments;
 mod bytes;
 mod coming;
