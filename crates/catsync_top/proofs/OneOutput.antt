@@ -18,7 +18,10 @@ one_text script x y one two noted also =
     one.text_is ∙ ap (λ h. text_of h (lines_of script h)) (walked_alike script one.history two.history noted also one.interleaved.follows two.interleaved.follows one.complete two.complete) ∙ sym two.text_is
 
 script_same : (input other : List ℕ) (one two : Reading) → script_of Refused input ≡ Ok one → script_of Refused other ≡ Ok two → input ≡ other → two.script ≡ one.script
-script_same input other one two spelled also same = ap (λ (r : Reading). r.script) (let both : Ok two ≡ Ok one = sym also ∙ ap (script_of Refused) (sym same) ∙ spelled in cc both)
+script_same input other one two spelled also same =
+    let both : Ok two ≡ Ok one = sym also ∙ ap (script_of Refused) (sym same) ∙ spelled in
+    let alike : two ≡ one = cc both in
+    ap (λ (r : Reading). r.script) alike
 
 -- of one input one output, whatever the source and the sink tell, and whatever sessions are handed out
 pub one_output : (left rest taken now before after given kept : Option (List ℕ)) (Writes Wrote : Option (List ℕ) → Option (List ℕ) → List ℕ → Type 0) (sessions others : List Backend)
