@@ -71,7 +71,7 @@ refused() {
 # On a terminal it says what rt does, and nothing twice, though files of rt's go as it goes on.
 says_how_far() {
     rm -rf "$out"
-    RT_BEGINS='sleep 1.5; : >"$folder/module.bc"; sleep 1.5; rm "$folder/module.bc"; sleep 1.5' RT_DOES='sleep 1.5' \
+    RT_BEGINS='sleep 3; : >"$folder/module.bc"; sleep 3; rm "$folder/module.bc"; sleep 3' RT_DOES='sleep 3' \
         python3 -c 'import pty, sys; pty.spawn(sys.argv[1:])' ./catsync make 1 </dev/null >"$temp/terminal" &&
         tr '\r' '\n' <"$temp/terminal" | sed -n 's/.*catsync: [0-9]* s: //p' | uniq |
         diff - <(printf '%s\n' "reading the sources" compiling "trying it") && kept 1 && rm -rf "$out"
@@ -80,7 +80,7 @@ says_how_far() {
 # Of two runs at once one builds, and both print the output.
 two_at_once() {
     : >"$temp/builds"
-    RT_DOES='sleep 2' ./catsync walk <"$script.script" >"$temp/other" 2>/dev/null &
+    RT_DOES='sleep 8' ./catsync walk <"$script.script" >"$temp/other" 2>/dev/null &
     until [ -s "$temp/builds" ]; do sleep 0.1; done
     ./catsync walk <"$script.script" >"$temp/output" 2>"$temp/said" && wait $! && cmp "$temp/output" "$script.output" &&
         cmp "$temp/other" "$script.output" && grep -q ': waiting for another run that builds' "$temp/said" && builds 1 && kept 1
