@@ -419,6 +419,7 @@ $""")
                     (["--most", "0"], b"", "not a count: 0"),
                     (["--most", "1" * 5000], b"", "not a count: 11"),
                     (["--sideways"], b"", "unrecognized arguments: --sideways; expect --help says more"),
+                    (["--program", "/nowhere"], ALTERED % b"expect 1.2 ok\n", "/nowhere: No such file or directory"),
                     (["--program", "/bin/false"], ALTERED % b"expect 1.2 ok\n", "standard input: /bin/false: exit status 1")):
                 with self.subTest(said):
                     status, printed, error = call("expect", *words, given=given)
