@@ -197,6 +197,7 @@ class Exploration:
             return self.do([self.orders_of(share) for share in all_shares], most, self.settings.jobs, "orders")
         part = most // len(all_shares)
         self.do([self.orders_of(share, part) for share in all_shares], None, self.settings.jobs, "orders", most)
+        self.guess = max(self.guess or 0, guess_of(self.far) or 0)
         left = [share for share, far in zip(all_shares, self.far) if far.is_cut]
         if self.is_found or not left:
             return True
