@@ -349,10 +349,16 @@ $""")
 
     @unittest.skipUnless(HAS_PROGRAM, NO_PROGRAM)
     def test_doubts(self):
-        """An expectation that no answer can break is told, and is met."""
-        status, printed, said = self.expect(given=ALTERED % b"expect 1.2 ok\nexpect never 2.1 columns zz:int4\n")
-        self.assertEqual((status, printed, said), (0, "passed: standard input\n  line 8: expect never 2.1 columns zz:int4\n"
-                                                   "    says nothing: no command names 'zz'\n1 passed, 0 failed\n", ""))
+        """An expectation that no answer can break is neither met nor broken, with an exit status that isn't 0; but one that isn't met
+        fails its script. The same is said of what no answer can meet."""
+        never, why = b"expect never 2.1 columns a:int3\n", "no command names 'int3'"
+        told = "  line %d: expect never 2.1 columns a:int3\n    says nothing: " + why + "\n"
+        self.assertEqual(self.expect(given=ALTERED % (b"expect 1.2 ok\n" + never)), (
+            3, "says nothing: standard input\n" + told % 8 + "0 passed, 0 failed, 1 with a line that says nothing\n", ""))
+        status, printed, said = self.expect(given=ALTERED % (never + b"expect some 2.1 columns a:int3\n"))
+        self.assertEqual((status, said), (1, ""))
+        self.assertRegex(printed, "^FAILED: standard input\n" + told % 7 + "  line 8: .*\n(    .*\n)+    can't be met: " + why
+                         + "\n0 passed, 1 failed\n$")
 
     @unittest.skipUnless(HAS_PROGRAM, NO_PROGRAM)
     def test_places(self):
@@ -413,6 +419,7 @@ $""")
                     (["--most", "0"], b"", "not a count: 0"),
                     (["--most", "1" * 5000], b"", "not a count: 11"),
                     (["--sideways"], b"", "unrecognized arguments: --sideways; expect --help says more"),
+                    (["--program", "/nowhere"], ALTERED % b"expect 1.2 ok\n", "/nowhere: No such file or directory"),
                     (["--program", "/bin/false"], ALTERED % b"expect 1.2 ok\n", "standard input: /bin/false: exit status 1")):
                 with self.subTest(said):
                     status, printed, error = call("expect", *words, given=given)

@@ -34,7 +34,7 @@ from catsync_tools.progress import Progress, duration
 from catsync_tools.report import Extent, Serial, Shown, head_of, led_to
 from catsync_tools.schedules import SWITCHES, random_schedule
 from catsync_tools.scripts import steps_line, turns_of
-from catsync_tools.search import Exploration, Far, Piece, Settings, far_in_words, guess_of, wanted_of
+from catsync_tools.search import Exploration, Far, Piece, Settings, guess_of, wanted_of
 from catsync_tools.sentences import about, estimate
 from catsync_tools.serial import SerialRuns, WholeAccesses, commands_of, transactions_of
 from catsync_tools.shares import shares
@@ -454,12 +454,15 @@ class HowFar(unittest.TestCase):
             sets = [Shown((key,), None, None) for key in "abc"]
             self.assertEqual(head_of(extent, serial, sets), ["all 9 orders: 3 sets of answers, " + said])
 
-    def test_words(self):
-        """Where more schedules are run than are wanted no limit is named that they keep."""
-        self.assertEqual(far_in_words(7, 9, "orders", "2 sets of answers"), "7 of at most 9 orders, 2 sets of answers")
-        self.assertEqual(far_in_words(9, 9, "orders", "2 sets of answers"), "9 of at most 9 orders, 2 sets of answers")
-        self.assertEqual(far_in_words(12, 9, "orders", "1 of 3 expectations decided"),
-                         "12 orders, more than 9, 1 of 3 expectations decided")
+    def test_estimate_while_a_search_goes_on(self):
+        """None by the first orders alone, which have seen too little of the tree, and no time that is reckoned by it."""
+        for far, kind, shown in (
+                ([Far(30, 0.4)], "orders", (0, 5000, "30 of at most 5000 orders, 0 sets of answers")),
+                ([Far(300, 0.5), Far(0, 0.0)], "orders", (300, 1200, "300 of at most 5000 orders, 0 sets of answers; some 1200 by an estimate")),
+                ([Far(30, 0.0)], "random schedules", (30, 5000, "30 of at most 5000 random schedules, 0 sets of answers"))):
+            search = unittest.mock.Mock(so_far=lambda: "0 sets of answers")
+            Exploration.show(search, far, 5000, kind)
+            self.assertEqual(search.progress.show.call_args[0], shown)
 
     def test_lines(self):
         """Where standard error is no terminal there is a line now and then."""
@@ -685,24 +688,38 @@ class Explorer(unittest.TestCase):
                 all_made = sum(count for count, _, _ in made)
                 for most in (draw.randint(0, all_made), draw.randint(0, all_made), all_made):
                     with self.subTest((made, most)):
-                        self.assertEqual([self.done(exploration, made, most, jobs) for jobs in (2, 3)],
-                                         [self.done(exploration, made, most, 1)] * 2)
+                        shown = [self.done(exploration, made, most, jobs) for jobs in (1, 2, 3)]
+                        self.assertEqual(shown[1:], shown[:1] * 2)
+                        self.assertEqual(shown[0][0], all_made <= most or shown[0][1] is not None)
         exploration.program.close()
 
     def done(self, exploration, made, most, jobs):
-        """What becomes of tasks that have so many schedules, may find what is looked for in the last, and wait for so long."""
-        def task(number, count, finds, seconds):
+        """What becomes of shares that have so many orders, may have what is looked for in the last, and wait for so long; of no
+        more orders than the limit any is counted at a time."""
+        def orders_of(share, most_of_it=None):
             """One task."""
-            piece = Piece(False)
-            yield piece
-            for done in range(1, count + 1):
-                time.sleep(seconds)
-                piece.schedules = done
-                piece.found = [(number, done)] if finds and done == count else None
+            number, count, finds, seconds = share
+            def task():
+                """Its orders."""
+                piece = Piece(False)
                 yield piece
+                for done in range(1, count + 1):
+                    time.sleep(seconds)
+                    piece.is_cut = piece.schedules == most_of_it
+                    piece.schedules = piece.schedules if piece.is_cut else done
+                    piece.found = [(number, done)] if finds and done == count and not piece.is_cut else None
+                    yield piece
+                    if piece.is_cut:
+                        return
+            return task
+        shown = []
         exploration.found, exploration.schedules = None, 0
-        is_within = exploration.do([functools.partial(task, number, *one) for number, one in enumerate(made, 1)], most, jobs, "")
-        return is_within, is_within and (exploration.found, exploration.schedules)
+        exploration.settings = exploration.settings._replace(jobs=jobs)
+        with unittest.mock.patch.object(exploration, "orders_of", orders_of), unittest.mock.patch.object(
+                exploration, "show", lambda far, *_: shown.append(sum(one.schedules for one in far))):
+            is_within = exploration.run_shares([(number,) + one for number, one in enumerate(made, 1)], most)
+        self.assertLessEqual(max(shown), most + 1)
+        return is_within, exploration.found, is_within and exploration.schedules
 
     def test_signal_as_processes_start(self):
         """A signal that comes just before the processes are there, or to one of them as it starts, ends the search as any

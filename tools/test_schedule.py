@@ -186,6 +186,7 @@ FAULTY = (
     (b"backends 1\n1: lock t nowait -- at once\nend\n", "line 2: 'nowait' isn't the model's"),
     (b"backends 1\n1: alter table t add b text, add c text\nend\n", "line 2: an 'alter table' makes one change here; make a "),
     (b"backends 1\n1: alter table t add b\nend\n", "line 2: the column 'b' has no type"),
+    (b"backends 1\n1: alter table t add check (a > 0)\nend\n", "line 2: a constraint has a name here: 'add constraint NAME check (..)'"),
     (b"backends 1\n1: alter table t add column b;\nend\n", "line 2: the column 'b' has no type"),
     (b"backends 1\n1: drop table IF EXISTS t\nend\n", "line 2: 'if exists' isn't the model's; leave it out"),
     (b"backends 1\n1: create table if not exists t (a int4, b text)\nend\n", "line 2: 'if not exists' isn't the model's; "),

@@ -179,6 +179,8 @@ class Statements(unittest.TestCase):
             with self.subTest(sql):
                 self.assertEqual(said(sql, made)[-1].reason, reason + " isn't modelled here")
         self.assertEqual(said("INSERT INTO nowhere VALUES (1)")[-1].reason, "no table 'nowhere' is made here")
+        for sql in ("CLUSTER t", "CLUSTER VERBOSE t"):
+            self.assertEqual(said(sql, made)[-1].reason, "it names no index, and the server refuses it where none is marked")
 
     def test_messages(self):
         """The server's words for errors and warnings."""

@@ -9,8 +9,8 @@ from .program import Program, own_program
 from .progress import Progress
 from .search import processors
 from .sources import Source, read_source
-from .trial import BROKEN, MET, UNDECIDED, results_of
-from .vacuous import said_of
+from .trial import BROKEN, EMPTY, MET, UNDECIDED, Result, results_of
+from .vacuous import is_empty, said_of
 
 FAILED = 1
 NOT_DECIDED = 3
@@ -28,7 +28,7 @@ def arguments_of(words):
     parser = Arguments("expect", "[OPTION].. [PATH]..", "Runs scripts, or all scripts of a folder, and tells which of their "
                        "expectations are met; without PATH the script on standard input.",
                        ((0, "all expectations are met"), (FAILED, "an expectation isn't met"),
-                        (NOT_DECIDED, "all that are decided are met; of another no order was found that has it, among more than were run")))
+                        (NOT_DECIDED, "none fails, but one isn't decided within the orders that are run, or says nothing")))
     parser.option("paths", nargs="*", metavar="PATH")
     parser.option("--most", type=count_of, default=MOST_ORDERS, metavar="N",
                   help="'expect some' and 'expect never' run all orders of a script where there are at most N, else N random "
@@ -58,10 +58,16 @@ def read_script(name, data):
     return Named(name, source)
 
 
+def judged(results, source):
+    """The results, where an expectation that says nothing is neither met nor undecided."""
+    return {one: Result(EMPTY, []) if is_empty(one, source, result.verdict == BROKEN) else result for one, result in results.items()}
+
+
 def head_of(name, results):
-    """What became of a script: it failed where an expectation isn't met, else it isn't decided where one isn't."""
+    """What became of a script: it failed where an expectation isn't met, else it says nothing where one does, else it isn't
+    decided where one isn't."""
     verdicts = [result.verdict for result in results.values()]
-    for verdict, word in ((BROKEN, "FAILED"), (UNDECIDED, "not decided")):
+    for verdict, word in ((BROKEN, "FAILED"), (EMPTY, "says nothing"), (UNDECIDED, "not decided")):
         if verdict in verdicts:
             return verdict, "%s: %s" % (word, name)
     return MET, "passed: %s" % name
@@ -80,8 +86,9 @@ def lines_of(head, results, are_met_told, source):
 
 def summary(verdicts):
     """How many scripts passed."""
-    counts = [verdicts.count(verdict) for verdict in (MET, BROKEN, UNDECIDED)]
-    return "%d passed, %d failed" % tuple(counts[:2]) + (", %d not decided" % counts[2] if counts[2] else "")
+    more = ", ".join("%d %s" % (verdicts.count(verdict), words) for verdict, words in (
+        (UNDECIDED, "not decided"), (EMPTY, "with a line that says nothing")) if verdict in verdicts)
+    return "%d passed, %d failed" % (verdicts.count(MET), verdicts.count(BROKEN)) + (", " + more if more else "")
 
 
 def main(words):
@@ -94,10 +101,10 @@ def main(words):
     for number, named in enumerate(scripts, 1):
         progress.of = "%s (%d of %d): " % (named.name, number, len(scripts))
         with faults_of(named.name):
-            results = results_of(named.source, program, options.jobs or processors(), options.most, progress)
+            results = judged(results_of(named.source, program, options.jobs or processors(), options.most, progress), named.source)
         verdict, head = head_of(named.name, results)
         verdicts.append(verdict)
         lines += lines_of(head, results, options.passed, named.source)
     progress.clear()
     write_output("\n".join(lines + [summary(verdicts)]) + "\n")
-    return FAILED if BROKEN in verdicts else NOT_DECIDED if UNDECIDED in verdicts else 0
+    return FAILED if BROKEN in verdicts else NOT_DECIDED if UNDECIDED in verdicts or EMPTY in verdicts else 0

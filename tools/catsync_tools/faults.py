@@ -14,11 +14,17 @@ class Fault(Exception):
     status = BAD
 
 
+class FaultElsewhere(Fault):
+    """A fault of a file that its text names, whatever file is at hand."""
+
+
 @contextlib.contextmanager
 def faults_of(path):
     """What is faulty within it is of this file."""
     try:
         yield
+    except FaultElsewhere:
+        raise
     except Fault as fault:
         raise Fault("%s: %s" % (path, fault))
 

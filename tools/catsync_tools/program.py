@@ -7,7 +7,7 @@ import subprocess
 import tempfile
 from typing import List, NamedTuple, Tuple
 
-from .faults import Fault
+from .faults import Fault, FaultElsewhere
 from .interrupts import SIGNALS, Interrupts
 
 TOP = os.path.dirname(os.path.dirname(os.path.dirname(os.path.abspath(__file__))))
@@ -131,7 +131,7 @@ class Program:
         except ValueError:
             steps = []
         if not steps:
-            raise Fault("%s: what it prints isn't an output of catsync" % self.path)
+            raise FaultElsewhere("%s: what it prints isn't an output of catsync" % self.path)
         return Run(output, steps, tuple(line for line in lines if line.startswith("l ")))
 
     def result(self, script):
@@ -153,7 +153,7 @@ class Program:
             process = subprocess.Popen(
                 [self.path, "walk"], stdin=self.input, stdout=subprocess.PIPE, stderr=self.said, close_fds=False)
         except OSError as error:
-            raise Fault("%s: %s" % (self.path, error.strerror))
+            raise FaultElsewhere("%s: %s" % (self.path, error.strerror))
         with process:
             output = process.stdout.read()
         return output, process.returncode

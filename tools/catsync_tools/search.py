@@ -34,6 +34,7 @@ class Far(NamedTuple):
     """How far a task is: how many schedules it has run, and about which part of them that is."""
     schedules: int
     part: float
+    is_cut: bool = False    # whether it has more than were to be run of it
 
 
 class Piece:
@@ -41,7 +42,7 @@ class Piece:
 
     def __init__(self, places):
         self.findings = Findings(places)
-        self.schedules, self.part = 0, 0.0
+        self.schedules, self.part, self.is_cut = 0, 0.0, False
         self.found: Optional[Turns] = None      # the schedule that is looked for
         self.reached: Dict[int, Tuple[Turns, Answers]] = {}     # of what is expected (trial.py)
         self.came: Dict[int, Dict[str, None]] = {}              # what came in its place
@@ -49,7 +50,7 @@ class Piece:
     @property
     def far(self):
         """How far it is."""
-        return Far(self.schedules, self.part)
+        return Far(self.schedules, self.part, self.is_cut)
 
 
 class Settings(NamedTuple):
@@ -161,18 +162,19 @@ class Exploration:
 
     # All orders
 
-    def orders_of(self, share):
-        """A task: all orders of a share."""
+    def orders_of(self, share, most=None):
+        """A task: all orders of a share, or the first ones, so many."""
         def task():
             """What is found, after each order."""
             piece, search = Piece(self.settings.places), Search(self.walks, self.runner.backends, share)
             yield piece
             for answers, history in search.orders():
                 if answers is not None:
-                    found = self.add(piece, answers, history.steps)
+                    piece.is_cut = piece.schedules == most
+                    found = not piece.is_cut and self.add(piece, answers, history.steps)
                     piece.part = search.done
                     yield piece
-                    if found:
+                    if found or piece.is_cut:
                         return
         return task
 
@@ -182,10 +184,27 @@ class Exploration:
         if self.do([self.orders_of(WHOLE)], min(most, FIRST), 1, "orders", most):
             return True
         self.guess = guess_of(self.far) or 0
-        if most > FIRST and self.do([self.orders_of(share) for share in self.shares(SHARES)], most, self.settings.jobs, "orders"):
+        if most > FIRST and self.run_shares(self.shares(SHARES), most):
             return True
         self.guess = max(self.guess, most + 1)
         return False
+
+    def run_shares(self, all_shares, most):
+        """The same in shares. Where something is looked for the first orders of each share are run first, as many of each, so
+        that these are the same for any number of processes; and then all of those shares that have more, where that is within
+        the limit: what is found there counts in no other case."""
+        if not self.looks_for:
+            return self.do([self.orders_of(share) for share in all_shares], most, self.settings.jobs, "orders")
+        part = most // len(all_shares)
+        self.do([self.orders_of(share, part) for share in all_shares], None, self.settings.jobs, "orders", most)
+        self.guess = max(self.guess or 0, guess_of(self.far) or 0)
+        left = [share for share, far in zip(all_shares, self.far) if far.is_cut]
+        if self.is_found or not left:
+            return True
+        whole = sum(far.schedules for far in self.far if not far.is_cut)
+        is_within = self.do([self.orders_of(share) for share in left], most - whole, self.settings.jobs, "orders", to_end=True)
+        self.schedules += whole
+        return is_within
 
     def shares(self, count):
         """The shares of the search."""
@@ -223,10 +242,10 @@ class Exploration:
 
     # Tasks
 
-    def do(self, tasks, most, count, kind, shown=None):
-        """Does tasks until one of them finds what is looked for. Whether they came to their end, or found it, before they
-        had more schedules than so many: otherwise nothing is kept of several tasks, since what they had found by then isn't
-        the same each time."""
+    def do(self, tasks, most, count, kind, shown=None, to_end=False):
+        """Does tasks until one of them finds what is looked for, or where they are done to the end all of them. Whether they came to
+        that before they had more schedules than so many: otherwise nothing is kept of several tasks, since what they had found
+        by then isn't the same each time."""
         jobs = Jobs(tasks, count, self.program.split_off)
         far = [Far(0, 0.0)] * len(tasks)
         self.is_over, is_within = False, True
@@ -236,31 +255,16 @@ class Exploration:
                 for number, far[number] in going:
                     self.program.interrupts.check()
                     self.show(far, shown or most, kind)
-                    is_within = most is None or not self.is_beyond(jobs, [one.schedules for one in far], most)
-                    if not is_within or self.first_found(jobs) is not None:
+                    if not to_end and self.first_found(jobs) is not None:
+                        break
+                    is_within = most is None or sum(one.schedules for one in far) <= most
+                    if not is_within:
                         break
         finally:
-            if is_within or len(tasks) == 1:
+            if is_within or len(tasks) == 1 and not to_end:
                 self.keep(jobs)
         self.is_over, self.far = is_within, far
         return is_within
-
-    def is_beyond(self, jobs, schedules, most):
-        """Whether tasks, done one after the other, have more schedules than so many before one of them finds what is looked
-        for. That doesn't depend on how far each is, so that it is the same for any number of processes."""
-        if not self.looks_for:
-            return sum(schedules) > most
-        done, before = 0, set()
-        for number, is_done in enumerate(jobs.is_done):
-            piece = jobs.pieces.get(number)
-            done += schedules[number]
-            is_found = piece is not None and self.is_enough(piece, before)
-            may_be_last = piece is None and schedules[number] > 0     # a process says later what it found in its last one
-            if done - (is_found or may_be_last) > most:
-                return True
-            if is_found or not is_done:
-                return False
-        return False
 
     def first_found(self, jobs):
         """The first task that has found what is looked for, if all before it have come to their end without it."""
@@ -288,13 +292,15 @@ class Exploration:
         self.found = found.found if found is not None else None
 
     def show(self, far, most, kind):
-        """Shows how far the search is; of orders also about how many there are."""
-        done, guess = sum(one.schedules for one in far), guess_of(far)
-        text = far_in_words(done, most, kind, self.so_far()) if most else "%d %s" % (done, kind)
+        """Shows how far the search is; of orders also about how many there are, once it is split: the first ones alone have seen
+        too little of the tree, so that the guess would be far too low, and with it the time that is left."""
+        done, guess = sum(one.schedules for one in far), guess_of(far) if len(far) > 1 else None
+        text = "%d of at most %d %s, %s" % (done, most, kind, self.so_far()) if most else "%d %s" % (done, kind)
         if guess is not None and guess >= done:
             text += "; some %s by an estimate" % about(guess) if int(about(guess)) >= done else ""
             most = min(guess, most or guess)
-        self.progress.show(done if most else 0, most or 1, text)
+        is_told = most and (guess is not None or kind != "orders")
+        self.progress.show(done if is_told else 0, most or 1, text)
 
     def so_far(self):
         """What was found before the tasks at hand."""
@@ -306,14 +312,6 @@ def guess_of(far):
     where nothing is known."""
     begun = [one.schedules / one.part for one in far if one.schedules and one.part]
     return round(sum(begun) * len(far) / len(begun)) if begun else None
-
-
-def far_in_words(done, most, kind, found):
-    """How many schedules are run, and what was found. Where several tasks look for something there may be more than are wanted: they
-    go on until the first ones alone have so many."""
-    if done > most:
-        return "%d %s, more than %d, %s" % (done, kind, most, found)
-    return "%d of at most %d %s, %s" % (done, most, kind, found)
 
 
 def lines_of(run):

@@ -94,6 +94,9 @@ def refused_change(tokens):
         depth += (token == "(") - (token == ")")
         if token == "," and depth == 0:
             return "an 'alter table' makes one change here; make a command of each"
+    unnamed = re.match(_OF_TABLE + r"add (check|foreign key) \(", " ".join(tokens))
+    if unnamed:
+        return "a constraint has a name here: 'add constraint NAME %s (..)'" % unnamed.groups()[-1]
     if re.fullmatch(_OF_TABLE + "add (?:column )?(?:%s)" % _COLUMN, " ".join(tokens)):
         return "the column '%s' has no type" % tokens[-1]
     return None

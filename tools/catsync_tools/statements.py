@@ -119,7 +119,7 @@ def after(tokens, word):
 LOCKS = tuple((re.compile(pattern), mode, unsaid) for pattern, mode, unsaid in (
     ("truncate (?:table )?(?:only )?(.+?)(?: (?:restart|continue) identity)?(?: cascade| restrict)?", "access exclusive",
      "that it empties"),
-    ("cluster (?:verbose )?(%s)(?: using .+)?" % NAME, "access exclusive", "the new file"),
+    ("cluster (?:verbose )?(%s) using .+" % NAME, "access exclusive", "the new file"),
     ("vacuum full (?:verbose |analyze |freeze )*(.+)", "access exclusive", "the new file"),
     (r"vacuum \( .*full(?! (?:false|off|0)).* \) (.+)", "access exclusive", "the new file"),
     (r"vacuum (?:\( .* \) |verbose |analyze |freeze )*(.+)", "share update exclusive", "the statistics"),
@@ -268,6 +268,8 @@ class Sayer:
         if found:
             tables = [part[-1] for part in split(found.group(1).split(" "), ",") if part[-1:] != ["*"]]
             return Statement(text, locks(tables, found.group(2) or "access exclusive"), nowait=bool(found.group(3)))
+        if re.fullmatch("cluster (?:verbose )?%s" % NAME, text):
+            return Statement(text, reason="it names no index, and the server refuses it where none is marked")
         for pattern, mode, unsaid in LOCKS:
             found = pattern.fullmatch(text)
             tables = [part[0] for part in split(found.group(1).split(" "), ",") if part] if found else []

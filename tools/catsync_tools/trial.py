@@ -14,7 +14,7 @@ from .search import Exploration, Piece, Settings
 from .sentences import counted, estimate
 from .turns import fewest_turns
 
-MET, BROKEN, UNDECIDED = "met", "broken", "undecided"
+MET, BROKEN, UNDECIDED, EMPTY = "met", "broken", "undecided", "empty"    # empty: no answer can have what never comes
 MOST_CAME = 5           # lines of what came where none of all orders has what is expected
 
 

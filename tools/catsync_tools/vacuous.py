@@ -38,6 +38,11 @@ class Value(NamedTuple):
     goes_on: bool
 
 
+def is_empty(expectation, source, is_broken):
+    """Whether an expectation that something never comes says nothing, as no answer can have that."""
+    return expectation.runs == NEVER and not is_broken and doubt_of(expectation, source) is not None
+
+
 def said_of(expectation, source, is_met, is_broken) -> List[str]:
     """What is said of an expectation of which no answer can have the text, by whether that was met or broken."""
     doubt = doubt_of(expectation, source)
