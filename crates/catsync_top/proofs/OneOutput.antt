@@ -10,7 +10,7 @@ use Rattle.cacheless.specs.Output.{IsOutput}
 use Rattle.backend_core.specs.Walked.{IsNotedWalk}
 use Rattle.backend_core.specs.declared.backend.Backend.{Backend}
 use Rattle.backend_core.proofs.Walked.OneWalk.{walked_alike}
-use Rattle.catsync_top.specs.Sessions.{RanCoherently}
+use Rattle.catsync_top.specs.Sessions.{RanCoherently, HasMadeByWalk}
 
 -- outputs of noted walks of one script
 one_text : (script : Scenario) (x y : List ℕ) (one : IsOutput kinds.Walk script x) (two : IsOutput kinds.Walk script y) → IsNotedWalk script one.history → IsNotedWalk script two.history → x ≡ y
@@ -29,3 +29,10 @@ pub one_output : (left rest taken now before after given kept : Option (List ℕ
 one_output left rest taken now before after given kept Writes Wrote sessions others one two same =
     subst (λ script. (is : IsOutput kinds.Walk script two.ran.output) → IsNotedWalk script is.history → one.ran.output ≡ two.ran.output) (sym (script_same one.ran.input two.ran.input one.ran.reading two.ran.reading one.ran.spelled two.ran.spelled same))
     (λ is also. one_text one.ran.reading.script one.ran.output two.ran.output one.ran.is is one.noted also) two.ran.is two.noted
+
+-- what the comment of a made script counts is that output
+pub made_output : (script : Scenario) (left rest taken now given kept : Option (List ℕ)) (Writes Wrote : Option (List ℕ) → Option (List ℕ) → List ℕ → Type 0) (sessions : List Backend)
+    → (makes : HasMadeByWalk script given kept Wrote) (one : RanCoherently kinds.Walk left rest taken now Writes sessions) → one.ran.reading.script ≡ script → makes.made.output ≡ one.ran.output
+made_output script left rest taken now given kept Writes Wrote sessions makes one same =
+    subst (λ s. (is : IsOutput kinds.Walk s one.ran.output) → IsNotedWalk s is.history → makes.made.output ≡ one.ran.output) same
+    (λ is also. one_text script makes.made.output one.ran.output makes.made.is is makes.noted also) one.ran.is one.noted

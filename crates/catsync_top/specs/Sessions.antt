@@ -9,7 +9,7 @@ use Rattle.backend_core.specs.declared.backend.Backend.{Backend}
 use Rattle.backend_core.specs.Walked.{IsNotedWalk}
 use Rattle.cacheless.specs.declared.check_kind.CheckKind.{CheckKind}
 use Rattle.cacheless.specs.declared.check_kind.CheckKind.TheVariants.{Walk, Run}
-use Rattle.catsync_top.specs.Top.{Ran}
+use Rattle.catsync_top.specs.Top.{Ran, HasMade}
 
 -- what `walk` writes is a walk of the backends by steps that are noted, and a script has one such walk; the steps of `run` may come in any order
 abbrev pub IsNotedAs : CheckKind → Scenario → List Entry → Type 0
@@ -22,3 +22,8 @@ pub record RanCoherently (kind : CheckKind) (left rest : Option (List ℕ)) (tak
   pub noted : IsNotedAs kind ran.reading.script ran.is.history
   pub stand : All (Stands ran.reading.script ran.is.history) sessions
   pub coherent : All (IsCoherent ran.reading.script ran.is.history) sessions
+
+-- a script was made, and what the comment above it counts is what `walk` writes for it: a walk by noted steps
+pub record HasMadeByWalk (script : Scenario) (taken now : Option (List ℕ)) (Writes : Option (List ℕ) → Option (List ℕ) → List ℕ → Type 0) : Type 0 where
+  pub made : HasMade script taken now Writes
+  pub noted : IsNotedWalk script made.is.history

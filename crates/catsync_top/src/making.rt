@@ -2,7 +2,8 @@ ghost use Rattle.std.specs.Prelude.{◌≡◌, ◌≢◌, ◌≤◌};
 ghost use Rattle.edge_io.specs.Causes.{Rose};
 ghost use Rattle.edge_io.specs.Taken.{Grows, GrowsByFront};
 ghost use Rattle.make_script.specs.Scripts.{made_script};
-ghost use Rattle.catsync_top.specs.Top.{HasMade, IsEndOfMaking};
+ghost use Rattle.catsync_top.specs.Sessions.{HasMadeByWalk};
+ghost use Rattle.catsync_top.specs.Top.{IsEndOfMaking};
 
 use crate::Status;
 use edge_io::{Sink, send};
@@ -14,8 +15,8 @@ use walk_run::walk;
 pub(crate) fn write_made<K: Sink>(alloc: Global, number: u32, sink: &mut K) -> Status
     requires least { 1 ≤ number }
     requires most { number ≤ MOST_NUMBER }
-    ensures made { result ≡ Status.Done → HasMade (made_script number) (K.taken sink.old) (K.taken sink.new) Grows }
-    ensures write_front { result ≡ Status.WriteFault → HasMade (made_script number) (K.taken sink.old) (K.taken sink.new) GrowsByFront }
+    ensures made { result ≡ Status.Done → HasMadeByWalk (made_script number) (K.taken sink.old) (K.taken sink.new) Grows }
+    ensures write_front { result ≡ Status.WriteFault → HasMadeByWalk (made_script number) (K.taken sink.old) (K.taken sink.new) GrowsByFront }
     ensures nothing { result ≢ Status.Done → result ≢ Status.WriteFault → K.taken sink.new ≡ K.taken sink.old }
     ensures ends { IsEndOfMaking result }
     ensures write_fault { result ≡ Status.WriteFault → Rose (K.faults sink.old) (K.faults sink.new) }

@@ -8,8 +8,8 @@ ghost use Rattle.cacheless.specs.declared.check_kind.CheckKind.{CheckKind};
 ghost use Rattle.cacheless.specs.declared.check_kind.CheckKind.TheVariants as kinds;
 ghost use Rattle.catsync_top.specs.declared.arguments.Word.{Word};
 ghost use Rattle.catsync_top.specs.declared.arguments.Word.TheVariants as words;
-ghost use Rattle.catsync_top.specs.Sessions.{RanCoherently};
-ghost use Rattle.catsync_top.specs.Top.{Ask, AskToMake, AskNothing, AskSomething, Ran, HasFound, HasDifferedAsAsked, HasMade, HasRead, IsBad, IsTooLong, HasScript, HadNoFault, HadNoStop, IfBadScript, IfDiffers, HasEnded, IsEndOfMaking, IsRefusalOfInput};
+ghost use Rattle.catsync_top.specs.Sessions.{RanCoherently, HasMadeByWalk};
+ghost use Rattle.catsync_top.specs.Top.{Ask, AskToMake, AskNothing, AskSomething, Ran, HasFound, HasDifferedAsAsked, HasRead, IsBad, IsTooLong, HasScript, HadNoFault, HadNoStop, IfBadScript, IfDiffers, HasEnded, IsEndOfMaking, IsRefusalOfInput};
 
 use crate::Status;
 use crate::arguments::{Word, made_of, word_of};
@@ -80,8 +80,8 @@ pub fn catsync<R: Threads + Wait + Sync, S: Source, K: Sink, G: Gate>(
     ensures write_front { (kind : CheckKind) → Ask (map string_bytes arguments.now) (words.Output kind) → result ≡ Status.WriteFault → Ran kind (S.left source.old) (S.left source.new) (K.taken sink.old) (K.taken sink.new) GrowsByFront sessions.new.items }
     ensures found { (kind : CheckKind) → Ask (map string_bytes arguments.now) (words.Check kind) → result ≡ Status.Done → HasFound kind (S.left source.old) (S.left source.new) (K.taken sink.old) (K.taken sink.new) Grows }
     ensures found_front { (kind : CheckKind) → Ask (map string_bytes arguments.now) (words.Check kind) → result ≡ Status.WriteFault → HasFound kind (S.left source.old) (S.left source.new) (K.taken sink.old) (K.taken sink.new) GrowsByFront }
-    ensures made { (number : ℕ) → AskToMake (map string_bytes arguments.now) number → result ≡ Status.Done → HasMade (made_script number) (K.taken sink.old) (K.taken sink.new) Grows }
-    ensures made_front { (number : ℕ) → AskToMake (map string_bytes arguments.now) number → result ≡ Status.WriteFault → HasMade (made_script number) (K.taken sink.old) (K.taken sink.new) GrowsByFront }
+    ensures made { (number : ℕ) → AskToMake (map string_bytes arguments.now) number → result ≡ Status.Done → HasMadeByWalk (made_script number) (K.taken sink.old) (K.taken sink.new) Grows }
+    ensures made_front { (number : ℕ) → AskToMake (map string_bytes arguments.now) number → result ≡ Status.WriteFault → HasMadeByWalk (made_script number) (K.taken sink.old) (K.taken sink.new) GrowsByFront }
     ensures nothing { result ≢ Status.Done → result ≢ Status.WriteFault → K.taken sink.new ≡ K.taken sink.old }
     ensures no_sessions { result ≢ Status.Done → result ≢ Status.WriteFault → sessions.new.items ≡ [] }
     ensures none_made { (number : ℕ) → AskToMake (map string_bytes arguments.now) number → sessions.new.items ≡ [] }
