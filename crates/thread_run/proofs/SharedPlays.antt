@@ -12,11 +12,11 @@ use Rattle.backend_core.specs.Agrees.{IsPlayed}
 use Rattle.backend_core.specs.Apart.{IsHolding}
 use Rattle.backend_core.specs.Cuts.{cut}
 use Rattle.backend_core.proofs.Cutting.Scripts.{cut_is}
-use Rattle.thread_run.specs.Entering.{PromisesOnly, Always}
+use Rattle.backend_core.specs.Places.{PromisesOnly, Always}
 use Rattle.thread_run.specs.Runs.{IsRunSoFar}
 use Rattle.thread_run.specs.Scripts.{Play, IsLeft, commands_left}
 use Rattle.thread_run.specs.Turns.{backend_of, right_before, IsHalting}
-use Rattle.thread_run.proofs.Played.{only_then}
+use Rattle.backend_core.proofs.PlacesWanted.{only_then}
 use Rattle.thread_run.proofs.Scripts.{left_backend}
 
 -- what callers said of the value holds of what is inside

@@ -86,9 +86,10 @@ impl SharedPlay {
     ghost use Rattle.backend_core.specs.Apart.{IsHolding};
     ghost use Rattle.backend_core.specs.Words.{has_left, has_joined};
     ghost use Rattle.turn_table.specs.Histories.{Grew};
+    ghost use Rattle.backend_core.specs.Places.{PromisesOnly};
+    ghost use Rattle.thread_run.specs.Asks.{asked_before};
     ghost use Rattle.thread_run.specs.Runs.{IsRunSoFar};
     ghost use Rattle.thread_run.specs.Scripts.{IsLeft, commands_left};
-    ghost use Rattle.thread_run.specs.Entering.{PromisesOnly};
     ghost use Rattle.thread_run.specs.Turns.{backend_of, right_before, EntersInTurn, HasTakenTurn, IsHalting};
 
     /// An empty history, for this script, with places promised to each backend.
@@ -133,7 +134,7 @@ impl SharedPlay {
         ensures enters { OnOk result (EntersInTurn enters b looks.now self.old.shared.history self.new.shared.history) }
         ensures works { IfOk result (λ over. HasTakenTurn self.new.shared.script b self.new.shared.history over backend.new) }
         ensures number { IfOk result (λ over. has_joined backend.old.life ≡ true → backend.new.progress.finished ≡ backend.old.progress.finished + one_if over) }
-        ensures first { IfOk result (λ over. enters ≡ true → has_joined backend.old.life ≡ false → over ≡ true) }
+        ensures first { IfOk result (λ over. has_joined backend.old.life ≡ false → asked_before over backend.new ≡ 0) }
     {
         work_in_turn(&mut self.shared, alloc, b, backend, looks, enters, most)
     }

@@ -6,13 +6,16 @@ use Rattle.event_kinds.specs.declared.entry.Entry.{Entry}
 use Rattle.history_model.specs.Prefixes.{EachEntry}
 use Rattle.cacheless.specs.MayEnter.{MayEnter}
 use Rattle.backend_core.specs.declared.backend.Backend.{Backend}
+use Rattle.backend_core.specs.Agrees.{Stands}
+use Rattle.backend_core.specs.Places.{WantsPlaces, PromisesOnly, Wanted}
 use Rattle.backend_core.specs.Steps.{MakesEntry, Steps, IsRefused, Before, After}
+use Rattle.backend_core.proofs.PlacesWanted.{kept_only, only_then}
 use Rattle.walk_run.specs.Walks.{LeavesWell}
 use Rattle.walk_run.proofs.ScheduleSteps.{entered_more}
 
 -- nothing was done
 pub leaves_same : (s : Scenario) (h : List Entry) (had : ℕ → ℕ) → EachEntry (MayEnter s) h → LeavesWell s h had had
-leaves_same s h had entered = record { entered = entered; others = λ a no. refl; most = λ a. omega arith }
+leaves_same s h had entered = record { entered = entered; others = λ a no. refl; most = λ a. kept_only refl }
 
 -- nor before the first entry
 pub leaves_first : (s : Scenario) (h : List Entry) (had : ℕ → ℕ) → h ≡ [] → LeavesWell s h had had
@@ -22,19 +25,19 @@ leaves_first s h had none = leaves_same s h had (subst (EachEntry (MayEnter s)) 
 pub leaves_then : (s t : Scenario) (h h' : List Entry) (had mid has : ℕ → ℕ) → t ≡ s → LeavesWell s h had mid → LeavesWell t h' mid has → LeavesWell s h' had has
 leaves_then s t h h' had mid has same first later =
     let second : LeavesWell s h' mid has = subst (λ x. LeavesWell x h' mid has) same later in
-    record { entered = second.entered; others = λ a no. second.others a no ∙ first.others a no; most = λ a. let one = first.most a in let two = second.most a in omega (arith, one, two) }
+    record { entered = second.entered; others = λ a no. second.others a no ∙ first.others a no; most = λ a. only_then s a (had a) (mid a) (has a) (first.most a) (second.most a) }
 
 -- only the places of one backend of the script have changed
-pub leaves_of : (s : Scenario) (h : List Entry) (had has : ℕ → ℕ) (b : ℕ) → IsBackend s.backends b → EachEntry (MayEnter s) h → ((a : ℕ) → a ≢ b → has a ≡ had a) → has b ≤ max (had b) 48 → LeavesWell s h had has
+pub leaves_of : (s : Scenario) (h : List Entry) (had has : ℕ → ℕ) (b : ℕ) → IsBackend s.backends b → EachEntry (MayEnter s) h → ((a : ℕ) → a ≢ b → has a ≡ had a) → PromisesOnly s b (had b) (has b) → LeavesWell s h had has
 leaves_of s h had has b number entered others most = record { entered = entered; others = λ a no. others a (λ same. no (subst (IsBackend s.backends) (sym same) number)); most = λ a. of a (eqb_tells a b) }
   where
-    of : (a : ℕ) → (((a == b) ≡ true) × (a ≡ b)) ⊎ (((a == b) ≡ false) × (a ≢ b)) → has a ≤ max (had a) 48
-    of a (inl same) = subst (λ n. has n ≤ max (had n) 48) (sym same.1) most
-    of a (inr apart) = let kept = others a apart.1 in omega (arith, kept)
+    of : (a : ℕ) → (((a == b) ≡ true) × (a ≡ b)) ⊎ (((a == b) ≡ false) × (a ≢ b)) → PromisesOnly s a (had a) (has a)
+    of a (inl same) = subst (λ n. PromisesOnly s n (had n) (has n)) (sym same.1) most
+    of a (inr apart) = kept_only (others a apart.1)
 
 -- nor is anything said of others by a promise
 pub promised_leaves : (s : Scenario) (h g : List Entry) (had has : ℕ → ℕ) (b : ℕ) → IsBackend s.backends b → g ≡ h → EachEntry (MayEnter s) h → ((a : ℕ) → a ≢ b → has a ≡ had a) → has b ≡ had b → LeavesWell s g had has
-promised_leaves s h g had has b number same entered others kept = leaves_of s g had has b number (subst (EachEntry (MayEnter s)) (sym same) entered) others (omega (arith, kept))
+promised_leaves s h g had has b number same entered others kept = leaves_of s g had has b number (subst (EachEntry (MayEnter s)) (sym same) entered) others (kept_only kept)
 
 -- an entry that is made
 made_entered : (s t : Scenario) (h g h' : List Entry) (had has : ℕ → ℕ) (n : ℕ) → t ≡ s → g ≡ h → EachEntry (MayEnter s) h → MakesEntry t g h' had has n → EachEntry (MayEnter s) h'
@@ -64,7 +67,10 @@ refused_most : {t : Scenario} {g h' : List Entry} {had has : ℕ → ℕ} (n : �
 refused_most n (Before same) = let kept = same.places n in omega (arith, kept)
 refused_most n (After makes) = makes.most
 
-pub step_most : {T E : Type 0} (t : Scenario) (g h' : List Entry) (first had has : ℕ → ℕ) (b : ℕ) (was now : Backend) (result : Result T E) → was.progress.id ≡ b → had b ≡ max (first b) 2
-    → OnOk result (Steps t g h' had has was now) → OnErr result (IsRefused t g h' had has was.progress.id) → has b ≤ max (first b) 48
-step_most t g h' first had has b was now (Ok x) id promised steps refused = let fewer = subst (λ n. has n ≤ had n) id steps.makes.most in omega (arith, promised, fewer)
-step_most t g h' first had has b was now (Err e) id promised steps refused = let fewer = subst (λ n. has n ≤ had n) id (refused_most was.progress.id refused) in omega (arith, promised, fewer)
+step_fewer : {T E : Type 0} (t : Scenario) (g h' : List Entry) (had has : ℕ → ℕ) (b : ℕ) (was now : Backend) (result : Result T E) → was.progress.id ≡ b → OnOk result (Steps t g h' had has was now) → OnErr result (IsRefused t g h' had has was.progress.id) → has b ≤ had b
+step_fewer t g h' had has b was now (Ok x) id steps refused = subst (λ n. has n ≤ had n) id steps.makes.most
+step_fewer t g h' had has b was now (Err e) id steps refused = subst (λ n. has n ≤ had n) id (refused_most was.progress.id refused)
+
+pub step_most : {T E : Type 0} (s : Scenario) (h : List Entry) (t : Scenario) (g h' : List Entry) (first had has : ℕ → ℕ) (b n : ℕ) (was now : Backend) (result : Result T E) → Stands s h was → was.progress.id ≡ b → WantsPlaces was n → had b ≡ max (first b) (max n 2)
+    → OnOk result (Steps t g h' had has was now) → OnErr result (IsRefused t g h' had has was.progress.id) → PromisesOnly s b (first b) (has b)
+step_most s h t g h' first had has b n was now result stands id wants promised steps refused = Wanted h was n stands id wants (let fewer = step_fewer t g h' had has b was now result id steps refused in omega (arith, promised, fewer))

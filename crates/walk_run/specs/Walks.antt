@@ -1,5 +1,5 @@
 -- What a walk keeps with each step, and what it has made in the end.
-use Rattle.std.specs.Prelude.{◌≡◌, ◌≤◌, ◌<◌, ◌+◌, ◌-◌, ◌==◌, ℕ, max, true, false, Option, Some, None, IfSome, List, [], ◌++◌, length, slice_get, slice_set}
+use Rattle.std.specs.Prelude.{◌≡◌, ◌≤◌, ◌<◌, ◌+◌, ◌-◌, ◌==◌, ℕ, true, false, Option, Some, None, IfSome, List, [], ◌++◌, length, slice_get, slice_set}
 use Rattle.base_types.specs.Scenario.{Scenario, IsBackend}
 use Rattle.event_kinds.specs.declared.entry.Entry.{Entry}
 use Rattle.event_kinds.specs.declared.entry.Line.{Line}
@@ -13,6 +13,7 @@ use Rattle.backend_core.specs.declared.backend.Backend.{Backend}
 use Rattle.backend_core.specs.Words.{has_left}
 use Rattle.backend_core.specs.Agrees.{AreSpelled}
 use Rattle.backend_core.specs.Noted.{NotesAtStep}
+use Rattle.backend_core.specs.Places.{PromisesOnly}
 use Rattle.backend_core.specs.Steps.{Steps}
 use Rattle.backend_core.specs.Walked.{Walks, IsNewOf, IsNotedWalk}
 use Rattle.script_backends.specs.Standing.{StandsAt}
@@ -46,11 +47,11 @@ pub record AllStand (scenario : Scenario) (history : List Entry) (backends : Lis
   pub count : length backends ≡ scenario.backends
   pub each : (i : ℕ) (backend : Backend) → slice_get backends i ≡ Some backend → StandsAt scenario history (i + 1) backend
 
--- what a walk leaves also where it is refused memory: each entry of the history was one that might be made, and what is promised to others than the script's backends is as it was, and to nobody more than was or than 48
+-- what a walk leaves also where it is refused memory: each entry of the history was one that might be made, and what is promised to others than the script's backends is as it was, and to nobody more than was, than 48 or than it wanted
 pub record LeavesWell (scenario : Scenario) (history : List Entry) (had has : ℕ → ℕ) : Type 0 where
   pub entered : EachEntry (MayEnter scenario) history
   pub others : (a : ℕ) → (IsBackend scenario.backends a → ⊥) → has a ≡ had a
-  pub most : (a : ℕ) → has a ≤ max (had a) 48
+  pub most : (a : ℕ) → PromisesOnly scenario a (had a) (has a)
 
 -- the script has a schedule
 abbrev pub HasSchedule : Scenario → Type 0

@@ -26,7 +26,7 @@ pub struct World {
     pub backends: Listed<Backend>,
 }
 
-// How many places in the history are promised to a backend before its step.
+// How many places in the history are promised to a backend before its step, where it wants no more.
 const PLACES: u32 = 2;
 
 /// The walk of a script in plain memory.
@@ -114,7 +114,8 @@ impl Walker {
         ensures others { (a : ℕ) → a ≢ b → L.promised seg.new a ≡ L.promised seg.old a }
         ensures makes { OnOk result (Makes (L.script seg.old) (L.history seg.old) (L.history seg.new) self.old.backends.items self.new.backends.items b) }
     {
-        seg.promise(b, PLACES)?;
+        let wanted = self.backends[b as usize - 1].places_wanted();
+        seg.promise(b, wanted.max(PLACES))?;
         let backend = &mut self.backends[b as usize - 1];
         backend.step(self.alloc, seg)
     }

@@ -3,9 +3,11 @@ use Rattle.history_model.specs.Legal.{IsLegal}
 use Rattle.history_model.proofs.Sound.{sound_is_legal}
 use Rattle.cacheless.specs.Plays.{Plays}
 use Rattle.backend_core.specs.Agrees.{AreSpelled}
+use Rattle.backend_core.specs.Places.{WantsPlaces}
 use Rattle.backend_core.proofs.Played.{entered_played}
+use Rattle.backend_core.proofs.PlacesWanted.{has_wanted}
 use Rattle.walk_run.proofs.Leaving.{leaves_of, promised_leaves, step_entered, step_others, step_most}
-use Rattle.walk_run.proofs.ScheduleSteps.{found_at, stands_there, step_makes}
+use Rattle.walk_run.proofs.ScheduleSteps.{found_at, stands_there, right_there, same_there, step_makes}
 use Rattle.walk_run.proofs.walking.Walker.make_step.Goals as goal
 
 pub step-requires-clause-spelled : goal.step-requires-clause-spelled
@@ -21,6 +23,15 @@ step-requires-clause-plays g c =
 pub step-requires-clause-place : goal.step-requires-clause-place
 step-requires-clause-place g c =
     subst (λ b. 0 < g.L.Seg.promised c.promise.new.self b) (sym (stands_there _ _ _ _ _ c.requires.backend c.requires.stand c.index_mut-backend.ensures.value).id) (omega (arith, c.in_ok-promise.ensures.promises.ok))
+
+pub places_wanted-wanted-requires : goal.places_wanted-wanted-requires
+places_wanted-wanted-requires g c = record { right = right_there (g.L.Seg.script c.args.seg.now) (g.L.Seg.history c.args.seg.now) c.args.self.now.backends.items c.args.b _ c.index.result.now c.requires.backend c.requires.stand c.index.ensures (g.met.L.Seg.short c.args.seg.now) }
+
+pub step-requires-clause-wanted : goal.step-requires-clause-wanted
+step-requires-clause-wanted g c =
+    let same = same_there (g.L.Seg.script c.args.seg.now) (g.L.Seg.history c.args.seg.now) c.args.self.now.backends.items c.args.b c.index.result.now c.index_mut-backend.result.now c.requires.backend c.requires.stand c.index.ensures c.index_mut-backend.ensures.value in
+    has_wanted (g.L.Seg.promised c.promise.new.self) (stands_there _ _ _ _ _ c.requires.backend c.requires.stand c.index_mut-backend.ensures.value).id (subst (λ s. WantsPlaces s c.places_wanted-wanted.result) same c.places_wanted-wanted.ensures)
+    (omega (arith, c.in_ok-promise.ensures.promises.ok))
 
 pub step-requires-clause-alive : goal.step-requires-clause-alive
 step-requires-clause-alive g c = c.requires.running _ (found_at _ _ _ _ _ c.requires.backend c.requires.stand c.index_mut-backend.ensures.value)
@@ -40,8 +51,10 @@ returns-clause-leaves g c = leaves_of (g.L.Seg.script c.args.seg.now) (g.L.Seg.h
     c.index_mut-backend.result.now c.step.new.self c.step.result c.promise.ensures.script c.promise.ensures.promises.entries c.requires.stand.entered c.step.ensures.steps c.step.ensures.refused)
     (step_others (g.L.Seg.script c.promise.new.self) (g.L.Seg.history c.promise.new.self) (g.L.Seg.history c.step.new.seg) (g.L.Seg.promised c.args.seg.now) (g.L.Seg.promised c.promise.new.self) (g.L.Seg.promised c.step.new.seg) c.args.b
     c.index_mut-backend.result.now c.step.new.self c.step.result (stands_there _ _ _ _ _ c.requires.backend c.requires.stand c.index_mut-backend.ensures.value).id c.promise.ensures.promises.others c.step.ensures.steps c.step.ensures.refused)
-    (step_most (g.L.Seg.script c.promise.new.self) (g.L.Seg.history c.promise.new.self) (g.L.Seg.history c.step.new.seg) (g.L.Seg.promised c.args.seg.now) (g.L.Seg.promised c.promise.new.self) (g.L.Seg.promised c.step.new.seg) c.args.b
-    c.index_mut-backend.result.now c.step.new.self c.step.result (stands_there _ _ _ _ _ c.requires.backend c.requires.stand c.index_mut-backend.ensures.value).id c.in_ok-promise.ensures.promises.ok c.step.ensures.steps c.step.ensures.refused)
+    (let there = stands_there _ _ _ _ _ c.requires.backend c.requires.stand c.index_mut-backend.ensures.value in
+    let same = same_there (g.L.Seg.script c.args.seg.now) (g.L.Seg.history c.args.seg.now) c.args.self.now.backends.items c.args.b c.index.result.now c.index_mut-backend.result.now c.requires.backend c.requires.stand c.index.ensures c.index_mut-backend.ensures.value in
+    step_most (g.L.Seg.script c.args.seg.now) (g.L.Seg.history c.args.seg.now) (g.L.Seg.script c.promise.new.self) (g.L.Seg.history c.promise.new.self) (g.L.Seg.history c.step.new.seg) (g.L.Seg.promised c.args.seg.now) (g.L.Seg.promised c.promise.new.self) (g.L.Seg.promised c.step.new.seg) c.args.b c.places_wanted-wanted.result
+    c.index_mut-backend.result.now c.step.new.self c.step.result there.stands there.id (subst (λ s. WantsPlaces s c.places_wanted-wanted.result) same c.places_wanted-wanted.ensures) (omega (arith, c.in_ok-promise.ensures.promises.ok)) c.step.ensures.steps c.step.ensures.refused)
 
 pub returns-clause-others : goal.returns-clause-others
 returns-clause-others g c = step_others (g.L.Seg.script c.promise.new.self) (g.L.Seg.history c.promise.new.self) (g.L.Seg.history c.step.new.seg) (g.L.Seg.promised c.args.seg.now) (g.L.Seg.promised c.promise.new.self) (g.L.Seg.promised c.step.new.seg) c.args.b
