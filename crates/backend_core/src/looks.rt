@@ -32,7 +32,7 @@ impl Backend {
     ghost use Rattle.backend_core.specs.declared.next.Next.TheVariants as nexts;
     ghost use Rattle.backend_core.specs.Steps.{Enters, IsRefused, IsNextOf};
     ghost use Rattle.backend_core.specs.Noted.{IsNoted};
-    ghost use Rattle.backend_core.specs.Looks.{next_of_look, LooksWherever, NotesLook};
+    ghost use Rattle.backend_core.specs.Looks.{next_of_look, LooksWherever, NotesLook, StaysInCommand};
 
     // A look, made in the segment's history.
     pub(crate) fn look<L: Seg>(&mut self, seg: &mut L, look: LookFor)
@@ -59,6 +59,7 @@ impl Backend {
         ensures looks { LooksWherever self.old some_wait self.new }
         ensures noted { NotesLook self.old look some_wait self.new }
         ensures same { self.new.progress.commands ≡ self.old.progress.commands }
+        ensures stays { (scenario : Scenario) (seen : List Entry) → Rests scenario seen self.old.progress → StaysInCommand self.old self.new }
     {
         self.progress.enter_look(some_wait);
         match look {

@@ -28,7 +28,7 @@ impl Backend {
     ghost use Rattle.backend_core.specs.Steps.{MakesNext, IsRefused};
     ghost use Rattle.backend_core.specs.Places.{HasWanted};
     ghost use Rattle.backend_core.specs.Words.{has_left};
-    ghost use Rattle.backend_core.specs.Looks.{IsRight, IsOnItsWay, Wants, GoesWherever, held_look, MakesLook, NotesLook, entries_of, MayCallAll, TakesPlaces};
+    ghost use Rattle.backend_core.specs.Looks.{IsRight, IsOnItsWay, Wants, GoesWherever, held_look, MakesLook, NotesLook, StaysInCommand, entries_of, MayCallAll, TakesPlaces};
 
     /// What it needs to go on. Condition: it is right, in whichever history.
     pub fn wants(&self) -> Want
@@ -43,13 +43,14 @@ impl Backend {
     }
 
     /// Makes the look that it wants, without the segment: in whichever history it stands that allows the
-    /// look, it agrees with that history and the look after it.
+    /// look, it agrees with that history and the look after it. It stays in its command, whatever the look said.
     pub fn look_by_word(&mut self, look: LookFor, some_wait: bool) -> HeldLook
         requires right { IsRight self.old }
         requires wants { Wants self.old (Want.Look look) }
         ensures held { result ≡ held_look self.old some_wait }
         ensures looks { MakesLook self.old some_wait self.new }
         ensures noted { NotesLook self.old look some_wait self.new }
+        ensures stays { StaysInCommand self.old self.new }
     {
         let command = self.progress.finished + 1;
         self.take_look(look, some_wait);
