@@ -1,5 +1,5 @@
 -- How many places in the history are to be promised to a backend before its next entry: those of a whole commit before that is visible.
-use Rattle.std.specs.Prelude.{◌≡◌, ◌≤◌, ◌+◌, ◌/◌, ℕ, Bool, true, false, Some, List, length, min, max, is_some}
+use Rattle.std.specs.Prelude.{◌≡◌, ◌≤◌, ◌+◌, ◌++◌, ◌/◌, ℕ, Bool, true, false, Some, List, length, min, max, is_some}
 use Rattle.std.specs.Option.{option_map_or}
 use Rattle.base_types.specs.Scenario.{Scenario}
 use Rattle.event_kinds.specs.declared.entry.Entry.{Entry}
@@ -45,7 +45,17 @@ pub record HasWanted (s : Backend) (has : ℕ) : Type 0 where
   pub wants : WantsPlaces s places
   pub enough : places ≤ has
 
--- no more is promised to it than was, than is promised always, or than it wanted where it stood in a history of the script
-pub data PromisesOnly (scenario : Scenario) (b had has : ℕ) : Type 0 where
-  Always : has ≤ max had 48 → PromisesOnly scenario b had has
-  Wanted : (history : List Entry) (s : Backend) (places : ℕ) → Stands scenario history s → s.progress.id ≡ b → WantsPlaces s places → has ≤ max had (max places 48) → PromisesOnly scenario b had has
+-- a backend wanted so many where it stood in a history between these two: the first with some of the entries that came since
+pub record WantedBetween (scenario : Scenario) (b : ℕ) (old new : List Entry) (places : ℕ) : Type 0 where
+  pub before : List Entry
+  pub after : List Entry
+  pub between : new ≡ (old ++ before) ++ after
+  pub backend : Backend
+  pub id : backend.progress.id ≡ b
+  pub stands : Stands scenario (old ++ before) backend
+  pub wants : WantsPlaces backend places
+
+-- while the history grew, no more was promised to a backend than had been, than is promised always, or than it wanted in a history between
+pub data PromisesOnly (scenario : Scenario) (b : ℕ) (old new : List Entry) (had has : ℕ) : Type 0 where
+  Always : has ≤ max had 48 → PromisesOnly scenario b old new had has
+  Wanted : (places : ℕ) → WantedBetween scenario b old new places → has ≤ max had (max places 48) → PromisesOnly scenario b old new had has

@@ -82,7 +82,7 @@ impl Backend {
     /// segment's history, which is legal and was played by the script's commands, these have forms that
     /// lines may have, the places that it wants and one at least are promised to it, and it hasn't left. It
     /// takes at most one promised place, and none of another backend. Out of memory, nothing has changed but
-    /// the backend itself, or its entry is made; then the backend may not be used any more, and others go on.
+    /// the backend itself, or its entry is made; it hasn't left then, and may not be used any more. Others go on.
     pub fn step<L: Seg>(&mut self, alloc: Global, seg: &mut L) -> Result<(), NoMemory>
         requires stands { Stands (L.script seg.old) (L.history seg.old) self.old }
         requires spelled { AreSpelled (L.script seg.old) }
@@ -95,6 +95,7 @@ impl Backend {
         ensures steps { OnOk result (Steps (L.script seg.old) (L.history seg.old) (L.history seg.new) (L.promised seg.old) (L.promised seg.new) self.old self.new) }
         ensures noted { OnOk result (NotesAtStep (L.script seg.old) (L.history seg.old) (L.history seg.new) self.old self.new) }
         ensures refused { OnErr result (IsRefused (L.script seg.old) (L.history seg.old) (L.history seg.new) (L.promised seg.old) (L.promised seg.new) self.old.progress.id) }
+        ensures stays { OnErr result (has_left self.new.life ≡ false) }
     {
         self.enter_in_turn(alloc, seg)?;
         if self.is_stopped() {

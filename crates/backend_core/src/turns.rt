@@ -72,6 +72,7 @@ impl Backend {
         ensures first { OnOk result (self.old.life ≡ lives.Unstarted → self.new.progress.finished ≡ 0) }
         ensures noted { OnOk result (NotesAtEntry (L.script seg.old) (L.history seg.old) (L.history seg.new) self.old self.new) }
         ensures refused { OnErr result (IsRefused (L.script seg.old) (L.history seg.old) (L.history seg.new) (L.promised seg.old) (L.promised seg.new) self.old.progress.id) }
+        ensures life { OnErr result (self.new.life ≡ self.old.life) }
     {
         match self.life {
             Life::Unstarted => {
