@@ -26,7 +26,7 @@ use Rattle.backend_core.specs.Noted.{NotesEntry, NotesAtEntry, noted_of, nothing
 use Rattle.backend_core.specs.Steps.{MakesEntry, IsRefused, Before, After, MakesNext, Remains, Left, Steps}
 use Rattle.backend_core.specs.Words.{has_left, has_joined}
 use Rattle.backend_core.proofs.Played.{IsPlayed-more}
-use Rattle.backend_core.proofs.PlacesWanted.{only_then}
+use Rattle.backend_core.proofs.PlacesWanted.{wanted_here, only_then}
 use Rattle.backend_core.proofs.Stepped.{awaits_stands}
 use Rattle.thread_run.specs.Asks.{asked_before}
 use Rattle.thread_run.specs.Runs.{IsRunSoFar}
@@ -130,7 +130,7 @@ next_made (Remains enters) = enters.makes
 next_made (Left gone steps) = steps.makes
 
 -- what is as it was
-pub plays_same : {b : ℕ} {scenario later : Scenario} {old new : List Entry} {had has : ℕ → ℕ} → later ≡ scenario → new ≡ old → IsRunSoFar scenario old → ((a : ℕ) → a ≢ b → has a ≡ had a) → PromisesOnly scenario b (had b) (has b) → PlaysOn b scenario later old new had has
+pub plays_same : {b : ℕ} {scenario later : Scenario} {old new : List Entry} {had has : ℕ → ℕ} → later ≡ scenario → new ≡ old → IsRunSoFar scenario old → ((a : ℕ) → a ≢ b → has a ≡ had a) → PromisesOnly scenario b old new (had b) (has b) → PlaysOn b scenario later old new had has
 plays_same {b} {scenario} {later} {old} {new} same is run others own = record {
   script = same;
   run = subst (λ (k : Scenario). IsRunSoFar k new) (sym same) (subst (IsRunSoFar scenario) (sym is) run);
@@ -146,7 +146,7 @@ plays_then {b} {scenario} {later} {last} {old} {now} {new} {had} {mid} {has} one
   run = two.run;
   grew = grew_then b old now new one.grew two.grew;
   others = λ a apart. two.others a apart ∙ one.others a apart;
-  own = only_then scenario b (had b) (mid b) (has b) one.own (subst (λ (k : Scenario). PromisesOnly k b (mid b) (has b)) one.script two.own);
+  own = only_then one.grew.rest two.grew.rest one.grew.grows two.grew.grows one.own (subst (λ (k : Scenario). PromisesOnly k b now new (mid b) (has b)) one.script two.own);
 }
 
 -- by looks that were handed over
@@ -191,7 +191,7 @@ has_place {n} {b} has id some = let same = ap has id in omega (arith, same, some
 
 -- an entry that was refused memory
 pub entry_refused : {b n : ℕ} {scenario later last : Scenario} {old now new : List Entry} {was had has : ℕ → ℕ} {s : Backend} → later ≡ scenario → now ≡ old → MayEnterNext scenario b old s → ((a : ℕ) → a ≢ b → had a ≡ was a) → WantsPlaces s n → had b ≤ max (was b) (max n 48) → last ≡ later → IsRefused later now new had has s.progress.id → PlaysOn b scenario last old new was has
-entry_refused {b} {n} {scenario} {later} {last} {old} {now} {new} {was} {had} {has} {s} same is may others wants most then refused = plays_then (plays_same same is may.run others (Wanted old s n may.stands may.id wants most)) (plays_refused then may.id (renewed_may same is may).run refused)
+entry_refused {b} {n} {scenario} {later} {last} {old} {now} {new} {was} {had} {has} {s} same is may others wants most then refused = plays_then (plays_same same is may.run others (Wanted n (wanted_here [] (is ∙ sym (append-nil old)) may.stands may.id wants) most)) (plays_refused then may.id (renewed_may same is may).run refused)
 
 -- one that was made
 pub entry_plays : {b n : ℕ} {scenario later last : Scenario} {old now new : List Entry} {first had has : ℕ → ℕ} {was s : Backend} → later ≡ scenario → now ≡ old → MayEnterNext scenario b old was → ((a : ℕ) → a ≢ b → had a ≡ first a) → WantsPlaces was n → had b ≤ max (first b) (max n 48) → last ≡ later → MakesNext later now new had has was s → PlaysOn b scenario last old new first has

@@ -26,7 +26,7 @@ pub record PlaysOn (b : ℕ) (scenario later : Scenario) (old new : List Entry) 
   pub run : IsRunSoFar later new
   pub grew : Grew backend_of b old new
   pub others : (a : ℕ) → a ≢ b → has a ≡ had a
-  pub own : PromisesOnly scenario b (had b) (has b)
+  pub own : PromisesOnly scenario b old new (had b) (has b)
 
 -- before its entry, which takes one at most, it was promised the places that it wants, and no more than these, those that are promised always or those that it had, and none more where it wants none and has enough
 pub record PromisesWanted (was : Backend) (had has : ℕ) : Type 0 where

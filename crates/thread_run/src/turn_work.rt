@@ -49,7 +49,7 @@ pub(crate) fn work_in_turn<L: Seg>(
     ensures run { IsRunSoFar (L.script seg.new) (L.history seg.new) }
     ensures grew { Grew backend_of b (L.history seg.old) (L.history seg.new) }
     ensures others { (a : ℕ) → a ≢ b → L.promised seg.new a ≡ L.promised seg.old a }
-    ensures own { PromisesOnly (L.script seg.old) b (L.promised seg.old b) (L.promised seg.new b) }
+    ensures own { PromisesOnly (L.script seg.old) b (L.history seg.old) (L.history seg.new) (L.promised seg.old b) (L.promised seg.new b) }
     ensures few { length (L.history seg.new) ≤ length (L.history seg.old) + length looks.now + (1 + most) }
     ensures enters { OnOk result (EntersInTurn enters b looks.now (L.history seg.old) (L.history seg.new)) }
     ensures works { IfOk result (λ over. HasTakenTurn (L.script seg.new) b (L.history seg.new) over backend.new) }
@@ -193,7 +193,7 @@ pub(crate) fn stop_in_turn<R: Wait, L: Seg>(
     ensures run { IsRunSoFar (L.script seg.new) (L.history seg.new) }
     ensures grew { Grew backend_of b (L.history seg.old) (L.history seg.new) }
     ensures others { (a : ℕ) → a ≢ b → L.promised seg.new a ≡ L.promised seg.old a }
-    ensures own { PromisesOnly (L.script seg.old) b (L.promised seg.old b) (L.promised seg.new b) }
+    ensures own { PromisesOnly (L.script seg.old) b (L.history seg.old) (L.history seg.new) (L.promised seg.old b) (L.promised seg.new b) }
     ensures left { OnOk result (has_left backend.new.life ≡ true) }
     ensures stands { OnOk result (Stands (L.script seg.new) (L.history seg.new) backend.new) }
 {

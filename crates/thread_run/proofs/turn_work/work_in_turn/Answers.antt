@@ -91,5 +91,5 @@ pub returns-then-not-enters-clause-own : goal.returns-then-not-enters-clause-own
 returns-then-not-enters-clause-own g c = Always c.hand_over.ensures.most
 
 pub returns-clause-own : goal.returns-clause-own
-returns-clause-own g c = only_then (g.L.Seg.script c.args.seg.now) c.args.b (g.L.Seg.promised c.args.seg.now c.args.b) (g.L.Seg.promised c.hand_over.new.seg c.args.b) (g.L.Seg.promised c.enter_all.new.seg c.args.b) (Always c.hand_over.ensures.most)
-    (subst (λ k. PromisesOnly k c.args.b (g.L.Seg.promised c.hand_over.new.seg c.args.b) (g.L.Seg.promised c.enter_all.new.seg c.args.b)) c.in_ok-hand_over.ensures.script c.enter_all.ensures.plays.own)
+returns-clause-own g c = only_then (entries_of c.args.b c.args.looks.now) c.enter_all.ensures.plays.grew.rest c.in_ok-hand_over.ensures.hands c.enter_all.ensures.plays.grew.grows (Always c.hand_over.ensures.most)
+    (subst (λ k. PromisesOnly k c.args.b (g.L.Seg.history c.hand_over.new.seg) (g.L.Seg.history c.enter_all.new.seg) (g.L.Seg.promised c.hand_over.new.seg c.args.b) (g.L.Seg.promised c.enter_all.new.seg c.args.b)) c.in_ok-hand_over.ensures.script c.enter_all.ensures.plays.own)
