@@ -30,7 +30,7 @@ use Rattle.walk_run.proofs.NotedWalks.{walked_first, walked_more}
 use Rattle.walk_run.specs.Walks.{AllStand, IsDue, Goes, HasSchedule, IsRunning, Makes}
 
 -- the history of one step more
-pub entered_more : (s : Scenario) (h h' : List Entry) (had has : ℕ → ℕ) (b : ℕ) → EachEntry (MayEnter s) h → MakesEntry s h h' had has b → EachEntry (MayEnter s) h'
+entered_more : (s : Scenario) (h h' : List Entry) (had has : ℕ → ℕ) (b : ℕ) → EachEntry (MayEnter s) h → MakesEntry s h h' had has b → EachEntry (MayEnter s) h'
 entered_more s h h' had has b entered makes = subst (EachEntry (MayEnter s)) (sym makes.is) (EachEntry-more (MayEnter s) h makes.entry entered makes.may)
 
 -- the backends alone
@@ -95,7 +95,8 @@ goes_then s t h h' h'' bs' bs'' xs ys same first later =
       due = λ has rest due. second.due has rest (first.due has (ys ++ rest) (subst (IsDue s h) (append_assoc xs ys rest) due));
     }
 
-turns_by-schedule : (s : Scenario) (h : List Entry) (lines : List (List Turns)) → 0 < length lines → turns_by s h lines ≡ pass_stopped h (steps_after s h)
+-- with a schedule its steps are what is left
+pub turns_by-schedule : (s : Scenario) (h : List Entry) (lines : List (List Turns)) → 0 < length lines → turns_by s h lines ≡ pass_stopped h (steps_after s h)
 turns_by-schedule s h [] has = absurd (omega arith)
 turns_by-schedule s h (line ∷ lines) has = refl
 

@@ -5,8 +5,8 @@ use Rattle.cacheless.specs.Plays.{Plays}
 use Rattle.backend_core.specs.Agrees.{AreSpelled}
 use Rattle.backend_core.specs.Places.{WantsPlaces}
 use Rattle.backend_core.proofs.Played.{entered_played}
-use Rattle.backend_core.proofs.PlacesWanted.{has_wanted}
-use Rattle.walk_run.proofs.Leaving.{leaves_of, promised_leaves, step_entered, step_others, step_most}
+use Rattle.backend_core.proofs.PlacesWanted.{kept_only, has_wanted}
+use Rattle.walk_run.proofs.Leaving.{NoEntry, step_one, one_follows, refused_follows, leaves_of, step_others, step_most}
 use Rattle.walk_run.proofs.ScheduleSteps.{found_at, stands_there, right_there, same_there, step_makes}
 use Rattle.walk_run.proofs.walking.Walker.make_step.Goals as goal
 
@@ -42,19 +42,28 @@ returns-clause-makes g c =
     c.index_mut-backend.result.now c.step.new.self c.step.result c.promise.ensures.script c.promise.ensures.promises.entries c.requires.backend c.requires.stand c.index_mut-backend.ensures.value c.step.ensures.steps c.step.ensures.noted
 
 pub returns-in_err-promise-clause-leaves : goal.returns-in_err-promise-clause-leaves
-returns-in_err-promise-clause-leaves g c = promised_leaves (g.L.Seg.script c.args.seg.now) (g.L.Seg.history c.args.seg.now) (g.L.Seg.history c.promise.new.self) (g.L.Seg.promised c.args.seg.now) (g.L.Seg.promised c.promise.new.self) c.args.b
-    c.requires.backend c.promise.ensures.promises.entries c.requires.stand.entered c.promise.ensures.promises.others c.in_err-promise.ensures.promises.err
+returns-in_err-promise-clause-leaves g c = leaves_of (g.L.Seg.script c.args.seg.now) (g.L.Seg.history c.args.seg.now) (g.L.Seg.history c.promise.new.self) c.args.self.now.backends.items (g.L.Seg.promised c.args.seg.now) (g.L.Seg.promised c.promise.new.self) c.args.b
+    c.requires.backend c.requires.stand (NoEntry c.promise.ensures.promises.entries) c.promise.ensures.promises.others (kept_only c.in_err-promise.ensures.promises.err)
+
+pub returns-in_err-promise-clause-follows : goal.returns-in_err-promise-clause-follows
+returns-in_err-promise-clause-follows g c = one_follows (g.L.Seg.script c.args.seg.now) (g.L.Seg.history c.args.seg.now) (g.L.Seg.history c.promise.new.self) c.args.b (NoEntry c.promise.ensures.promises.entries)
+
+pub returns-clause-follows : goal.returns-clause-follows
+returns-clause-follows g c = refused_follows (g.L.Seg.script c.args.seg.now) (g.L.Seg.history c.args.seg.now) (g.L.Seg.history c.step.new.seg) c.args.b c.step.result
+    (step_one (g.L.Seg.script c.args.seg.now) (g.L.Seg.script c.promise.new.self) (g.L.Seg.history c.args.seg.now) (g.L.Seg.history c.promise.new.self) (g.L.Seg.history c.step.new.seg) (g.L.Seg.promised c.promise.new.self) (g.L.Seg.promised c.step.new.seg) c.args.b
+    c.index_mut-backend.result.now c.step.new.self c.step.result c.promise.ensures.script c.promise.ensures.promises.entries (stands_there _ _ _ _ _ c.requires.backend c.requires.stand c.index_mut-backend.ensures.value).id c.step.ensures.steps c.step.ensures.refused)
 
 pub returns-clause-leaves : goal.returns-clause-leaves
-returns-clause-leaves g c = leaves_of (g.L.Seg.script c.args.seg.now) (g.L.Seg.history c.step.new.seg) (g.L.Seg.promised c.args.seg.now) (g.L.Seg.promised c.step.new.seg) c.args.b c.requires.backend
-    (step_entered (g.L.Seg.script c.args.seg.now) (g.L.Seg.script c.promise.new.self) (g.L.Seg.history c.args.seg.now) (g.L.Seg.history c.promise.new.self) (g.L.Seg.history c.step.new.seg) (g.L.Seg.promised c.promise.new.self) (g.L.Seg.promised c.step.new.seg)
-    c.index_mut-backend.result.now c.step.new.self c.step.result c.promise.ensures.script c.promise.ensures.promises.entries c.requires.stand.entered c.step.ensures.steps c.step.ensures.refused)
-    (step_others (g.L.Seg.script c.promise.new.self) (g.L.Seg.history c.promise.new.self) (g.L.Seg.history c.step.new.seg) (g.L.Seg.promised c.args.seg.now) (g.L.Seg.promised c.promise.new.self) (g.L.Seg.promised c.step.new.seg) c.args.b
-    c.index_mut-backend.result.now c.step.new.self c.step.result (stands_there _ _ _ _ _ c.requires.backend c.requires.stand c.index_mut-backend.ensures.value).id c.promise.ensures.promises.others c.step.ensures.steps c.step.ensures.refused)
-    (let there = stands_there _ _ _ _ _ c.requires.backend c.requires.stand c.index_mut-backend.ensures.value in
+returns-clause-leaves g c =
+    let there = stands_there _ _ _ _ _ c.requires.backend c.requires.stand c.index_mut-backend.ensures.value in
     let same = same_there (g.L.Seg.script c.args.seg.now) (g.L.Seg.history c.args.seg.now) c.args.self.now.backends.items c.args.b c.index.result.now c.index_mut-backend.result.now c.requires.backend c.requires.stand c.index.ensures c.index_mut-backend.ensures.value in
-    step_most (g.L.Seg.script c.args.seg.now) (g.L.Seg.history c.args.seg.now) (g.L.Seg.script c.promise.new.self) (g.L.Seg.history c.promise.new.self) (g.L.Seg.history c.step.new.seg) (g.L.Seg.promised c.args.seg.now) (g.L.Seg.promised c.promise.new.self) (g.L.Seg.promised c.step.new.seg) c.args.b c.places_wanted-wanted.result
-    c.index_mut-backend.result.now c.step.new.self c.step.result there.stands there.id (subst (λ s. WantsPlaces s c.places_wanted-wanted.result) same c.places_wanted-wanted.ensures) (omega (arith, c.in_ok-promise.ensures.promises.ok)) c.step.ensures.steps c.step.ensures.refused)
+    let one = step_one (g.L.Seg.script c.args.seg.now) (g.L.Seg.script c.promise.new.self) (g.L.Seg.history c.args.seg.now) (g.L.Seg.history c.promise.new.self) (g.L.Seg.history c.step.new.seg) (g.L.Seg.promised c.promise.new.self) (g.L.Seg.promised c.step.new.seg) c.args.b
+    c.index_mut-backend.result.now c.step.new.self c.step.result c.promise.ensures.script c.promise.ensures.promises.entries (stands_there _ _ _ _ _ c.requires.backend c.requires.stand c.index_mut-backend.ensures.value).id c.step.ensures.steps c.step.ensures.refused in
+    leaves_of (g.L.Seg.script c.args.seg.now) (g.L.Seg.history c.args.seg.now) (g.L.Seg.history c.step.new.seg) c.args.self.now.backends.items (g.L.Seg.promised c.args.seg.now) (g.L.Seg.promised c.step.new.seg) c.args.b c.requires.backend c.requires.stand one
+    (step_others (g.L.Seg.script c.promise.new.self) (g.L.Seg.history c.promise.new.self) (g.L.Seg.history c.step.new.seg) (g.L.Seg.promised c.args.seg.now) (g.L.Seg.promised c.promise.new.self) (g.L.Seg.promised c.step.new.seg) c.args.b
+    c.index_mut-backend.result.now c.step.new.self c.step.result there.id c.promise.ensures.promises.others c.step.ensures.steps c.step.ensures.refused)
+    (step_most (g.L.Seg.script c.args.seg.now) (g.L.Seg.history c.args.seg.now) (g.L.Seg.script c.promise.new.self) (g.L.Seg.history c.promise.new.self) (g.L.Seg.history c.step.new.seg) (g.L.Seg.promised c.args.seg.now) (g.L.Seg.promised c.promise.new.self) (g.L.Seg.promised c.step.new.seg) c.args.b c.places_wanted-wanted.result
+    c.index_mut-backend.result.now c.step.new.self c.step.result one there.stands there.id (subst (λ s. WantsPlaces s c.places_wanted-wanted.result) same c.places_wanted-wanted.ensures) (omega (arith, c.in_ok-promise.ensures.promises.ok)) c.step.ensures.steps c.step.ensures.refused)
 
 pub returns-clause-others : goal.returns-clause-others
 returns-clause-others g c = step_others (g.L.Seg.script c.promise.new.self) (g.L.Seg.history c.promise.new.self) (g.L.Seg.history c.step.new.seg) (g.L.Seg.promised c.args.seg.now) (g.L.Seg.promised c.promise.new.self) (g.L.Seg.promised c.step.new.seg) c.args.b
