@@ -16,5 +16,6 @@ pub mod ByWord
 pub mod Apart
 pub mod HeldLooks
 pub mod CommitPlaces
+pub mod PlacesWanted
 pub mod Cutting
 pub mod Walked

@@ -114,6 +114,12 @@ pub record Looked (scenario : Scenario) (seen : List Entry) (was : Backend) (som
 abbrev pub MakesLook : Backend → Bool → Backend → Type 0
 MakesLook was some_wait now = (scenario : Scenario) (seen : List Entry) → Stands scenario seen was → IsPlayed scenario seen → AllowsLook seen was.progress.id some_wait → Looked scenario seen was some_wait now
 
+-- a look leaves the backend in its command, whatever it said and whichever history it comes in
+pub record StaysInCommand (was now : Backend) : Type 0 where
+  pub id : now.progress.id ≡ was.progress.id
+  pub number : now.progress.finished ≡ was.progress.finished
+  pub life : now.life ≡ was.life
+
 -- a look that is held back
 abbrev pub held_look : Backend → Bool → HeldLook
 held_look s some_wait = record { command = s.progress.finished + 1; some_wait = some_wait }

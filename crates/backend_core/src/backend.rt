@@ -40,6 +40,7 @@ impl Backend {
     ghost use Rattle.cacheless.specs.Plays.{Plays};
     ghost use Rattle.backend_core.specs.Agrees.{IsNew, AreSpelled, Stands};
     ghost use Rattle.backend_core.specs.Noted.{NotesAtStep};
+    ghost use Rattle.backend_core.specs.Places.{HasWanted};
     ghost use Rattle.backend_core.specs.Steps.{Steps, IsRefused};
 
     /// The backend of this number with its commands in order, which hasn't joined.
@@ -79,20 +80,22 @@ impl Backend {
 
     /// Makes its next entry, and goes on as far as it can without another. Conditions: it stands in the
     /// segment's history, which is legal and was played by the script's commands, these have forms that
-    /// lines may have, a place in the history is promised to it, and it hasn't left. It takes at most one
-    /// promised place, and none of another backend. Out of memory, nothing has changed but the backend
-    /// itself, or its entry is made; then the backend may not be used any more, and others go on.
+    /// lines may have, the places that it wants and one at least are promised to it, and it hasn't left. It
+    /// takes at most one promised place, and none of another backend. Out of memory, nothing has changed but
+    /// the backend itself, or its entry is made; it hasn't left then, and may not be used any more. Others go on.
     pub fn step<L: Seg>(&mut self, alloc: Global, seg: &mut L) -> Result<(), NoMemory>
         requires stands { Stands (L.script seg.old) (L.history seg.old) self.old }
         requires spelled { AreSpelled (L.script seg.old) }
         requires legal { IsLegal (L.history seg.old) }
         requires plays { Plays (L.script seg.old) (L.history seg.old) }
         requires place { 0 < L.promised seg.old self.old.progress.id }
+        requires wanted { HasWanted self.old (L.promised seg.old self.old.progress.id) }
         requires alive { has_left self.old.life ≡ false }
         ensures script { L.script seg.new ≡ L.script seg.old }
         ensures steps { OnOk result (Steps (L.script seg.old) (L.history seg.old) (L.history seg.new) (L.promised seg.old) (L.promised seg.new) self.old self.new) }
         ensures noted { OnOk result (NotesAtStep (L.script seg.old) (L.history seg.old) (L.history seg.new) self.old self.new) }
         ensures refused { OnErr result (IsRefused (L.script seg.old) (L.history seg.old) (L.history seg.new) (L.promised seg.old) (L.promised seg.new) self.old.progress.id) }
+        ensures stays { OnErr result (has_left self.new.life ≡ false) }
     {
         self.enter_in_turn(alloc, seg)?;
         if self.is_stopped() {

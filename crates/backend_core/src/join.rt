@@ -17,6 +17,7 @@ impl Backend {
         ensures enters { Enters (L.script seg.old) (L.history seg.old) (L.history seg.new) (L.promised seg.old) (L.promised seg.new) self.old self.new }
         ensures command { AwaitsCommand (L.script seg.old) (L.history seg.new) self.new }
         ensures noted { noted_of self.new ≡ noted_of self.old }
+        ensures first { self.new.progress.finished ≡ 0 }
     {
         seg.start(self.progress.id);
         self.progress.enter_start();

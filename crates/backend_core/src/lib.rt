@@ -39,7 +39,7 @@
 //! ```text
 //! let mut backend = Backend::new(alloc, 1, commands)?;
 //! while !backend.is_stopped() {
-//!     seg.promise(1, 2)?;
+//!     seg.promise(1, backend.places_wanted().max(1))?;
 //!     backend.step(alloc, &mut seg)?;
 //! }
 //! ```

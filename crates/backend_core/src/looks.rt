@@ -32,7 +32,7 @@ impl Backend {
     ghost use Rattle.backend_core.specs.declared.next.Next.TheVariants as nexts;
     ghost use Rattle.backend_core.specs.Steps.{Enters, IsRefused, IsNextOf};
     ghost use Rattle.backend_core.specs.Noted.{IsNoted};
-    ghost use Rattle.backend_core.specs.Looks.{next_of_look, LooksWherever, NotesLook};
+    ghost use Rattle.backend_core.specs.Looks.{next_of_look, LooksWherever, NotesLook, StaysInCommand};
 
     // A look, made in the segment's history.
     pub(crate) fn look<L: Seg>(&mut self, seg: &mut L, look: LookFor)
@@ -59,6 +59,7 @@ impl Backend {
         ensures looks { LooksWherever self.old some_wait self.new }
         ensures noted { NotesLook self.old look some_wait self.new }
         ensures same { self.new.progress.commands ≡ self.old.progress.commands }
+        ensures stays { (scenario : Scenario) (seen : List Entry) → Rests scenario seen self.old.progress → StaysInCommand self.old self.new }
     {
         self.progress.enter_look(some_wait);
         match look {
@@ -94,6 +95,7 @@ impl Backend {
         ensures enters { OnOk result (Enters (L.script seg.old) (L.history seg.old) (L.history seg.new) (L.promised seg.old) (L.promised seg.new) self.old self.new) }
         ensures noted { OnOk result (IsNoted (L.script seg.old) (L.history seg.old) (L.history seg.new) self.old (nexts.Fetch) self.new) }
         ensures refused { OnErr result (IsRefused (L.script seg.old) (L.history seg.old) (L.history seg.new) (L.promised seg.old) (L.promised seg.new) self.old.progress.id) }
+        ensures life { self.new.life ≡ self.old.life }
     {
         let mut messages = ArrayVec::new();
         match seg.fetch(self.progress.id, self.progress.finished + 1, &mut messages) {
@@ -111,6 +113,7 @@ impl Backend {
         ensures is { OnOk result (self.new ≡ record self.old { progress = self.new.progress; looked = looked_after self.old (has_found_none self.old.progress) (marks_build self.old.progress messages.now); frames = frames_given self.old messages.now; told = told_after self.old (has_found_none self.old.progress) (marks_build self.old.progress messages.now) }) }
         ensures kept { OnOk result (kept_at self.new.progress ≡ kept_spared messages.now (kept_at self.old.progress)) }
         ensures answer { OnOk result (self.new.progress.answer ≡ None) }
+        ensures life { self.new.life ≡ self.old.life }
     {
         let unfound = self.finds_none();
         let marked = self.is_marked(messages);
@@ -132,6 +135,7 @@ impl Backend {
         ensures is { OnOk result (self.new ≡ record self.old { progress = self.new.progress; looked = looked_after self.old (has_found_none self.old.progress) (has_begun self.old.progress); frames = frames_reset_of self.old self.new.progress.opened; told = told_after self.old (has_found_none self.old.progress) (has_begun self.old.progress) }) }
         ensures kept { OnOk result (kept_at self.new.progress ≡ nothing_kept) }
         ensures answer { OnOk result (self.new.progress.answer ≡ None) }
+        ensures life { self.new.life ≡ self.old.life }
     {
         let unfound = self.finds_none();
         let marked = self.has_begun_build();

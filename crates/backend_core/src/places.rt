@@ -14,13 +14,13 @@ pub const PLACES: u32 = 48;
 const MOST_PUBLISHED: usize = 64;
 
 impl Backend {
-    ghost use Rattle.std.specs.Prelude.{◌+◌, min, is_some};
+    ghost use Rattle.std.specs.Prelude.{◌+◌, min, is_some, Some};
     ghost use Rattle.cacheless.specs.State.{lists_at};
     ghost use Rattle.backend_core.specs.Agrees.{command_at};
     ghost use Rattle.backend_core.specs.declared.life.Life.TheVariants as lives;
     ghost use Rattle.backend_core.specs.Looks.{IsRight};
     ghost use Rattle.backend_core.specs.Places.{has_xid as has_own_xid, entries_of_commit, places_before as wanted_before, WantsPlaces};
-    ghost use Rattle.backend_core.specs.Steps.{IsNextOf};
+    ghost use Rattle.backend_core.specs.Choice.{next_at};
 
     /// How many places in the history are to be promised to it before its next entry. Before the visibility
     /// step of a commit these are one for each entry of the commit, and [`PLACES`] besides. `0`: none has to be
@@ -42,7 +42,7 @@ impl Backend {
     // Before this entry, which comes next.
     fn places_of_next(&self, next: &Next) -> u32
         requires alive { self.now.life ≡ lives.Alive }
-        requires next { IsNextOf self.now next.now }
+        requires next { next_at self.now ≡ Some next.now }
         ensures { WantsPlaces self.now result }
     {
         if self.has_command() {

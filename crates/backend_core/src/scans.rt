@@ -26,6 +26,7 @@ impl Backend {
         ensures enters { OnOk result (Enters (L.script seg.old) (L.history seg.old) (L.history seg.new) (L.promised seg.old) (L.promised seg.new) self.old self.new) }
         ensures noted { OnOk result (IsNoted (L.script seg.old) (L.history seg.old) (L.history seg.new) self.old (nexts.Scan scan.now rebuilds) self.new) }
         ensures refused { OnErr result (IsRefused (L.script seg.old) (L.history seg.old) (L.history seg.new) (L.promised seg.old) (L.promised seg.new) self.old.progress.id) }
+        ensures life { self.new.life ≡ self.old.life }
     {
         let scanned = seg.scan(self.progress.id, self.progress.finished + 1, scan)?;
         self.progress.enter_scan(scan, scanned.rows, scanned.at)?;
@@ -34,7 +35,8 @@ impl Backend {
 
     // The look for it is used, and the rebuild that it was for goes on, or is done.
     fn note_scan(&mut self, rebuilds: bool) -> Result<(), NoMemory>
-        ensures { OnOk result (self.new ≡ record self.old { looked = self.old.looked && rebuilds; frames = frames_noted rebuilds (is_kept (kept_at self.old.progress)) self.old.progress.opened self.old.frames }) }
+        ensures is { OnOk result (self.new ≡ record self.old { looked = self.old.looked && rebuilds; frames = frames_noted rebuilds (is_kept (kept_at self.old.progress)) self.old.progress.opened self.old.frames }) }
+        ensures life { self.new.life ≡ self.old.life }
     {
         if rebuilds {
             self.frames.scan(&self.progress)

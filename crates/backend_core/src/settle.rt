@@ -22,7 +22,8 @@ impl Backend {
     // Goes on as far as it can without an entry, in whichever history it agrees.
     pub(crate) fn settle(&mut self, alloc: Global) -> Result<(), NoMemory>
         requires few { length self.old.progress.commands ≤ 20000 }
-        ensures { OnOk result (SettlesWherever self.old self.new) }
+        ensures settles { OnOk result (SettlesWherever self.old self.new) }
+        ensures life { self.new.life ≡ self.old.life }
     {
         'settling: loop {
             if !self.settle_command(alloc)? {
@@ -37,6 +38,7 @@ impl Backend {
         ensures goes { IfOk result (λ over. GoesWherever over self.old self.new) }
         ensures less { IfOk result (λ over. over ≡ true → left_of self.new.progress < left_of self.old.progress) }
         ensures same { OnOk result (self.new.progress.commands ≡ self.old.progress.commands) }
+        ensures life { self.new.life ≡ self.old.life }
     {
         'settling: loop {
             match self.progress.silent() {
@@ -60,6 +62,7 @@ impl Backend {
         ensures noted { OnOk result ((scenario : Scenario) (seen : List Entry) → AgreesNow scenario seen self.old → Settles self.old self.new) }
         ensures number { OnOk result ((scenario : Scenario) (seen : List Entry) → AgreesNow scenario seen self.old → self.new.progress.finished ≡ self.old.progress.finished) }
         ensures same { OnOk result (self.new.progress.commands ≡ self.old.progress.commands) }
+        ensures life { self.new.life ≡ self.old.life }
     {
         self.progress.act(alloc)?;
         self.told = self.is_told_still();
@@ -81,6 +84,7 @@ impl Backend {
         ensures noted { OnOk result ((scenario : Scenario) (seen : List Entry) → AgreesNow scenario seen self.old → Settles self.old self.new) }
         ensures number { OnOk result (self.new.progress.finished ≡ self.old.progress.finished) }
         ensures same { OnOk result (self.new.progress.commands ≡ self.old.progress.commands) }
+        ensures life { self.new.life ≡ self.old.life }
     {
         self.progress.answer(alloc)
     }
@@ -95,6 +99,7 @@ impl Backend {
         ensures noted { OnOk result ((scenario : Scenario) (seen : List Entry) → AgreesNow scenario seen self.old → Settles self.old self.new) }
         ensures number { OnOk result ((scenario : Scenario) (seen : List Entry) → AgreesNow scenario seen self.old → self.new.progress.finished ≡ self.old.progress.finished + 1) }
         ensures same { OnOk result (self.new.progress.commands ≡ self.old.progress.commands) }
+        ensures life { self.new.life ≡ self.old.life }
     {
         let line = self.progress.finish(alloc)?;
         self.lines.push(line)?;

@@ -26,8 +26,9 @@ impl Backend {
     ghost use Rattle.backend_core.specs.Halts.{AwaitsCommand, HaltsWherever};
     ghost use Rattle.backend_core.specs.Noted.{noted_of, nothing_noted, NotesAtEntry};
     ghost use Rattle.backend_core.specs.Steps.{MakesNext, IsRefused};
+    ghost use Rattle.backend_core.specs.Places.{HasWanted};
     ghost use Rattle.backend_core.specs.Words.{has_left};
-    ghost use Rattle.backend_core.specs.Looks.{IsRight, IsOnItsWay, Wants, GoesWherever, held_look, MakesLook, NotesLook, entries_of, MayCallAll, TakesPlaces};
+    ghost use Rattle.backend_core.specs.Looks.{IsRight, IsOnItsWay, Wants, GoesWherever, held_look, MakesLook, NotesLook, StaysInCommand, entries_of, MayCallAll, TakesPlaces};
 
     /// What it needs to go on. Condition: it is right, in whichever history.
     pub fn wants(&self) -> Want
@@ -42,32 +43,36 @@ impl Backend {
     }
 
     /// Makes the look that it wants, without the segment: in whichever history it stands that allows the
-    /// look, it agrees with that history and the look after it.
+    /// look, it agrees with that history and the look after it. It stays in its command, whatever the look said.
     pub fn look_by_word(&mut self, look: LookFor, some_wait: bool) -> HeldLook
         requires right { IsRight self.old }
         requires wants { Wants self.old (Want.Look look) }
         ensures held { result ≡ held_look self.old some_wait }
         ensures looks { MakesLook self.old some_wait self.new }
         ensures noted { NotesLook self.old look some_wait self.new }
+        ensures stays { StaysInCommand self.old self.new }
     {
         let command = self.progress.finished + 1;
         self.take_look(look, some_wait);
         HeldLook { command, some_wait }
     }
 
-    /// Makes its next entry, as [`Backend::step`] does, and doesn't go on from it yet.
+    /// Makes its next entry, as [`Backend::step`] does, and doesn't go on from it yet. The same conditions.
     pub fn enter_in_turn<L: Seg>(&mut self, alloc: Global, seg: &mut L) -> Result<(), NoMemory>
         requires stands { Stands (L.script seg.old) (L.history seg.old) self.old }
         requires spelled { AreSpelled (L.script seg.old) }
         requires legal { IsLegal (L.history seg.old) }
         requires plays { Plays (L.script seg.old) (L.history seg.old) }
         requires place { 0 < L.promised seg.old self.old.progress.id }
+        requires wanted { HasWanted self.old (L.promised seg.old self.old.progress.id) }
         requires alive { has_left self.old.life ≡ false }
         ensures script { L.script seg.new ≡ L.script seg.old }
         ensures makes { OnOk result (MakesNext (L.script seg.old) (L.history seg.old) (L.history seg.new) (L.promised seg.old) (L.promised seg.new) self.old self.new) }
         ensures starts { OnOk result (self.old.life ≡ lives.Unstarted → AwaitsCommand (L.script seg.old) (L.history seg.new) self.new) }
+        ensures first { OnOk result (self.old.life ≡ lives.Unstarted → self.new.progress.finished ≡ 0) }
         ensures noted { OnOk result (NotesAtEntry (L.script seg.old) (L.history seg.old) (L.history seg.new) self.old self.new) }
         ensures refused { OnErr result (IsRefused (L.script seg.old) (L.history seg.old) (L.history seg.new) (L.promised seg.old) (L.promised seg.new) self.old.progress.id) }
+        ensures life { OnErr result (self.new.life ≡ self.old.life) }
     {
         match self.life {
             Life::Unstarted => {

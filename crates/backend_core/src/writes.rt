@@ -23,6 +23,7 @@ impl Backend {
         ensures enters { OnOk result (Enters (L.script seg.old) (L.history seg.old) (L.history seg.new) (L.promised seg.old) (L.promised seg.new) self.old self.new) }
         ensures noted { OnOk result (IsNoted (L.script seg.old) (L.history seg.old) (L.history seg.new) self.old (nexts.Write) self.new) }
         ensures refused { OnErr result (IsRefused (L.script seg.old) (L.history seg.old) (L.history seg.new) (L.promised seg.old) (L.promised seg.new) self.old.progress.id) }
+        ensures life { self.new.life ≡ self.old.life }
     {
         self.progress.reserve_lock()?;
         let Some(draft) = self.progress.exec.draft() else {

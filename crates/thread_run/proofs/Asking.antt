@@ -93,11 +93,12 @@ turned_number true was now same = same
 turned_number false was now same = let stays : now.progress.finished ≡ was.progress.finished + 0 = same in omega (arith, stays)
 
 pub turned_asked : {E : Type 0} (scenario : Scenario) (b : ℕ) (history : List Entry) (was now : Backend) (result : Result Bool E) → IfOk result (λ over. HasTakenTurn scenario b history over now) → IfOk result (λ over. has_joined was.life ≡ true → now.progress.finished ≡ was.progress.finished + one_if over)
-    → IfOk result (λ over. GoesAsked b over was now)
-turned_asked scenario b history was now (Err e) taken number = tt
-turned_asked scenario b history was now (Ok over) taken number = record {
+    → IfOk result (λ over. has_joined was.life ≡ false → asked_before over now ≡ 0) → IfOk result (λ over. GoesAsked b over was now)
+turned_asked scenario b history was now (Err e) taken number first = tt
+turned_asked scenario b history was now (Ok over) taken number first = record {
   id = taken.id;
   number = λ joined. turned_number over was now (number joined);
+  first = first;
   stays = λ there. ap has_left (taken.command there).agrees.keeps.alive;
 }
 

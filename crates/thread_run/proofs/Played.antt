@@ -26,11 +26,13 @@ use Rattle.backend_core.specs.Noted.{NotesEntry, NotesAtEntry, noted_of, nothing
 use Rattle.backend_core.specs.Steps.{MakesEntry, IsRefused, Before, After, MakesNext, Remains, Left, Steps}
 use Rattle.backend_core.specs.Words.{has_left, has_joined}
 use Rattle.backend_core.proofs.Played.{IsPlayed-more}
+use Rattle.backend_core.proofs.PlacesWanted.{wanted_here, only_then}
 use Rattle.backend_core.proofs.Stepped.{awaits_stands}
+use Rattle.thread_run.specs.Asks.{asked_before}
 use Rattle.thread_run.specs.Runs.{IsRunSoFar}
 use Rattle.thread_run.specs.Turns.{backend_of, HasMore, EntersInTurn, HasTakenTurn}
-use Rattle.backend_core.specs.Places.{WantsPlaces}
-use Rattle.thread_run.specs.Entering.{MayEnterNext, PromisesOnly, Always, Wanted, PlaysOn, PromisesWanted, ComesTo}
+use Rattle.backend_core.specs.Places.{WantsPlaces, PromisesOnly, Always, Wanted}
+use Rattle.thread_run.specs.Entering.{MayEnterNext, PlaysOn, PromisesWanted, ComesTo}
 
 -- what holds of each entry holds of looks that come after
 pub each_looked : (P : List Entry → Entry → Type 0) (history : List Entry) (b : ℕ) (held : List HeldLook) → ((before : List Entry) (look : HeldLook) → P before (entry_held b look)) → EachEntry P history → EachEntry P (history ++ entries_of b held)
@@ -127,25 +129,8 @@ next_made : {scenario : Scenario} {old new : List Entry} {had has : ℕ → ℕ}
 next_made (Remains enters) = enters.makes
 next_made (Left gone steps) = steps.makes
 
--- no more is promised, where no more was before that
-more_always : (scenario : Scenario) (b had mid has : ℕ) → PromisesOnly scenario b had mid → has ≤ max mid 48 → PromisesOnly scenario b had has
-more_always scenario b had mid has (Always one) two = Always (omega (arith, one, two))
-more_always scenario b had mid has (Wanted history s places stands id wants one) two = Wanted history s places stands id wants (omega (arith, one, two))
-
-more_wanted : (scenario : Scenario) (b had mid has places : ℕ) (history : List Entry) (s : Backend) → Stands scenario history s → s.progress.id ≡ b → WantsPlaces s places → PromisesOnly scenario b had mid → has ≤ max mid (max places 48) → PromisesOnly scenario b had has
-more_wanted scenario b had mid has places history s stands id wants (Always one) two = Wanted history s places stands id wants (omega (arith, one, two))
-more_wanted scenario b had mid has places history s stands id wants (Wanted seen t fewer stood same wanted one) two = by_more (cases_lt places fewer)
-  where
-    by_more : (places < fewer) ⊎ (fewer ≤ places) → PromisesOnly scenario b had has
-    by_more (inl less) = Wanted seen t fewer stood same wanted (omega (arith, one, two, less))
-    by_more (inr less) = Wanted history s places stands id wants (omega (arith, one, two, less))
-
-pub only_then : (scenario : Scenario) (b had mid has : ℕ) → PromisesOnly scenario b had mid → PromisesOnly scenario b mid has → PromisesOnly scenario b had has
-only_then scenario b had mid has one (Always two) = more_always scenario b had mid has one two
-only_then scenario b had mid has one (Wanted history s places stands id wants two) = more_wanted scenario b had mid has places history s stands id wants one two
-
 -- what is as it was
-pub plays_same : {b : ℕ} {scenario later : Scenario} {old new : List Entry} {had has : ℕ → ℕ} → later ≡ scenario → new ≡ old → IsRunSoFar scenario old → ((a : ℕ) → a ≢ b → has a ≡ had a) → PromisesOnly scenario b (had b) (has b) → PlaysOn b scenario later old new had has
+pub plays_same : {b : ℕ} {scenario later : Scenario} {old new : List Entry} {had has : ℕ → ℕ} → later ≡ scenario → new ≡ old → IsRunSoFar scenario old → ((a : ℕ) → a ≢ b → has a ≡ had a) → PromisesOnly scenario b old new (had b) (has b) → PlaysOn b scenario later old new had has
 plays_same {b} {scenario} {later} {old} {new} same is run others own = record {
   script = same;
   run = subst (λ (k : Scenario). IsRunSoFar k new) (sym same) (subst (IsRunSoFar scenario) (sym is) run);
@@ -154,10 +139,6 @@ plays_same {b} {scenario} {later} {old} {new} same is run others own = record {
   own = own;
 }
 
--- so too where it was refused places
-pub kept_only : {scenario : Scenario} {b had has : ℕ} → has ≡ had → PromisesOnly scenario b had has
-kept_only {scenario} {b} {had} {has} same = Always (omega (arith, same))
-
 -- once and then again
 pub plays_then : {b : ℕ} {scenario later last : Scenario} {old now new : List Entry} {had mid has : ℕ → ℕ} → PlaysOn b scenario later old now had mid → PlaysOn b later last now new mid has → PlaysOn b scenario last old new had has
 plays_then {b} {scenario} {later} {last} {old} {now} {new} {had} {mid} {has} one two = record {
@@ -165,7 +146,7 @@ plays_then {b} {scenario} {later} {last} {old} {now} {new} {had} {mid} {has} one
   run = two.run;
   grew = grew_then b old now new one.grew two.grew;
   others = λ a apart. two.others a apart ∙ one.others a apart;
-  own = only_then scenario b (had b) (mid b) (has b) one.own (subst (λ (k : Scenario). PromisesOnly k b (mid b) (has b)) one.script two.own);
+  own = only_then one.grew.rest two.grew.rest one.grew.grows two.grew.grows one.own (subst (λ (k : Scenario). PromisesOnly k b now new (mid b) (has b)) one.script two.own);
 }
 
 -- by looks that were handed over
@@ -210,7 +191,7 @@ has_place {n} {b} has id some = let same = ap has id in omega (arith, same, some
 
 -- an entry that was refused memory
 pub entry_refused : {b n : ℕ} {scenario later last : Scenario} {old now new : List Entry} {was had has : ℕ → ℕ} {s : Backend} → later ≡ scenario → now ≡ old → MayEnterNext scenario b old s → ((a : ℕ) → a ≢ b → had a ≡ was a) → WantsPlaces s n → had b ≤ max (was b) (max n 48) → last ≡ later → IsRefused later now new had has s.progress.id → PlaysOn b scenario last old new was has
-entry_refused {b} {n} {scenario} {later} {last} {old} {now} {new} {was} {had} {has} {s} same is may others wants most then refused = plays_then (plays_same same is may.run others (Wanted old s n may.stands may.id wants most)) (plays_refused then may.id (renewed_may same is may).run refused)
+entry_refused {b} {n} {scenario} {later} {last} {old} {now} {new} {was} {had} {has} {s} same is may others wants most then refused = plays_then (plays_same same is may.run others (Wanted n (wanted_here [] (is ∙ sym (append-nil old)) may.stands may.id wants) most)) (plays_refused then may.id (renewed_may same is may).run refused)
 
 -- one that was made
 pub entry_plays : {b n : ℕ} {scenario later last : Scenario} {old now new : List Entry} {first had has : ℕ → ℕ} {was s : Backend} → later ≡ scenario → now ≡ old → MayEnterNext scenario b old was → ((a : ℕ) → a ≢ b → had a ≡ first a) → WantsPlaces was n → had b ≤ max (first b) (max n 48) → last ≡ later → MakesNext later now new had has was s → PlaysOn b scenario last old new first has
@@ -254,6 +235,11 @@ to_join lives.Unstarted joins is starts = refl
 to_join lives.Alive joins is starts = absurd (both_ways joins is starts)
 to_join lives.Stopped joins is starts = absurd (both_ways joins is starts)
 
+-- it is at its first command then
+first_asked : (s : Backend) (over : Bool) → over ≡ true → s.progress.finished ≡ 0 → asked_before over s ≡ 0
+first_asked s true is none = none
+first_asked s false is none = absurd (cc is)
+
 -- where it went to no command
 pub none_over : (n : ℕ) → n ≡ n + 0
 none_over n = omega arith
@@ -285,12 +271,12 @@ entered_turn scenario b old new had has was now over may short some command (Lef
 }
 
 pub entry_comes : {b : ℕ} {scenario later last : Scenario} {old now new : List Entry} {had has : ℕ → ℕ} {was s : Backend} {joined joins : Bool} → later ≡ scenario → now ≡ old → MayEnterNext scenario b old was → last ≡ later → length new + all_promised has last.backends ≤ 2 ^ 56 → 17 ≤ had b → joined ≡ has_joined was.life → joins ≡ not joined
-    → MakesNext later now new had has was s → (was.life ≡ lives.Unstarted → AwaitsCommand later new s) → NotesAtEntry later now new was s → ComesTo last b new joins was s
-entry_comes {b} {scenario} {later} {last} {old} {now} {new} {had} {has} {was} {s} {joined} {joins} same is may then short some tells says makes starts notes = record {
+    → MakesNext later now new had has was s → (was.life ≡ lives.Unstarted → AwaitsCommand later new s) → (was.life ≡ lives.Unstarted → s.progress.finished ≡ 0) → NotesAtEntry later now new was s → ComesTo last b new joins was s
+entry_comes {b} {scenario} {later} {last} {old} {now} {new} {had} {has} {was} {s} {joined} {joins} same is may then short some tells says makes starts none notes = record {
   taken = subst (λ (k : Scenario). HasTakenTurn k b new joins s) (sym then) (entered_turn later b now new had has was s joins again (subst (λ (k : Scenario). length new + all_promised has k.backends ≤ 2 ^ 56) then short)
       (let eq = ap had may.id in omega (arith, some, eq)) (λ over. starts (to_join was.life joins (says ∙ ap not tells) over)) makes);
   number = λ before. (had_joined was.life (noted_of s ≡ nothing_noted) (NotesEntry later now new was s) before notes).noted.goes.moves.finished ∙ plus_none was.progress.finished joins (says ∙ ap not (tells ∙ before));
-  first = λ starts. says ∙ ap not (tells ∙ starts);
+  first = λ before. let over = says ∙ ap not (tells ∙ before) in first_asked s joins over (none (to_join was.life joins (says ∙ ap not tells) over));
 }
   where
     again : MayEnterNext later b now was
@@ -318,7 +304,7 @@ pub comes_then : {scenario later : Scenario} {b : ℕ} {history longer : List En
 comes_then {scenario} {later} {b} {history} {longer} {over} {was} {s} {now} one two = record {
   taken = two.taken;
   number = λ joined. two.number (taken_joined one.taken) ∙ ap (λ n. n + one_if over) (one.number joined ∙ sym (none_over was.progress.finished));
-  first = λ starts. absurd (cc (one.first starts));
+  first = λ starts. absurd (let no : s.progress.finished + 1 ≡ 0 = one.first starts in omega (arith, no));
 }
 
 pub comes_over : {scenario : Scenario} {b : ℕ} {history : List Entry} {over is : Bool} {was now : Backend} → over ≡ is → ComesTo scenario b history over was now → ComesTo scenario b history is was now
@@ -418,9 +404,9 @@ pub comes_number : {E : Type 0} (scenario : Scenario) (b : ℕ) (history : List 
 comes_number scenario b history was now (Ok over) comes = comes.number
 comes_number scenario b history was now (Err e) comes = tt
 
-pub comes_first : {E : Type 0} (scenario : Scenario) (b : ℕ) (history : List Entry) (was now : Backend) (enters : Bool) (result : Result Bool E) → IfOk result (λ over. ComesTo scenario b history over was now) → IfOk result (λ over. enters ≡ true → has_joined was.life ≡ false → over ≡ true)
-comes_first scenario b history was now enters (Ok over) comes = λ does starts. comes.first starts
-comes_first scenario b history was now enters (Err e) comes = tt
+pub comes_first : {E : Type 0} (scenario : Scenario) (b : ℕ) (history : List Entry) (was now : Backend) (result : Result Bool E) → IfOk result (λ over. ComesTo scenario b history over was now) → IfOk result (λ over. has_joined was.life ≡ false → asked_before over now ≡ 0)
+comes_first scenario b history was now (Ok over) comes = comes.first
+comes_first scenario b history was now (Err e) comes = tt
 
 -- a step, or none
 pub step_plays : {E : Type 0} {b n : ℕ} {scenario later last : Scenario} {old now : List Entry} {first : ℕ → ℕ} {was : Backend} (new : List Entry) (had has : ℕ → ℕ) (s : Backend) (result : Result (Unit {0}) E) → later ≡ scenario → now ≡ old → MayEnterNext scenario b old was → ((a : ℕ) → a ≢ b → had a ≡ first a) → WantsPlaces was n → had b ≤ max (first b) (max n 48) → last ≡ later

@@ -1,5 +1,5 @@
 -- What goes round, as a turn finds it and as it leaves it.
-use Rattle.std.proofs.Common.{◌≡◌, ◌≢◌, ◌≤◌, ◌∙◌, ◌==◌, ◌⊎◌, inl, inr, ℕ, max, Bool, true, false, List, sym, ap, subst, length, arith}
+use Rattle.std.proofs.Common.{◌≡◌, ◌≢◌, ◌≤◌, ◌∙◌, ◌++◌, ◌==◌, ◌⊎◌, inl, inr, ℕ, max, Bool, true, false, List, sym, ap, subst, length, arith}
 use Rattle.std.proofs.lemmas.Bool.Decides.{eqb_tells}
 use Rattle.base_types.specs.Scenario.{Scenario, IsBackend}
 use Rattle.event_kinds.specs.declared.entry.Entry.{Entry}
@@ -11,12 +11,13 @@ use Rattle.backend_core.specs.declared.turns.HeldLook.{HeldLook}
 use Rattle.backend_core.specs.Agrees.{IsPlayed}
 use Rattle.backend_core.specs.Apart.{IsHolding}
 use Rattle.backend_core.specs.Cuts.{cut}
+use Rattle.backend_core.specs.Looks.{entries_of}
 use Rattle.backend_core.proofs.Cutting.Scripts.{cut_is}
-use Rattle.thread_run.specs.Entering.{PromisesOnly, Always}
+use Rattle.backend_core.specs.Places.{PromisesOnly, Always}
 use Rattle.thread_run.specs.Runs.{IsRunSoFar}
 use Rattle.thread_run.specs.Scripts.{Play, IsLeft, commands_left}
 use Rattle.thread_run.specs.Turns.{backend_of, right_before, IsHalting}
-use Rattle.thread_run.proofs.Played.{only_then}
+use Rattle.backend_core.proofs.PlacesWanted.{only_then}
 use Rattle.thread_run.proofs.Scripts.{left_backend}
 
 -- what callers said of the value holds of what is inside
@@ -40,16 +41,17 @@ pub promises_outside : (k now : Play) (a n : ℕ) → k ≡ now → n ≡ places
 promises_outside k now a n is same = same ∙ ap (λ (x : Play). places_in x.shared a) is
 
 -- and to the backend itself
-pub only_outside : (k now : Play) (b n : ℕ) → k ≡ now → PromisesOnly k.shared.script b (places_in k.shared b) n → PromisesOnly now.shared.script b (places_in now.shared b) n
-only_outside k now b n is only = subst (λ (x : Play). PromisesOnly x.shared.script b (places_in x.shared b) n) is only
+pub only_outside : (k now : Play) (b n : ℕ) (new : List Entry) → k ≡ now → PromisesOnly k.shared.script b k.shared.history new (places_in k.shared b) n → PromisesOnly now.shared.script b now.shared.history new (places_in now.shared b) n
+only_outside k now b n new is only = subst (λ (x : Play). PromisesOnly x.shared.script b x.shared.history new (places_in x.shared b) n) is only
 
-pub most_outside : (k now : Play) (script : Scenario) (b n : ℕ) → k ≡ now → n ≤ max (places_in k.shared b) 48 → PromisesOnly script b (places_in now.shared b) n
-most_outside k now script b n is most = Always (subst (λ (x : Play). n ≤ max (places_in x.shared b) 48) is most)
+pub most_outside : (k now : Play) (script : Scenario) (b n : ℕ) (new : List Entry) → k ≡ now → n ≤ max (places_in k.shared b) 48 → PromisesOnly script b now.shared.history new (places_in now.shared b) n
+most_outside k now script b n new is most = Always (subst (λ (x : Play). n ≤ max (places_in x.shared b) 48) is most)
 
 -- after its looks, by a script that was told anew
-pub stop_only : (k now : Play) (script later : Scenario) (b handed retold n : ℕ) → k ≡ now → handed ≤ max (places_in k.shared b) 48 → retold ≡ handed → later ≡ script → PromisesOnly script b retold n → PromisesOnly later b (places_in now.shared b) n
-stop_only k now script later b handed retold n is most same then only =
-    only_then later b (places_in now.shared b) retold n (most_outside k now later b retold is (omega (arith, most, same))) (subst (λ (s : Scenario). PromisesOnly s b retold n) (sym then) only)
+pub stop_only : (k now : Play) (script later : Scenario) (b handed retold n : ℕ) (held : List HeldLook) (hands new : List Entry) → k ≡ now → handed ≤ max (places_in k.shared b) 48 → retold ≡ handed → later ≡ script → hands ≡ k.shared.history ++ entries_of b held → Grew backend_of b hands new → PromisesOnly script b hands new retold n
+    → PromisesOnly later b now.shared.history new (places_in now.shared b) n
+stop_only k now script later b handed retold n held hands new is most same then looks grew only =
+    only_then (entries_of b held) grew.rest (looks ∙ ap (λ (x : Play). x.shared.history ++ entries_of b held) is) grew.grows (most_outside k now later b retold hands is (omega (arith, most, same))) (subst (λ (s : Scenario). PromisesOnly s b hands new retold n) (sym then) only)
 
 -- a script that is cut has all commands of the others
 pub others_keep : (k now : Play) (b n a : ℕ) (part : Scenario) → k ≡ now → part ≡ cut b n k.shared.script → a ≢ b → length (commands_of part a) ≡ commands_left now a

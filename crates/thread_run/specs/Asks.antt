@@ -30,10 +30,11 @@ abbrev pub asked_before : Bool → Backend → ℕ
 asked_before true s = s.progress.finished
 asked_before false s = s.progress.finished + 1
 
--- a turn leaves a backend at the command after that which it was in, for which the gate is to be asked, or in the same one; one that has left is at none
+-- a turn leaves a backend at the command after that which it was in, for which the gate is to be asked, or in the same one; one that joins is at its first, of which no gate was asked before; one that has left is at none
 pub record GoesAsked (b : ℕ) (over : Bool) (was now : Backend) : Type 0 where
   pub id : now.progress.id ≡ b
   pub number : has_joined was.life ≡ true → asked_before over now ≡ was.progress.finished + 1
+  pub first : has_joined was.life ≡ false → asked_before over now ≡ 0
   pub stays : over ≡ true → has_left now.life ≡ false
 
 -- a gate was asked for this backend alone

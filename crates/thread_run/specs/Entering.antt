@@ -6,8 +6,9 @@ use Rattle.turn_table.specs.Histories.{Grew}
 use Rattle.cacheless.specs.State.{one_if}
 use Rattle.backend_core.specs.declared.backend.Backend.{Backend}
 use Rattle.backend_core.specs.Agrees.{Stands}
-use Rattle.backend_core.specs.Places.{WantsPlaces}
+use Rattle.backend_core.specs.Places.{WantsPlaces, PromisesOnly}
 use Rattle.backend_core.specs.Words.{has_joined, has_left}
+use Rattle.thread_run.specs.Asks.{asked_before}
 use Rattle.thread_run.specs.Runs.{IsRunSoFar}
 use Rattle.thread_run.specs.Turns.{backend_of, HasTakenTurn}
 
@@ -19,18 +20,13 @@ pub record MayEnterNext (scenario : Scenario) (b : ℕ) (history : List Entry) (
   pub stands : Stands scenario history s
   pub alive : has_left s.life ≡ false
 
--- no more is promised to it than was, than is promised always, or than it wanted where it stood in a history of the script
-pub data PromisesOnly (scenario : Scenario) (b had has : ℕ) : Type 0 where
-  Always : has ≤ max had 48 → PromisesOnly scenario b had has
-  Wanted : (history : List Entry) (s : Backend) (places : ℕ) → Stands scenario history s → s.progress.id ≡ b → WantsPlaces s places → has ≤ max had (max places 48) → PromisesOnly scenario b had has
-
 -- the script is as it was; the history was run so far, and grew by own entries alone; promises to others are as they were, and to itself no more than it wanted
 pub record PlaysOn (b : ℕ) (scenario later : Scenario) (old new : List Entry) (had has : ℕ → ℕ) : Type 0 where
   pub script : later ≡ scenario
   pub run : IsRunSoFar later new
   pub grew : Grew backend_of b old new
   pub others : (a : ℕ) → a ≢ b → has a ≡ had a
-  pub own : PromisesOnly scenario b (had b) (has b)
+  pub own : PromisesOnly scenario b old new (had b) (has b)
 
 -- before its entry, which takes one at most, it was promised the places that it wants, and no more than these, those that are promised always or those that it had, and none more where it wants none and has enough
 pub record PromisesWanted (was : Backend) (had has : ℕ) : Type 0 where
@@ -44,4 +40,4 @@ pub record PromisesWanted (was : Backend) (had has : ℕ) : Type 0 where
 pub record ComesTo (scenario : Scenario) (b : ℕ) (history : List Entry) (over : Bool) (was now : Backend) : Type 0 where
   pub taken : HasTakenTurn scenario b history over now
   pub number : has_joined was.life ≡ true → now.progress.finished ≡ was.progress.finished + one_if over
-  pub first : has_joined was.life ≡ false → over ≡ true
+  pub first : has_joined was.life ≡ false → asked_before over now ≡ 0

@@ -86,9 +86,10 @@ impl SharedPlay {
     ghost use Rattle.backend_core.specs.Apart.{IsHolding};
     ghost use Rattle.backend_core.specs.Words.{has_left, has_joined};
     ghost use Rattle.turn_table.specs.Histories.{Grew};
+    ghost use Rattle.backend_core.specs.Places.{PromisesOnly};
+    ghost use Rattle.thread_run.specs.Asks.{asked_before};
     ghost use Rattle.thread_run.specs.Runs.{IsRunSoFar};
     ghost use Rattle.thread_run.specs.Scripts.{IsLeft, commands_left};
-    ghost use Rattle.thread_run.specs.Entering.{PromisesOnly};
     ghost use Rattle.thread_run.specs.Turns.{backend_of, right_before, EntersInTurn, HasTakenTurn, IsHalting};
 
     /// An empty history, for this script, with places promised to each backend.
@@ -128,12 +129,12 @@ impl SharedPlay {
         ensures left { IsLeft self.new.whole self.new.shared.script }
         ensures grew { Grew backend_of b self.old.shared.history self.new.shared.history }
         ensures promises { (a : ℕ) → a ≢ b → places_in self.new.shared a ≡ places_in self.old.shared a }
-        ensures own { PromisesOnly self.old.shared.script b (places_in self.old.shared b) (places_in self.new.shared b) }
+        ensures own { PromisesOnly self.old.shared.script b self.old.shared.history self.new.shared.history (places_in self.old.shared b) (places_in self.new.shared b) }
         ensures few { length self.new.shared.history ≤ length self.old.shared.history + length looks.now + (1 + most) }
         ensures enters { OnOk result (EntersInTurn enters b looks.now self.old.shared.history self.new.shared.history) }
         ensures works { IfOk result (λ over. HasTakenTurn self.new.shared.script b self.new.shared.history over backend.new) }
         ensures number { IfOk result (λ over. has_joined backend.old.life ≡ true → backend.new.progress.finished ≡ backend.old.progress.finished + one_if over) }
-        ensures first { IfOk result (λ over. enters ≡ true → has_joined backend.old.life ≡ false → over ≡ true) }
+        ensures first { IfOk result (λ over. has_joined backend.old.life ≡ false → asked_before over backend.new ≡ 0) }
     {
         work_in_turn(&mut self.shared, alloc, b, backend, looks, enters, most)
     }
@@ -154,7 +155,7 @@ impl SharedPlay {
         ensures whole { self.new.whole ≡ self.old.whole }
         ensures others { (a : ℕ) → a ≢ at.now.backend → commands_left self.new a ≡ commands_left self.old a }
         ensures promises { (a : ℕ) → a ≢ at.now.backend → places_in self.new.shared a ≡ places_in self.old.shared a }
-        ensures own { PromisesOnly self.new.shared.script at.now.backend (places_in self.old.shared at.now.backend) (places_in self.new.shared at.now.backend) }
+        ensures own { PromisesOnly self.new.shared.script at.now.backend self.old.shared.history self.new.shared.history (places_in self.old.shared at.now.backend) (places_in self.new.shared at.now.backend) }
         ensures grew { Grew backend_of at.now.backend self.old.shared.history self.new.shared.history }
         ensures left { OnOk result (has_left backend.new.life ≡ true) }
         ensures stands { OnOk result (Stands self.new.shared.script self.new.shared.history backend.new) }

@@ -7,10 +7,12 @@ ghost use Rattle.cacheless.specs.State.{one_if};
 ghost use Rattle.backend_core.specs.Agrees.{Stands};
 ghost use Rattle.backend_core.specs.Apart.{IsHolding};
 ghost use Rattle.backend_core.specs.Looks.{entries_of, MayCallAll};
+ghost use Rattle.backend_core.specs.Places.{PromisesOnly};
 ghost use Rattle.backend_core.specs.Words.{has_left, has_joined};
+ghost use Rattle.thread_run.specs.Asks.{asked_before};
 ghost use Rattle.thread_run.specs.Runs.{IsRunSoFar};
 ghost use Rattle.thread_run.specs.Turns.{backend_of, right_before, HasMore, EntersInTurn, HasTakenTurn};
-ghost use Rattle.thread_run.specs.Entering.{MayEnterNext, PromisesOnly, PlaysOn, PromisesWanted, ComesTo};
+ghost use Rattle.thread_run.specs.Entering.{MayEnterNext, PlaysOn, PromisesWanted, ComesTo};
 
 use backend_core::{Backend, HeldLook, PLACES};
 use base_types::NoMemory;
@@ -47,12 +49,12 @@ pub(crate) fn work_in_turn<L: Seg>(
     ensures run { IsRunSoFar (L.script seg.new) (L.history seg.new) }
     ensures grew { Grew backend_of b (L.history seg.old) (L.history seg.new) }
     ensures others { (a : ℕ) → a ≢ b → L.promised seg.new a ≡ L.promised seg.old a }
-    ensures own { PromisesOnly (L.script seg.old) b (L.promised seg.old b) (L.promised seg.new b) }
+    ensures own { PromisesOnly (L.script seg.old) b (L.history seg.old) (L.history seg.new) (L.promised seg.old b) (L.promised seg.new b) }
     ensures few { length (L.history seg.new) ≤ length (L.history seg.old) + length looks.now + (1 + most) }
     ensures enters { OnOk result (EntersInTurn enters b looks.now (L.history seg.old) (L.history seg.new)) }
     ensures works { IfOk result (λ over. HasTakenTurn (L.script seg.new) b (L.history seg.new) over backend.new) }
     ensures number { IfOk result (λ over. has_joined backend.old.life ≡ true → backend.new.progress.finished ≡ backend.old.progress.finished + one_if over) }
-    ensures first { IfOk result (λ over. enters ≡ true → has_joined backend.old.life ≡ false → over ≡ true) }
+    ensures first { IfOk result (λ over. has_joined backend.old.life ≡ false → asked_before over backend.new ≡ 0) }
 {
     hand_over(seg, b, backend, looks)?;
     if !enters {
@@ -191,7 +193,7 @@ pub(crate) fn stop_in_turn<R: Wait, L: Seg>(
     ensures run { IsRunSoFar (L.script seg.new) (L.history seg.new) }
     ensures grew { Grew backend_of b (L.history seg.old) (L.history seg.new) }
     ensures others { (a : ℕ) → a ≢ b → L.promised seg.new a ≡ L.promised seg.old a }
-    ensures own { PromisesOnly (L.script seg.old) b (L.promised seg.old b) (L.promised seg.new b) }
+    ensures own { PromisesOnly (L.script seg.old) b (L.history seg.old) (L.history seg.new) (L.promised seg.old b) (L.promised seg.new b) }
     ensures left { OnOk result (has_left backend.new.life ≡ true) }
     ensures stands { OnOk result (Stands (L.script seg.new) (L.history seg.new) backend.new) }
 {

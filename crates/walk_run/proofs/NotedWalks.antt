@@ -78,6 +78,10 @@ walked_more s h h' had has bs i was now walked is at steps notes = subst (λ x. 
 pub walked_whole : (s : Scenario) (h : List Entry) (bs : List Backend) → HasWalked s h bs → IsNotedWalk s h
 walked_whole s h bs walked = record { first = walked.first; new = walked.new; walks = subst (Walks s [] walked.first) (append-nil h) (walked.walks [] tt) }
 
+-- one of no entries
+pub walked_none : (s : Scenario) → IsNotedWalk s []
+walked_none s = record { first = λ b. None; new = λ b. tt; walks = tt }
+
 -- two walks of one script are one
 pub walks_alike : (s : Scenario) (history other : List Entry) (lines said : List Line) → IsWalk s history lines → IsWalk s other said → (history ≡ other) × (lines ≡ said)
 walks_alike s history other lines said walk also = (one, walk.lines_are ∙ ap (lines_of s) one ∙ sym also.lines_are)

@@ -23,13 +23,15 @@ turns_by-none s h lines none = ap (turns_by s h) none
 stays_stopped : (h : List Entry) (e : Entry) (b c : ℕ) → e.backend ≡ c → b ≢ c → has_stopped h b ≡ true → has_stopped (h ++ e ∷ []) b ≡ true
 stays_stopped h e b c own apart stopped = ap is_stopped (life_of-other h e b (ne_eqb e.backend b (λ same. apart (sym same ∙ own)))) ∙ stopped
 
--- an entry of the first backend that hasn't stopped
+-- it is the turn of the first backend that hasn't stopped
+pub first_turn : (s : Scenario) (h : List Entry) (b : ℕ) → s.steps ≡ [] → IsBackend s.backends b → has_stopped h b ≡ false → InTurn s h (b - 1) → slice_get (turns_left s h) 0 ≡ Some b
+first_turn s h b none number running turn = ap (λ turns. slice_get turns 0) (turns_by-none s h s.steps none)
+    ∙ first_that_passes (λ c. not (has_stopped h c)) 1 s.backends b number.0 (omega (arith, number.1)) (λ c from to. ap not (turn.stopped c from (omega arith))) (ap not running)
+
+-- an entry of that one
 turn_more : (s : Scenario) (h : List Entry) (e : Entry) (b : ℕ) → s.steps ≡ [] → IsBackend s.backends b → e.backend ≡ b → has_stopped h b ≡ false → InTurn s h (b - 1) → InTurn s (h ++ e ∷ []) (b - 1)
 turn_more s h e b none number own running turn = record {
-  follows = EachEntry-more (λ before y. slice_get (turns_left s before) 0 ≡ Some y.backend) h e turn.follows
-      (ap (λ turns. slice_get turns 0) (turns_by-none s h s.steps none)
-      ∙ first_that_passes (λ c. not (has_stopped h c)) 1 s.backends b number.0 (omega (arith, number.1)) (λ c from to. ap not (turn.stopped c from (omega arith))) (ap not running)
-      ∙ ap Some (sym own));
+  follows = EachEntry-more (λ before y. slice_get (turns_left s before) 0 ≡ Some y.backend) h e turn.follows (first_turn s h b none number running turn ∙ ap Some (sym own));
   stopped = λ c from to. stays_stopped h e c b own (λ same. absurd (omega (arith, number.0))) (turn.stopped c from to);
 }
 

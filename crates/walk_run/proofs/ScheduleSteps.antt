@@ -1,5 +1,5 @@
 -- A walk by steps keeps what it keeps, and comes to the end of the schedule.
-use Rattle.std.proofs.Common.{◌≡◌, ◌≢◌, ◌<◌, ◌+◌, ◌-◌, ◌∙◌, ℕ, true, false, Some, List, [], ◌∷◌, ◌++◌, ◌==◌, refl, sym, ap, subst, length, drop, slice_get, slice_set, ◌⊎◌, inl, inr, replicate, nat_eq, get_or, take, Result, Ok, Err, append_assoc, append-nil, arith}
+use Rattle.std.proofs.Common.{◌≡◌, ◌≢◌, ◌≤◌, ◌<◌, ◌+◌, ◌-◌, ◌^◌, ◌∙◌, ℕ, true, false, Some, List, [], ◌∷◌, ◌++◌, ◌==◌, refl, sym, ap, subst, length, drop, slice_get, slice_set, ◌⊎◌, inl, inr, replicate, nat_eq, get_or, take, Result, Ok, Err, append_assoc, append-nil, arith}
 use Rattle.std.specs.List.{flat_map}
 use Rattle.std.specs.Result.{OnOk}
 use Rattle.std.proofs.lemmas.List.{replicate_more}
@@ -18,9 +18,11 @@ use Rattle.cacheless.specs.Schedule.{FollowsSchedule, IsComplete, has_stopped, p
 use Rattle.backend_core.specs.declared.backend.Backend.{Backend}
 use Rattle.backend_core.specs.Words.{has_left}
 use Rattle.backend_core.specs.Agrees.{AreSpelled, Stands}
+use Rattle.backend_core.specs.Looks.{IsRight}
 use Rattle.backend_core.specs.Noted.{NotesAtStep}
 use Rattle.backend_core.specs.Steps.{MakesEntry, Steps}
 use Rattle.backend_core.proofs.Others.{Stands-other}
+use Rattle.backend_core.proofs.Played.{entered_played}
 use Rattle.by_backend.proofs.Places.{get_of_set, get_beside_set}
 use Rattle.script_backends.specs.Standing.{StandsAt, StandTogether}
 use Rattle.script_backends.proofs.Sessions.{stopped_as}
@@ -28,7 +30,7 @@ use Rattle.walk_run.proofs.NotedWalks.{walked_first, walked_more}
 use Rattle.walk_run.specs.Walks.{AllStand, IsDue, Goes, HasSchedule, IsRunning, Makes}
 
 -- the history of one step more
-pub entered_more : (s : Scenario) (h h' : List Entry) (had has : ℕ → ℕ) (b : ℕ) → EachEntry (MayEnter s) h → MakesEntry s h h' had has b → EachEntry (MayEnter s) h'
+entered_more : (s : Scenario) (h h' : List Entry) (had has : ℕ → ℕ) (b : ℕ) → EachEntry (MayEnter s) h → MakesEntry s h h' had has b → EachEntry (MayEnter s) h'
 entered_more s h h' had has b entered makes = subst (EachEntry (MayEnter s)) (sym makes.is) (EachEntry-more (MayEnter s) h makes.entry entered makes.may)
 
 -- the backends alone
@@ -93,7 +95,8 @@ goes_then s t h h' h'' bs' bs'' xs ys same first later =
       due = λ has rest due. second.due has rest (first.due has (ys ++ rest) (subst (IsDue s h) (append_assoc xs ys rest) due));
     }
 
-turns_by-schedule : (s : Scenario) (h : List Entry) (lines : List (List Turns)) → 0 < length lines → turns_by s h lines ≡ pass_stopped h (steps_after s h)
+-- with a schedule its steps are what is left
+pub turns_by-schedule : (s : Scenario) (h : List Entry) (lines : List (List Turns)) → 0 < length lines → turns_by s h lines ≡ pass_stopped h (steps_after s h)
 turns_by-schedule s h [] has = absurd (omega arith)
 turns_by-schedule s h (line ∷ lines) has = refl
 
@@ -146,6 +149,22 @@ pub stands_there : (s : Scenario) (h : List Entry) (bs : List Backend) (b : ℕ)
 stands_there s h bs b was number stand same =
     let n : (b - 1) + 1 ≡ b = omega (arith, number.0) in
     subst (λ k. StandsAt s h k was) n (stand.each (b - 1) was (found_at s h bs b was number stand same))
+
+-- so it is right, and found again it is the same
+pub right_there : (s : Scenario) (h : List Entry) (bs : List Backend) (b n : ℕ) (was : Backend) → IsBackend s.backends b → AllStand s h bs → was ≡ get_or bs (b - 1) was → length h + n ≤ 2 ^ 56 → IsRight was
+right_there s h bs b n was number stand same short = record {
+  scenario = s;
+  seen = h;
+  stands = (stands_there s h bs b was number stand same).stands;
+  played = entered_played s h stand.spelled stand.entered;
+  short = omega (arith, short);
+}
+
+pub same_there : (s : Scenario) (h : List Entry) (bs : List Backend) (b : ℕ) (was now : Backend) → IsBackend s.backends b → AllStand s h bs → was ≡ get_or bs (b - 1) was → now ≡ get_or bs (b - 1) now → was ≡ now
+same_there s h bs b was now number stand same again = some_same (sym (found_at s h bs b was number stand same) ∙ found_at s h bs b now number stand again)
+  where
+    some_same : {x y : Backend} → Some x ≡ Some y → x ≡ y
+    some_same e = cc
 
 -- no entry where it has stopped
 pub step_past : (s : Scenario) (h : List Entry) (bs : List Backend) (b : ℕ) (was : Backend) → IsBackend s.backends b → AllStand s h bs → was ≡ get_or bs (b - 1) was → has_left was.life ≡ true → Goes s h h bs (b ∷ [])

@@ -25,14 +25,14 @@ use Rattle.walk_run.proofs.OneAfterAnother.{unscheduled_end}
 not_true : false ≡ true → ⊥
 not_true e = cc
 
-no_steps : (s : Scenario) (steps : List (List Turns)) → steps ≡ s.steps → (length steps == 0) ≡ true → s.steps ≡ []
+pub no_steps : (s : Scenario) (steps : List (List Turns)) → steps ≡ s.steps → (length steps == 0) ≡ true → s.steps ≡ []
 no_steps s [] same none = sym same
 no_steps s (line ∷ lines) same none = absurd (not_true (sym (of (length lines)) ∙ none))
   where
     of : (n : ℕ) → (suc n == 0) ≡ false
     of n = ne_eqb (suc n) 0 (λ same. absurd (omega arith))
 
-some_steps : (s : Scenario) (steps : List (List Turns)) → steps ≡ s.steps → (length steps == 0) ≡ false → HasSchedule s
+pub some_steps : (s : Scenario) (steps : List (List Turns)) → steps ≡ s.steps → (length steps == 0) ≡ false → HasSchedule s
 some_steps s [] same some = absurd (not_true (sym some))
 some_steps s (line ∷ lines) same some = omega (arith, ap length same)
 

@@ -1,5 +1,5 @@
 -- What a walk keeps with each step, and what it has made in the end.
-use Rattle.std.specs.Prelude.{◌≡◌, ◌≤◌, ◌<◌, ◌+◌, ◌-◌, ◌==◌, ℕ, max, true, false, Option, Some, None, IfSome, List, [], ◌++◌, length, slice_get, slice_set}
+use Rattle.std.specs.Prelude.{◌≡◌, ◌≤◌, ◌<◌, ◌+◌, ◌-◌, ◌==◌, ℕ, true, false, Option, Some, None, IfSome, List, [], ◌++◌, length, slice_get, slice_set}
 use Rattle.base_types.specs.Scenario.{Scenario, IsBackend}
 use Rattle.event_kinds.specs.declared.entry.Entry.{Entry}
 use Rattle.event_kinds.specs.declared.entry.Line.{Line}
@@ -7,12 +7,13 @@ use Rattle.history_model.specs.Sound.{IsSound}
 use Rattle.history_model.specs.Prefixes.{EachEntry}
 use Rattle.cacheless.specs.MayEnter.{MayEnter}
 use Rattle.cacheless.specs.Output.{IsAllowed}
-use Rattle.cacheless.specs.Schedule.{FollowsSchedule, AreLooksTrue, IsComplete, has_stopped, pass_stopped, steps_after}
+use Rattle.cacheless.specs.Schedule.{FollowsSchedule, AreLooksTrue, IsComplete, has_stopped, pass_stopped, steps_after, turns_left}
 use Rattle.cacheless.specs.Lines.{lines_of}
 use Rattle.backend_core.specs.declared.backend.Backend.{Backend}
 use Rattle.backend_core.specs.Words.{has_left}
 use Rattle.backend_core.specs.Agrees.{AreSpelled}
 use Rattle.backend_core.specs.Noted.{NotesAtStep}
+use Rattle.backend_core.specs.Places.{PromisesOnly}
 use Rattle.backend_core.specs.Steps.{Steps}
 use Rattle.backend_core.specs.Walked.{Walks, IsNewOf, IsNotedWalk}
 use Rattle.script_backends.specs.Standing.{StandsAt}
@@ -46,11 +47,22 @@ pub record AllStand (scenario : Scenario) (history : List Entry) (backends : Lis
   pub count : length backends ≡ scenario.backends
   pub each : (i : ℕ) (backend : Backend) → slice_get backends i ≡ Some backend → StandsAt scenario history (i + 1) backend
 
--- what a walk leaves also where it is refused memory: each entry of the history was one that might be made, and what is promised to others than the script's backends is as it was, and to nobody more than was or than 48
-pub record LeavesWell (scenario : Scenario) (history : List Entry) (had has : ℕ → ℕ) : Type 0 where
-  pub entered : EachEntry (MayEnter scenario) history
+-- a noted walk made all entries but the last, of which the step may have been refused memory after it
+pub record IsWalkedToLast (scenario : Scenario) (history : List Entry) : Type 0 where
+  pub walked : List Entry
+  pub last : List Entry
+  pub is : history ≡ walked ++ last
+  pub one : length last ≤ 1
+  pub noted : IsNotedWalk scenario walked
+
+-- what a walk leaves also where it is refused memory: the history only grew, each entry was one that might be made, and a noted walk made all but the last; what is promised to others than the script's backends is as it was, and to nobody more than was, than 48 or than it wanted on the way
+pub record LeavesWell (scenario : Scenario) (old new : List Entry) (had has : ℕ → ℕ) : Type 0 where
+  pub more : List Entry
+  pub grows : new ≡ old ++ more
+  pub entered : EachEntry (MayEnter scenario) new
+  pub walked : IsWalkedToLast scenario new
   pub others : (a : ℕ) → (IsBackend scenario.backends a → ⊥) → has a ≡ had a
-  pub most : (a : ℕ) → has a ≤ max (had a) 48
+  pub most : (a : ℕ) → PromisesOnly scenario a old new (had a) (has a)
 
 -- the script has a schedule
 abbrev pub HasSchedule : Scenario → Type 0
@@ -75,6 +87,18 @@ pub record InTurn (scenario : Scenario) (history : List Entry) (n : ℕ) : Type 
 pub record GoesOn (scenario : Scenario) (old : List Entry) (n : ℕ) (new : List Entry) (are : List Backend) (m : ℕ) : Type 0 where
   pub stand : AllStand scenario new are
   pub turn : scenario.steps ≡ [] → InTurn scenario old n → InTurn scenario new m
+
+-- an entry more, if it is this backend's turn
+pub record FollowsTurn (scenario : Scenario) (old new : List Entry) (b : ℕ) : Type 0 where
+  pub follows : FollowsSchedule scenario old → slice_get (turns_left scenario old) 0 ≡ Some b → FollowsSchedule scenario new
+
+-- some of these steps, if they are due
+pub record FollowsSteps (scenario : Scenario) (old new : List Entry) (steps : List ℕ) : Type 0 where
+  pub follows : HasSchedule scenario → (rest : List ℕ) → IsDue scenario old (steps ++ rest) → FollowsSchedule scenario new
+
+-- entries without a schedule, if the first backends have stopped
+pub record FollowsStops (scenario : Scenario) (old : List Entry) (n : ℕ) (new : List Entry) : Type 0 where
+  pub follows : scenario.steps ≡ [] → InTurn scenario old n → FollowsSchedule scenario new
 
 -- the backend of this number hasn't left
 abbrev pub IsRunning : List Backend → ℕ → Type 0

@@ -6,8 +6,8 @@
 //! (`seg_calls`), and reach the rows, the locks and the history by its calls alone. [`walk_on`] takes
 //! a segment that is handed in, [`walk`] makes one in plain memory.
 //!
-//! Before a step the walk promises the backend two places in the history. A step that is out of
-//! memory, before its entry or after it, ends the walk.
+//! Before a step the walk promises the backend the places in the history that it wants, and two at
+//! least. A step that is out of memory, before its entry or after it, ends the walk.
 //!
 //! The promise to the layer above: the history of a walk is legal, played by the commands of its
 //! backends, economical, and follows the schedule to its end; and its lines are exactly those of the

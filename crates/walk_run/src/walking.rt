@@ -1,6 +1,7 @@
-ghost use Rattle.std.specs.Prelude.{◌≡◌, ◌≢◌, ◌-◌, ℕ, [], ◌∷◌, replicate, OnOk, IfOk};
+ghost use Rattle.std.specs.Prelude.{◌≡◌, ◌≢◌, ◌-◌, ℕ, [], ◌∷◌, replicate, OnOk, OnErr, IfOk};
 ghost use Rattle.std.specs.List.{All, AllByRecursion};
 ghost use Rattle.base_types.specs.Scenario.{IsBackend, AreTurns, turns_of, schedule_of};
+ghost use Rattle.cacheless.specs.Schedule.{FollowsSchedule};
 ghost use Rattle.backend_core.specs.Agrees.{Stands};
 ghost use Rattle.backend_core.specs.Coherent.{IsCoherent};
 ghost use Rattle.script_backends.specs.Sessions.{transcripts_of, AreSessions};
@@ -26,7 +27,7 @@ pub struct World {
     pub backends: Listed<Backend>,
 }
 
-// How many places in the history are promised to a backend before its step.
+// How many places in the history are promised to a backend before its step, where it wants no more.
 const PLACES: u32 = 2;
 
 /// The walk of a script in plain memory.
@@ -48,7 +49,8 @@ pub fn walk(alloc: Global, script: &Script) -> Result<World, NoMemory>
 
 /// The walk of a script on a segment: the backends that were run, in order of their numbers.
 /// Conditions: the segment was made for the script, and its history is empty. Out of memory too, the segment's
-/// history is one that the script plays so far, and promises to others than the script's backends are as they were.
+/// history is one that the script plays so far, by its schedule, and promises to others than the script's backends
+/// are as they were.
 pub fn walk_on<L: Seg>(
     alloc: Global,
     script: &Script,
@@ -57,7 +59,8 @@ pub fn walk_on<L: Seg>(
     requires script { L.script seg.old ≡ script.now }
     requires start { L.history seg.old ≡ [] }
     ensures script { L.script seg.new ≡ L.script seg.old }
-    ensures leaves { LeavesWell script.now (L.history seg.new) (L.promised seg.old) (L.promised seg.new) }
+    ensures leaves { LeavesWell script.now (L.history seg.old) (L.history seg.new) (L.promised seg.old) (L.promised seg.new) }
+    ensures follows { FollowsSchedule script.now (L.history seg.new) }
     ensures walk { IfOk result (λ backends. IsWalk script.now (L.history seg.new) (transcripts_of backends.items)) }
     ensures sessions { IfOk result (λ backends. AreSessions script.now (L.history seg.new) (transcripts_of backends.items) backends.items) }
     ensures stand { IfOk result (λ backends. All (Stands script.now (L.history seg.new)) backends.items) }
@@ -80,7 +83,7 @@ struct Walker {
 }
 
 impl Walker {
-    ghost use Rattle.walk_run.specs.Walks.{AllStand, Goes, GoesOn, Makes, IsRunning};
+    ghost use Rattle.walk_run.specs.Walks.{AllStand, Goes, GoesOn, Makes, IsRunning, FollowsTurn, FollowsSteps, FollowsStops};
 
     // All backends of the script, none of which has joined.
     fn new(alloc: Global, script: &Script) -> Result<Walker, NoMemory>
@@ -95,7 +98,8 @@ impl Walker {
         requires backend { IsBackend (L.script seg.old).backends b }
         requires stand { AllStand (L.script seg.old) (L.history seg.old) self.old.backends.items }
         ensures script { L.script seg.new ≡ L.script seg.old }
-        ensures leaves { LeavesWell (L.script seg.old) (L.history seg.new) (L.promised seg.old) (L.promised seg.new) }
+        ensures leaves { LeavesWell (L.script seg.old) (L.history seg.old) (L.history seg.new) (L.promised seg.old) (L.promised seg.new) }
+        ensures follows { OnErr result (FollowsSteps (L.script seg.old) (L.history seg.old) (L.history seg.new) (b ∷ [])) }
         ensures goes { OnOk result (Goes (L.script seg.old) (L.history seg.old) (L.history seg.new) self.new.backends.items (b ∷ [])) }
     {
         if self.backends[b as usize - 1].is_stopped() {
@@ -110,11 +114,13 @@ impl Walker {
         requires stand { AllStand (L.script seg.old) (L.history seg.old) self.old.backends.items }
         requires running { IsRunning self.old.backends.items b }
         ensures script { L.script seg.new ≡ L.script seg.old }
-        ensures leaves { LeavesWell (L.script seg.old) (L.history seg.new) (L.promised seg.old) (L.promised seg.new) }
+        ensures leaves { LeavesWell (L.script seg.old) (L.history seg.old) (L.history seg.new) (L.promised seg.old) (L.promised seg.new) }
+        ensures follows { OnErr result (FollowsTurn (L.script seg.old) (L.history seg.old) (L.history seg.new) b) }
         ensures others { (a : ℕ) → a ≢ b → L.promised seg.new a ≡ L.promised seg.old a }
         ensures makes { OnOk result (Makes (L.script seg.old) (L.history seg.old) (L.history seg.new) self.old.backends.items self.new.backends.items b) }
     {
-        seg.promise(b, PLACES)?;
+        let wanted = self.backends[b as usize - 1].places_wanted();
+        seg.promise(b, wanted.max(PLACES))?;
         let backend = &mut self.backends[b as usize - 1];
         backend.step(self.alloc, seg)
     }
@@ -124,7 +130,8 @@ impl Walker {
         requires turns { AreTurns (L.script seg.old).backends turns }
         requires stand { AllStand (L.script seg.old) (L.history seg.old) self.old.backends.items }
         ensures script { L.script seg.new ≡ L.script seg.old }
-        ensures leaves { LeavesWell (L.script seg.old) (L.history seg.new) (L.promised seg.old) (L.promised seg.new) }
+        ensures leaves { LeavesWell (L.script seg.old) (L.history seg.old) (L.history seg.new) (L.promised seg.old) (L.promised seg.new) }
+        ensures follows { OnErr result (FollowsSteps (L.script seg.old) (L.history seg.old) (L.history seg.new) (replicate turns.count turns.backend)) }
         ensures goes { OnOk result (Goes (L.script seg.old) (L.history seg.old) (L.history seg.new) self.new.backends.items (replicate turns.count turns.backend)) }
     {
         'steps: for _step in 0..turns.count {
@@ -138,7 +145,8 @@ impl Walker {
         requires turns { AllByRecursion (AreTurns (L.script seg.old).backends) line.now }
         requires stand { AllStand (L.script seg.old) (L.history seg.old) self.old.backends.items }
         ensures script { L.script seg.new ≡ L.script seg.old }
-        ensures leaves { LeavesWell (L.script seg.old) (L.history seg.new) (L.promised seg.old) (L.promised seg.new) }
+        ensures leaves { LeavesWell (L.script seg.old) (L.history seg.old) (L.history seg.new) (L.promised seg.old) (L.promised seg.new) }
+        ensures follows { OnErr result (FollowsSteps (L.script seg.old) (L.history seg.old) (L.history seg.new) (turns_of line.now)) }
         ensures goes { OnOk result (Goes (L.script seg.old) (L.history seg.old) (L.history seg.new) self.new.backends.items (turns_of line.now)) }
     {
         for turns in line {
@@ -152,7 +160,8 @@ impl Walker {
         requires script { L.script seg.old ≡ script.now }
         requires stand { AllStand script.now (L.history seg.old) self.old.backends.items }
         ensures script { L.script seg.new ≡ L.script seg.old }
-        ensures leaves { LeavesWell script.now (L.history seg.new) (L.promised seg.old) (L.promised seg.new) }
+        ensures leaves { LeavesWell script.now (L.history seg.old) (L.history seg.new) (L.promised seg.old) (L.promised seg.new) }
+        ensures follows { OnErr result (FollowsSteps script.now (L.history seg.old) (L.history seg.new) (schedule_of script.now)) }
         ensures goes { OnOk result (Goes script.now (L.history seg.old) (L.history seg.new) self.new.backends.items (schedule_of script.now)) }
     {
         let lines = script.steps();
@@ -167,7 +176,8 @@ impl Walker {
         requires script { L.script seg.old ≡ script.now }
         requires stand { AllStand script.now (L.history seg.old) self.old.backends.items }
         ensures script { L.script seg.new ≡ L.script seg.old }
-        ensures leaves { LeavesWell script.now (L.history seg.new) (L.promised seg.old) (L.promised seg.new) }
+        ensures leaves { LeavesWell script.now (L.history seg.old) (L.history seg.new) (L.promised seg.old) (L.promised seg.new) }
+        ensures follows { OnErr result (FollowsStops script.now (L.history seg.old) 0 (L.history seg.new)) }
         ensures goes { OnOk result (GoesOn script.now (L.history seg.old) 0 (L.history seg.new) self.new.backends.items script.now.backends) }
     {
         for number in 0..script.backends() {
@@ -181,7 +191,8 @@ impl Walker {
         requires backend { IsBackend (L.script seg.old).backends b }
         requires stand { AllStand (L.script seg.old) (L.history seg.old) self.old.backends.items }
         ensures script { L.script seg.new ≡ L.script seg.old }
-        ensures leaves { LeavesWell (L.script seg.old) (L.history seg.new) (L.promised seg.old) (L.promised seg.new) }
+        ensures leaves { LeavesWell (L.script seg.old) (L.history seg.old) (L.history seg.new) (L.promised seg.old) (L.promised seg.new) }
+        ensures follows { OnErr result (FollowsStops (L.script seg.old) (L.history seg.old) (b - 1) (L.history seg.new)) }
         ensures goes { OnOk result (GoesOn (L.script seg.old) (L.history seg.old) (b - 1) (L.history seg.new) self.new.backends.items b) }
     {
         'running: while !self.backends[b as usize - 1].is_stopped() {

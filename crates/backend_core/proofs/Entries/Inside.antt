@@ -44,3 +44,8 @@ then_so (Err e) on so = so
 pub so_of_all : {E : Type 0} {A B C D R : Type 0} (result : Result (Unit {0}) E) → (A → B → C → D → R) → OnOk result A → OnOk result B → OnOk result C → OnOk result D → OnOk result R
 so_of_all (Ok x) on a b c d = on a b c d
 so_of_all (Err e) on a b c d = a
+
+-- what is so anyway
+pub if_refused : {T E A : Type 0} (result : Result T E) → A → OnErr result A
+if_refused (Ok x) so = tt
+if_refused (Err e) so = so

@@ -1,5 +1,6 @@
 use Rattle.std.proofs.Common.{◌∙◌, refl, sym, arith}
-use Rattle.thread_run.proofs.Played.{kept_only, plays_same, plays_then, comes_here, comes_over, comes_then, taken_right, goes_to, goes_far, goes_may, backend_still}
+use Rattle.backend_core.proofs.PlacesWanted.{kept_only}
+use Rattle.thread_run.proofs.Played.{plays_same, plays_then, comes_here, comes_over, comes_then, taken_right, goes_to, goes_far, goes_may, backend_still}
 use Rattle.thread_run.proofs.turn_work.enter_more.Goals as goal
 
 pub entering-init : goal.entering-init

@@ -1,6 +1,7 @@
 use Rattle.std.proofs.Common.{refl, ap, length, arith}
 use Rattle.history_model.proofs.Sound.{sound_is_legal}
-use Rattle.thread_run.proofs.Played.{kept_only, plays_same, renewed_may, enters_right, has_place, entry_refused, entry_plays, entry_more, refused_few, entry_few, entry_comes, promised_next}
+use Rattle.backend_core.proofs.PlacesWanted.{kept_only, has_wanted}
+use Rattle.thread_run.proofs.Played.{plays_same, renewed_may, enters_right, has_place, entry_refused, entry_plays, entry_more, refused_few, entry_few, entry_comes, promised_next}
 use Rattle.thread_run.proofs.turn_work.enter_one.Goals as goal
 
 pub places_wanted-requires : goal.places_wanted-requires
@@ -30,6 +31,9 @@ enter_in_turn-requires-clause-plays g c = (renewed_may c.in_ok-renew.ensures.scr
 pub enter_in_turn-requires-clause-place : goal.enter_in_turn-requires-clause-place
 enter_in_turn-requires-clause-place g c = has_place (g.L.Seg.promised c.renew.new.seg) c.requires.may.id c.in_ok-renew.ensures.room
 
+pub enter_in_turn-requires-clause-wanted : goal.enter_in_turn-requires-clause-wanted
+enter_in_turn-requires-clause-wanted g c = has_wanted (g.L.Seg.promised c.renew.new.seg) c.requires.may.id c.places_wanted.ensures c.in_ok-renew.ensures.wanted
+
 pub enter_in_turn-requires-clause-alive : goal.enter_in_turn-requires-clause-alive
 enter_in_turn-requires-clause-alive g c = c.requires.may.alive
 
@@ -50,7 +54,7 @@ returns-clause-more g c = entry_more c.in_ok-renew.ensures.history c.requires.ma
 
 pub returns-clause-comes : goal.returns-clause-comes
 returns-clause-comes g c = entry_comes c.in_ok-renew.ensures.script c.in_ok-renew.ensures.history c.requires.may c.in_ok-enter_in_turn.ensures.script (g.met.L.Seg.short c.enter_in_turn.new.seg) c.in_ok-renew.ensures.room c.has_joined-joins.ensures refl
-    c.in_ok-enter_in_turn.ensures.makes c.in_ok-enter_in_turn.ensures.starts c.in_ok-enter_in_turn.ensures.noted
+    c.in_ok-enter_in_turn.ensures.makes c.in_ok-enter_in_turn.ensures.starts c.in_ok-enter_in_turn.ensures.first c.in_ok-enter_in_turn.ensures.noted
 
 pub returns-clause-promises : goal.returns-clause-promises
 returns-clause-promises g c = promised_next (g.L.Seg.promised c.args.seg.now) (g.L.Seg.promised c.renew.new.seg) (g.L.Seg.promised c.enter_in_turn.new.seg) c.requires.may c.places_wanted.ensures c.in_ok-renew.ensures.wanted c.in_ok-renew.ensures.most c.in_ok-renew.ensures.none c.in_ok-enter_in_turn.ensures.makes

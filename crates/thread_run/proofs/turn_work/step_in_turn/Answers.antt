@@ -1,5 +1,6 @@
 use Rattle.history_model.proofs.Sound.{sound_is_legal}
-use Rattle.thread_run.proofs.Played.{kept_only, plays_same, renewed_may, enters_right, has_place, step_plays, step_more, step_id, step_stands, promised_step}
+use Rattle.backend_core.proofs.PlacesWanted.{kept_only, has_wanted}
+use Rattle.thread_run.proofs.Played.{plays_same, renewed_may, enters_right, has_place, step_plays, step_more, step_id, step_stands, promised_step}
 use Rattle.thread_run.proofs.turn_work.step_in_turn.Goals as goal
 
 pub places_wanted-wanted-requires : goal.places_wanted-wanted-requires
@@ -25,6 +26,9 @@ step-requires-clause-plays g c = (renewed_may c.in_ok-renew.ensures.script c.in_
 
 pub step-requires-clause-place : goal.step-requires-clause-place
 step-requires-clause-place g c = has_place (g.L.Seg.promised c.renew.new.seg) c.requires.may.id c.in_ok-renew.ensures.room
+
+pub step-requires-clause-wanted : goal.step-requires-clause-wanted
+step-requires-clause-wanted g c = has_wanted (g.L.Seg.promised c.renew.new.seg) c.requires.may.id c.places_wanted-wanted.ensures c.in_ok-renew.ensures.wanted
 
 pub step-requires-clause-alive : goal.step-requires-clause-alive
 step-requires-clause-alive g c = c.requires.may.alive

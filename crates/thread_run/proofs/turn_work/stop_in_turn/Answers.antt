@@ -1,5 +1,6 @@
 use Rattle.std.proofs.Common.{◌∙◌, refl, sym}
-use Rattle.thread_run.proofs.Played.{kept_only, plays_same, plays_then, backend_still}
+use Rattle.backend_core.proofs.PlacesWanted.{kept_only}
+use Rattle.thread_run.proofs.Played.{plays_same, plays_then, backend_still}
 use Rattle.thread_run.proofs.turn_work.stop_in_turn.Goals as goal
 
 pub stopping-init : goal.stopping-init

@@ -1,10 +1,12 @@
-use Rattle.std.proofs.Common.{◌∙◌, ◌++◌, sym, subst}
+use Rattle.std.proofs.Common.{◌∙◌, ◌++◌, sym, ap, subst}
 use Rattle.std.proofs.lemmas.Bool.{both_ways}
 use Rattle.backend_core.specs.Agrees.{AgreesNow, Stands}
 use Rattle.backend_core.specs.Looks.{entries_of}
-use Rattle.thread_run.specs.Entering.{PromisesOnly, Always}
+use Rattle.backend_core.specs.Words.{has_joined}
+use Rattle.backend_core.specs.Places.{PromisesOnly, Always}
+use Rattle.backend_core.proofs.PlacesWanted.{only_then}
 use Rattle.thread_run.specs.Turns.{right_before, EntersInTurn}
-use Rattle.thread_run.proofs.Played.{only_then, none_over, grew_not, grew_then, plays_same, plays_looks, handed_turn, handed_right, backend_still, enters_more, comes_taken, comes_number, comes_first}
+use Rattle.thread_run.proofs.Played.{none_over, grew_not, grew_then, plays_same, plays_looks, handed_turn, handed_right, backend_still, enters_more, comes_taken, comes_number, comes_first}
 use Rattle.thread_run.proofs.turn_work.work_in_turn.Goals as goal
 
 pub hand_over-requires-clause-id : goal.hand_over-requires-clause-id
@@ -39,7 +41,9 @@ pub returns-then-not-enters-clause-number : goal.returns-then-not-enters-clause-
 returns-then-not-enters-clause-number g c = λ joined. none_over c.args.backend.now.progress.finished
 
 pub returns-then-not-enters-clause-first : goal.returns-then-not-enters-clause-first
-returns-then-not-enters-clause-first g c = λ does starts. absurd (both_ways _ c.if-not-enters.true does)
+returns-then-not-enters-clause-first g c =
+    let right = subst (λ e. right_before e (g.L.Seg.script c.args.seg.now) (g.L.Seg.history c.args.seg.now ++ entries_of c.args.b c.args.looks.now) c.args.backend.now) c.if-not-enters.true c.requires.holds.right in
+    λ starts. absurd (both_ways _ (ap has_joined right.keeps.alive) starts)
 
 pub enter_all-requires : goal.enter_all-requires
 enter_all-requires g c =
@@ -78,7 +82,7 @@ pub returns-clause-number : goal.returns-clause-number
 returns-clause-number g c = comes_number (g.L.Seg.script c.enter_all.new.seg) c.args.b (g.L.Seg.history c.enter_all.new.seg) c.args.backend.now c.enter_all.new.backend c.enter_all.result c.enter_all.ensures.comes
 
 pub returns-clause-first : goal.returns-clause-first
-returns-clause-first g c = comes_first (g.L.Seg.script c.enter_all.new.seg) c.args.b (g.L.Seg.history c.enter_all.new.seg) c.args.backend.now c.enter_all.new.backend c.args.enters c.enter_all.result c.enter_all.ensures.comes
+returns-clause-first g c = comes_first (g.L.Seg.script c.enter_all.new.seg) c.args.b (g.L.Seg.history c.enter_all.new.seg) c.args.backend.now c.enter_all.new.backend c.enter_all.result c.enter_all.ensures.comes
 
 pub returns-in_err-hand_over-clause-own : goal.returns-in_err-hand_over-clause-own
 returns-in_err-hand_over-clause-own g c = Always c.hand_over.ensures.most
@@ -87,5 +91,5 @@ pub returns-then-not-enters-clause-own : goal.returns-then-not-enters-clause-own
 returns-then-not-enters-clause-own g c = Always c.hand_over.ensures.most
 
 pub returns-clause-own : goal.returns-clause-own
-returns-clause-own g c = only_then (g.L.Seg.script c.args.seg.now) c.args.b (g.L.Seg.promised c.args.seg.now c.args.b) (g.L.Seg.promised c.hand_over.new.seg c.args.b) (g.L.Seg.promised c.enter_all.new.seg c.args.b) (Always c.hand_over.ensures.most)
-    (subst (λ k. PromisesOnly k c.args.b (g.L.Seg.promised c.hand_over.new.seg c.args.b) (g.L.Seg.promised c.enter_all.new.seg c.args.b)) c.in_ok-hand_over.ensures.script c.enter_all.ensures.plays.own)
+returns-clause-own g c = only_then (entries_of c.args.b c.args.looks.now) c.enter_all.ensures.plays.grew.rest c.in_ok-hand_over.ensures.hands c.enter_all.ensures.plays.grew.grows (Always c.hand_over.ensures.most)
+    (subst (λ k. PromisesOnly k c.args.b (g.L.Seg.history c.hand_over.new.seg) (g.L.Seg.history c.enter_all.new.seg) (g.L.Seg.promised c.hand_over.new.seg c.args.b) (g.L.Seg.promised c.enter_all.new.seg c.args.b)) c.in_ok-hand_over.ensures.script c.enter_all.ensures.plays.own)

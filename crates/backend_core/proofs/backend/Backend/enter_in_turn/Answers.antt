@@ -28,3 +28,9 @@ returns-in-Alive-clause-starts g c = then_so c.enter_next.result (λ makes first
 
 pub join-requires-clause-before : goal.join-requires-clause-before
 join-requires-clause-before g c = not_joined _ _ c.args.self.now c.requires.stands c.in-Unstarted.is
+
+pub returns-in-Unstarted-clause-first : goal.returns-in-Unstarted-clause-first
+returns-in-Unstarted-clause-first g c = λ first. c.join.ensures.first
+
+pub returns-in-Alive-clause-first : goal.returns-in-Alive-clause-first
+returns-in-Alive-clause-first g c = then_so c.enter_next.result (λ makes first. absurd (cc (sym first ∙ c.in-Alive.is))) c.enter_next.ensures.makes

@@ -8,3 +8,6 @@ take_look-requires-clause-room c = has_room _ _ c.args.self.now (right_ready c.a
 
 pub returns-clause-looks : goal.returns-clause-looks
 returns-clause-looks c = makes_look c.args.self.now _ c.args.look _ c.requires.wants.0 c.requires.wants.1 c.take_look.ensures.looks
+
+pub returns-clause-stays : goal.returns-clause-stays
+returns-clause-stays c = c.take_look.ensures.stays _ _ (right_ready c.args.self.now c.requires.right c.requires.wants.0).waits.rests

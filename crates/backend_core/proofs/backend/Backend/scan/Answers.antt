@@ -24,11 +24,11 @@ pub enter_scan-requires-clause-one : goal.enter_scan-requires-clause-one
 enter_scan-requires-clause-one g c = scan_one _ _ _ c.args.scan.now _ c.requires.ready.played c.in_ok-scanned.ensures.scans.rows
 
 pub returns-clause-enters : goal.returns-clause-enters
-returns-clause-enters g c = left_so (Enters _ _ _ _ _ c.args.self.now) _ _ _ c.note_scan.ensures (scan_enters _ _ c.args.self.now c.requires.ready.waits c.requires.ready.course c.args.scan.now c.args.rebuilds c.requires.next.0 c.requires.next.1 _ _ _ _ _ _ _ c.requires.ready.played
+returns-clause-enters g c = left_so (Enters _ _ _ _ _ c.args.self.now) _ _ _ c.note_scan.ensures.is (scan_enters _ _ c.args.self.now c.requires.ready.waits c.requires.ready.course c.args.scan.now c.args.rebuilds c.requires.next.0 c.requires.next.1 _ _ _ _ _ _ _ c.requires.ready.played
     (c.in_ok-enter_scan.ensures.holds _ _ _ c.requires.ready.waits.rests c.in_ok-scanned.ensures.scans.rows c.in_ok-scanned.ensures.scans.at) c.in_ok-enter_scan.ensures.kept c.in_ok-enter_scan.ensures.answer c.in_ok-scanned.ensures.scans.appends)
 
 pub returns-clause-noted : goal.returns-clause-noted
-returns-clause-noted g c = left_so (IsNoted _ _ _ c.args.self.now (nexts.Scan c.args.scan.now c.args.rebuilds)) _ _ _ c.note_scan.ensures
+returns-clause-noted g c = left_so (IsNoted _ _ _ c.args.self.now (nexts.Scan c.args.scan.now c.args.rebuilds)) _ _ _ c.note_scan.ensures.is
     (noted_with _ _ _ _ _ c.args.self.now _ _ _ _ (c.in_ok-enter_scan.ensures.holds _ _ _ c.requires.ready.waits.rests c.in_ok-scanned.ensures.scans.rows c.in_ok-scanned.ensures.scans.at) c.in_ok-scanned.ensures.scans.appends refl
     (λ i. record { looked = c.args.self.now.looked && c.args.rebuilds; frames = scan_frames _ _ c.args.self.now c.requires.ready.waits c.requires.ready.course c.args.scan.now c.args.rebuilds c.requires.next.0 c.requires.next.1 0 _ _ _ (c.in_ok-enter_scan.ensures.holds _ _ 0 c.requires.ready.waits.rests c.in_ok-scanned.ensures.scans.rows c.in_ok-scanned.ensures.scans.at) c.in_ok-enter_scan.ensures.kept i; told = c.args.self.now.told }))
 

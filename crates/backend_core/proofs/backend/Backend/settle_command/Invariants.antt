@@ -8,6 +8,7 @@ use Rattle.backend_core.proofs.backend.Backend.settle_command.Given as goal
 abbrev pub invariant-settling : goal.invariant-settling
 invariant-settling l = (l.self.progress.commands ≡ l.fn.self.progress.commands)
     × (left_of l.self.progress ≤ left_of l.fn.self.progress) × ((scenario : Scenario) (seen : List Entry) → AgreesNow scenario seen l.fn.self → AgreesNow scenario seen l.self × ((l.self.progress.id ≡ l.fn.self.progress.id) × ((l.self.progress.finished ≡ l.fn.self.progress.finished) × Settles l.fn.self l.self)))
+    × (l.self.life ≡ l.fn.self.life)
 
 abbrev pub decreases-settling : goal.decreases-settling
 decreases-settling l = left_of l.self.progress

@@ -1,6 +1,6 @@
-use Rattle.std.proofs.Common.{◌∙◌, sym, ap, subst}
+use Rattle.std.proofs.Common.{◌∙◌, refl, sym, ap, subst}
 use Rattle.backend_core.specs.Types.{Backend}
-use Rattle.backend_core.specs.Looks.{next_of_look, LooksWherever}
+use Rattle.backend_core.specs.Looks.{next_of_look, LooksWherever, StaysInCommand}
 use Rattle.backend_core.specs.Steps.{IsNextOf}
 use Rattle.backend_core.proofs.Entries.Looking.{look_well, look_before_well, accept_well}
 use Rattle.backend_core.proofs.backend.Backend.take_look.Goals as goal
@@ -19,3 +19,12 @@ returns-in-Absent-clause-looks c = λ scenario seen ready follows. accept_well s
 
 pub returns-in-Scan-clause-same : goal.returns-in-Scan-clause-same
 returns-in-Scan-clause-same c = ap (λ (s : Backend). s.progress.commands) c.note_look.ensures ∙ c.enter_look.ensures.same
+
+pub returns-in-Accept-clause-stays : goal.returns-in-Accept-clause-stays
+returns-in-Accept-clause-stays c = λ scenario seen rests. let moves = (c.enter_look.ensures.holds scenario seen rests).moves in record { id = moves.id; number = moves.finished; life = refl }
+
+pub returns-in-Scan-clause-stays : goal.returns-in-Scan-clause-stays
+returns-in-Scan-clause-stays c = λ scenario seen rests. let moves = (c.enter_look.ensures.holds scenario seen rests).moves in subst (StaysInCommand c.args.self.now) (sym c.note_look.ensures) (record { id = moves.id; number = moves.finished; life = refl })
+
+pub returns-in-Absent-clause-stays : goal.returns-in-Absent-clause-stays
+returns-in-Absent-clause-stays c = λ scenario seen rests. let moves = (c.enter_look.ensures.holds scenario seen rests).moves in record { id = moves.id; number = moves.finished; life = refl }

@@ -55,8 +55,9 @@ pub returns-clause-promises : goal.returns-clause-promises
 returns-clause-promises g c = λ a apart. promises_outside _ _ a _ c.self.view_is (c.stop_in_turn.ensures.others a apart ∙ ap (λ p. promised_in p a) c.retell.ensures.promised ∙ c.in_ok-hand_over.ensures.others a apart)
 
 pub returns-in_err-hand_over-clause-own : goal.returns-in_err-hand_over-clause-own
-returns-in_err-hand_over-clause-own g c = most_outside _ _ _ c.args.at.now.backend _ c.self.view_is c.hand_over.ensures.most
+returns-in_err-hand_over-clause-own g c = most_outside _ _ _ c.args.at.now.backend _ _ c.self.view_is c.hand_over.ensures.most
 
 pub returns-clause-own : goal.returns-clause-own
 returns-clause-own g c = let b = c.args.at.now.backend in
-    stop_only _ _ c.retell.new.self.script c.stop_in_turn.new.seg.script b _ _ _ c.self.view_is c.hand_over.ensures.most (ap (λ p. promised_in p b) c.retell.ensures.promised) c.stop_in_turn.ensures.script c.stop_in_turn.ensures.own
+    stop_only _ _ c.retell.new.self.script c.stop_in_turn.new.seg.script b _ _ _ c.args.looks.now c.retell.new.self.history c.stop_in_turn.new.seg.history c.self.view_is c.hand_over.ensures.most (ap (λ p. promised_in p b) c.retell.ensures.promised) c.stop_in_turn.ensures.script
+    (c.retell.ensures.history ∙ c.in_ok-hand_over.ensures.hands) c.stop_in_turn.ensures.grew c.stop_in_turn.ensures.own

@@ -8,4 +8,4 @@ pub returns-clause-promises : goal.returns-clause-promises
 returns-clause-promises c = λ a apart. promises_outside _ _ a _ c.self.view_is (c.work_in_turn.ensures.others a apart)
 
 pub returns-clause-own : goal.returns-clause-own
-returns-clause-own c = only_outside _ _ c.args.b _ c.self.view_is c.work_in_turn.ensures.own
+returns-clause-own c = only_outside _ _ c.args.b _ _ c.self.view_is c.work_in_turn.ensures.own

@@ -52,4 +52,4 @@ returns-clause-takes g c = takes_ok c.args.enters c.args.self _ c.work-done.resu
     c.open-turn.ensures.seen c.as_slice.ensures.value (ap (λ (v : Play). v.shared.history) (c.value.ensures.value ∙ c.open-turn.ensures.value)) (c.close-pass.ensures.seen ∙ ap (λ (v : Play). v.shared.history) c.tell.ensures.kept.0) c.clear.ensures c.work-done.ensures.enters
 
 pub returns-clause-asked : goal.returns-clause-asked
-returns-clause-asked g c = turned_asked c.work-done.new.self.shared.script c.args.self.pass.number c.work-done.new.self.shared.history c.args.self.backend c.work-done.new.backend c.work-done.result c.work-done.ensures.works c.work-done.ensures.number
+returns-clause-asked g c = turned_asked c.work-done.new.self.shared.script c.args.self.pass.number c.work-done.new.self.shared.history c.args.self.backend c.work-done.new.backend c.work-done.result c.work-done.ensures.works c.work-done.ensures.number c.work-done.ensures.first

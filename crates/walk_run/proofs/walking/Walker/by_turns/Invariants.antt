@@ -6,5 +6,5 @@ abbrev pub invariant-steps : goal.invariant-steps
 invariant-steps g l = record {
   script : g.L.Seg.script l.seg ≡ g.L.Seg.script l.fn.seg;
   goes : Goes (g.L.Seg.script l.fn.seg) (g.L.Seg.history l.fn.seg) (g.L.Seg.history l.seg) l.self.backends.items (replicate l._step l.turns.backend);
-  leaves : LeavesWell (g.L.Seg.script l.fn.seg) (g.L.Seg.history l.seg) (g.L.Seg.promised l.fn.seg) (g.L.Seg.promised l.seg);
+  leaves : LeavesWell (g.L.Seg.script l.fn.seg) (g.L.Seg.history l.fn.seg) (g.L.Seg.history l.seg) (g.L.Seg.promised l.fn.seg) (g.L.Seg.promised l.seg);
 }
