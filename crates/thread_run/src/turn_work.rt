@@ -11,7 +11,7 @@ ghost use Rattle.backend_core.specs.Places.{PromisesOnly};
 ghost use Rattle.backend_core.specs.Words.{has_left, has_joined};
 ghost use Rattle.thread_run.specs.Asks.{asked_before};
 ghost use Rattle.thread_run.specs.Runs.{IsRunSoFar};
-ghost use Rattle.thread_run.specs.Turns.{backend_of, right_before, HasMore, EntersInTurn, HasTakenTurn};
+ghost use Rattle.thread_run.specs.Turns.{backend_of, right_before, HasMore, EntersInTurn, MakesAll, HasTakenTurn};
 ghost use Rattle.thread_run.specs.Entering.{MayEnterNext, PlaysOn, PromisesWanted, ComesTo};
 
 use backend_core::{Backend, HeldLook, PLACES};
@@ -52,6 +52,7 @@ pub(crate) fn work_in_turn<L: Seg>(
     ensures own { PromisesOnly (L.script seg.old) b (L.history seg.old) (L.history seg.new) (L.promised seg.old b) (L.promised seg.new b) }
     ensures few { length (L.history seg.new) ≤ length (L.history seg.old) + length looks.now + (1 + most) }
     ensures enters { OnOk result (EntersInTurn enters b looks.now (L.history seg.old) (L.history seg.new)) }
+    ensures full { enters ≡ true → IfOk result (λ over. MakesAll over backend.new (length looks.now + (1 + most)) (L.history seg.old) (L.history seg.new)) }
     ensures works { IfOk result (λ over. HasTakenTurn (L.script seg.new) b (L.history seg.new) over backend.new) }
     ensures number { IfOk result (λ over. has_joined backend.old.life ≡ true → backend.new.progress.finished ≡ backend.old.progress.finished + one_if over) }
     ensures first { IfOk result (λ over. has_joined backend.old.life ≡ false → asked_before over backend.new ≡ 0) }
@@ -118,6 +119,7 @@ fn enter_all<L: Seg>(
     requires may { MayEnterNext (L.script seg.old) b (L.history seg.old) backend.old }
     ensures plays { PlaysOn b (L.script seg.old) (L.script seg.new) (L.history seg.old) (L.history seg.new) (L.promised seg.old) (L.promised seg.new) }
     ensures few { length (L.history seg.new) ≤ length (L.history seg.old) + (1 + most) }
+    ensures full { IfOk result (λ over. MakesAll over backend.new (1 + most) (L.history seg.old) (L.history seg.new)) }
     ensures more { OnOk result (HasMore b (L.history seg.old) (L.history seg.new)) }
     ensures comes { IfOk result (λ over. ComesTo (L.script seg.new) b (L.history seg.new) over backend.old backend.new) }
 {
@@ -160,6 +162,7 @@ fn enter_more<L: Seg>(
     requires taken { HasTakenTurn (L.script seg.old) b (L.history seg.old) false backend.old }
     ensures plays { PlaysOn b (L.script seg.old) (L.script seg.new) (L.history seg.old) (L.history seg.new) (L.promised seg.old) (L.promised seg.new) }
     ensures few { length (L.history seg.new) ≤ length (L.history seg.old) + most }
+    ensures full { IfOk result (λ over. MakesAll over backend.new most (L.history seg.old) (L.history seg.new)) }
     ensures comes { IfOk result (λ over. ComesTo (L.script seg.new) b (L.history seg.new) over backend.old backend.new) }
 {
     'entering: for _made in 0..most {
@@ -195,6 +198,7 @@ pub(crate) fn stop_in_turn<R: Wait, L: Seg>(
     ensures others { (a : ℕ) → a ≢ b → L.promised seg.new a ≡ L.promised seg.old a }
     ensures own { PromisesOnly (L.script seg.old) b (L.history seg.old) (L.history seg.new) (L.promised seg.old b) (L.promised seg.new b) }
     ensures left { OnOk result (has_left backend.new.life ≡ true) }
+    ensures id { OnOk result (backend.new.progress.id ≡ b) }
     ensures stands { OnOk result (Stands (L.script seg.new) (L.history seg.new) backend.new) }
 {
     'stopping: for _ in rt.forever() {

@@ -49,4 +49,4 @@ pub returns-clause-looks : goal.returns-clause-looks
 returns-clause-looks g c = HoldsBack (subst (HasLooked c.args.self c.look-worker.result.0) c.if-hands_over.false c.look-worker.ensures.looked) refl
 
 pub returns-clause-id : goal.returns-clause-id
-returns-clause-id g c = let looked = c.look-worker.ensures.looked in (looked.stays (looked.keeps c.if-hands_over.false).0).1
+returns-clause-id g c = c.look-worker.ensures.looked.stays.1
