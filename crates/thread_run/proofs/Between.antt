@@ -82,6 +82,15 @@ turned whole part b history over s alike has = record {
   left = λ gone. between_first whole part b history s alike has.id has.run has.short (has.left gone);
 }
 
+-- where it has left there was none
+pub left_underway : (whole : Scenario) (b : ℕ) (seen : List Entry) (held : List HeldLook) (s : Backend) → IsBetween whole b seen held s → has_left s.life ≡ true → IsUnderway whole b seen held false s
+left_underway whole b seen held s between left = record {
+  right = λ stays. absurd (both_ways _ stays left);
+  waits = λ stays now waits. absurd (both_ways _ stays left);
+  halts = λ stays at now is halts. absurd (both_ways _ stays left);
+  left = λ gone. between;
+}
+
 -- before a turn that it makes its next entry in
 pub may_enter : (whole : Scenario) (b : ℕ) (seen : List Entry) (told : Bool) (held : List HeldLook) (s : Backend) → IsBetween whole b seen held s → has_left s.life ≡ false → MayTakeTurn whole true b seen told held s
 may_enter whole b seen told held s between alive = record {

@@ -193,6 +193,10 @@ module _ {E : Type 0} (whole : Scenario) (b : ℕ) (seen : List Entry) (held : L
   pub stopped_may : (at : Backend) → stopped ≡ false → IsAtCommand over s at → (now : Backend) → HaltsWherever at now → MayHalt whole b (length at.lines) seen held now
   stopped_may at stays is now halts = underway.halts (sym told ∙ stays) at now is halts
 
+pub any_ok : {T E : Type 0} {P : Type 0} (result : Result T E) → P → OnOk result P
+any_ok (Ok x) here = here
+any_ok (Err e) here = tt
+
 pub any_err : {T E : Type 0} {P : Type 0} (result : Result T E) → P → OnErr result P
 any_err (Ok x) here = tt
 any_err (Err e) here = here

@@ -67,3 +67,9 @@ returns-in_err-ask-clause-some g c = let now = c.go_to_command.new.self in let o
       asks = asked_next over c.args.backend.now c.going.backend now (asked_before c.args.over c.args.backend.now) (length now.lines + 1) (g.G.Gate.asked c.args.gate.now) (g.G.Gate.asked c.going.gate) (g.G.Gate.asked c.ask.new.gate)
           c.requires.right c.going.invariant.agrees c.in_ok-go_to_command.ensures c.if-not-branch.false (ap (λ n. n + 1) (way_counted now (on_its_way c.args.backend.now now agrees c.requires.right))) c.going.invariant.asks c.ask.ensures.asked;
     }
+
+pub returns-then-not-branch-clause-command : goal.returns-then-not-branch-clause-command
+returns-then-not-branch-clause-command g c = λ is. absurd (cc is)
+
+pub returns-then-not-branch-clause-stopped : goal.returns-then-not-branch-clause-stopped
+returns-then-not-branch-clause-stopped g c = λ is. absurd (cc is)

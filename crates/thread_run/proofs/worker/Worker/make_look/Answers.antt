@@ -5,7 +5,7 @@ use Rattle.thread_run.specs.Turns.{IsUnderway}
 use Rattle.thread_run.specs.Workers.{HasLooked, HoldsBack, HandsOver}
 use Rattle.thread_run.proofs.Asking.{asked_id}
 use Rattle.thread_run.proofs.Between.{may_hand_all, looked_on}
-use Rattle.thread_run.proofs.Workers.{goes_then, all_seen}
+use Rattle.thread_run.proofs.Workers.{goes_then, all_seen, any_ok}
 use Rattle.thread_run.proofs.worker.Worker.make_look.Goals as goal
 
 pub take_turn-requires-clause-at : goal.take_turn-requires-clause-at
@@ -50,3 +50,6 @@ returns-clause-looks g c = HoldsBack (subst (HasLooked c.args.self c.look-worker
 
 pub returns-clause-id : goal.returns-clause-id
 returns-clause-id g c = c.look-worker.ensures.looked.stays.1
+
+pub returns-then-hands_over-clause-all : goal.returns-then-hands_over-clause-all
+returns-then-hands_over-clause-all g c = any_ok c.take_turn.result.1 c.take_turn.ensures.all
