@@ -25,6 +25,12 @@ use Rattle.thread_run.proofs.Counted.{ended_all}
 use Rattle.thread_run.proofs.Lists.{length_from_last}
 use Rattle.thread_run.proofs.Workers.{AgreesWherever, where_ok}
 
+abbrev ok_of : (T E : Type 0) → T → Result T E
+ok_of T E x = Ok x
+
+abbrev err_of : (T E : Type 0) → E → Result T E
+err_of T E refusal = Err refusal
+
 -- nothing is asked
 pub asks_none : (b first upto : ℕ) (now : List Asked) → upto ≡ first → AsksTo b first upto now now
 asks_none b first upto now same = record { count = 0; upto_is = omega (arith, same); asked = sym (append-nil now) }
@@ -161,7 +167,7 @@ pub joined_far : (s : Backend) → has_joined s.life ≡ true → asked_so_far s
 joined_far s joined = ap (λ t. cond t (s.progress.finished + 1) 0) joined
 
 -- the same after a look that is held back
-look_far : (was now : Worker) (over : Bool) (look : LookFor) → Wants was.backend (wants.Look look) → HasLooked was now false → Ok {0} {0} {Bool} {NoMemory} over ≡ Ok false → asked_before over now.backend ≡ asked_so_far was.backend
+look_far : (was now : Worker) (over : Bool) (look : LookFor) → Wants was.backend (wants.Look look) → HasLooked was now false → ok_of Bool NoMemory over ≡ Ok false → asked_before over now.backend ≡ asked_so_far was.backend
 look_far was now true look wants looked no = absurd (cc no)
 look_far was now false look wants looked no = let same = looked.stays.0 in ap (λ n. n + 1) same ∙ sym (joined_far was.backend (ap has_joined wants.0))
 
@@ -246,7 +252,7 @@ by_some (Err refusal) b commands old new asks = asks
 
 by_first : (first next : Result (Unit {0}) RunRefusal) (b commands : ℕ) (old new : List Asked) → AsksBy first b commands old new → AsksBy (first_end first next) b commands old new
 by_first (Ok done) (Ok more) b commands old new asks = asks
-by_first (Ok done) (Err refusal) b commands old new asks = by_some (Ok {0} {0} {Unit {0}} {RunRefusal} done) b commands old new asks
+by_first (Ok done) (Err refusal) b commands old new asks = by_some (ok_of (Unit {0}) RunRefusal done) b commands old new asks
 by_first (Err refusal) next b commands old new asks = asks
 
 by_next : (first next : Result (Unit {0}) RunRefusal) (b commands : ℕ) (old new : List Asked) → AsksBy next b commands old new → AsksBy (first_end first next) b commands old new
@@ -259,11 +265,11 @@ each_map result other script as (n ∷ ns) [] ys each = absurd each
 each_map result other script as (n ∷ ns) (x ∷ xs) [] each = absurd each
 each_map result other script as (n ∷ ns) (x ∷ xs) (y ∷ ys) each = (as n (length (commands_of script n)) x y each.0, each_map result other script as ns xs ys each.1)
 
-pub each_some : {T E S F : Type 0} (result : Result T E) (refusal : F) (script : Scenario) (ns : List ℕ) (xs ys : List (List Asked)) → AskedEach result script ns xs ys → AskedEach (Err {0} {0} {S} {F} refusal) script ns xs ys
-each_some result refusal script ns xs ys each = each_map result (Err refusal) script (by_some result) ns xs ys each
+pub each_some : {T E S F : Type 0} (result : Result T E) (refusal : F) (script : Scenario) (ns : List ℕ) (xs ys : List (List Asked)) → AskedEach result script ns xs ys → AskedEach (err_of S F refusal) script ns xs ys
+each_some {T} {E} {S} {F} result refusal script ns xs ys each = each_map result (err_of S F refusal) script (by_some result) ns xs ys each
 
-pub each_well : {T E S F : Type 0} (result : Result T E) (done : T) (value : S) (script : Scenario) (ns : List ℕ) (xs ys : List (List Asked)) → result ≡ Ok done → AskedEach result script ns xs ys → AskedEach (Ok {0} {0} {S} {F} value) script ns xs ys
-each_well result done value script ns xs ys is each = each_map (Ok {0} {0} {_} {_} done) (Ok value) script (λ b commands old new asks. asks) ns xs ys (subst (λ r. AskedEach r script ns xs ys) is each)
+pub each_well : {T E S F : Type 0} (result : Result T E) (done : T) (value : S) (script : Scenario) (ns : List ℕ) (xs ys : List (List Asked)) → result ≡ Ok done → AskedEach result script ns xs ys → AskedEach (ok_of S F value) script ns xs ys
+each_well {T} {E} {S} {F} result done value script ns xs ys is each = each_map (ok_of T E done) (ok_of S F value) script (λ b commands old new asks. asks) ns xs ys (subst (λ r. AskedEach r script ns xs ys) is each)
 
 -- a refusal that is handed on
 pub refused_each : {T E S F : Type 0} (inner : Result S F) (result : Result T E) (script : Scenario) (ns : List ℕ) (xs ys : List (List Asked)) → IsErr result → AskedEach inner script ns xs ys → AskedEach result script ns xs ys
@@ -291,9 +297,9 @@ each_beside r script (m ∷ ns) (x ∷ xs) [] others len each = absurd each
 each_beside r script (m ∷ ns) (x ∷ xs) (y ∷ ys) others len each = (each.0, each_beside r script ns xs ys others (omega (arith, len)) each.1)
 
 -- nothing was asked
-pub each_none : {T E : Type 0} (refusal : E) (script : Scenario) (ns : List ℕ) (xs : List (List Asked)) → length ns ≤ length xs → AskedEach (Err {0} {0} {T} {E} refusal) script ns xs xs
-each_none refusal script [] xs few = refl
-each_none refusal script (m ∷ ns) [] few = absurd (omega (arith, few))
+pub each_none : {T E : Type 0} (refusal : E) (script : Scenario) (ns : List ℕ) (xs : List (List Asked)) → length ns ≤ length xs → AskedEach (err_of T E refusal) script ns xs xs
+each_none {T} {E} refusal script [] xs few = refl
+each_none {T} {E} refusal script (m ∷ ns) [] few = absurd (omega (arith, few))
 each_none {T} {E} refusal script (m ∷ ns) (x ∷ xs) few = (record { upto = 0; asks = asks_none m 0 0 x refl }, each_none {T} {E} refusal script ns xs (omega (arith, few)))
 
 -- as the seats say, from the last on

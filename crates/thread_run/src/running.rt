@@ -3,6 +3,7 @@ ghost use Rattle.std.specs.List.{All, range_with_len};
 ghost use Rattle.backend_core.specs.Agrees.{Stands};
 ghost use Rattle.backend_core.specs.Coherent.{IsCoherent};
 ghost use Rattle.script_backends.specs.Sessions.{AreSessions};
+ghost use Rattle.turn_table.specs.Passes.{start_of};
 ghost use Rattle.thread_run.specs.Asks.{AskedEach};
 ghost use Rattle.thread_run.specs.Runs.{IsRun};
 ghost use Rattle.thread_run.specs.Seats.{AllPairs, MaySit, HasDone};

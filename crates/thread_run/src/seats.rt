@@ -1,6 +1,7 @@
 //! What each thread is lent, and how that is put together and taken apart again.
 ghost use Rattle.std.specs.Prelude.{◌≡◌, ◌<◌, ◌≤◌, ◌+◌, ◌++◌, [], length, map, vec_len, vec_capacity, OnOk};
 ghost use Rattle.std.specs.List.{AllByRecursion};
+ghost use Rattle.turn_table.specs.Passes.{start_of};
 ghost use Rattle.thread_run.specs.Seats.{AllPairs, MaySit, HasDone, IsSeated, HasWorked, from_last, number_of, first_end, end_of, StopsTogether, AskedTogether};
 ghost use Rattle.ddl_effect.specs.Commands.{commands_of};
 ghost use Rattle.thread_run.specs.Asks.{AsksBy};
