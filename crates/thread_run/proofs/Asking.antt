@@ -260,10 +260,10 @@ by_next (Ok done) next b commands old new asks = asks
 by_next (Err refusal) next b commands old new asks = by_some next b commands old new asks
 
 each_map : {T E S F : Type 0} (result : Result T E) (other : Result S F) (script : Scenario) → ((b commands : ℕ) (old new : List Asked) → AsksBy result b commands old new → AsksBy other b commands old new) → (ns : List ℕ) (xs ys : List (List Asked)) → AskedEach result script ns xs ys → AskedEach other script ns xs ys
-each_map result other script as [] xs ys each = each
-each_map result other script as (n ∷ ns) [] ys each = absurd each
-each_map result other script as (n ∷ ns) (x ∷ xs) [] each = absurd each
-each_map result other script as (n ∷ ns) (x ∷ xs) (y ∷ ys) each = (as n (length (commands_of script n)) x y each.0, each_map result other script as ns xs ys each.1)
+each_map result other script so [] xs ys each = each
+each_map result other script so (n ∷ ns) [] ys each = absurd each
+each_map result other script so (n ∷ ns) (x ∷ xs) [] each = absurd each
+each_map result other script so (n ∷ ns) (x ∷ xs) (y ∷ ys) each = (so n (length (commands_of script n)) x y each.0, each_map result other script so ns xs ys each.1)
 
 pub each_some : {T E S F : Type 0} (result : Result T E) (refusal : F) (script : Scenario) (ns : List ℕ) (xs ys : List (List Asked)) → AskedEach result script ns xs ys → AskedEach (err_of S F refusal) script ns xs ys
 each_some {T} {E} {S} {F} result refusal script ns xs ys each = each_map result (err_of S F refusal) script (by_some result) ns xs ys each

@@ -402,6 +402,9 @@ looks_fit {n} {b} {count} had id few some = let same = ap had id in omega (arith
 pub looks_promised : {n b count : ℕ} {had has : ℕ → ℕ} (first : ℕ) → n ≡ b → had b ≤ max first 48 → TakesPlaces had has n count → has b ≤ max first 48
 looks_promised {n} {b} {count} {had} {has} first id most takes = let fewer = takes.most in let one = ap had id in let two = ap has id in omega (arith, most, fewer, one, two)
 
+pub looks_none : {n b count : ℕ} {had has : ℕ → ℕ} (first : ℕ) → n ≡ b → had b ≡ first → TakesPlaces had has n count → has b ≤ first
+looks_none {n} {b} {count} {had} {has} first id same takes = let fewer = takes.most in let one = ap had id in let two = ap has id in omega (arith, same, fewer, one, two)
+
 pub looks_left : {n b count : ℕ} {had has : ℕ → ℕ} → n ≡ b → count ≤ 16 → 32 ≤ had b → TakesPlaces had has n count → 16 ≤ has b
 looks_left {n} {b} {count} {had} {has} id few some takes = let own = takes.own in let one = ap had id in let two = ap has id in omega (arith, own, one, two, few, some)
 

@@ -44,6 +44,9 @@ promises_outside k now a n is same = same ∙ ap (λ (x : Play). places_in x.sha
 pub only_outside : (k now : Play) (b n : ℕ) (new : List Entry) → k ≡ now → PromisesOnly k.shared.script b k.shared.history new (places_in k.shared b) n → PromisesOnly now.shared.script b now.shared.history new (places_in now.shared b) n
 only_outside k now b n new is only = subst (λ (x : Play). PromisesOnly x.shared.script b x.shared.history new (places_in x.shared b) n) is only
 
+pub none_outside : (k now : Play) (b n : ℕ) → k ≡ now → (32 ≤ places_in k.shared b → n ≤ places_in k.shared b) → 32 ≤ places_in now.shared b → n ≤ places_in now.shared b
+none_outside k now b n is none = subst (λ (x : Play). 32 ≤ places_in x.shared b → n ≤ places_in x.shared b) is none
+
 pub most_outside : (k now : Play) (script : Scenario) (b n : ℕ) (new : List Entry) → k ≡ now → n ≤ max (places_in k.shared b) 48 → PromisesOnly script b now.shared.history new (places_in now.shared b) n
 most_outside k now script b n new is most = Always (subst (λ (x : Play). n ≤ max (places_in x.shared b) 48) is most)
 

@@ -130,6 +130,7 @@ impl SharedPlay {
         ensures grew { Grew backend_of b self.old.shared.history self.new.shared.history }
         ensures promises { (a : ℕ) → a ≢ b → places_in self.new.shared a ≡ places_in self.old.shared a }
         ensures own { PromisesOnly self.old.shared.script b self.old.shared.history self.new.shared.history (places_in self.old.shared b) (places_in self.new.shared b) }
+        ensures none { enters ≡ false → 32 ≤ places_in self.old.shared b → places_in self.new.shared b ≤ places_in self.old.shared b }
         ensures few { length self.new.shared.history ≤ length self.old.shared.history + length looks.now + (1 + most) }
         ensures enters { OnOk result (EntersInTurn enters b looks.now self.old.shared.history self.new.shared.history) }
         ensures full { enters ≡ true → IfOk result (λ over. MakesAll over backend.new (length looks.now + (1 + most)) self.old.shared.history self.new.shared.history) }

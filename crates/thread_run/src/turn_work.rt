@@ -1,6 +1,6 @@
 //! What a backend does in its turn, on any segment.
 
-ghost use Rattle.std.specs.Prelude.{◌≡◌, ◌≢◌, ◌≤◌, ◌+◌, ◌++◌, ℕ, true, false, length, max, IfOk, OnOk, OnErr};
+ghost use Rattle.std.specs.Prelude.{◌≡◌, ◌≢◌, ◌≤◌, ◌+◌, ◌++◌, ◌⊎◌, ℕ, true, false, length, max, IfOk, OnOk, OnErr};
 ghost use Rattle.base_types.specs.Scenario.{IsBackend};
 ghost use Rattle.turn_table.specs.Histories.{Grew};
 ghost use Rattle.cacheless.specs.State.{one_if};
@@ -50,6 +50,7 @@ pub(crate) fn work_in_turn<L: Seg>(
     ensures grew { Grew backend_of b (L.history seg.old) (L.history seg.new) }
     ensures others { (a : ℕ) → a ≢ b → L.promised seg.new a ≡ L.promised seg.old a }
     ensures own { PromisesOnly (L.script seg.old) b (L.history seg.old) (L.history seg.new) (L.promised seg.old b) (L.promised seg.new b) }
+    ensures none { enters ≡ false → 32 ≤ L.promised seg.old b → L.promised seg.new b ≤ L.promised seg.old b }
     ensures few { length (L.history seg.new) ≤ length (L.history seg.old) + length looks.now + (1 + most) }
     ensures enters { OnOk result (EntersInTurn enters b looks.now (L.history seg.old) (L.history seg.new)) }
     ensures full { enters ≡ true → IfOk result (λ over. MakesAll over backend.new (length looks.now + (1 + most)) (L.history seg.old) (L.history seg.new)) }
@@ -80,6 +81,7 @@ pub(crate) fn hand_over<L: Seg>(
     ensures hands { OnOk result (L.history seg.new ≡ L.history seg.old ++ entries_of b looks.now) }
     ensures room { OnOk result (16 ≤ L.promised seg.new b) }
     ensures most { L.promised seg.new b ≤ max (L.promised seg.old b) 48 }
+    ensures none { 32 ≤ L.promised seg.old b → L.promised seg.new b ≤ L.promised seg.old b }
     ensures refused { OnErr result (L.history seg.new ≡ L.history seg.old) }
     ensures others { (a : ℕ) → a ≢ b → L.promised seg.new a ≡ L.promised seg.old a }
 {
@@ -98,6 +100,7 @@ fn renew<L: Seg>(seg: &mut L, b: u32, wanted: u32, enough: u32) -> Result<(), No
     ensures room { OnOk result (enough ≤ L.promised seg.new b) }
     ensures wanted { OnOk result (wanted ≤ L.promised seg.new b) }
     ensures most { OnOk result (L.promised seg.new b ≤ max (L.promised seg.old b) (max wanted 48)) }
+    ensures least { OnOk result ((L.promised seg.new b ≡ L.promised seg.old b) ⊎ (48 ≤ L.promised seg.new b)) }
     ensures kept { OnErr result (L.promised seg.new b ≡ L.promised seg.old b) }
     ensures none { OnOk result (wanted ≡ 0 → enough ≤ L.promised seg.old b → L.promised seg.new b ≡ L.promised seg.old b) }
     ensures others { (a : ℕ) → a ≢ b → L.promised seg.new a ≡ L.promised seg.old a }

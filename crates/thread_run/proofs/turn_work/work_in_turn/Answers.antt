@@ -100,3 +100,12 @@ returns-then-not-enters-clause-full g c = λ enters. absurd (both_ways _ c.if-no
 pub returns-clause-full : goal.returns-clause-full
 returns-clause-full g c = λ enters. full_more c.enter_all.new.backend (length c.args.looks.now) (1 + c.args.most) (g.L.Seg.history c.args.seg.now) (g.L.Seg.history c.hand_over.new.seg) (g.L.Seg.history c.enter_all.new.seg) c.enter_all.result
     (looks_long c.args.b (g.L.Seg.history c.args.seg.now) (g.L.Seg.history c.hand_over.new.seg) c.args.looks.now c.in_ok-hand_over.ensures.hands) c.enter_all.ensures.full
+
+pub returns-in_err-hand_over-clause-none : goal.returns-in_err-hand_over-clause-none
+returns-in_err-hand_over-clause-none g c = λ enters. c.hand_over.ensures.none
+
+pub returns-then-not-enters-clause-none : goal.returns-then-not-enters-clause-none
+returns-then-not-enters-clause-none g c = λ enters. c.hand_over.ensures.none
+
+pub returns-clause-none : goal.returns-clause-none
+returns-clause-none g c = λ enters. absurd (both_ways _ enters c.if-not-enters.false)
