@@ -9,7 +9,6 @@ use Rattle.std.proofs.lemmas.List.{length-append}
 use Rattle.base_types.specs.Scenario.{Scenario}
 use Rattle.event_kinds.specs.declared.entry.Entry.{Entry}
 use Rattle.history_model.specs.Log.{is_waiting}
-use Rattle.history_model.specs.MayFollow.{AllowsLook}
 use Rattle.history_model.proofs.Sound.{sound_is_legal}
 use Rattle.turn_table.specs.Histories.{Follows, NoneOf}
 use Rattle.turn_table.proofs.Lists.{none_append, follows_same}
@@ -21,7 +20,7 @@ use Rattle.backend_core.specs.Agrees.{IsPlayed, AgreesNow, Stands}
 use Rattle.backend_core.specs.Apart.{AllowsHeld, IsHolding, StandsApart, AgreesApart}
 use Rattle.backend_core.specs.Cuts.{IsAlike}
 use Rattle.backend_core.specs.Halts.{HaltsWherever}
-use Rattle.backend_core.specs.Looks.{IsRight, MakesLook, Looked, held_look, entry_held, entries_of}
+use Rattle.backend_core.specs.Looks.{IsRight, MakesLook, held_look, entry_held, entries_of}
 use Rattle.backend_core.specs.Words.{has_left}
 use Rattle.backend_core.proofs.Apart.{apart_first, apart_look}
 use Rattle.backend_core.proofs.Coherent.{stands_coherent}
@@ -81,6 +80,15 @@ turned whole part b history over s alike has = record {
   waits = λ stays now waits. let on = waits part history (has.agrees stays) in between_first whole part b history now alike (on.1 ∙ has.id) has.run has.short (awaits_stands part history now on.0);
   halts = λ stays at now is halts. let there = at_command part history over s at (has.agrees stays) has.command is in may_halt whole part b history at now alike (there.1 ∙ has.id) there.0 halts;
   left = λ gone. between_first whole part b history s alike has.id has.run has.short (has.left gone);
+}
+
+-- where it has left there was none
+pub left_underway : (whole : Scenario) (b : ℕ) (seen : List Entry) (held : List HeldLook) (s : Backend) → IsBetween whole b seen held s → has_left s.life ≡ true → IsUnderway whole b seen held false s
+left_underway whole b seen held s between left = record {
+  right = λ stays. absurd (both_ways _ stays left);
+  waits = λ stays now waits. absurd (both_ways _ stays left);
+  halts = λ stays at now is halts. absurd (both_ways _ stays left);
+  left = λ gone. between;
 }
 
 -- before a turn that it makes its next entry in
@@ -190,30 +198,6 @@ module _ (whole : Scenario) (b : ℕ) (seen now_seen : List Entry) (held : List 
     halts = λ stays at halted is halts. stops at halted is halts;
     left = λ gone. absurd (both_ways _ (alive_stays now.life here.right.keeps.alive) gone);
   }
-
--- of looks that are allowed in order the last is
-last_allowed : (history : List Entry) (b : ℕ) (held : List HeldLook) (look : HeldLook) → AllowsHeld history b (held ++ look ∷ []) → AllowsHeld history b held × AllowsLook (history ++ entries_of b held) b look.some_wait
-last_allowed history b [] look allows = (tt, subst (λ h. AllowsLook h b look.some_wait) (sym (append-nil history)) allows.0)
-last_allowed history b (first ∷ held) look allows = let rest = last_allowed (history ++ entry_held b first ∷ []) b held look allows.1 in
-    ((allows.0, rest.0), subst (λ h. AllowsLook h b look.some_wait) (append_assoc history (entry_held b first ∷ []) (entries_of b held)) rest.1)
-
--- a look that said no leaves the backend in its command
-pub looked_stays : (whole : Scenario) (b : ℕ) (seen now_seen : List Entry) (held : List HeldLook) (was now : Backend) (some_wait : Bool) → IsBetween whole b seen held was → Follows backend_of b seen now_seen → (some_wait ≡ false → is_waiting now_seen b ≡ false) → MakesLook was some_wait now → some_wait ≡ false
-    → (now.progress.finished ≡ was.progress.finished) × (now.progress.id ≡ b)
-looked_stays whole b seen now_seen held was now true between follows none makes denied = absurd (cc denied)
-looked_stays whole b seen now_seen held was now false between follows none makes denied = (looked.number, looked.id ∙ stands.id)
-  where
-    start : List Entry
-    start = between.last ++ []
-
-    before : AllowsHeld start b held × AllowsLook (start ++ entries_of b held) b false
-    before = last_allowed start b held (held_look was false) (looks_allowed whole b seen held was between now_seen false follows none [] tt (λ told. absurd (cc told)))
-
-    stands : IsHolding Stands between.script b start held was
-    stands = between.stands between.script between.alike [] tt (subst (IsPlayed between.script) (sym (append-nil between.last)) between.run.played) before.0
-
-    looked : Looked between.script (start ++ entries_of b held) was false now
-    looked = makes between.script (start ++ entries_of b held) stands.right stands.played (subst (λ n. AllowsLook (start ++ entries_of b held) n false) (sym stands.id) before.1)
 
 -- no look more may be held back
 pub full_by : (held items : List HeldLook) (look : HeldLook) → items ≡ held ++ look ∷ [] → (length items == 16) ≡ true → length held + 1 ≡ 16

@@ -6,6 +6,7 @@ use Rattle.base_types.specs.Scenario.{Scenario, IsScript, IsBackend}
 use Rattle.event_kinds.specs.declared.entry.Entry.{Entry}
 use Rattle.event_kinds.specs.declared.entry.Line.{Line}
 use Rattle.ddl_effect.specs.Commands.{commands_of}
+use Rattle.history_model.specs.declared.life.Life.TheVariants.{Unstarted, Alive, Stopped}
 use Rattle.cacheless.specs.Schedule.{has_stopped}
 use Rattle.turn_table.specs.declared.pass.Pass.{Pass}
 use Rattle.turn_table.specs.declared.turned.Turned.{Ghosts}
@@ -13,9 +14,11 @@ use Rattle.turn_table.specs.Histories.{Follows, NoneOf}
 use Rattle.turn_table.specs.Numbered.{HasSeat}
 use Rattle.turn_table.specs.Passes.{AreNumbered, IsPassOf, start_of, seats_of, seen_by, room_of}
 use Rattle.backend_core.specs.declared.backend.Backend.{Backend}
-use Rattle.backend_core.specs.Agrees.{AreSpelled, Stands}
+use Rattle.backend_core.specs.declared.life.Life.{Life}
+use Rattle.backend_core.specs.declared.life.Life.TheVariants as lives
+use Rattle.backend_core.specs.Agrees.{AreSpelled, AwaitsEntry, HasNotJoined, HasLeft, Stands}
 use Rattle.backend_core.specs.Coherent.{IsCoherent}
-use Rattle.backend_core.specs.Words.{has_left}
+use Rattle.backend_core.specs.Words.{has_joined, has_left}
 use Rattle.backend_core.proofs.Apart.{Stands-others}
 use Rattle.script_backends.specs.Sessions.{transcripts_of, AreSessions}
 use Rattle.script_backends.specs.Standing.{StandsAt, StandTogether}
@@ -29,7 +32,22 @@ use Rattle.thread_run.specs.Workers.{Table}
 use Rattle.thread_run.proofs.Played.{run_none, run_allowed}
 use Rattle.thread_run.proofs.Scripts.{left_whole}
 
--- nobody has left before the first entry
+-- nobody has joined before the first entry
+never_alive : (last : ℕ) → Unstarted ≡ Alive last → ⊥
+never_alive last e = cc
+
+never_stopped : Unstarted ≡ Stopped → ⊥
+never_stopped e = cc
+
+not_joined : (scenario : Scenario) (s : Backend) → Stands scenario [] s → has_joined s.life ≡ false
+not_joined scenario s stands = by_life s.life stands
+  where
+    by_life : (l : Life) → elim l as (λ x. Type 0) [ lives.Unstarted ↦ HasNotJoined scenario [] s | lives.Alive ↦ AwaitsEntry scenario [] s | lives.Stopped ↦ HasLeft scenario [] s ] → has_joined l ≡ false
+    by_life lives.Unstarted stands = refl
+    by_life lives.Alive stands = absurd (never_alive stands.keeps.life.last stands.keeps.life.alive)
+    by_life lives.Stopped stands = absurd (never_stopped stands.life)
+
+-- so nobody has left
 not_left : (scenario : Scenario) (s : Backend) → Stands scenario [] s → has_left s.life ≡ false
 not_left scenario s stands = sym (stopped_as scenario [] s stands)
 
@@ -56,6 +74,7 @@ module _ {of : Ghosts Play Entry Scenario} (table : Table) where
           number = let is = numbered.0 in let same = ap (λ x. x.backends) whole in (omega (arith, is, low), omega (arith, is, same, high));
           id = at.id ∙ n ∙ sym numbered.0;
           stands = subst (λ (h : List Entry). Stands (start_of table).whole h s) (sym seen) (subst (λ x. Stands x [] s) (sym whole) at.stands);
+          new = not_joined scenario s at.stands;
           alive = not_left scenario s at.stands;
           run = run_none (start_of table).whole (seen_by p) (subst AreSpelled (sym whole) spelled) seen;
           short = let empty : length (seen_by p) ≡ 0 = ap (λ (h : List Entry). length h) seen in omega (arith, empty);

@@ -1,6 +1,7 @@
 -- The gates of a run: some are lent to seats, and put back.
 use Rattle.std.proofs.Common.{◌≡◌, ◌≤◌, ◌-◌, ◌∙◌, ℕ, List, [], ◌∷◌, ◌++◌, length, map, take, drop, refl, sym, ap, subst, arith, Result}
 use Rattle.std.proofs.lemmas.List.{length-append, map-append, take-append-drop, length-take-le, take_at, drop_at}
+use Rattle.base_types.specs.Scenario.{Scenario}
 use Rattle.thread_run.specs.declared.refusal.RunRefusal.{RunRefusal}
 use Rattle.thread_run.specs.declared.seats.Seat.{Seat}
 use Rattle.edge_io.specs.declared.gates.Asked.{Asked}
@@ -56,8 +57,8 @@ module _ {G : Type 0} (n m : ℕ) (gates turned rest later back : List G) (lent 
       (stop_beside (from_last (λ s. stops s.gate) lent) (from_last (λ s. stops s.gate) now) (map stops rest) result
       (subst (StopTogether (from_last (λ s. stops s.gate) lent) (from_last (λ s. stops s.gate) now)) (sym ends) (stop_together stops lent now together))))
 
-  -- and for which backends they were asked
-  pub gates_asked : (asked : G → List Asked) (numbers : List ℕ) → AskedTogether asked lent now → from_last number_of lent ≡ numbers → AskedEach numbers (map asked gates) (map asked back)
-  gates_asked asked numbers together are = subst (λ k. AskedEach k (map asked gates) (map asked back)) are
-      (subst (λ l. AskedEach (from_last number_of lent) l (map asked back)) (sym (gates_before asked)) (subst (λ l. AskedEach (from_last number_of lent) (from_last (λ s. asked s.gate) lent ++ map asked rest) l) (sym (gates_after asked))
-      (each_beside (from_last number_of lent) (from_last (λ s. asked s.gate) lent) (from_last (λ s. asked s.gate) now) (map asked rest) (length_from_last (λ s. asked s.gate) lent ∙ sym (length_from_last number_of lent)) (each_together asked lent now together))))
+  -- and what they were asked
+  pub gates_asked : (script : Scenario) (asked : G → List Asked) (numbers : List ℕ) (result : Result (Unit {0}) RunRefusal) → AskedTogether script asked lent now → from_last number_of lent ≡ numbers → result ≡ end_of now → AskedEach result script numbers (map asked gates) (map asked back)
+  gates_asked script asked numbers result together are ends = subst (λ r. AskedEach r script numbers (map asked gates) (map asked back)) (sym ends) (subst (λ k. AskedEach (end_of now) script k (map asked gates) (map asked back)) are
+      (subst (λ l. AskedEach (end_of now) script (from_last number_of lent) l (map asked back)) (sym (gates_before asked)) (subst (λ l. AskedEach (end_of now) script (from_last number_of lent) (from_last (λ s. asked s.gate) lent ++ map asked rest) l) (sym (gates_after asked))
+      (each_beside (end_of now) script (from_last number_of lent) (from_last (λ s. asked s.gate) lent) (from_last (λ s. asked s.gate) now) (map asked rest) (length_from_last (λ s. asked s.gate) lent ∙ sym (length_from_last number_of lent)) (each_together script asked lent now together)))))

@@ -2,6 +2,7 @@
 use Rattle.std.proofs.Common.{◌≡◌, ◌≢◌, ◌≤◌, ◌<◌, ◌+◌, ◌∙◌, ◌^◌, ◌⊎◌, inl, inr, ◌==◌, ℕ, zero, suc, Bool, true, false, not, List, [], ◌∷◌, ◌++◌, refl, sym, ap, subst, append_assoc, append-nil, length, max, Result, Ok, Err, OnOk, OnErr, IfOk, arith}
 use Rattle.std.proofs.lemmas.Bool.{both_ways, cases_lt}
 use Rattle.std.proofs.lemmas.List.{length-append}
+use lib.ListN.{length-map}
 use Rattle.std.proofs.lemmas.Bool.Decides.{eqb_tells}
 use Rattle.base_types.specs.Scenario.{Scenario, IsBackend}
 use Rattle.event_kinds.specs.declared.entry.Entry.{Entry}
@@ -30,7 +31,7 @@ use Rattle.backend_core.proofs.PlacesWanted.{wanted_here, only_then}
 use Rattle.backend_core.proofs.Stepped.{awaits_stands}
 use Rattle.thread_run.specs.Asks.{asked_before}
 use Rattle.thread_run.specs.Runs.{IsRunSoFar}
-use Rattle.thread_run.specs.Turns.{backend_of, HasMore, EntersInTurn, HasTakenTurn}
+use Rattle.thread_run.specs.Turns.{backend_of, HasMore, EntersInTurn, MakesAll, HasTakenTurn}
 use Rattle.backend_core.specs.Places.{WantsPlaces, PromisesOnly, Always, Wanted}
 use Rattle.thread_run.specs.Entering.{MayEnterNext, PlaysOn, PromisesWanted, ComesTo}
 
@@ -107,6 +108,19 @@ more_then b first old new more grew = record {
   others = each_append (λ (e : Entry). backend_of e ≡ b) more.rest grew.rest more.others grew.own;
   is = grew.grows ∙ ap (λ h. h ++ grew.rest) more.is ∙ append_assoc first (more.entry ∷ more.rest) grew.rest;
 }
+
+-- by one at least
+pub more_least : {b : ℕ} {old new : List Entry} → HasMore b old new → length old + 1 ≤ length new
+more_least {b} {old} {new} more = let e = ap length more.is in omega (arith, e, length-append old (more.entry ∷ more.rest))
+
+-- by looks as many as they are
+pub looks_long : (b : ℕ) (old new : List Entry) (held : List HeldLook) → new ≡ old ++ entries_of b held → length old + length held ≤ length new
+looks_long b old new held is = let e = ap length is in omega (arith, e, length-append old (entries_of b held), length-map held (entry_held b))
+
+-- and then by those that a turn makes at least
+pub full_more : {E : Type 0} (s : Backend) (count most : ℕ) (old mid new : List Entry) (result : Result Bool E) → length old + count ≤ length mid → IfOk result (λ over. MakesAll over s most mid new) → IfOk result (λ over. MakesAll over s (count + most) old new)
+full_more s count most old mid new (Ok over) some full = λ is stays. let later = full is stays in omega (arith, some, later)
+full_more s count most old mid new (Err e) some full = tt
 
 places_step : (promised : ℕ → ℕ) (n b : ℕ) → (b ≤ n → promised b ≤ all_promised promised n) → b ≤ suc n → promised b ≤ all_promised promised n + promised (suc n)
 places_step promised n b before most = of (eqb_tells b (suc n))
@@ -387,6 +401,9 @@ looks_fit {n} {b} {count} had id few some = let same = ap had id in omega (arith
 
 pub looks_promised : {n b count : ℕ} {had has : ℕ → ℕ} (first : ℕ) → n ≡ b → had b ≤ max first 48 → TakesPlaces had has n count → has b ≤ max first 48
 looks_promised {n} {b} {count} {had} {has} first id most takes = let fewer = takes.most in let one = ap had id in let two = ap has id in omega (arith, most, fewer, one, two)
+
+pub looks_none : {n b count : ℕ} {had has : ℕ → ℕ} (first : ℕ) → n ≡ b → had b ≡ first → TakesPlaces had has n count → has b ≤ first
+looks_none {n} {b} {count} {had} {has} first id same takes = let fewer = takes.most in let one = ap had id in let two = ap has id in omega (arith, same, fewer, one, two)
 
 pub looks_left : {n b count : ℕ} {had has : ℕ → ℕ} → n ≡ b → count ≤ 16 → 32 ≤ had b → TakesPlaces had has n count → 16 ≤ has b
 looks_left {n} {b} {count} {had} {has} id few some takes = let own = takes.own in let one = ap had id in let two = ap has id in omega (arith, own, one, two, few, some)

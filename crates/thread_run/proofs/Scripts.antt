@@ -114,7 +114,7 @@ none_said backends b (p ∷ rest) all none = by_test (p.backend == b) refl (none
     by_test true own later = absurd (none (subst (IsBackend backends) (eqb-true p.backend b own) all.0))
     by_test false other later = said_other b p rest other ∙ later
 
-take_most : {X : Type 0} (n : ℕ) (xs : List X) → length (take n xs) ≤ n
+pub take_most : {X : Type 0} (n : ℕ) (xs : List X) → length (take n xs) ≤ n
 take_most {X} n [] = let empty : List X = [] in let none : length (take n empty) ≡ 0 = ap (λ (l : List X). length l) (take_all n [] (omega arith)) in omega (arith, none)
 take_most zero (x ∷ xs) = omega arith
 take_most (suc n) (x ∷ xs) = omega (arith, take_most n xs)

@@ -11,7 +11,7 @@ use Rattle.thread_run.specs.Workers.{Table, IsAt, IsNewAt, HasAllAt, Goes}
 
 -- a worker whose pass may sit, before its first turn
 pub sits : (table : Table) (w : Worker) → w.held.items ≡ [] → MaySit table w.pass w.backend → IsAt table w × IsNewAt table w
-sits table w none may = (record { of = may.of_table; backend = may.number }, record { id = may.id; stands = may.stands; alive = may.alive; held = none; run = may.run; short = may.short; all = may.all })
+sits table w none may = (record { of = may.of_table; backend = may.number }, record { id = may.id; stands = may.stands; new = may.new; alive = may.alive; held = none; run = may.run; short = may.short; all = may.all })
 
 -- a worker that has left
 has_done : (table : Table) (w : Worker) → IsAt table w → HasEnded (start_of table).whole w.pass.number (seen_by w.pass) w.backend × HasAllAt table w → HasDone table w.pass w.backend

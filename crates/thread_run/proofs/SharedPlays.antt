@@ -1,5 +1,5 @@
 -- What goes round, as a turn finds it and as it leaves it.
-use Rattle.std.proofs.Common.{◌≡◌, ◌≢◌, ◌≤◌, ◌∙◌, ◌++◌, ◌==◌, ◌⊎◌, inl, inr, ℕ, max, Bool, true, false, List, sym, ap, subst, length, arith}
+use Rattle.std.proofs.Common.{◌≡◌, ◌≢◌, ◌≤◌, ◌∙◌, ◌++◌, ◌==◌, ◌⊎◌, inl, inr, ℕ, max, Bool, true, false, List, sym, ap, subst, length, arith, Result, IfOk}
 use Rattle.std.proofs.lemmas.Bool.Decides.{eqb_tells}
 use Rattle.base_types.specs.Scenario.{Scenario, IsBackend}
 use Rattle.event_kinds.specs.declared.entry.Entry.{Entry}
@@ -16,7 +16,7 @@ use Rattle.backend_core.proofs.Cutting.Scripts.{cut_is}
 use Rattle.backend_core.specs.Places.{PromisesOnly, Always}
 use Rattle.thread_run.specs.Runs.{IsRunSoFar}
 use Rattle.thread_run.specs.Scripts.{Play, IsLeft, commands_left}
-use Rattle.thread_run.specs.Turns.{backend_of, right_before, IsHalting}
+use Rattle.thread_run.specs.Turns.{backend_of, right_before, MakesAll, IsHalting}
 use Rattle.backend_core.proofs.PlacesWanted.{only_then}
 use Rattle.thread_run.proofs.Scripts.{left_backend}
 
@@ -44,6 +44,9 @@ promises_outside k now a n is same = same ∙ ap (λ (x : Play). places_in x.sha
 pub only_outside : (k now : Play) (b n : ℕ) (new : List Entry) → k ≡ now → PromisesOnly k.shared.script b k.shared.history new (places_in k.shared b) n → PromisesOnly now.shared.script b now.shared.history new (places_in now.shared b) n
 only_outside k now b n new is only = subst (λ (x : Play). PromisesOnly x.shared.script b x.shared.history new (places_in x.shared b) n) is only
 
+pub none_outside : (k now : Play) (b n : ℕ) → k ≡ now → (32 ≤ places_in k.shared b → n ≤ places_in k.shared b) → 32 ≤ places_in now.shared b → n ≤ places_in now.shared b
+none_outside k now b n is none = subst (λ (x : Play). 32 ≤ places_in x.shared b → n ≤ places_in x.shared b) is none
+
 pub most_outside : (k now : Play) (script : Scenario) (b n : ℕ) (new : List Entry) → k ≡ now → n ≤ max (places_in k.shared b) 48 → PromisesOnly script b now.shared.history new (places_in now.shared b) n
 most_outside k now script b n new is most = Always (subst (λ (x : Play). n ≤ max (places_in x.shared b) 48) is most)
 
@@ -64,3 +67,7 @@ others_keep k now b n a part is less apart = by_number (eqb_tells a b)
 -- and the same backends
 pub backend_cut : (b n a : ℕ) (scenario part : Scenario) → part ≡ cut b n scenario → IsBackend scenario.backends a → IsBackend part.backends a
 backend_cut b n a scenario part is backend = subst (λ m. IsBackend m a) (sym (ap (λ s. s.backends) is)) backend
+
+-- and of how many entries a turn makes
+pub full_outside : {E : Type 0} (k now : Play) (s : Backend) (n : ℕ) (new : List Entry) (result : Result Bool E) → k ≡ now → IfOk result (λ over. MakesAll over s n k.shared.history new) → IfOk result (λ over. MakesAll over s n now.shared.history new)
+full_outside k now s n new result is full = subst (λ (x : Play). IfOk result (λ over. MakesAll over s n x.shared.history new)) is full

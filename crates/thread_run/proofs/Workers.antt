@@ -7,6 +7,7 @@ use Rattle.history_model.specs.Log.{is_waiting}
 use Rattle.turn_table.specs.Histories.{Follows, Grew}
 use Rattle.turn_table.specs.Passes.{seen_by}
 use Rattle.backend_core.specs.declared.backend.Backend.{Backend}
+use Rattle.backend_core.specs.declared.life.Life.TheVariants as lives
 use Rattle.backend_core.specs.declared.turns.HeldLook.{HeldLook}
 use Rattle.backend_core.specs.Agrees.{IsPlayed, AgreesNow}
 use Rattle.backend_core.specs.Apart.{IsHolding}
@@ -129,9 +130,9 @@ AgreesWherever was now = (scenario : Scenario) (seen : List Entry) → AgreesNow
 pub on_its_way : (was now : Backend) → AgreesWherever was now → IsOnItsWay was → IsOnItsWay now
 on_its_way was now agrees way = record { scenario = way.scenario; seen = way.seen; agrees = (agrees way.scenario way.seen way.agrees).0 }
 
--- one that waits for its next entry hasn't left
-pub waits_alive : (was now : Backend) → IsOnItsWay was → WaitsWherever was now → has_left now.life ≡ false
-waits_alive was now way waits = ap has_left (waits way.scenario way.seen way.agrees).0.keeps.alive
+-- one that waits for its next entry has joined, and hasn't left
+pub waits_alive : (was now : Backend) → IsOnItsWay was → WaitsWherever was now → now.life ≡ lives.Alive
+waits_alive was now way waits = (waits way.scenario way.seen way.agrees).0.keeps.alive
 
 -- it goes on to its next command
 pub goes_over : (over : Bool) (was now later : Backend) → AgreesWherever was now → GoesWherever over now later → AgreesWherever was later
@@ -191,6 +192,10 @@ module _ {E : Type 0} (whole : Scenario) (b : ℕ) (seen : List Entry) (held : L
   -- where a gate stops it at a command, it may be halted
   pub stopped_may : (at : Backend) → stopped ≡ false → IsAtCommand over s at → (now : Backend) → HaltsWherever at now → MayHalt whole b (length at.lines) seen held now
   stopped_may at stays is now halts = underway.halts (sym told ∙ stays) at now is halts
+
+pub any_ok : {T E : Type 0} {P : Type 0} (result : Result T E) → P → OnOk result P
+any_ok (Ok x) here = here
+any_ok (Err e) here = tt
 
 pub any_err : {T E : Type 0} {P : Type 0} (result : Result T E) → P → OnErr result P
 any_err (Ok x) here = tt

@@ -1,6 +1,7 @@
 -- What a gate is asked for its backend: before each of its commands, and after the last one, with the number of that command.
-use Rattle.std.specs.Prelude.{◌≡◌, ◌+◌, ℕ, zero, suc, Bool, true, false, List, [], ◌∷◌, ◌++◌}
-use Rattle.std.specs.List.{AllByRecursion}
+use Rattle.std.specs.Prelude.{◌≡◌, ◌+◌, ℕ, zero, suc, Bool, true, false, cond, List, [], ◌∷◌, ◌++◌, length, Result, Ok, Err}
+use Rattle.base_types.specs.Scenario.{Scenario}
+use Rattle.ddl_effect.specs.Commands.{commands_of}
 use Rattle.edge_io.specs.declared.gates.Asked.{Asked}
 use Rattle.backend_core.specs.declared.backend.Backend.{Backend}
 use Rattle.backend_core.specs.Words.{has_joined, has_left}
@@ -30,6 +31,13 @@ abbrev pub asked_before : Bool → Backend → ℕ
 asked_before true s = s.progress.finished
 asked_before false s = s.progress.finished + 1
 
+-- its gate stopped a backend before its command after so many: it was asked for each command after the first so many, up to that one, and stopped at the last question alone, after which it was asked nothing
+pub record StopsBefore {G : Type 0} (stops : G → ℕ) (asked : G → List Asked) (b first finished : ℕ) (old new : G) : Type 0 where
+  pub last : G
+  pub asks : AsksTo b first finished (asked old) (asked last)
+  pub steady : stops last ≡ stops old
+  pub is : asked new ≡ asked last ++ ask_of b (finished + 1) ∷ []
+
 -- a turn leaves a backend at the command after that which it was in, for which the gate is to be asked, or in the same one; one that joins is at its first, of which no gate was asked before; one that has left is at none
 pub record GoesAsked (b : ℕ) (over : Bool) (was now : Backend) : Type 0 where
   pub id : now.progress.id ≡ b
@@ -37,14 +45,17 @@ pub record GoesAsked (b : ℕ) (over : Bool) (was now : Backend) : Type 0 where
   pub first : has_joined was.life ≡ false → asked_before over now ≡ 0
   pub stays : over ≡ true → has_left now.life ≡ false
 
--- a gate was asked for this backend alone
-pub record AsksOwn (b : ℕ) (old new : List Asked) : Type 0 where
-  pub more : List Asked
-  pub own : AllByRecursion (λ a. a.backend ≡ b) more
-  pub asked : new ≡ old ++ more
+-- for how many of its commands the gate of a backend was asked between two of its turns: for none before it joins, then for those that it has finished and that which it is in
+abbrev pub asked_so_far : Backend → ℕ
+asked_so_far s = cond (has_joined s.life) (s.progress.finished + 1) 0
 
--- of the gates of backends with these numbers, in order, each was asked for its own alone, and those after them nothing
-abbrev pub AskedEach : List ℕ → List (List Asked) → List (List Asked) → Type 0
-AskedEach [] xs ys = ys ≡ xs
-AskedEach (n ∷ ns) (x ∷ xs) (y ∷ ys) = AsksOwn n x y × AskedEach ns xs ys
-AskedEach ns xs ys = ⊥
+-- by how its work ended: a gate was asked for each of so many commands, in order, and after the last one; where the work ended early, up to some of them
+abbrev pub AsksBy : {T E : Type 0} → Result T E → ℕ → ℕ → List Asked → List Asked → Type 0
+AsksBy (Ok done) b commands old new = AsksTo b 0 (commands + 1) old new
+AsksBy (Err refusal) b commands old new = AsksSome b 0 old new
+
+-- of the gates of backends with these numbers, in order, each was asked so for its own alone, and those after them nothing
+abbrev pub AskedEach : {T E : Type 0} → Result T E → Scenario → List ℕ → List (List Asked) → List (List Asked) → Type 0
+AskedEach result script [] xs ys = ys ≡ xs
+AskedEach result script (n ∷ ns) (x ∷ xs) (y ∷ ys) = AsksBy result n (length (commands_of script n)) x y × AskedEach result script ns xs ys
+AskedEach result script ns xs ys = ⊥

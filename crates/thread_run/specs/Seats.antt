@@ -2,9 +2,10 @@
 use Rattle.std.specs.Prelude.{◌≡◌, ◌≤◌, ⊤, ℕ, ◌+◌, ◌^◌, length, true, false, List, [], ◌∷◌, ◌++◌, Option, Some, None, MatchOption, Result, Ok, Err, OnOk}
 use Rattle.backend_core.specs.declared.backend.Backend.{Backend}
 use Rattle.backend_core.specs.Agrees.{Stands}
-use Rattle.backend_core.specs.Words.{has_left}
+use Rattle.backend_core.specs.Words.{has_joined, has_left}
 use Rattle.event_kinds.specs.declared.entry.Entry.{Entry}
 use Rattle.base_types.specs.Scenario.{Scenario, IsBackend}
+use Rattle.ddl_effect.specs.Commands.{commands_of}
 use Rattle.edge_io.specs.declared.gates.Asked.{Asked}
 use Rattle.turn_table.specs.declared.pass.Pass.{Pass}
 use Rattle.turn_table.specs.declared.turned.Turned.{Ghosts}
@@ -13,7 +14,7 @@ use Rattle.thread_run.specs.declared.refusal.RunRefusal.{RunRefusal}
 use Rattle.thread_run.specs.declared.refusal.RunRefusal.TheVariants as refusals
 use Rattle.thread_run.specs.declared.worker.Worker.{Worker}
 use Rattle.thread_run.specs.declared.seats.Seat.{Seat}
-use Rattle.thread_run.specs.Asks.{AsksOwn}
+use Rattle.thread_run.specs.Asks.{AsksBy}
 use Rattle.thread_run.specs.Runs.{IsRunSoFar}
 use Rattle.thread_run.specs.Scripts.{Play, HasAll}
 use Rattle.thread_run.specs.Stops.{StopsBy}
@@ -38,6 +39,7 @@ module _ {of : Ghosts Play Entry Scenario} (table : Table) where
     pub number : IsBackend (start_of table).whole.backends pass.number
     pub id : backend.progress.id ≡ pass.number
     pub stands : Stands (start_of table).whole (seen_by pass) backend
+    pub new : has_joined backend.life ≡ false
     pub alive : has_left backend.life ≡ false
     pub run : IsRunSoFar (start_of table).whole (seen_by pass)
     pub short : length (seen_by pass) + 16 ≤ 2 ^ 56
@@ -87,8 +89,8 @@ StopsTogether stops [] [] = ⊤
 StopsTogether stops (x ∷ xs) (y ∷ ys) = StopsBy (stops x.gate) (stops y.gate) y.end × StopsTogether stops xs ys
 StopsTogether stops xs ys = ⊥
 
--- each gate was asked for the backend of its seat alone
-abbrev pub AskedTogether : {G : Type 0} → (G → List Asked) → List (Seat G) → List (Seat G) → Type 0
-AskedTogether asked [] [] = ⊤
-AskedTogether asked (x ∷ xs) (y ∷ ys) = AsksOwn (number_of x) (asked x.gate) (asked y.gate) × AskedTogether asked xs ys
-AskedTogether asked xs ys = ⊥
+-- each gate was asked for the commands of its seat's backend, by how its work ended
+abbrev pub AskedTogether : {G : Type 0} → Scenario → (G → List Asked) → List (Seat G) → List (Seat G) → Type 0
+AskedTogether script asked [] [] = ⊤
+AskedTogether script asked (x ∷ xs) (y ∷ ys) = AsksBy y.end (number_of x) (length (commands_of script (number_of x))) (asked x.gate) (asked y.gate) × AskedTogether script asked xs ys
+AskedTogether script asked xs ys = ⊥

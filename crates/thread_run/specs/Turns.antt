@@ -39,6 +39,10 @@ abbrev pub EntersInTurn : Bool → ℕ → List HeldLook → List Entry → List
 EntersInTurn false b held old new = new ≡ old ++ entries_of b held
 EntersInTurn true b held old new = HasMore b (old ++ entries_of b held) new
 
+-- entries so many at least, where it is at no command and hasn't left
+abbrev pub MakesAll : Bool → Backend → ℕ → List Entry → List Entry → Type 0
+MakesAll over s count old new = over ≡ false → has_left s.life ≡ false → length old + count ≤ length new
+
 -- what a turn leaves: a history that was run so far, with room for the looks until the next, with which the backend agrees before it goes on without entries, or is at its next command already; or the backend has left, and stands in it
 pub record HasTakenTurn (scenario : Scenario) (b : ℕ) (history : List Entry) (over : Bool) (s : Backend) : Type 0 where
   pub id : s.progress.id ≡ b

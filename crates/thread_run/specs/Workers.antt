@@ -1,5 +1,5 @@
 -- A worker at its table.
-use Rattle.std.specs.Prelude.{◌≡◌, ◌≤◌, ◌<◌, ◌+◌, ◌++◌, ◌^◌, ◌⊎◌, Bool, true, false, List, [], ◌∷◌, length, Result, Ok, OnOk, IfOk}
+use Rattle.std.specs.Prelude.{◌≡◌, ◌≤◌, ◌<◌, ◌+◌, ◌++◌, ◌^◌, ◌⊎◌, ℕ, Bool, true, false, List, [], ◌∷◌, length, Result, Ok, OnOk, IfOk}
 use Rattle.base_types.specs.Scenario.{Scenario, IsBackend}
 use Rattle.base_types.specs.declared.memory.NoMemory.{NoMemory}
 use Rattle.edge_io.specs.declared.gates.Asked.{Asked}
@@ -14,9 +14,9 @@ use Rattle.backend_core.specs.declared.look_for.LookFor.{LookFor}
 use Rattle.backend_core.specs.declared.want.Want.TheVariants as wants
 use Rattle.backend_core.specs.Agrees.{Stands}
 use Rattle.backend_core.specs.Looks.{held_look, MakesLook, NeedsTurn, Wants}
-use Rattle.backend_core.specs.Words.{has_left}
+use Rattle.backend_core.specs.Words.{has_joined, has_left}
 use Rattle.thread_run.specs.declared.worker.Worker.{Worker}
-use Rattle.thread_run.specs.Asks.{AsksTo, asked_before, GoesAsked}
+use Rattle.thread_run.specs.Asks.{GoesAsked, StopsBefore}
 use Rattle.thread_run.specs.Runs.{IsRunSoFar}
 use Rattle.thread_run.specs.Turns.{backend_of, EntersInTurn}
 
@@ -36,6 +36,7 @@ HasAllAt table w = HasAll (start_of table).whole w.pass.number (room_of w.pass)
 pub record IsNewAt (table : Table) (w : Worker) : Type 0 where
   pub id : w.backend.progress.id ≡ w.pass.number
   pub stands : Stands (start_of table).whole (seen_by w.pass) w.backend
+  pub new : has_joined w.backend.life ≡ false
   pub alive : has_left w.backend.life ≡ false
   pub held : w.held.items ≡ []
   pub run : IsRunSoFar (start_of table).whole (seen_by w.pass)
@@ -62,7 +63,8 @@ pub record HasLooked (was now : Worker) (hands_over : Bool) : Type 0 where
   pub told : was_told now.pass ≡ some_wait
   pub no : some_wait ≡ false → is_waiting (seen_by now.pass) was.pass.number ≡ false
   pub makes : MakesLook was.backend some_wait now.backend
-  pub stays : some_wait ≡ false → (now.backend.progress.finished ≡ was.backend.progress.finished) × (now.backend.progress.id ≡ was.pass.number)
+  pub stays : (now.backend.progress.finished ≡ was.backend.progress.finished) × (now.backend.progress.id ≡ was.pass.number)
+  pub joined : has_joined now.backend.life ≡ true
   pub held : now.held.items ≡ was.held.items ++ held_look was.backend some_wait ∷ []
   pub hands : hands_over ≡ true → (some_wait ≡ true) ⊎ (length was.held.items + 1 ≡ 16)
   pub keeps : hands_over ≡ false → (some_wait ≡ false) × (length was.held.items + 1 < 16)
@@ -85,11 +87,17 @@ pub data DoesNext (was now : Worker) (result : Result Bool NoMemory) : Type 0 wh
   Turns : NeedsTurn was.backend → OnOk result (TakesTurn true was now) → IfOk result (λ over. GoesAsked was.pass.number over was.backend now.backend) → DoesNext was now result
   HasLeft : has_left was.backend.life ≡ true → now ≡ was → DoesNext was now result
 
--- in a step the gate of its backend was asked for each command that this came to after its look or its turn, up to that which it is in then; its pass and the looks that it holds back are as these left them
-pub record AsksOn (was now : Worker) (old new : List Asked) : Type 0 where
+-- a step that ended well: a look, a turn, or none where it had left; its pass and the looks that it holds back are as these left them, and where it has left it did nothing after them
+pub record HasStepped (was now : Worker) : Type 0 where
   pub after : Worker
   pub over : Bool
   pub does : DoesNext was after (Ok over)
   pub pass : now.pass ≡ after.pass
   pub held : now.held.items ≡ after.held.items
-  pub asks : AsksTo was.pass.number (asked_before over after.backend) (now.backend.progress.finished + 1) old new
+  pub left : has_left now.backend.life ≡ true → now ≡ after
+
+-- its gate stopped it before one of its commands, after the first so many, and it has finished none from that on, unless memory was refused in its last turn
+pub record WasStopped {G : Type 0} (stops : G → ℕ) (asked : G → List Asked) (b first : ℕ) (old new : G) (w : Worker) : Type 0 where
+  pub finished : ℕ
+  pub before : StopsBefore stops asked b first finished old new
+  pub most : w.halt_refused ≡ false → w.backend.progress.finished ≤ finished

@@ -3,6 +3,7 @@ ghost use Rattle.std.specs.List.{All, range_with_len};
 ghost use Rattle.backend_core.specs.Agrees.{Stands};
 ghost use Rattle.backend_core.specs.Coherent.{IsCoherent};
 ghost use Rattle.script_backends.specs.Sessions.{AreSessions};
+ghost use Rattle.turn_table.specs.Passes.{start_of};
 ghost use Rattle.thread_run.specs.Asks.{AskedEach};
 ghost use Rattle.thread_run.specs.Runs.{IsRun};
 ghost use Rattle.thread_run.specs.Seats.{AllPairs, MaySit, HasDone};
@@ -36,7 +37,8 @@ pub struct Ran {
 
 /// The run of a script: each backend works in a thread of its own. Condition: there is a gate for each
 /// backend. As many gates come back, in the same places, none with a lower count; each of the first was asked for
-/// the backend of its place alone, before its commands, and the others nothing. `Stopped`, `NoMemory`: the
+/// the backend of its place alone, before each of its commands in order and after the last one, up to some of
+/// them where the run fails, and the others nothing. `Stopped`, `NoMemory`: the
 /// refusal of the first backend, by number, whose work failed; the work of the others went on. `NoMemory`
 /// also before and after the threads.
 pub fn run<R: Threads + Wait + Sync, G: Gate>(
@@ -49,7 +51,7 @@ pub fn run<R: Threads + Wait + Sync, G: Gate>(
     ensures kept { NoneFell (map G.stops gates.old.items) (map G.stops gates.new.items) }
     ensures steady { OnOk result (map G.stops gates.new.items ≡ map G.stops gates.old.items) }
     ensures cause { IfErr result (λ refusal. refusal ≡ RunRefusal.Stopped → OneRose (map G.stops gates.old.items) (map G.stops gates.new.items)) }
-    ensures asked { AskedEach (range_with_len 1 script.now.backends) (map G.asked gates.old.items) (map G.asked gates.new.items) }
+    ensures asked { AskedEach result script.now (range_with_len 1 script.now.backends) (map G.asked gates.old.items) (map G.asked gates.new.items) }
     ensures run { IfOk result (λ ran. IsRun script.now ran.entries ran.lines) }
     ensures sessions { IfOk result (λ ran. AreSessions script.now ran.entries ran.lines ran.backends) }
     ensures stand { IfOk result (λ ran. All (Stands script.now ran.entries) ran.backends) }
@@ -98,7 +100,7 @@ fn run_backends<R: Threads + Wait + Sync, G: Gate>(
     ensures done { OnOk result (AllPairs (HasDone table.now) passes.new.items backends.new.items) }
     ensures numbers { OnOk result (map (λ p. p.number) passes.new.items ≡ map (λ p. p.number) passes.old.items) }
     ensures stops { StopTogether (map G.stops gates.old.items) (map G.stops gates.new.items) result }
-    ensures asked { AskedEach (map (λ p. p.number) passes.old.items) (map G.asked gates.old.items) (map G.asked gates.new.items) }
+    ensures asked { AskedEach result (start_of table.now).whole (map (λ p. p.number) passes.old.items) (map G.asked gates.old.items) (map G.asked gates.new.items) }
 {
     let count = passes.len();
     let Ok(mut seats) = Vec::with_capacity(alloc, count) else {

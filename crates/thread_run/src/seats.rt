@@ -1,8 +1,10 @@
 //! What each thread is lent, and how that is put together and taken apart again.
 ghost use Rattle.std.specs.Prelude.{◌≡◌, ◌<◌, ◌≤◌, ◌+◌, ◌++◌, [], length, map, vec_len, vec_capacity, OnOk};
 ghost use Rattle.std.specs.List.{AllByRecursion};
+ghost use Rattle.turn_table.specs.Passes.{start_of};
 ghost use Rattle.thread_run.specs.Seats.{AllPairs, MaySit, HasDone, IsSeated, HasWorked, from_last, number_of, first_end, end_of, StopsTogether, AskedTogether};
-ghost use Rattle.thread_run.specs.Asks.{AsksOwn};
+ghost use Rattle.ddl_effect.specs.Commands.{commands_of};
+ghost use Rattle.thread_run.specs.Asks.{AsksBy};
 ghost use Rattle.thread_run.specs.Stops.{StopsBy};
 
 use crate::RunRefusal;
@@ -34,7 +36,7 @@ fn work_at<R: Wait, G: Gate>(
     ensures worked { HasWorked table.now seat.new }
     ensures number { number_of seat.new ≡ number_of seat.old }
     ensures stops { StopsBy (G.stops seat.old.gate) (G.stops seat.new.gate) seat.new.end }
-    ensures own { AsksOwn (number_of seat.old) (G.asked seat.old.gate) (G.asked seat.new.gate) }
+    ensures asked { AsksBy seat.new.end (number_of seat.old) (length (commands_of (start_of table.now).whole (number_of seat.old))) (G.asked seat.old.gate) (G.asked seat.new.gate) }
 {
     let Some(worker) = seat.worker.take() else {
         unreachable!()
@@ -56,7 +58,7 @@ pub(crate) fn work_all<R: Threads + Wait + Sync, G: Gate>(
     ensures worked { AllByRecursion (HasWorked table.now) seats.new }
     ensures numbers { map number_of seats.new ≡ map number_of seats.old }
     ensures stops { StopsTogether G.stops seats.old seats.new }
-    ensures asked { AskedTogether G.asked seats.old seats.new }
+    ensures asked { AskedTogether (start_of table.now).whole G.asked seats.old seats.new }
 {
     let threads = seats.len();
     thread::for_each_mut(
@@ -65,7 +67,7 @@ pub(crate) fn work_all<R: Threads + Wait + Sync, G: Gate>(
         threads,
         &|_, seat: &mut Seat<G>|
             requires { IsSeated table.now seat.old }
-            ensures { HasWorked table.entry.now seat.new × (number_of seat.new ≡ number_of seat.old) × StopsBy (G.stops seat.old.gate) (G.stops seat.new.gate) seat.new.end × AsksOwn (number_of seat.old) (G.asked seat.old.gate) (G.asked seat.new.gate) }
+            ensures { HasWorked table.entry.now seat.new × (number_of seat.new ≡ number_of seat.old) × StopsBy (G.stops seat.old.gate) (G.stops seat.new.gate) seat.new.end × AsksBy seat.new.end (number_of seat.old) (length (commands_of (start_of table.entry.now).whole (number_of seat.old))) (G.asked seat.old.gate) (G.asked seat.new.gate) }
         { work_at(rt, alloc, table, seat) },
     );
 }

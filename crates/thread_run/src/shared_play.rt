@@ -90,7 +90,7 @@ impl SharedPlay {
     ghost use Rattle.thread_run.specs.Asks.{asked_before};
     ghost use Rattle.thread_run.specs.Runs.{IsRunSoFar};
     ghost use Rattle.thread_run.specs.Scripts.{IsLeft, commands_left};
-    ghost use Rattle.thread_run.specs.Turns.{backend_of, right_before, EntersInTurn, HasTakenTurn, IsHalting};
+    ghost use Rattle.thread_run.specs.Turns.{backend_of, right_before, EntersInTurn, MakesAll, HasTakenTurn, IsHalting};
 
     /// An empty history, for this script, with places promised to each backend.
     pub(crate) fn new(alloc: Global, script: &Script) -> Result<SharedPlay, NoMemory>
@@ -130,8 +130,10 @@ impl SharedPlay {
         ensures grew { Grew backend_of b self.old.shared.history self.new.shared.history }
         ensures promises { (a : ℕ) → a ≢ b → places_in self.new.shared a ≡ places_in self.old.shared a }
         ensures own { PromisesOnly self.old.shared.script b self.old.shared.history self.new.shared.history (places_in self.old.shared b) (places_in self.new.shared b) }
+        ensures none { enters ≡ false → 32 ≤ places_in self.old.shared b → places_in self.new.shared b ≤ places_in self.old.shared b }
         ensures few { length self.new.shared.history ≤ length self.old.shared.history + length looks.now + (1 + most) }
         ensures enters { OnOk result (EntersInTurn enters b looks.now self.old.shared.history self.new.shared.history) }
+        ensures full { enters ≡ true → IfOk result (λ over. MakesAll over backend.new (length looks.now + (1 + most)) self.old.shared.history self.new.shared.history) }
         ensures works { IfOk result (λ over. HasTakenTurn self.new.shared.script b self.new.shared.history over backend.new) }
         ensures number { IfOk result (λ over. has_joined backend.old.life ≡ true → backend.new.progress.finished ≡ backend.old.progress.finished + one_if over) }
         ensures first { IfOk result (λ over. has_joined backend.old.life ≡ false → asked_before over backend.new ≡ 0) }
@@ -159,6 +161,7 @@ impl SharedPlay {
         ensures grew { Grew backend_of at.now.backend self.old.shared.history self.new.shared.history }
         ensures left { OnOk result (has_left backend.new.life ≡ true) }
         ensures stands { OnOk result (Stands self.new.shared.script self.new.shared.history backend.new) }
+        ensures finished { OnOk result (backend.new.progress.finished ≤ at.now.commands) }
     {
         hand_over(&mut self.shared, at.backend, backend, looks)?;
         self.shared.retell(at);

@@ -1,6 +1,6 @@
 //! What a backend does in its turn, on any segment.
 
-ghost use Rattle.std.specs.Prelude.{◌≡◌, ◌≢◌, ◌≤◌, ◌+◌, ◌++◌, ℕ, true, false, length, max, IfOk, OnOk, OnErr};
+ghost use Rattle.std.specs.Prelude.{◌≡◌, ◌≢◌, ◌≤◌, ◌+◌, ◌++◌, ◌⊎◌, ℕ, true, false, length, max, IfOk, OnOk, OnErr};
 ghost use Rattle.base_types.specs.Scenario.{IsBackend};
 ghost use Rattle.turn_table.specs.Histories.{Grew};
 ghost use Rattle.cacheless.specs.State.{one_if};
@@ -11,7 +11,7 @@ ghost use Rattle.backend_core.specs.Places.{PromisesOnly};
 ghost use Rattle.backend_core.specs.Words.{has_left, has_joined};
 ghost use Rattle.thread_run.specs.Asks.{asked_before};
 ghost use Rattle.thread_run.specs.Runs.{IsRunSoFar};
-ghost use Rattle.thread_run.specs.Turns.{backend_of, right_before, HasMore, EntersInTurn, HasTakenTurn};
+ghost use Rattle.thread_run.specs.Turns.{backend_of, right_before, HasMore, EntersInTurn, MakesAll, HasTakenTurn};
 ghost use Rattle.thread_run.specs.Entering.{MayEnterNext, PlaysOn, PromisesWanted, ComesTo};
 
 use backend_core::{Backend, HeldLook, PLACES};
@@ -50,8 +50,10 @@ pub(crate) fn work_in_turn<L: Seg>(
     ensures grew { Grew backend_of b (L.history seg.old) (L.history seg.new) }
     ensures others { (a : ℕ) → a ≢ b → L.promised seg.new a ≡ L.promised seg.old a }
     ensures own { PromisesOnly (L.script seg.old) b (L.history seg.old) (L.history seg.new) (L.promised seg.old b) (L.promised seg.new b) }
+    ensures none { enters ≡ false → 32 ≤ L.promised seg.old b → L.promised seg.new b ≤ L.promised seg.old b }
     ensures few { length (L.history seg.new) ≤ length (L.history seg.old) + length looks.now + (1 + most) }
     ensures enters { OnOk result (EntersInTurn enters b looks.now (L.history seg.old) (L.history seg.new)) }
+    ensures full { enters ≡ true → IfOk result (λ over. MakesAll over backend.new (length looks.now + (1 + most)) (L.history seg.old) (L.history seg.new)) }
     ensures works { IfOk result (λ over. HasTakenTurn (L.script seg.new) b (L.history seg.new) over backend.new) }
     ensures number { IfOk result (λ over. has_joined backend.old.life ≡ true → backend.new.progress.finished ≡ backend.old.progress.finished + one_if over) }
     ensures first { IfOk result (λ over. has_joined backend.old.life ≡ false → asked_before over backend.new ≡ 0) }
@@ -79,6 +81,7 @@ pub(crate) fn hand_over<L: Seg>(
     ensures hands { OnOk result (L.history seg.new ≡ L.history seg.old ++ entries_of b looks.now) }
     ensures room { OnOk result (16 ≤ L.promised seg.new b) }
     ensures most { L.promised seg.new b ≤ max (L.promised seg.old b) 48 }
+    ensures none { 32 ≤ L.promised seg.old b → L.promised seg.new b ≤ L.promised seg.old b }
     ensures refused { OnErr result (L.history seg.new ≡ L.history seg.old) }
     ensures others { (a : ℕ) → a ≢ b → L.promised seg.new a ≡ L.promised seg.old a }
 {
@@ -97,6 +100,7 @@ fn renew<L: Seg>(seg: &mut L, b: u32, wanted: u32, enough: u32) -> Result<(), No
     ensures room { OnOk result (enough ≤ L.promised seg.new b) }
     ensures wanted { OnOk result (wanted ≤ L.promised seg.new b) }
     ensures most { OnOk result (L.promised seg.new b ≤ max (L.promised seg.old b) (max wanted 48)) }
+    ensures least { OnOk result ((L.promised seg.new b ≡ L.promised seg.old b) ⊎ (48 ≤ L.promised seg.new b)) }
     ensures kept { OnErr result (L.promised seg.new b ≡ L.promised seg.old b) }
     ensures none { OnOk result (wanted ≡ 0 → enough ≤ L.promised seg.old b → L.promised seg.new b ≡ L.promised seg.old b) }
     ensures others { (a : ℕ) → a ≢ b → L.promised seg.new a ≡ L.promised seg.old a }
@@ -118,6 +122,7 @@ fn enter_all<L: Seg>(
     requires may { MayEnterNext (L.script seg.old) b (L.history seg.old) backend.old }
     ensures plays { PlaysOn b (L.script seg.old) (L.script seg.new) (L.history seg.old) (L.history seg.new) (L.promised seg.old) (L.promised seg.new) }
     ensures few { length (L.history seg.new) ≤ length (L.history seg.old) + (1 + most) }
+    ensures full { IfOk result (λ over. MakesAll over backend.new (1 + most) (L.history seg.old) (L.history seg.new)) }
     ensures more { OnOk result (HasMore b (L.history seg.old) (L.history seg.new)) }
     ensures comes { IfOk result (λ over. ComesTo (L.script seg.new) b (L.history seg.new) over backend.old backend.new) }
 {
@@ -160,6 +165,7 @@ fn enter_more<L: Seg>(
     requires taken { HasTakenTurn (L.script seg.old) b (L.history seg.old) false backend.old }
     ensures plays { PlaysOn b (L.script seg.old) (L.script seg.new) (L.history seg.old) (L.history seg.new) (L.promised seg.old) (L.promised seg.new) }
     ensures few { length (L.history seg.new) ≤ length (L.history seg.old) + most }
+    ensures full { IfOk result (λ over. MakesAll over backend.new most (L.history seg.old) (L.history seg.new)) }
     ensures comes { IfOk result (λ over. ComesTo (L.script seg.new) b (L.history seg.new) over backend.old backend.new) }
 {
     'entering: for _made in 0..most {
@@ -195,6 +201,7 @@ pub(crate) fn stop_in_turn<R: Wait, L: Seg>(
     ensures others { (a : ℕ) → a ≢ b → L.promised seg.new a ≡ L.promised seg.old a }
     ensures own { PromisesOnly (L.script seg.old) b (L.history seg.old) (L.history seg.new) (L.promised seg.old b) (L.promised seg.new b) }
     ensures left { OnOk result (has_left backend.new.life ≡ true) }
+    ensures id { OnOk result (backend.new.progress.id ≡ b) }
     ensures stands { OnOk result (Stands (L.script seg.new) (L.history seg.new) backend.new) }
 {
     'stopping: for _ in rt.forever() {

@@ -2,7 +2,7 @@ ghost use Rattle.std.specs.Prelude.{◌≡◌, ◌≤◌, ◌<◌, ◌+◌, ◌+
 ghost use Rattle.backend_core.specs.Looks.{IsOnItsWay};
 ghost use Rattle.thread_run.specs.Turns.{WaitsWherever, IsAtCommand};
 ghost use Rattle.thread_run.specs.Stops.{StopsBy};
-ghost use Rattle.thread_run.specs.Asks.{ask_of, AsksTo, AsksSome, asked_before};
+ghost use Rattle.thread_run.specs.Asks.{ask_of, AsksTo, AsksSome, asked_before, StopsBefore};
 
 use crate::RunRefusal;
 use crate::halted_at::HaltedAt;
@@ -49,8 +49,9 @@ impl Worker {
     ghost use Rattle.backend_core.specs.Words.{has_left};
     ghost use Rattle.backend_core.specs.Halts.{HaltsWherever};
     ghost use Rattle.turn_table.specs.Passes.{start_of, seen_by, was_told};
-    ghost use Rattle.thread_run.specs.Workers.{IsAt, IsNewAt, HasAllAt, Goes, HasLooked, TakesTurn, MakesALook, DoesNext, AsksOn};
-    ghost use Rattle.thread_run.specs.Asks.{GoesAsked, AsksOwn};
+    ghost use Rattle.thread_run.specs.Workers.{IsAt, IsNewAt, HasAllAt, Goes, HasLooked, TakesTurn, MakesALook, DoesNext, HasStepped, WasStopped};
+    ghost use Rattle.ddl_effect.specs.Commands.{commands_of};
+    ghost use Rattle.thread_run.specs.Asks.{GoesAsked, AsksBy, asked_so_far};
     ghost use Rattle.thread_run.specs.Turns.{MayTakeTurn, MayHalt, IsBetween, IsUnderway, HasEnded};
 
     /// A backend with its pass, before its first turn.
@@ -82,7 +83,8 @@ impl Worker {
         ensures ended { OnOk result.1 (HasEnded (start_of table.now).whole self.pass.number (seen_by result.0.pass) result.0.backend × HasAllAt table.now result.0) }
         ensures halted { result.1 ≡ Err RunRefusal.Stopped → result.0.halt_refused ≡ false → has_left result.0.backend.life ≡ true }
         ensures stops { StopsBy (G.stops gate.old) (G.stops gate.new) result.1 }
-        ensures own { AsksOwn self.pass.number (G.asked gate.old) (G.asked gate.new) }
+        ensures asked { AsksBy result.1 self.pass.number (length (commands_of (start_of table.now).whole self.pass.number)) (G.asked gate.old) (G.asked gate.new) }
+        ensures stopped { result.1 ≡ Err RunRefusal.Stopped → WasStopped G.stops G.asked self.pass.number 0 gate.old gate.new result.0 }
     {
         let mut worker = self;
         'working: for _ in rt.forever() {
@@ -114,9 +116,10 @@ impl Worker {
         ensures between { OnOk result.1 (IsBetween (start_of table.now).whole self.pass.number (seen_by result.0.pass) result.0.held.items result.0.backend) }
         ensures halted { result.1 ≡ Err RunRefusal.Stopped → result.0.halt_refused ≡ false → has_left result.0.backend.life ≡ true }
         ensures stops { StopsBy (G.stops gate.old) (G.stops gate.new) result.1 }
-        ensures asks { OnOk result.1 (has_left result.0.backend.life ≡ false → AsksOn self result.0 (G.asked gate.old) (G.asked gate.new)) }
-        ensures unasked { OnOk result.1 (has_left result.0.backend.life ≡ true → G.asked gate.new ≡ G.asked gate.old) }
-        ensures own { AsksOwn self.pass.number (G.asked gate.old) (G.asked gate.new) }
+        ensures steps { OnOk result.1 (HasStepped self result.0) }
+        ensures asked { OnOk result.1 (AsksTo self.pass.number (asked_so_far self.backend) (asked_so_far result.0.backend) (G.asked gate.old) (G.asked gate.new)) }
+        ensures some { AsksSome self.pass.number (asked_so_far self.backend) (G.asked gate.old) (G.asked gate.new) }
+        ensures stopped { result.1 ≡ Err RunRefusal.Stopped → WasStopped G.stops G.asked self.pass.number (asked_so_far self.backend) gate.old gate.new result.0 }
     {
         let (mut worker, made) = self.next(rt, alloc, table);
         let Ok(over) = made else {
@@ -269,6 +272,7 @@ impl Worker {
         requires may { (now : Backend) → HaltsWherever self.backend now → MayHalt (start_of table.now).whole self.pass.number (length self.backend.lines) (seen_by self.pass) self.held.items now }
         ensures goes { Goes table.now self result }
         ensures left { result.halt_refused ≡ false → has_left result.backend.life ≡ true }
+        ensures most { result.halt_refused ≡ false → result.backend.progress.finished ≤ length self.backend.lines }
     {
         let Worker {
             pass,
@@ -326,7 +330,7 @@ fn go_on<R: Wait, G: Gate>(
     ensures command { result ≡ Err RunRefusal.Stopped → IsAtCommand over backend.old backend.new }
     ensures stops { StopsBy (G.stops gate.old) (G.stops gate.new) result }
     ensures asks { OnOk result (AsksTo backend.old.progress.id (asked_before over backend.old) (backend.new.progress.finished + 1) (G.asked gate.old) (G.asked gate.new)) }
-    ensures stopped { result ≡ Err RunRefusal.Stopped → AsksTo backend.old.progress.id (asked_before over backend.old) (backend.new.progress.finished + 1) (G.asked gate.old) (G.asked gate.new) }
+    ensures stopped { result ≡ Err RunRefusal.Stopped → StopsBefore G.stops G.asked backend.old.progress.id (asked_before over backend.old) backend.new.progress.finished gate.old gate.new }
     ensures some { AsksSome backend.old.progress.id (asked_before over backend.old) (G.asked gate.old) (G.asked gate.new) }
 {
     ask_at(rt, gate, backend, over)?;
@@ -350,6 +354,7 @@ fn ask_at<R: Wait, G: Gate>(
     requires count { length backend.now.lines ≡ backend.now.progress.finished }
     ensures stops { StopsBy (G.stops gate.old) (G.stops gate.new) result }
     ensures command { OnErr result (over ≡ true) }
+    ensures asked { OnErr result (G.asked gate.new ≡ G.asked gate.old ++ ask_of backend.now.progress.id (backend.now.progress.finished + 1) ∷ []) }
     ensures asks { AsksTo backend.now.progress.id (asked_before over backend.now) (backend.now.progress.finished + 1) (G.asked gate.old) (G.asked gate.new) }
 {
     if over {

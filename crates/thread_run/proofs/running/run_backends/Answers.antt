@@ -1,5 +1,7 @@
 use lib.ListN.{length-map}
 use Rattle.std.proofs.Common.{◌≡◌, ◌++◌, ◌∙◌, length, map, sym, ap, subst, arith}
+use Rattle.turn_table.specs.Passes.{start_of}
+use Rattle.thread_run.specs.declared.refusal.RunRefusal.TheVariants as refusals
 use Rattle.thread_run.specs.Seats.{StopsTogether, AskedTogether, from_last, number_of, end_of}
 use Rattle.thread_run.proofs.Asking.{each_none}
 use Rattle.thread_run.proofs.Lists.{from_last_same}
@@ -46,7 +48,7 @@ returns-clause-stops g c =
 
 pub returns-in_default-clause-asked : goal.returns-in_default-clause-asked
 returns-in_default-clause-asked g c = let held = c.args.gates.now.ok.0 in let passes = c.args.passes.now.ok.0 in let few = c.requires.counts.1 in
-    each_none (map (λ p. p.number) c.args.passes.now.items) (map g.G.Gate.asked c.args.gates.now.items) (omega (arith, held, passes, few, length-map c.args.passes.now.items (λ p. p.number), length-map c.args.gates.now.items g.G.Gate.asked))
+    each_none refusals.NoMemory (start_of c.args.table.now).whole (map (λ p. p.number) c.args.passes.now.items) (map g.G.Gate.asked c.args.gates.now.items) (omega (arith, held, passes, few, length-map c.args.passes.now.items (λ p. p.number), length-map c.args.gates.now.items g.G.Gate.asked))
 
 pub returns-clause-asked : goal.returns-clause-asked
 returns-clause-asked g c =
@@ -61,4 +63,4 @@ returns-clause-asked g c =
     let held = c.args.gates.now.ok.0 in let few = c.requires.counts.1 in
     gates_asked c.len-count.result later.len c.args.gates.now.items c.rotate_left.new.self.items rest later.items c.rotate_right.new.self.items seats.items c.work_all.new.seats
     (omega (arith, held, few)) c.rotate_left.ensures.items c.seat_all.ensures.gates many (same ∙ many) (c.unseat_all-ended.ensures.gates ∙ ap (λ l. rest ++ from_last (λ s. s.gate) l) w) later.ok.0 c.rotate_right.ensures.items
-    asked (map (λ p. p.number) c.args.passes.now.items) (subst (λ l. AskedTogether asked l c.work_all.new.seats) now c.work_all.ensures.asked) c.seat_all.ensures.numbers
+    (start_of c.args.table.now).whole asked (map (λ p. p.number) c.args.passes.now.items) c.unseat_all-ended.result (subst (λ l. AskedTogether (start_of c.args.table.now).whole asked l c.work_all.new.seats) now c.work_all.ensures.asked) c.seat_all.ensures.numbers (c.unseat_all-ended.ensures.end ∙ ap end_of w)

@@ -1,4 +1,5 @@
 use Rattle.std.proofs.Common.{◌∙◌, sym, ap}
+use Rattle.turn_table.specs.Passes.{start_of}
 use Rattle.thread_run.specs.Seats.{number_of}
 use Rattle.thread_run.proofs.Asking.{asked_together, asked_seen}
 use Rattle.thread_run.proofs.Lists.{map_same}
@@ -14,5 +15,5 @@ returns-clause-stops g c = stops_together g.G.Gate.stops c.args.seats.now c.for_
     (λ i d h. let e = (c.for_each_mut.ensures i d h).1 in stops_seen g.G.Gate.stops e.argument.now e.after_call.now _ _ e.argument_is e.left e.call.2)
 
 pub returns-clause-asked : goal.returns-clause-asked
-returns-clause-asked g c = asked_together g.G.Gate.asked c.args.seats.now c.for_each_mut.new.s c.for_each_mut.auto.s
-    (λ i d h. let e = (c.for_each_mut.ensures i d h).1 in asked_seen g.G.Gate.asked e.argument.now e.after_call.now _ _ e.argument_is e.left e.call.3)
+returns-clause-asked g c = asked_together (start_of c.args.table.now).whole g.G.Gate.asked c.args.seats.now c.for_each_mut.new.s c.for_each_mut.auto.s
+    (λ i d h. let e = (c.for_each_mut.ensures i d h).1 in asked_seen (start_of c.args.table.now).whole g.G.Gate.asked e.argument.now e.after_call.now _ _ e.argument_is e.left e.call.3)

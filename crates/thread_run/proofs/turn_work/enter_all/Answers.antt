@@ -1,4 +1,4 @@
-use Rattle.thread_run.proofs.Played.{plays_then, comes_over, comes_ok, more_ok, backend_still}
+use Rattle.thread_run.proofs.Played.{more_least, full_more, plays_then, comes_over, comes_ok, more_ok, backend_still}
 use Rattle.thread_run.proofs.turn_work.enter_all.Goals as goal
 
 pub returns-in_err-enter_one-clause-plays : goal.returns-in_err-enter_one-clause-plays
@@ -21,3 +21,9 @@ returns-clause-more g c = more_ok c.enter_more.result c.in_ok-enter_one.ensures.
 
 pub returns-clause-comes : goal.returns-clause-comes
 returns-clause-comes g c = comes_ok (g.L.Seg.script c.enter_more.new.seg) (g.L.Seg.history c.enter_more.new.seg) c.enter_more.new.backend c.enter_more.result (comes_over c.if-branch.false c.in_ok-enter_one.ensures.comes) c.enter_more.ensures.comes
+
+pub returns-then-branch-clause-full : goal.returns-then-branch-clause-full
+returns-then-branch-clause-full g c = λ over. absurd (cc over)
+
+pub returns-clause-full : goal.returns-clause-full
+returns-clause-full g c = full_more c.enter_more.new.backend 1 c.args.most (g.L.Seg.history c.args.seg.now) (g.L.Seg.history c.enter_one.new.seg) (g.L.Seg.history c.enter_more.new.seg) c.enter_more.result (more_least c.in_ok-enter_one.ensures.more) c.enter_more.ensures.full

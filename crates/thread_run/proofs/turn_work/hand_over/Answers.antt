@@ -1,6 +1,6 @@
-use Rattle.std.proofs.Common.{◌∙◌, ◌++◌, ap, arith}
+use Rattle.std.proofs.Common.{◌∙◌, ◌++◌, refl, ap, arith}
 use Rattle.backend_core.specs.Looks.{entries_of}
-use Rattle.thread_run.proofs.Played.{renewed_calls, looks_fit, looks_promised, looks_left}
+use Rattle.thread_run.proofs.Played.{renewed_calls, looks_fit, looks_promised, looks_none, looks_left}
 use Rattle.thread_run.proofs.turn_work.hand_over.Goals as goal
 
 pub hand_looks-requires-clause-calls : goal.hand_looks-requires-clause-calls
@@ -23,3 +23,9 @@ returns-in_err-renew-clause-most g c = let kept = c.in_err-renew.ensures.kept in
 
 pub returns-clause-most : goal.returns-clause-most
 returns-clause-most g c = looks_promised (g.L.Seg.promised c.args.seg.now c.args.b) c.requires.id c.in_ok-renew.ensures.most c.hand_looks.ensures.places
+
+pub returns-in_err-renew-clause-none : goal.returns-in_err-renew-clause-none
+returns-in_err-renew-clause-none g c = λ some. let kept = c.in_err-renew.ensures.kept in omega (arith, kept)
+
+pub returns-clause-none : goal.returns-clause-none
+returns-clause-none g c = λ some. looks_none (g.L.Seg.promised c.args.seg.now c.args.b) c.requires.id (c.in_ok-renew.ensures.none refl some) c.hand_looks.ensures.places

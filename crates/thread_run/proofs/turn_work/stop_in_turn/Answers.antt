@@ -49,3 +49,6 @@ returns-in_err-step_in_turn-clause-own g c = (plays_then c.stopping.invariant.pl
 
 pub stopping-preserved : goal.stopping-preserved
 stopping-preserved g c = record { plays = plays_then c.stopping.invariant.plays c.in_ok-step_in_turn.ensures.plays; id = c.in_ok-step_in_turn.ensures.id; stands = c.in_ok-step_in_turn.ensures.stands }
+
+pub returns-then-is_stopped-clause-id : goal.returns-then-is_stopped-clause-id
+returns-then-is_stopped-clause-id g c = c.stopping.invariant.id

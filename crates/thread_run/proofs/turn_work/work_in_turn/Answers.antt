@@ -1,4 +1,4 @@
-use Rattle.std.proofs.Common.{◌∙◌, ◌++◌, sym, ap, subst}
+use Rattle.std.proofs.Common.{◌∙◌, ◌+◌, ◌++◌, sym, ap, subst, length}
 use Rattle.std.proofs.lemmas.Bool.{both_ways}
 use Rattle.backend_core.specs.Agrees.{AgreesNow, Stands}
 use Rattle.backend_core.specs.Looks.{entries_of}
@@ -6,7 +6,7 @@ use Rattle.backend_core.specs.Words.{has_joined}
 use Rattle.backend_core.specs.Places.{PromisesOnly, Always}
 use Rattle.backend_core.proofs.PlacesWanted.{only_then}
 use Rattle.thread_run.specs.Turns.{right_before, EntersInTurn}
-use Rattle.thread_run.proofs.Played.{none_over, grew_not, grew_then, plays_same, plays_looks, handed_turn, handed_right, backend_still, enters_more, comes_taken, comes_number, comes_first}
+use Rattle.thread_run.proofs.Played.{looks_long, full_more, none_over, grew_not, grew_then, plays_same, plays_looks, handed_turn, handed_right, backend_still, enters_more, comes_taken, comes_number, comes_first}
 use Rattle.thread_run.proofs.turn_work.work_in_turn.Goals as goal
 
 pub hand_over-requires-clause-id : goal.hand_over-requires-clause-id
@@ -93,3 +93,19 @@ returns-then-not-enters-clause-own g c = Always c.hand_over.ensures.most
 pub returns-clause-own : goal.returns-clause-own
 returns-clause-own g c = only_then (entries_of c.args.b c.args.looks.now) c.enter_all.ensures.plays.grew.rest c.in_ok-hand_over.ensures.hands c.enter_all.ensures.plays.grew.grows (Always c.hand_over.ensures.most)
     (subst (λ k. PromisesOnly k c.args.b (g.L.Seg.history c.hand_over.new.seg) (g.L.Seg.history c.enter_all.new.seg) (g.L.Seg.promised c.hand_over.new.seg c.args.b) (g.L.Seg.promised c.enter_all.new.seg c.args.b)) c.in_ok-hand_over.ensures.script c.enter_all.ensures.plays.own)
+
+pub returns-then-not-enters-clause-full : goal.returns-then-not-enters-clause-full
+returns-then-not-enters-clause-full g c = λ enters. absurd (both_ways _ c.if-not-enters.true enters)
+
+pub returns-clause-full : goal.returns-clause-full
+returns-clause-full g c = λ enters. full_more c.enter_all.new.backend (length c.args.looks.now) (1 + c.args.most) (g.L.Seg.history c.args.seg.now) (g.L.Seg.history c.hand_over.new.seg) (g.L.Seg.history c.enter_all.new.seg) c.enter_all.result
+    (looks_long c.args.b (g.L.Seg.history c.args.seg.now) (g.L.Seg.history c.hand_over.new.seg) c.args.looks.now c.in_ok-hand_over.ensures.hands) c.enter_all.ensures.full
+
+pub returns-in_err-hand_over-clause-none : goal.returns-in_err-hand_over-clause-none
+returns-in_err-hand_over-clause-none g c = λ enters. c.hand_over.ensures.none
+
+pub returns-then-not-enters-clause-none : goal.returns-then-not-enters-clause-none
+returns-then-not-enters-clause-none g c = λ enters. c.hand_over.ensures.none
+
+pub returns-clause-none : goal.returns-clause-none
+returns-clause-none g c = λ enters. absurd (both_ways _ enters c.if-not-enters.false)

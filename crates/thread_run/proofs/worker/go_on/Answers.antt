@@ -1,6 +1,6 @@
 use Rattle.std.proofs.Common.{◌≡◌, ◌∙◌, ◌+◌, inl, inr, refl, ap, length}
 use Rattle.thread_run.specs.Asks.{asked_before}
-use Rattle.thread_run.proofs.Asking.{asked_next, asked_far}
+use Rattle.thread_run.proofs.Asking.{asked_next, asked_far, stops_at, stops_next}
 use Rattle.thread_run.proofs.Counted.{way_counted, way_few}
 use Rattle.thread_run.proofs.Workers.{on_its_way, goes_over, goes_far, comes_over}
 use Rattle.thread_run.proofs.worker.go_on.Goals as goal
@@ -15,7 +15,7 @@ pub returns-in_err-ask_at-clause-command : goal.returns-in_err-ask_at-clause-com
 returns-in_err-ask_at-clause-command g c = λ is. inl (c.in_err-ask_at.ensures.command, refl)
 
 pub returns-in_err-ask_at-clause-stopped : goal.returns-in_err-ask_at-clause-stopped
-returns-in_err-ask_at-clause-stopped g c = λ is. c.ask_at.ensures.asks
+returns-in_err-ask_at-clause-stopped g c = λ is. stops_at g.G.Gate.stops g.G.Gate.asked c.args.over c.args.backend.now c.args.gate.now c.ask_at.new.gate c.in_err-ask_at.ensures.command c.in_err-ask_at.ensures.asked
 
 pub returns-in_err-ask_at-clause-some : goal.returns-in_err-ask_at-clause-some
 returns-in_err-ask_at-clause-some g c = record { upto = c.args.backend.now.progress.finished + 1; asks = c.ask_at.ensures.asks }
@@ -57,8 +57,8 @@ returns-in_err-ask-clause-command g c = λ is. inr (comes_over c.in_ok-go_to_com
 pub returns-in_err-ask-clause-stopped : goal.returns-in_err-ask-clause-stopped
 returns-in_err-ask-clause-stopped g c = let now = c.go_to_command.new.self in let over = c.in_ok-go_to_command.field-0 in
     let agrees = goes_over over c.args.backend.now c.going.backend now c.going.invariant.agrees c.in_ok-go_to_command.ensures in
-    λ is. asked_next over c.args.backend.now c.going.backend now (asked_before c.args.over c.args.backend.now) (length now.lines + 1) (g.G.Gate.asked c.args.gate.now) (g.G.Gate.asked c.going.gate) (g.G.Gate.asked c.ask.new.gate)
-    c.requires.right c.going.invariant.agrees c.in_ok-go_to_command.ensures c.if-not-branch.false (ap (λ n. n + 1) (way_counted now (on_its_way c.args.backend.now now agrees c.requires.right))) c.going.invariant.asks c.ask.ensures.asked
+    λ is. stops_next g.G.Gate.stops g.G.Gate.asked over c.args.backend.now c.going.backend now (asked_before c.args.over c.args.backend.now) (length now.lines + 1) c.args.gate.now c.going.gate c.ask.new.gate
+    c.requires.right c.going.invariant.agrees c.in_ok-go_to_command.ensures c.if-not-branch.false (ap (λ n. n + 1) (way_counted now (on_its_way c.args.backend.now now agrees c.requires.right))) c.going.invariant.steady c.going.invariant.asks c.ask.ensures.asked
 
 pub returns-in_err-ask-clause-some : goal.returns-in_err-ask-clause-some
 returns-in_err-ask-clause-some g c = let now = c.go_to_command.new.self in let over = c.in_ok-go_to_command.field-0 in
@@ -67,3 +67,9 @@ returns-in_err-ask-clause-some g c = let now = c.go_to_command.new.self in let o
       asks = asked_next over c.args.backend.now c.going.backend now (asked_before c.args.over c.args.backend.now) (length now.lines + 1) (g.G.Gate.asked c.args.gate.now) (g.G.Gate.asked c.going.gate) (g.G.Gate.asked c.ask.new.gate)
           c.requires.right c.going.invariant.agrees c.in_ok-go_to_command.ensures c.if-not-branch.false (ap (λ n. n + 1) (way_counted now (on_its_way c.args.backend.now now agrees c.requires.right))) c.going.invariant.asks c.ask.ensures.asked;
     }
+
+pub returns-then-not-branch-clause-command : goal.returns-then-not-branch-clause-command
+returns-then-not-branch-clause-command g c = λ is. absurd (cc is)
+
+pub returns-then-not-branch-clause-stopped : goal.returns-then-not-branch-clause-stopped
+returns-then-not-branch-clause-stopped g c = λ is. absurd (cc is)

@@ -1,6 +1,7 @@
 use Rattle.std.proofs.Common.{◌∙◌, ap}
 use Rattle.shared_seg.specs.Places.{promised_in}
 use Rattle.backend_core.specs.Cuts.{cut}
+use Rattle.thread_run.proofs.Counted.{stopped_few}
 use Rattle.thread_run.proofs.CutRuns.{run_halted, stands_halted}
 use Rattle.thread_run.proofs.Played.{grew_looked, grew_then}
 use Rattle.thread_run.proofs.Scripts.{left_less}
@@ -61,3 +62,8 @@ pub returns-clause-own : goal.returns-clause-own
 returns-clause-own g c = let b = c.args.at.now.backend in
     stop_only _ _ c.retell.new.self.script c.stop_in_turn.new.seg.script b _ _ _ c.args.looks.now c.retell.new.self.history c.stop_in_turn.new.seg.history c.self.view_is c.hand_over.ensures.most (ap (λ p. promised_in p b) c.retell.ensures.promised) c.stop_in_turn.ensures.script
     (c.retell.ensures.history ∙ c.in_ok-hand_over.ensures.hands) c.stop_in_turn.ensures.grew c.stop_in_turn.ensures.own
+
+pub returns-clause-finished : goal.returns-clause-finished
+returns-clause-finished g c = let at = c.args.at.now in
+    stopped_few at.backend at.commands c.self.inside.shared.script c.stop_in_turn.new.seg.script c.stop_in_turn.new.seg.history c.stop_in_turn.new.backend c.stop_in_turn.result
+    (c.stop_in_turn.ensures.script ∙ c.retell.ensures.script ∙ ap (cut at.backend at.commands) c.in_ok-hand_over.ensures.script) c.stop_in_turn.ensures.id c.stop_in_turn.ensures.left c.stop_in_turn.ensures.stands

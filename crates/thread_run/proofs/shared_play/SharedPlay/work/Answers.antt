@@ -1,4 +1,4 @@
-use Rattle.thread_run.proofs.SharedPlays.{backend_inside, promises_outside, only_outside}
+use Rattle.thread_run.proofs.SharedPlays.{backend_inside, promises_outside, only_outside, none_outside, full_outside}
 use Rattle.thread_run.proofs.shared_play.SharedPlay.work.Goals as goal
 
 pub work_in_turn-requires-clause-backend : goal.work_in_turn-requires-clause-backend
@@ -9,3 +9,9 @@ returns-clause-promises c = λ a apart. promises_outside _ _ a _ c.self.view_is 
 
 pub returns-clause-own : goal.returns-clause-own
 returns-clause-own c = only_outside _ _ c.args.b _ _ c.self.view_is c.work_in_turn.ensures.own
+
+pub returns-clause-full : goal.returns-clause-full
+returns-clause-full c = λ enters. full_outside _ _ c.work_in_turn.new.backend _ _ c.work_in_turn.result c.self.view_is (c.work_in_turn.ensures.full enters)
+
+pub returns-clause-none : goal.returns-clause-none
+returns-clause-none c = λ enters. none_outside _ _ c.args.b _ c.self.view_is (c.work_in_turn.ensures.none enters)

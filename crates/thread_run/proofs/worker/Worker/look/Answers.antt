@@ -1,8 +1,9 @@
-use Rattle.std.proofs.Common.{◌∙◌, inl, inr, sym, subst}
+use Rattle.std.proofs.Common.{◌∙◌, inl, inr, sym, ap, subst}
 use Rattle.std.proofs.lemmas.Bool.{both_ways}
 use Rattle.base_types.specs.Scenario.{IsBackend}
 use Rattle.turn_table.specs.Passes.{start_of, seen_by}
-use Rattle.thread_run.proofs.Between.{between_right, pushed_as, looked_stays, full_by, not_full}
+use Rattle.backend_core.specs.Words.{has_joined}
+use Rattle.thread_run.proofs.Between.{between_right, pushed_as, full_by, not_full}
 use Rattle.thread_run.proofs.Workers.{extends_follows}
 use Rattle.thread_run.proofs.worker.Worker.look.Goals as goal
 use Rattle.thread_run.proofs.worker.Worker.look.Goals.{then-some_wait, else-some_wait}
@@ -26,7 +27,8 @@ returns-clause-looked c = record {
   told = c.look-some_wait.ensures.told;
   no = c.look-some_wait.ensures.no;
   makes = c.look_by_word.ensures.looks;
-  stays = looked_stays (start_of c.args.table.now).whole c.args.self.pass.number (seen_by c.args.self.pass) (seen_by c.look-some_wait.new.pass) c.args.self.held.items c.args.self.backend c.look_by_word.new.self c.look-some_wait.result c.requires.between c.look-some_wait.ensures.seen c.look-some_wait.ensures.no c.look_by_word.ensures.looks;
+  stays = (c.look_by_word.ensures.stays.number, c.look_by_word.ensures.stays.id ∙ c.requires.between.id);
+  joined = ap has_joined (c.look_by_word.ensures.stays.life ∙ c.requires.wants.0);
   held = pushed_as c.args.self.held.items c.push.new.self.items c.look_by_word.result c.args.self.backend c.look-some_wait.result c.push.ensures.items c.look_by_word.ensures.held;
   hands = elim c.if-some_wait.branch [
     | then-some_wait w ↦ λ over. inl w.if-some_wait.true

@@ -5,7 +5,7 @@ use Rattle.thread_run.specs.Turns.{IsUnderway}
 use Rattle.thread_run.specs.Workers.{HasLooked, HoldsBack, HandsOver}
 use Rattle.thread_run.proofs.Asking.{asked_id}
 use Rattle.thread_run.proofs.Between.{may_hand_all, looked_on}
-use Rattle.thread_run.proofs.Workers.{goes_then, all_seen}
+use Rattle.thread_run.proofs.Workers.{goes_then, all_seen, any_ok}
 use Rattle.thread_run.proofs.worker.Worker.make_look.Goals as goal
 
 pub take_turn-requires-clause-at : goal.take_turn-requires-clause-at
@@ -49,4 +49,7 @@ pub returns-clause-looks : goal.returns-clause-looks
 returns-clause-looks g c = HoldsBack (subst (HasLooked c.args.self c.look-worker.result.0) c.if-hands_over.false c.look-worker.ensures.looked) refl
 
 pub returns-clause-id : goal.returns-clause-id
-returns-clause-id g c = let looked = c.look-worker.ensures.looked in (looked.stays (looked.keeps c.if-hands_over.false).0).1
+returns-clause-id g c = c.look-worker.ensures.looked.stays.1
+
+pub returns-then-hands_over-clause-all : goal.returns-then-hands_over-clause-all
+returns-then-hands_over-clause-all g c = any_ok c.take_turn.result.1 c.take_turn.ensures.all

@@ -1,12 +1,12 @@
-use Rattle.std.proofs.Common.{◌∙◌, ◌≡◌, ◌+◌, refl, sym, subst, length}
-use Rattle.std.proofs.lemmas.Bool.{both_ways}
+use Rattle.std.proofs.Common.{sym, subst, length}
 use Rattle.turn_table.specs.Passes.{start_of, seen_by}
 use Rattle.thread_run.specs.declared.refusal.RunRefusal.TheVariants as refusals
-use Rattle.thread_run.specs.Asks.{asked_before}
+use Rattle.thread_run.specs.Asks.{asked_so_far}
 use Rattle.thread_run.specs.Stops.{StopsBy}
 use Rattle.thread_run.specs.Turns.{MayHalt}
-use Rattle.thread_run.specs.Workers.{HasAllAt, DoesNext}
-use Rattle.thread_run.proofs.Asking.{asks_as, owns_none, owns_then}
+use Rattle.thread_run.specs.Workers.{HasAllAt}
+use Rattle.thread_run.proofs.Asking.{some_none, gone_step, gone_asked, went_step, went_asked, went_some, went_stopped}
+use Rattle.thread_run.proofs.Counted.{command_counted}
 use Rattle.thread_run.proofs.Workers.{waits_alive, at_kept, goes_kept, goes_then, where_ok, was_refused, gone_between, stays_right, went_between, stopped_may}
 use Rattle.thread_run.proofs.worker.Worker.step.Goals as goal
 
@@ -83,39 +83,50 @@ pub returns-in-Err-Stopped-clause-stops : goal.returns-in-Err-Stopped-clause-sto
 returns-in-Err-Stopped-clause-stops g c = let e = c.in-Err-Stopped in
     subst (StopsBy (g.G.Gate.stops c.args.gate.now) (g.G.Gate.stops c.go_on.new.gate)) (was_refused c.go_on.result e.field-0 refusals.Stopped e.is e.field-0-is) c.go_on.ensures.stops
 
-pub returns-in_default-clause-own : goal.returns-in_default-clause-own
-returns-in_default-clause-own g c = owns_none c.args.self.pass.number (g.G.Gate.asked c.args.gate.now)
+pub returns-in_default-clause-some : goal.returns-in_default-clause-some
+returns-in_default-clause-some g c = some_none c.args.self.pass.number (asked_so_far c.args.self.backend) (g.G.Gate.asked c.args.gate.now)
 
-pub returns-then-is_stopped-clause-asks : goal.returns-then-is_stopped-clause-asks
-returns-then-is_stopped-clause-asks g c = λ stays. absurd (both_ways _ stays (sym c.is_stopped.ensures ∙ c.if-is_stopped.true))
+pub returns-in_default-clause-stopped : goal.returns-in_default-clause-stopped
+returns-in_default-clause-stopped g c = λ is. absurd (cc is)
 
-pub returns-then-is_stopped-clause-own : goal.returns-then-is_stopped-clause-own
-returns-then-is_stopped-clause-own g c = owns_none c.args.self.pass.number (g.G.Gate.asked c.args.gate.now)
+pub returns-then-is_stopped-clause-steps : goal.returns-then-is_stopped-clause-steps
+returns-then-is_stopped-clause-steps g c = gone_step c.args.self c.next-worker.result.0 c.in-Ok.over c.next-worker.result.1 c.in-Ok.is c.next-worker.ensures.does c.next-worker.ensures.id c.is_stopped.result c.is_stopped.ensures
 
-pub returns-in-Ok-go_on-clause-asks : goal.returns-in-Ok-go_on-clause-asks
-returns-in-Ok-go_on-clause-asks g c = let worker = c.next-worker.result.0 in λ stays. record {
-  after = worker;
-  over = c.in-Ok.over;
-  does = subst (DoesNext c.args.self worker) c.in-Ok.is c.next-worker.ensures.does;
-  pass = refl;
-  held = refl;
-  asks = asks_as worker.backend.progress.id c.args.self.pass.number (asked_before c.in-Ok.over worker.backend) (c.go_on.new.backend.progress.finished + 1) (c.go_on.new.backend.progress.finished + 1) (g.G.Gate.asked c.args.gate.now) (g.G.Gate.asked c.go_on.new.gate)
-      (where_ok (worker.backend.progress.id ≡ c.args.self.pass.number) c.next-worker.result.1 c.in-Ok.over c.in-Ok.is c.next-worker.ensures.id) refl c.in-Ok-go_on.ensures.asks;
-}
+pub returns-then-is_stopped-clause-asked : goal.returns-then-is_stopped-clause-asked
+returns-then-is_stopped-clause-asked g c = gone_asked c.args.self c.next-worker.result.0 c.in-Ok.over c.next-worker.result.1 c.in-Ok.is c.next-worker.ensures.does c.next-worker.ensures.id c.is_stopped.result c.is_stopped.ensures (g.G.Gate.asked c.args.gate.now) c.if-is_stopped.true
 
-pub returns-in-Ok-go_on-clause-unasked : goal.returns-in-Ok-go_on-clause-unasked
-returns-in-Ok-go_on-clause-unasked g c = let worker = c.next-worker.result.0 in
-    let right = stays_right (start_of c.args.table.now).whole c.args.self.pass.number (seen_by worker.pass) worker.held.items worker.backend c.next-worker.result.1 c.in-Ok.over c.in-Ok.is c.next-worker.ensures.underway c.is_stopped.result c.is_stopped.ensures c.if-is_stopped.false in
-    λ left. absurd (both_ways _ (waits_alive worker.backend c.go_on.new.backend right c.in-Ok-go_on.ensures.waits) left)
+pub returns-then-is_stopped-clause-some : goal.returns-then-is_stopped-clause-some
+returns-then-is_stopped-clause-some g c = some_none c.args.self.pass.number (asked_so_far c.args.self.backend) (g.G.Gate.asked c.args.gate.now)
 
-pub returns-in-Ok-go_on-clause-own : goal.returns-in-Ok-go_on-clause-own
-returns-in-Ok-go_on-clause-own g c = owns_then c.args.self.pass.number c.next-worker.result.0.backend.progress.id (asked_before c.in-Ok.over c.next-worker.result.0.backend) c.go_on.ensures.some.upto (g.G.Gate.asked c.args.gate.now) (g.G.Gate.asked c.args.gate.now) (g.G.Gate.asked c.go_on.new.gate)
-    (where_ok (c.next-worker.result.0.backend.progress.id ≡ c.args.self.pass.number) c.next-worker.result.1 c.in-Ok.over c.in-Ok.is c.next-worker.ensures.id) (owns_none c.args.self.pass.number (g.G.Gate.asked c.args.gate.now)) c.go_on.ensures.some.asks
+pub returns-then-is_stopped-clause-stopped : goal.returns-then-is_stopped-clause-stopped
+returns-then-is_stopped-clause-stopped g c = λ is. absurd (cc is)
 
-pub returns-in-Err-NoMemory-clause-own : goal.returns-in-Err-NoMemory-clause-own
-returns-in-Err-NoMemory-clause-own g c = owns_then c.args.self.pass.number c.next-worker.result.0.backend.progress.id (asked_before c.in-Ok.over c.next-worker.result.0.backend) c.go_on.ensures.some.upto (g.G.Gate.asked c.args.gate.now) (g.G.Gate.asked c.args.gate.now) (g.G.Gate.asked c.go_on.new.gate)
-    (where_ok (c.next-worker.result.0.backend.progress.id ≡ c.args.self.pass.number) c.next-worker.result.1 c.in-Ok.over c.in-Ok.is c.next-worker.ensures.id) (owns_none c.args.self.pass.number (g.G.Gate.asked c.args.gate.now)) c.go_on.ensures.some.asks
+pub returns-in-Ok-go_on-clause-steps : goal.returns-in-Ok-go_on-clause-steps
+returns-in-Ok-go_on-clause-steps g c = let worker = c.next-worker.result.0 in
+    let alive = waits_alive worker.backend c.go_on.new.backend (stays_right (start_of c.args.table.now).whole c.args.self.pass.number (seen_by worker.pass) worker.held.items worker.backend c.next-worker.result.1 c.in-Ok.over c.in-Ok.is c.next-worker.ensures.underway c.is_stopped.result c.is_stopped.ensures c.if-is_stopped.false) c.in-Ok-go_on.ensures.waits in
+    went_step c.args.self c.next-worker.result.0 c.in-Ok.over c.next-worker.result.1 c.in-Ok.is c.next-worker.ensures.does c.next-worker.ensures.id c.is_stopped.result c.is_stopped.ensures c.go_on.new.backend alive
 
-pub returns-in-Err-Stopped-clause-own : goal.returns-in-Err-Stopped-clause-own
-returns-in-Err-Stopped-clause-own g c = owns_then c.args.self.pass.number c.next-worker.result.0.backend.progress.id (asked_before c.in-Ok.over c.next-worker.result.0.backend) c.go_on.ensures.some.upto (g.G.Gate.asked c.args.gate.now) (g.G.Gate.asked c.args.gate.now) (g.G.Gate.asked c.go_on.new.gate)
-    (where_ok (c.next-worker.result.0.backend.progress.id ≡ c.args.self.pass.number) c.next-worker.result.1 c.in-Ok.over c.in-Ok.is c.next-worker.ensures.id) (owns_none c.args.self.pass.number (g.G.Gate.asked c.args.gate.now)) c.go_on.ensures.some.asks
+pub returns-in-Ok-go_on-clause-asked : goal.returns-in-Ok-go_on-clause-asked
+returns-in-Ok-go_on-clause-asked g c = let worker = c.next-worker.result.0 in
+    let alive = waits_alive worker.backend c.go_on.new.backend (stays_right (start_of c.args.table.now).whole c.args.self.pass.number (seen_by worker.pass) worker.held.items worker.backend c.next-worker.result.1 c.in-Ok.over c.in-Ok.is c.next-worker.ensures.underway c.is_stopped.result c.is_stopped.ensures c.if-is_stopped.false) c.in-Ok-go_on.ensures.waits in
+    went_asked c.args.self c.next-worker.result.0 c.in-Ok.over c.next-worker.result.1 c.in-Ok.is c.next-worker.ensures.does c.next-worker.ensures.id c.is_stopped.result c.is_stopped.ensures c.go_on.new.backend (g.G.Gate.asked c.args.gate.now) (g.G.Gate.asked c.go_on.new.gate) c.if-is_stopped.false alive c.in-Ok-go_on.ensures.asks
+
+pub returns-in-Ok-go_on-clause-some : goal.returns-in-Ok-go_on-clause-some
+returns-in-Ok-go_on-clause-some g c = went_some c.args.self c.next-worker.result.0 c.in-Ok.over c.next-worker.result.1 c.in-Ok.is c.next-worker.ensures.does c.next-worker.ensures.id c.is_stopped.result c.is_stopped.ensures (g.G.Gate.asked c.args.gate.now) (g.G.Gate.asked c.go_on.new.gate) c.if-is_stopped.false c.go_on.ensures.some
+
+pub returns-in-Ok-go_on-clause-stopped : goal.returns-in-Ok-go_on-clause-stopped
+returns-in-Ok-go_on-clause-stopped g c = λ is. absurd (cc is)
+
+pub returns-in-Err-NoMemory-clause-some : goal.returns-in-Err-NoMemory-clause-some
+returns-in-Err-NoMemory-clause-some g c = went_some c.args.self c.next-worker.result.0 c.in-Ok.over c.next-worker.result.1 c.in-Ok.is c.next-worker.ensures.does c.next-worker.ensures.id c.is_stopped.result c.is_stopped.ensures (g.G.Gate.asked c.args.gate.now) (g.G.Gate.asked c.go_on.new.gate) c.if-is_stopped.false c.go_on.ensures.some
+
+pub returns-in-Err-NoMemory-clause-stopped : goal.returns-in-Err-NoMemory-clause-stopped
+returns-in-Err-NoMemory-clause-stopped g c = λ is. absurd (cc is)
+
+pub returns-in-Err-Stopped-clause-some : goal.returns-in-Err-Stopped-clause-some
+returns-in-Err-Stopped-clause-some g c = went_some c.args.self c.next-worker.result.0 c.in-Ok.over c.next-worker.result.1 c.in-Ok.is c.next-worker.ensures.does c.next-worker.ensures.id c.is_stopped.result c.is_stopped.ensures (g.G.Gate.asked c.args.gate.now) (g.G.Gate.asked c.go_on.new.gate) c.if-is_stopped.false c.go_on.ensures.some
+
+pub returns-in-Err-Stopped-clause-stopped : goal.returns-in-Err-Stopped-clause-stopped
+returns-in-Err-Stopped-clause-stopped g c = let worker = c.next-worker.result.0 in let at = c.go_on.new.backend in let e = c.in-Err-Stopped in let was = was_refused c.go_on.result e.field-0 refusals.Stopped e.is e.field-0-is in
+    let counted = command_counted c.in-Ok.over worker.backend at (stays_right (start_of c.args.table.now).whole c.args.self.pass.number (seen_by worker.pass) worker.held.items worker.backend c.next-worker.result.1 c.in-Ok.over c.in-Ok.is c.next-worker.ensures.underway c.is_stopped.result c.is_stopped.ensures c.if-is_stopped.false) (c.go_on.ensures.command was) in
+    λ is. went_stopped c.args.self c.next-worker.result.0 c.in-Ok.over c.next-worker.result.1 c.in-Ok.is c.next-worker.ensures.does c.next-worker.ensures.id c.is_stopped.result c.is_stopped.ensures g.G.Gate.stops g.G.Gate.asked at c.halt.result c.args.gate.now c.go_on.new.gate c.if-is_stopped.false counted (c.go_on.ensures.stopped was) c.halt.ensures.most

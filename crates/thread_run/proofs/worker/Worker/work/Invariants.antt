@@ -1,6 +1,6 @@
 use Rattle.std.proofs.Common.{◌≡◌}
 use Rattle.turn_table.specs.Passes.{start_of, seen_by}
-use Rattle.thread_run.specs.Asks.{AsksOwn}
+use Rattle.thread_run.specs.Asks.{AsksTo, asked_so_far}
 use Rattle.thread_run.specs.Turns.{IsBetween}
 use Rattle.thread_run.specs.Workers.{HasAllAt, Goes}
 use Rattle.thread_run.proofs.worker.Worker.work.Given as goal
@@ -11,5 +11,5 @@ invariant-working g l = record {
   all : HasAllAt l.table l.worker;
   between : IsBetween (start_of l.table).whole l.fn.self.pass.number (seen_by l.worker.pass) l.worker.held.items l.worker.backend;
   steady : g.G.Gate.stops l.gate ≡ g.G.Gate.stops l.fn.gate;
-  own : AsksOwn l.fn.self.pass.number (g.G.Gate.asked l.fn.gate) (g.G.Gate.asked l.gate);
+  asked : AsksTo l.fn.self.pass.number 0 (asked_so_far l.worker.backend) (g.G.Gate.asked l.fn.gate) (g.G.Gate.asked l.gate);
 }
