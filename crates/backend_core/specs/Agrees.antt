@@ -15,7 +15,7 @@ use Rattle.cacheless.specs.Silently.{is_to_answer_at}
 use Rattle.cacheless.specs.State.{session_at}
 use Rattle.cacheless.specs.State as progress
 use Rattle.cacheless.specs.Telling.{Tells, AreLines, TellsNow}
-pub use Rattle.cacheless.proofs.Allowed.EndsReleased.{Fits as RunsFit}
+pub use Rattle.cacheless.specs.OwnTransaction.{RunsFit}
 use Rattle.backend_core.specs.Types.{Command, Scenario, Entry, Backend}
 use Rattle.backend_core.specs.declared.life.Life.TheVariants as lives
 use Rattle.backend_core.specs.Cuts.{HoldsBefore}

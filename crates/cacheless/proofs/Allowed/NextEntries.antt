@@ -264,9 +264,9 @@ abbrev pub IsLater : Event → Type 0
 IsLater events.Start = ⊥
 IsLater event = ⊤
 
-lives : (last n : ℕ) (event : Event) → IsLater event → last ≤ n → FollowsLife (Alive last) n event
-lives last n events.Start later low = absurd later
-lives last n event later low = low
+pub later_lives : (last n : ℕ) (event : Event) → IsLater event → last ≤ n → FollowsLife (Alive last) n event
+later_lives last n events.Start later low = absurd later
+later_lives last n event later low = low
 
 shown : (event : Event) → FollowsVisible false event
 shown event = tt
@@ -277,7 +277,7 @@ lives_on scenario history b s event allowed is stopped later = goes (subst (Life
   where
     goes : (life_of history b ≡ Stopped) ⊎ LivesTo (life_of history b) (number_of s) → FollowsLife (life_of history b) (number_of s) event
     goes (inl over) = absurd (both_ways _ stopped (ap is_stopped over))
-    goes (inr alive) = subst (λ x. FollowsLife x (number_of s) event) (sym alive.alive) (lives alive.last (number_of s) event later alive.most)
+    goes (inr alive) = subst (λ x. FollowsLife x (number_of s) event) (sym alive.alive) (later_lives alive.last (number_of s) event later alive.most)
 
 pub free_lives : (scenario : Scenario) (history : List Entry) (b : ℕ) (s : Session) (event : Event) → IsFree scenario history b s → IsLater event → FollowsLife (life_of history b) (number_of s) event
 free_lives scenario history b s event free later = lives_on scenario history b s event free.allowed free.is free.stopped later
