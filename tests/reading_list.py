@@ -4,7 +4,7 @@
 The list has each module of crates/*/specs that the clauses of the top call cite, directly or through others, with its number
 of lines; but for the modules named Types and Events, which only give types their names, and for what Sessions of catsync_top
 alone cites: of that the page has the number of all lines. Says what is wrong and ends with status 1, or with --write puts it
-right (a module that is new comes last in its crate's row).
+right (a module that is new comes last in its crate's row). None of these modules, nor the top call, may import proofs.
 """
 import os
 import re
@@ -13,9 +13,11 @@ import sys
 TOP = os.path.dirname(os.path.dirname(os.path.abspath(__file__)))
 PAGE = os.path.join(TOP, "docs", "DEFINITIONS.md")
 CITES = re.compile(r"^\s*(?:pub |ghost )?use Rattle\.(\w+)\.specs\.(\w+)\b", re.MULTILINE)
+PROOFS = re.compile(r"^\s*(?:pub |ghost )?use (Rattle\.\w+\.proofs\.[\w.]*\w)", re.MULTILINE)
 COUNT = re.compile(r"these ([\d,]+) lines")
 BESIDES = re.compile(r"rests on ([\d,]+) lines besides")
 SESSIONS = ("catsync_top", "Sessions")
+TOP_CALL = ("catsync_top", "src", "top.rt")
 
 
 def text_of(*parts):
@@ -23,18 +25,29 @@ def text_of(*parts):
         return file.read()
 
 
-def cited(less=()):
-    """The modules that the top call cites, but for these and what they alone cite, with their lines."""
-    found, left = {}, CITES.findall(text_of("catsync_top", "src", "top.rt"))
+def followed(less=()):
+    """The modules that the top call cites, but for these and what they alone cite, with their texts."""
+    found, left = {}, CITES.findall(text_of(*TOP_CALL))
     left = [module for module in left if module not in less]
     while left:
         crate, module = left.pop()
         path = (crate, "specs", module + ".antt")
         if (crate, module) not in found and os.path.exists(os.path.join(TOP, "crates", *path)):
-            text = text_of(*path)
-            found[crate, module] = text.count("\n")
-            left += CITES.findall(text)
-    return {key: lines for key, lines in found.items() if key[1] not in ("Types", "Events")}
+            found[crate, module] = text_of(*path)
+            left += CITES.findall(found[crate, module])
+    return found
+
+
+def cited(less=()):
+    """The same with their lines, but for the modules that only give types their names."""
+    return {key: text.count("\n") for key, text in followed(less).items() if key[1] not in ("Types", "Events")}
+
+
+def imports_of_proofs():
+    """The files that are followed and import proofs, with what they import."""
+    texts = {"/".join(TOP_CALL): text_of(*TOP_CALL)}
+    texts.update({"%s/specs/%s.antt" % module: text for module, text in followed().items()})
+    return [(path, module) for path, text in sorted(texts.items()) for module in PROOFS.findall(text)]
 
 
 def row_of(crate, listed, modules):
@@ -65,8 +78,11 @@ def main():
     with open(PAGE, encoding="utf-8") as file:
         page = file.read()
     right, lacking = mended(page)
+    proofs = imports_of_proofs()
     for crate in lacking:
         print("docs/DEFINITIONS.md: no row for %s" % crate)
+    for path, module in proofs:
+        print("crates/%s imports %s, but a reader has the specs alone" % (path, module))
     if right != page and "--write" in sys.argv[1:]:
         with open(PAGE, "w", encoding="utf-8") as file:
             file.write(right)
@@ -76,7 +92,7 @@ def main():
                 print("is:     %s\nshould: %s" % (old, new))
         print("tests/reading_list.py --write puts it right")
         return 1
-    return 1 if lacking else 0
+    return 1 if lacking or proofs else 0
 
 
 if __name__ == "__main__":

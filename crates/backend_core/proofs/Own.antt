@@ -13,7 +13,7 @@ use Rattle.history_model.proofs.Reading.{life_of-own}
 use Rattle.history_model.proofs.Sound.{sound_is_legal}
 use Rattle.seg_calls.specs.Calls.{places_for, Appends}
 use Rattle.history_model.specs.Changing.{is_empty}
-use Rattle.cacheless.specs.Facts.{Facts, facts_of, facts_by}
+use Rattle.cacheless.specs.Facts.{Facts, facts_of}
 use Rattle.cacheless.specs.Holds.{HasEntered, entry_of, with_own}
 use Rattle.cacheless.specs.MayEnter.{SuitsHistory}
 use Rattle.cacheless.specs.OnCourse.{FollowsPlan, TellsAlone, IsOnCourse, CourseOf, AllOnCourse}
@@ -26,6 +26,7 @@ use Rattle.cacheless.specs.Settled.{gives_in, gives_left}
 use Rattle.cacheless.specs.Work.{work_of}
 use Rattle.cacheless.specs.State.{session_at}
 use Rattle.cacheless.specs.Telling.{AreLines, TellsNow}
+use Rattle.cacheless.proofs.FactsAfter.{facts_by}
 use Rattle.cacheless.proofs.Allowed.AtRest.{IsStuck, WaitsForEntry}
 use Rattle.cacheless.proofs.Allowed.Economical.{plays_needed}
 use Rattle.cacheless.proofs.Allowed.NextKeeps.{KeepsAllBy, next_keeps}
@@ -36,7 +37,7 @@ use Rattle.cacheless.proofs.Resting.{first_left, finished_same}
 use Rattle.cacheless.proofs.Same.{work_same}
 use Rattle.cacheless.specs.Awaiting.{HasNoEntry, AwaitsEntry as SessionAwaits, answer_after}
 use Rattle.cacheless.proofs.OwnAnswers.{waiting_is as session_is, at_session as command_is, own_next, own_tells}
-use Rattle.cacheless.proofs.OwnPlaces.{own_places}
+use Rattle.cacheless.proofs.OwnPlaces.{own_absent}
 use Rattle.backend_core.specs.Types.{Purpose, Row, Command, Scenario, Entry, Event, Progress, Backend}
 use Rattle.backend_core.specs.Agrees.{IsPlayed, RunsFit, command_at, Keeps, AgreesNow, AwaitsEntry, HasNotJoined}
 use Rattle.backend_core.specs.Fits.{Fits, is_lost}
@@ -50,7 +51,7 @@ waiting {s = s} waits = session_at s.progress waits.rests.holds.rest
 
 -- it waits too
 abbrev pub session_waits : {scenario : Scenario} {seen : List Entry} {s : Backend} → AwaitsEntry scenario seen s → SessionAwaits scenario seen s.progress s.lines
-session_waits waits = record { rests = waits.rests; places = waits.keeps.places; tells = waits.tells; lines_are = waits.lines; answered = waits.answered }
+session_waits waits = record { rests = waits.rests; absent = waits.keeps.absent; tells = waits.tells; lines_are = waits.lines; answered = waits.answered }
 
 -- one that hasn't joined has a session without entries
 abbrev pub no_entry : {scenario : Scenario} {seen : List Entry} {s : Backend} → HasNotJoined scenario seen s → HasNoEntry scenario seen s.progress
@@ -218,7 +219,7 @@ own_agrees scenario old was now event waits played courses plays follows goes fi
         alive = ap (life_of (with_own old was.progress event)) goes.moves.id ∙ life_of-own old (entry_of b (was.progress.finished + 1) event) b (eq-eqb b b refl) ∙ lives;
         most = omega (arith, goes.moves.finished);
       };
-      places = own_places scenario old was.progress now.progress event was.lines (session_waits waits) courses follows plays goes;
+      absent = own_absent scenario old was.progress now.progress event was.lines (session_waits waits) courses follows plays goes;
     }
 
     told : TellsNow scenario (with_own old was.progress event) now.progress goes.holds × AreLines scenario (with_own old was.progress event) now.progress (session_at now.progress goes.holds.rest) was.lines

@@ -16,8 +16,9 @@ use Rattle.history_model.specs.Versions.{answer_of}
 use Rattle.history_model.proofs.Prefixes.{own-own, own-other}
 use Rattle.history_model.proofs.Reading.{last_event_of-own, last_event_of-other, running_transaction_of-own, running_transaction_of-other, lists_of-own, lists_of-other, is_usable-own, is_usable-other, rows_read-own, rows_read-other, read_at-own, read_at-other}
 use Rattle.cacheless.specs.Types.{Row, Purpose, Event}
-use Rattle.cacheless.specs.Facts.{facts_of, facts_by, due_last, kept_if, kept_in, kept_by}
+use Rattle.cacheless.specs.Facts.{facts_of, due_last, kept_if, kept_in}
 use Rattle.cacheless.specs.Sessions.{session_of, session_by}
+use Rattle.cacheless.proofs.FactsAfter.{facts_by, kept_by}
 
 spared_step : (t u : Bool) (given : List Row) (at : Option ℕ) (old : Option Read) → old ≡ kept_if u given (unwrap_or at 0) → kept_if (t && u) given (unwrap_or at 0) ≡ (if t then old else None)
 spared_step true u given at old is = sym is
@@ -81,6 +82,9 @@ kept_read history b kept scan same has = sym (kept_rows_read history b scan (sym
 
 pub kept_place_read : (history : List Entry) (b : ℕ) (scan : Purpose) → is_usable history b scan ≡ true → place_kept (kept_in history b) scan ≡ place_read history b scan
 kept_place_read history b scan is = ap (λ t. option_map_or (λ (read : Read). read.at) (kept_if t (rows_read history b scan) (place_read history b scan)) 0) is
+
+pub kept_place : (history : List Entry) (b : ℕ) (kept : Kept) (scan : Purpose) → kept_in history b ≡ kept → is_kept kept scan ≡ true → place_read history b scan ≡ place_kept kept scan
+kept_place history b kept scan same has = sym (kept_place_read history b scan (sym (kept_usable history b scan) ∙ ap (λ k. is_kept k scan) same ∙ has)) ∙ ap (λ k. place_kept k scan) same
 
 -- the session of a backend after its own entry
 pub session_of-own : (scenario : Scenario) (history : List Entry) (e : Entry) (b : ℕ) → (e.backend == b) ≡ true

@@ -6,6 +6,7 @@ pub mod Work
 pub mod Owed
 pub mod Ends
 pub mod Settled
+pub mod OwnTransaction
 pub mod ActsDone
 pub mod Sessions
 pub mod Plays

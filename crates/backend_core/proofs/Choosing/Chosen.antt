@@ -17,7 +17,7 @@ use Rattle.cacheless.specs.May.{lacks_any, owes_nothing, may_play_now}
 use Rattle.cacheless.specs.Work.{work_of}
 use Rattle.cacheless.specs.Owed.{begins_in, Owes as Owing, OwesLook, OwesFetch, OwesScan, owed_after, owed_in, started_in}
 use Rattle.cacheless.specs.Plays.{may_look_in, MayPlayIn}
-use Rattle.cacheless.specs.Ends.{TakesBack, end_in, end_of_all, Commits, Ends, End, end_well_in, end_badly_in}
+use Rattle.cacheless.specs.Ends.{TakesBack, end_in, Commits, Ends, End, end_well_in, end_badly_in}
 use Rattle.cacheless.specs.Session.{Session, Well, Badly, Unsettled, number_of, outcome_of}
 use Rattle.cacheless.specs.State.{owed_first, work_at, one_if, is_out, is_absent, is_quiet}
 use Rattle.txn_blocks.specs.declared.transaction.RunningTransaction.{RunningTransaction}
@@ -26,13 +26,13 @@ use Rattle.cacheless.proofs.Same.{free_is, owes_nothing_is}
 use Rattle.backend_core.specs.Types.{Command, Scenario, Entry, Event, Progress, Backend}
 use Rattle.backend_core.specs.Agrees.{command_at, AwaitsEntry}
 use Rattle.backend_core.proofs.Own.{waiting}
-use Rattle.cacheless.proofs.Allowed.NextTransaction.{first_at}
 use Rattle.backend_core.specs.Fits.{is_gone_due}
 use Rattle.txn_blocks.specs.Blocks.{innermost}
 use Rattle.ddl_effect.specs.Plans.{Absent, Plan}
 use Rattle.ddl_effect.specs.Stages.{plan_at}
 use Rattle.cacheless.specs.declared.progress.Due.{Due as DueNext}
 use Rattle.cacheless.specs.declared.progress.Due.TheVariants as dues
+use Rattle.cacheless.specs.OwnTransaction.{first_at}
 use Rattle.history_model.specs.Lives.{last_event_of}
 
 pub one_at_most : (t : Bool) → one_if t ≤ 1

@@ -4,7 +4,7 @@ use Rattle.cacheless.specs.Ends.{TakesBack, end_in}
 use Rattle.cacheless.specs.Facts.{facts_of}
 use Rattle.cacheless.specs.Work.{work_of}
 use Rattle.cacheless.specs.declared.progress.Due.TheVariants as dues
-use Rattle.cacheless.proofs.Allowed.EndsReleased.{end_by}
+use Rattle.cacheless.specs.OwnTransaction.{end_by}
 use Rattle.ddl_effect.specs.Plans.{left_rests_on}
 use Rattle.backend_core.specs.Types.{Command, Scenario, Entry, Backend}
 use Rattle.backend_core.specs.Agrees.{RunsFit, command_at, AwaitsEntry}

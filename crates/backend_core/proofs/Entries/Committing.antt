@@ -1,51 +1,36 @@
 -- A commit becomes visible, and publishes its messages.
-use Rattle.std.proofs.Common.{◌≡◌, ◌+◌, ◌∙◌, ◌==◌, ℕ, Bool, true, false, Option, Some, None, List, [], refl, sym, ap, subst, length, take, is_some}
+use Rattle.std.proofs.Common.{◌≡◌, ◌+◌, ◌∙◌, ℕ, Bool, true, false, Option, Some, None, List, [], refl, sym, ap, subst, length, take, is_some}
 use Rattle.std.specs.Option.{option_map_or}
-use Rattle.std.proofs.lemmas.Bool.{eq-eqb}
 use Rattle.std.proofs.lemmas.List.{length-take, take_min}
 use Rattle.event_kinds.specs.declared.entry.Event.TheVariants as events
 use Rattle.inval_messages.specs.Lists.{Written, unsent_after}
-use Rattle.history_model.specs.Drawn.{next_oid}
-use Rattle.history_model.specs.MayFollow.{FollowsVisible, FollowsGone}
 use Rattle.history_model.specs.Sent.{unsent_in, unsent_of}
-use Rattle.history_model.specs.Transactions.{begun, has_xid, is_visible}
+use Rattle.history_model.specs.Transactions.{begun, is_visible}
 use Rattle.txn_blocks.specs.declared.transaction.RunningTransaction.{RunningTransaction as Running}
 use Rattle.seg_calls.specs.Calls.{entry_of, ArePublishedNext, MayCall, Appends}
 use Rattle.txn_blocks.specs.declared.transaction.RunningTransaction.{RunningTransaction}
-use Rattle.cacheless.specs.Work.{work_of}
-use Rattle.cacheless.specs.Ends.{Ends, Commits, TakesBack}
-use Rattle.cacheless.specs.Facts.{Facts, due_last, due_after, facts_of}
+use Rattle.cacheless.specs.Ends.{Commits, TakesBack}
+use Rattle.cacheless.specs.Facts.{Facts, due_after, facts_of}
 use Rattle.cacheless.specs.Holds.{HasEntered}
 use Rattle.cacheless.specs.OnCourse.{AllOnCourse}
-use Rattle.cacheless.specs.Owed.{Owes, owed_after, owed_in}
-use Rattle.cacheless.specs.Plays.{MayPlayIn}
+use Rattle.cacheless.specs.Owed.{owed_after}
 use Rattle.cacheless.specs.Session.{Session, number_of}
 use Rattle.cacheless.specs.Sessions.{ends_command}
 use Rattle.cacheless.specs.State.{lists_at, unsent_at}
-use Rattle.cacheless.proofs.Allowed.Releases.{OwesNoScan, owes_no_scan}
-use Rattle.backend_core.specs.Types.{Xid, Command, Scenario, Entry, Event, Message, OwnLock, Progress, Backend, Frame}
+use Rattle.backend_core.specs.Types.{Xid, Command, Scenario, Entry, Event, Message, OwnLock, Progress, Backend}
 use Rattle.backend_core.specs.Agrees.{IsPlayed, RunsFit, command_at, AwaitsEntry}
 use Rattle.backend_core.specs.Fits.{is_gone_due, Fits}
 use Rattle.backend_core.specs.Steps.{IsEndNext, Enters}
-use Rattle.backend_core.proofs.Entries.EndEntries.{end_plays, end_now, end_call, end_enters}
-use Rattle.cacheless.proofs.Allowed.EndsReleased.{end_by, IsCommit, ShowsNow, PublishesNow, comes_now, back_end}
+use Rattle.backend_core.proofs.Entries.EndEntries.{end_now, end_call, end_enters}
+use Rattle.cacheless.proofs.Allowed.EndsReleased.{IsCommit, ShowsNow, PublishesNow, comes_now, back_end}
 use Rattle.cacheless.proofs.Allowed.TransactionEnds.{later_at, write_from_first, written_runs}
 use Rattle.backend_core.proofs.Choosing.Chosen.{started_still}
 use Rattle.backend_core.proofs.Fitting.FitsEnds.{fits_ending}
 use Rattle.backend_core.proofs.Own.{waiting}
 use Rattle.backend_core.proofs.Fitting.Rebuilding.{same_fits}
-use Rattle.history_model.specs.Lives.{last_event_of}
 use Rattle.cacheless.specs.declared.progress.Due.{Due as DueNext}
 use Rattle.cacheless.specs.declared.progress.Due.TheVariants as dues
-
--- the Xid of a transaction that has written
-xid_own : (own : Option Running) (xid : ℕ) → option_map_or (λ t. is_some t.xid) own false ≡ true → xid ≡ option_map_or (λ t. option_map_or (λ (x : Xid). x.0) t.xid 0) own 0 → has_xid xid own ≡ true
-xid_own None xid some is = absurd (cc some)
-xid_own (Some t) xid some is = by_xid t.xid some is
-  where
-    by_xid : (o : Option Xid) → is_some o ≡ true → xid ≡ option_map_or (λ (x : Xid). x.0) o 0 → option_map_or (λ (own : Xid). own.0 == xid) o false ≡ true
-    by_xid None none at = absurd (cc none)
-    by_xid (Some x) there at = eq-eqb x.0 xid (sym at)
+use Rattle.cacheless.specs.OwnTransaction.{end_by}
 
 -- where a commit comes next nothing was taken back
 untaken : (facts : Facts) (o : Option Command) (s : Session) → RunsFit facts o s → IsCommit facts (end_by facts o s) → (from : ℕ) → facts.due ≡ dues.Gone from → ⊥
@@ -55,22 +40,6 @@ not_back : (due : DueNext) → ((from : ℕ) → due ≡ dues.Gone from → ⊥)
 not_back (dues.Gone from) never = absurd (never from refl)
 not_back due never = refl
 
-none_gone : (facts : Facts) (o : Option Command) (s : Session) (last : Option Event) (event : Event) → RunsFit facts o s → IsCommit facts (end_by facts o s) → facts.due ≡ due_last last → FollowsGone last event
-none_gone facts o s (Some (events.Gone from)) event runs commit is = absurd (untaken facts o s runs commit from is)
-none_gone facts o s last event runs commit is = tt
-
--- it may be entered
-pub commit_call : (scenario : Scenario) (seen : List Entry) (s : Backend) (xid : Xid) → AwaitsEntry scenario seen s → IsEndNext s (events.Visible xid) → MayCall scenario seen (entry_of s.progress.id (s.progress.finished + 1) (events.Visible xid))
-commit_call scenario seen s xid waits next = end_call scenario seen s waits (events.Visible xid) refl next (subst (λ v. FollowsVisible v (events.Visible xid)) (sym now.hidden) tt)
-    (none_gone facts (command_at s) (waiting waits) (last_event_of seen s.progress.id) (events.Visible xid) waits.runs now.commit refl)
-    (xid_own facts.running xid.0 (waits.runs.written (write_from_first now.commit.first facts.lists now.commit.written)) now.xid_is, write_from_first now.commit.first facts.lists now.commit.written)
-  where
-    facts : Facts
-    facts = facts_of seen s.progress.id
-
-    now : ShowsNow facts (end_by facts (command_at s) (waiting waits)) xid
-    now = comes_now facts (end_by facts (command_at s) (waiting waits)) (events.Visible xid) (end_now scenario seen s waits (events.Visible xid) refl next).comes
-
 -- what is published next
 unsent_own : (lists : List Written) (own : Option RunningTransaction) → is_some own ≡ true → unsent_in lists own ≡ unsent_after (option_map_or (λ t. t.published) own 0) lists
 unsent_own lists None some = absurd (cc some)
@@ -79,10 +48,6 @@ unsent_own lists (Some t) some = refl
 visible_runs : (own : Option Running) → is_visible own ≡ true → is_some own ≡ true
 visible_runs None is = absurd (cc is)
 visible_runs (Some t) is = refl
-
-shown : (v : Bool) (count : ℕ) → FollowsVisible v (events.Publish count)
-shown true count = tt
-shown false count = tt
 
 -- the messages of a publish that comes next
 module _ (scenario : Scenario) (seen : List Entry) (s : Backend) (messages : List Message) (waits : AwaitsEntry scenario seen s) (next : IsEndNext s (events.Publish (length (take 64 (unsent_at s.progress))))) (is : messages ≡ take 64 (unsent_at s.progress)) where
@@ -101,8 +66,7 @@ module _ (scenario : Scenario) (seen : List Entry) (s : Backend) (messages : Lis
 
   -- it may be entered
   pub publish_call : MayCall scenario seen (entry_of s.progress.id (s.progress.finished + 1) (events.Publish (length messages)))
-  publish_call = end_call scenario seen s waits (events.Publish (length messages)) refl publish_next (shown (is_visible facts.running) (length messages))
-      (none_gone facts (command_at s) (waiting waits) (last_event_of seen s.progress.id) (events.Publish (length messages)) waits.runs publish_now.commit refl) (publish_now.visible, publish_now.some, publish_now.most)
+  publish_call = end_call scenario seen s waits (events.Publish (length messages)) refl publish_next
 
   -- and these are the next
   pub publish_these : ArePublishedNext seen s.progress.id messages

@@ -1,59 +1,26 @@
 -- The entries of an end of a backend that waits.
-use Rattle.std.proofs.Common.{◌≡◌, ◌≢◌, ◌≤◌, ◌+◌, ◌∙◌, ◌&&◌, inl, inr, ℕ, Bool, true, false, Option, Some, None, List, [], refl, sym, ap, subst, length, drop, arith}
-use Rattle.std.specs.Option.{option_map_or}
-use Rattle.std.proofs.lemmas.Bool.{both_ways}
-use Rattle.event_kinds.specs.declared.entry.Event.TheVariants as events
+use Rattle.std.proofs.Common.{◌≡◌, ◌≤◌, ◌+◌, ◌∙◌, ℕ, true, List, refl, sym, ap, subst, length, drop, arith}
 use Rattle.history_model.specs.Drawn.{next_oid}
-use Rattle.history_model.specs.Lapped.{FetchesFrom}
-use Rattle.history_model.specs.MayFollow.{FollowsVisible, FollowsGone, AllowsEvent}
-use Rattle.history_model.specs.MayFollow.{FollowsLife}
-use Rattle.history_model.specs.Lives.{life_by, last_event_of}
+use Rattle.history_model.specs.MayFollow.{FollowsLife, MayFollow}
 use Rattle.history_model.specs.declared.life.Life.TheVariants.{Alive}
-use Rattle.history_model.specs.Transactions.{is_visible, running_transaction_of}
-use Rattle.history_model.specs.Changing.{is_empty}
 use Rattle.seg_calls.specs.Calls.{entry_of, MayCall, Appends}
-use Rattle.txn_blocks.specs.declared.transaction.RunningTransaction.{RunningTransaction}
-use Rattle.cacheless.specs.Facts.{facts_of, facts_by}
+use Rattle.cacheless.specs.Facts.{facts_of}
 use Rattle.cacheless.specs.Holds.{HasEntered, with_own}
-use Rattle.cacheless.specs.Work.{work_of}
-use Rattle.cacheless.specs.Ends.{Ends, TakesBack, end_of_all}
-use Rattle.cacheless.specs.Rule.{same_end, may_come}
-use Rattle.cacheless.specs.May.{is_next_of_end, may_end_at, may_play_at, may_last_at, may_play_now}
 use Rattle.cacheless.specs.OnCourse.{AllOnCourse}
 use Rattle.cacheless.specs.Plays.{MayPlayIn}
-use Rattle.cacheless.specs.Schedule.{LooksTruly}
 use Rattle.cacheless.specs.Sessions.{ends_command, entered}
-use Rattle.cacheless.specs.State.{facts_at, work_at, owed_after, has_write_since}
+use Rattle.cacheless.proofs.FactsAfter.{facts_by}
 use Rattle.cacheless.proofs.Deciding.{holds_decides}
-use Rattle.cacheless.proofs.Tests.{both_true}
-use Rattle.cacheless.specs.Awaiting.{answer_after}
-use Rattle.backend_core.specs.Types.{Command, Scenario, Entry, Event, Progress, Frame, Backend}
+use Rattle.backend_core.specs.Types.{Scenario, Entry, Event, Progress, Frame, Backend}
 use Rattle.backend_core.specs.Agrees.{IsPlayed, command_at, AwaitsEntry}
 use Rattle.backend_core.specs.Fits.{Fits}
 use Rattle.backend_core.specs.Steps.{IsEndNext, Enters}
+use Rattle.cacheless.specs.Session.{number_of}
+use Rattle.cacheless.proofs.Allowed.EndsNext.{end_follows, IsEndEvent, end_event}
 use Rattle.cacheless.proofs.Allowed.EndsReleased.{EndsBy, ends_by}
+use Rattle.cacheless.proofs.Allowed.NextEntries.{later_lives}
 use Rattle.backend_core.proofs.Fitting.Entered.{fits_at}
 use Rattle.backend_core.proofs.Own.{waiting, OwnEntry, own_enters}
-use Rattle.backend_core.proofs.Fitting.Rebuilding.{owed_bare}
-use Rattle.cacheless.specs.Owed.{owed_in}
-use Rattle.cacheless.proofs.Same.{owes_nothing_is}
-use Rattle.cacheless.proofs.Plans.SilentActs.{empty_list}
-
--- what is so of each event of an end
-record IsPlain (scenario : Scenario) (old : List Entry) (b c : ℕ) (event : Event) : Type 0 where
-  truly : LooksTruly old b event
-  queue : FetchesFrom scenario.size old b event
-  lives : life_by c event ≡ Alive c
-  follows : (last : ℕ) → last ≤ c → FollowsLife (Alive last) c event
-  on : event ≢ events.Stop
-  answers : (answer : Option (List ℕ)) → answer_after event answer ≡ answer
-
-is_plain : (scenario : Scenario) (old : List Entry) (b c : ℕ) (event : Event) → ends_command event ≡ true → IsPlain scenario old b c event
-is_plain scenario old b c (events.Visible xid) ends = record { truly = tt; queue = tt; lives = refl; follows = λ last low. low; on = λ stop. cc stop; answers = λ answer. refl }
-is_plain scenario old b c (events.Publish count) ends = record { truly = tt; queue = tt; lives = refl; follows = λ last low. low; on = λ stop. cc stop; answers = λ answer. refl }
-is_plain scenario old b c (events.Gone from) ends = record { truly = tt; queue = tt; lives = refl; follows = λ last low. low; on = λ stop. cc stop; answers = λ answer. refl }
-is_plain scenario old b c (events.Release from) ends = record { truly = tt; queue = tt; lives = refl; follows = λ last low. low; on = λ stop. cc stop; answers = λ answer. refl }
-is_plain scenario old b c event ends = absurd (cc ends)
 
 module _ (scenario : Scenario) (seen : List Entry) (s : Backend) (waits : AwaitsEntry scenario seen s) (event : Event) (ends : ends_command event ≡ true) (next : IsEndNext s event) where
   -- it may come next by the script
@@ -64,21 +31,21 @@ module _ (scenario : Scenario) (seen : List Entry) (s : Backend) (waits : Awaits
   end_now = ends_by (next_oid seen) (facts_of seen s.progress.id) (command_at s) (waiting waits) event ends waits.runs end_plays
 
   -- it may be called for
-  pub end_call : FollowsVisible (is_visible (running_transaction_of seen s.progress.id)) event → FollowsGone (last_event_of seen s.progress.id) event → AllowsEvent seen s.progress.id (s.progress.finished + 1) event → MayCall scenario seen (entry_of s.progress.id (s.progress.finished + 1) event)
-  end_call visible gone allows = record {
+  pub end_call : MayCall scenario seen (entry_of s.progress.id (s.progress.finished + 1) event)
+  end_call = record {
     backend = waits.rests.holds.number;
     number = omega (arith, waits.rests.holds.most, ap length waits.rests.holds.commands);
-    follows = record {
-      life = subst (λ l. FollowsLife l (s.progress.finished + 1) event) (sym waits.keeps.life.alive) ((is_plain scenario seen s.progress.id (s.progress.finished + 1) event ends).follows waits.keeps.life.last waits.keeps.life.most);
-      visible = visible;
-      gone = gone;
-      event = allows;
-    };
+    follows = subst (λ n. MayFollow seen (entry_of s.progress.id (n + 1) event)) waits.rests.holds.count
+        (end_follows seen s.progress.id (command_at s) (waiting waits) waits.runs event (subst (λ l. FollowsLife l (number_of (waiting waits)) event) (sym waits.keeps.life.alive) alive) end_now);
   }
+    where
+      alive : FollowsLife (Alive waits.keeps.life.last) (number_of (waiting waits)) event
+      alive = later_lives waits.keeps.life.last (number_of (waiting waits)) event (end_event scenario.size seen s.progress.id (s.progress.finished + 1) event ends).later
+          (subst (λ n. waits.keeps.life.last ≤ n + 1) (sym waits.rests.holds.count) waits.keeps.life.most)
 
 -- what the script and the segment ask of it
 pub end_own : (scenario : Scenario) (old : List Entry) (was : Backend) (waits : AwaitsEntry scenario old was) (event : Event) → ends_command event ≡ true → IsEndNext was event → OwnEntry scenario old was event waits
-end_own scenario old was waits event ends next = let plain = is_plain scenario old was.progress.id (was.progress.finished + 1) event ends in
+end_own scenario old was waits event ends next = let plain = end_event scenario.size old was.progress.id (was.progress.finished + 1) event ends in
     record { plays = end_plays scenario old was waits event ends next; truly = plain.truly; queue = plain.queue }
 
 -- after an entry of an end the backend agrees
@@ -91,5 +58,5 @@ end_enters scenario old new had has was event p frames waits ends played courses
     own_enters scenario old new had has was (record was { progress = p; frames = frames }) event waits played courses (end_own scenario old was waits event ends next) goes
     (fits_at scenario old was event waits p goes was.looked frames was.told fits) refl plain.lives refl plain.on (same ∙ sym (plain.answers was.progress.answer)) appends
   where
-    plain : IsPlain scenario old was.progress.id (was.progress.finished + 1) event
-    plain = is_plain scenario old was.progress.id (was.progress.finished + 1) event ends
+    plain : IsEndEvent scenario.size old was.progress.id (was.progress.finished + 1) event
+    plain = end_event scenario.size old was.progress.id (was.progress.finished + 1) event ends

@@ -13,8 +13,7 @@ use Rattle.history_model.specs.Lives.{life_by}
 use Rattle.history_model.specs.declared.life.Life.TheVariants.{Alive}
 use Rattle.history_model.specs.Transactions.{begun}
 use Rattle.seg_calls.specs.Calls.{entry_of, Appends}
-use Rattle.cacheless.specs.Facts.{Facts, due_after, facts_of, facts_by}
-use Rattle.cacheless.specs.declared.progress.Due.TheVariants as dues
+use Rattle.cacheless.specs.Facts.{Facts, due_after, facts_of}
 use Rattle.cacheless.specs.Holds.{HasEntered, with_own}
 use Rattle.cacheless.specs.OnCourse.{AllOnCourse}
 use Rattle.cacheless.specs.Owed.{owed_after, started_in}
@@ -28,7 +27,6 @@ use Rattle.backend_core.specs.Types.{Oid, Mode, Command, CommandError, Scenario,
 use Rattle.backend_core.specs.Agrees.{IsPlayed, command_at, AwaitsEntry}
 use Rattle.backend_core.specs.Fits.{looks_due, LooksFit, TakesFit, FramesFit, is_lost, is_gone_due}
 use Rattle.backend_core.specs.Steps.{Enters}
-use Rattle.backend_core.proofs.Choosing.Chosen.{Acts}
 use Rattle.backend_core.proofs.Fitting.Entered.{fits_at}
 use Rattle.backend_core.proofs.Entries.Inside.{runs_on, inside_fits}
 use Rattle.backend_core.proofs.Own.{waiting, own_enters}
@@ -37,6 +35,7 @@ use Rattle.backend_core.proofs.Fitting.Sought.{well_settled}
 use Rattle.backend_core.proofs.Fitting.Rebuilding.{bare_fits}
 use Rattle.backend_core.specs.Words.{has_error}
 use Rattle.std.proofs.Math.Bool.{and-false}
+use Rattle.cacheless.proofs.FactsAfter.{facts_by}
 
 -- the facts and the session after such an entry
 abbrev later_of : List Entry → Backend → Event → Facts

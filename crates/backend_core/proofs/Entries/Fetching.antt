@@ -15,12 +15,12 @@ use Rattle.history_model.specs.Lapped.{is_lapped}
 use Rattle.history_model.specs.Lives.{life_by, last_event_of}
 use Rattle.history_model.specs.declared.life.Life.TheVariants.{Alive}
 use Rattle.history_model.specs.Log.{log_of, position_of, fetched_by}
-use Rattle.history_model.specs.Transactions.{begun, is_visible}
+use Rattle.history_model.specs.Transactions.{begun}
 use Rattle.history_model.specs.Changing.{is_empty}
 use Rattle.seg_calls.specs.Calls.{entry_of, due_to, MayCall, Appends, Fetches}
 use Rattle.cacheless.specs.declared.progress.Due.{Due as DueNext}
 use Rattle.cacheless.specs.declared.progress.Due.TheVariants as dues
-use Rattle.cacheless.specs.Facts.{due_last, Facts, due_after, due_fetched, facts_of, facts_by}
+use Rattle.cacheless.specs.Facts.{due_last, Facts, due_after, due_fetched, facts_of}
 use Rattle.cacheless.specs.Holds.{HasEntered, with_own}
 use Rattle.cacheless.specs.OnCourse.{is_absent, AllOnCourse}
 use Rattle.cacheless.specs.Owed.{OwesFetch, owed_after, counts_full, scans_owed_in, started_in, missing, builds_missing, act_owed}
@@ -30,6 +30,7 @@ use Rattle.cacheless.specs.Sessions.{resumed, placed_at, entered}
 use Rattle.cacheless.specs.State.{one_if, kept_at, nothing_kept, is_kept}
 use Rattle.cacheless.specs.Suspects.{lacks}
 use Rattle.cacheless.specs.Work.{work_of}
+use Rattle.cacheless.proofs.FactsAfter.{facts_by}
 use Rattle.cacheless.proofs.Entries.EnteredFetches.{is_kept-spared}
 use Rattle.cacheless.proofs.Lacking.{lacks_more}
 use Rattle.cacheless.specs.Awaiting.{answer_after}
@@ -40,7 +41,7 @@ use Rattle.backend_core.specs.Steps.{Enters, MakesEntry}
 use Rattle.backend_core.specs.Noted.{noted_of, noted_given, noted_reset, IsNoted}
 use Rattle.backend_core.specs.declared.next.Next.TheVariants as nexts
 use Rattle.backend_core.specs.Words.{is_unfound, finds_none, has_begun, marks_build, told_after, has_error, looked_after, frames_given, frames_reset_of}
-use Rattle.backend_core.proofs.Choosing.Chosen.{Busy, Due, may_call, hidden, one_at_most, started_still}
+use Rattle.backend_core.proofs.Choosing.Chosen.{Busy, Due, may_call, one_at_most, started_still}
 use Rattle.backend_core.proofs.Fitting.Entered.{fits_at}
 use Rattle.backend_core.proofs.Fitting.FitsEntries.{StaysAt, fits_inside}
 use Rattle.backend_core.proofs.Fitting.Sought.{takes_cleared, unfound_held, well_there}

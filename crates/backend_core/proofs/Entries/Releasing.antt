@@ -1,19 +1,12 @@
 -- The locks of a transaction are released.
-use Rattle.std.proofs.Common.{◌≡◌, ◌≤◌, ◌+◌, ◌∙◌, ◌∷◌, ◌⊎◌, inl, inr, ℕ, Bool, true, false, Option, Some, None, List, [], cond, refl, sym, ap, subst, length, drop, map, is_some, ◌==◌, arith}
-use Rattle.std.specs.Option.{option_map, option_map_or}
-use Rattle.std.specs.Prelude.{nat_lt}
-use Rattle.std.proofs.lemmas.Bool.{both_ways, ltb-true, ne_eqb, false_from_ne_true}
-use Rattle.std.proofs.lemmas.List.{length-drop}
+use Rattle.std.proofs.Common.{◌≡◌, ◌≤◌, ◌+◌, ◌∙◌, inl, inr, ℕ, Bool, true, false, Option, Some, None, List, [], refl, sym, ap, subst, length, map, is_some, ◌==◌, arith}
+use Rattle.std.specs.Option.{option_map_or}
+use Rattle.std.proofs.lemmas.Bool.{ne_eqb}
 use Rattle.event_kinds.specs.declared.entry.Event.TheVariants as events
-use Rattle.inval_messages.specs.Lists.{Written, has_write_from, cats_in, sent_in, left_after, unsent_after}
-use Rattle.history_model.specs.MayFollow.{FollowsVisible, FollowsGone, MayRelease}
-use Rattle.history_model.specs.Sent.{left_in, unsent_in}
-use Rattle.history_model.specs.Transactions.{is_visible}
 use Rattle.txn_blocks.specs.declared.transaction.RunningTransaction.{RunningTransaction as Running}
-use Rattle.seg_calls.specs.Calls.{entry_of, MayCall, Appends}
+use Rattle.seg_calls.specs.Calls.{entry_of, Appends}
 use Rattle.cacheless.specs.Ends.{Commits, TakesBack}
-use Rattle.cacheless.specs.Facts.{Facts, due_last, facts_of, facts_by}
-use Rattle.history_model.specs.Lives.{last_event_of}
+use Rattle.cacheless.specs.Facts.{Facts, facts_of}
 use Rattle.cacheless.specs.Holds.{Rests, HasEntered}
 use Rattle.cacheless.specs.May.{has_failed}
 use Rattle.cacheless.specs.Owed.{started_in}
@@ -23,7 +16,8 @@ use Rattle.ddl_effect.specs.Stages.{plan_at}
 use Rattle.cacheless.specs.OnCourse.{AllOnCourse}
 use Rattle.cacheless.specs.Session.{Session, Well, opening_of, number_of, outcome_of, is_settled}
 use Rattle.cacheless.specs.State.{kept_at, is_kept, one_if, is_out}
-use Rattle.backend_core.specs.Types.{Command, Scenario, Entry, Event, OwnLock, Opening, Message, Progress, Backend, Frame}
+use Rattle.cacheless.specs.OwnTransaction.{end_by}
+use Rattle.backend_core.specs.Types.{Command, Scenario, Entry, OwnLock, Opening, Progress, Backend, Frame}
 use Rattle.backend_core.specs.Agrees.{IsPlayed, RunsFit, command_at, AwaitsEntry}
 use Rattle.backend_core.specs.Fits.{looked_on_top, told_owed, LooksFit, Fits}
 use Rattle.backend_core.specs.Frames.{unless, with_rest}
@@ -31,66 +25,18 @@ use Rattle.backend_core.specs.Noted.{noted_of, IsNoted}
 use Rattle.backend_core.specs.declared.next.Next.TheVariants as nexts
 use Rattle.backend_core.specs.Steps.{IsEndNext, MakesEntry, Enters}
 use Rattle.backend_core.proofs.Entries.WhereLeft.{entered_here}
-use Rattle.backend_core.proofs.Entries.EndEntries.{end_now, end_own, end_call, end_enters}
+use Rattle.backend_core.proofs.Entries.EndEntries.{end_now, end_own, end_enters}
 use Rattle.backend_core.proofs.Fitting.Released.{fails_at, frames_left, left_fits, left_unlooked, left_top, left_looks, plain_unlooked}
 use Rattle.backend_core.proofs.Fitting.Rebuilding.{usable_is}
-use Rattle.cacheless.proofs.Allowed.EndsReleased.{end_by, EndsBy, LetsGo, AllSent, NoWrite, IsInner, Releases, Whole, Inner, comes_now, from_of, first_begun, commit_first, end_releases, commit_end, back_end}
-use Rattle.cacheless.proofs.Allowed.NextTransaction.{first_at}
+use Rattle.cacheless.proofs.FactsAfter.{facts_by}
+use Rattle.cacheless.proofs.Allowed.EndsReleased.{EndsBy, LetsGo, AllSent, NoWrite, IsInner, Releases, Whole, Inner, comes_now, from_of, first_begun, commit_first, end_releases}
 use Rattle.cacheless.proofs.Allowed.TransactionEnds.{ended_running, kept_running}
-use Rattle.backend_core.proofs.Entries.TakingBack.{back_hidden}
 use Rattle.backend_core.proofs.Fitting.FitsEnds.{released_at, fits_released, back_plain}
 use Rattle.backend_core.proofs.Own.{waiting, own_makes}
-
--- where a publish would send nothing, all is published
-left_none : (published : ℕ) (lists : List Written) → length (unsent_after published lists) ≡ 0 → left_after published lists ≡ []
-left_none published lists none = by_test (nat_lt published (length (cats_in lists))) refl none
-  where
-    no_length : (xs : List Message) → length xs ≡ 0 → xs ≡ []
-    no_length [] is = refl
-    no_length (x ∷ xs) is = absurd (omega (arith, is))
-
-    by_test : (t : Bool) → nat_lt published (length (cats_in lists)) ≡ t → length (cond t (drop published (cats_in lists)) (drop published (sent_in lists))) ≡ 0 → left_after published lists ≡ []
-    by_test true before empty = absurd (omega (arith, ltb-true published (length (cats_in lists)) before, length-drop published (cats_in lists), empty))
-    by_test false after empty = no_length (drop published (sent_in lists)) empty
-
-all_left : (lists : List Written) (own : Option Running) → length (unsent_in lists own) ≡ 0 → left_in lists own ≡ []
-all_left lists None none = refl
-all_left lists (Some t) none = left_none t.published lists none
-
-low_from : (own : Option Running) (n from : ℕ) → option_map_or (λ t. t.first) own n ≡ from → option_map_or (λ t. t.first) own 0 ≤ n → from ≤ n
-low_from None n from is low = omega (arith, is)
-low_from (Some t) n from is low = omega (arith, is, low)
 
 first_running : (own : Option Running) (n from : ℕ) → is_some own ≡ true → option_map_or (λ t. t.first) own n ≡ from → option_map_or (λ t. t.first) own 0 ≡ from
 first_running None n from some is = absurd (cc some)
 first_running (Some t) n from some is = is
-
-first_visible : (own : Option Running) (n from : ℕ) → is_visible own ≡ true → option_map_or (λ t. t.first) own n ≡ from → option_map (λ t. t.first) own ≡ Some from
-first_visible None n from visible is = absurd (cc visible)
-first_visible (Some t) n from visible is = ap Some is
-
--- without a write the transaction isn't visible
-bare_hidden : (facts : Facts) (o : Option Command) (s : Session) (from : ℕ) → RunsFit facts o s → (end_by facts o s ≡ Commits from) ⊎ (end_by facts o s ≡ TakesBack from) → has_write_from from facts.lists ≡ false → is_visible facts.running ≡ false
-bare_hidden facts o s from runs (inr back) bare = back_hidden facts o s from runs back
-bare_hidden facts o s from runs (inl commits) bare = false_from_ne_true (is_visible facts.running) (λ is. let same : first_at facts ≡ from = (let both : Commits (first_at facts) ≡ Commits from = sym (commit_end facts o s runs is) ∙ commits in cc both) in
-    both_ways _ bare (subst (λ n. has_write_from n facts.lists ≡ true) same (runs.visible is).written))
-
--- what was taken back is what is released
-release_gone : (facts : Facts) (o : Option Command) (s : Session) (from : ℕ) → RunsFit facts o s → LetsGo facts (end_by facts o s) from → (last : Option Event) → facts.due ≡ due_last last → FollowsGone last (events.Release from)
-release_gone facts o s from runs lets = by_last
-  where
-    by_case : (n : ℕ) → end_by facts o s ≡ TakesBack n → LetsGo facts (end_by facts o s) from → from ≡ n
-    by_case n back (AllSent commits visible sent) = absurd (let no : Commits from ≡ TakesBack n = sym commits ∙ back in cc no)
-    by_case n back (NoWrite (inl commits) bare) = absurd (let no : Commits from ≡ TakesBack n = sym commits ∙ back in cc no)
-    by_case n back (NoWrite (inr takes) bare) = let both : TakesBack from ≡ TakesBack n = sym takes ∙ back in cc both
-
-    by_last : (last : Option Event) → facts.due ≡ due_last last → FollowsGone last (events.Release from)
-    by_last (Some (events.Gone n)) is = by_case n (back_end facts o s n runs is) lets
-    by_last last is = tt
-
-released : (v : Bool) (from : ℕ) → FollowsVisible v (events.Release from)
-released true from = tt
-released false from = tt
 
 module _ (scenario : Scenario) (old : List Entry) (was : Backend) (from : ℕ) (waits : AwaitsEntry scenario old was) (next : IsEndNext was (events.Release from)) where
   abbrev facts : Facts
@@ -116,20 +62,6 @@ module _ (scenario : Scenario) (old : List Entry) (was : Backend) (from : ℕ) (
   -- so is a commit
   first_committed : end_by facts (command_at was) s ≡ Commits from → option_map_or (λ (t : Running). t.first) facts.running (was.progress.finished + 1) ≡ from
   first_committed commits = first_here (commit_first facts (command_at was) s from waits.runs now.going commits)
-
-  -- no later command is released
-  from_low : Releases facts (command_at was) s from → from ≤ was.progress.finished + 1
-  from_low (Whole is bare none) = low_from facts.running (was.progress.finished + 1) from (first_here is) (subst (λ n. first_at facts ≤ n + 1) waits.rests.holds.count waits.runs.first)
-  from_low (Inner inner) = subst (λ n. from ≤ n + 1) waits.rests.holds.count inner.low
-
-  may_release : LetsGo facts (end_by facts (command_at was) s) from → MayRelease (is_visible facts.running) old was.progress.id from
-  may_release (AllSent commits visible sent) = subst (λ v. MayRelease v old was.progress.id from) (sym visible) (first_visible facts.running (was.progress.finished + 1) from visible (first_committed commits), all_left facts.lists facts.running sent)
-  may_release (NoWrite end bare) = subst (λ v. MayRelease v old was.progress.id from) (sym (bare_hidden facts (command_at was) s from waits.runs end bare)) bare
-
-  -- it may be entered
-  pub release_call : MayCall scenario old (entry_of was.progress.id (was.progress.finished + 1) (events.Release from))
-  release_call = end_call scenario old was waits (events.Release from) refl next (released (is_visible facts.running) from) (release_gone facts (command_at was) s from waits.runs lets (last_event_of old was.progress.id) refl)
-      (from_low part, may_release lets)
 
   abbrev pub later : Facts
   later = facts_by old was.progress.id (was.progress.finished + 1) (events.Release from) facts

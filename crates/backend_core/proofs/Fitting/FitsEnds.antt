@@ -1,5 +1,5 @@
 -- What the choice keeps with an entry of an end.
-use Rattle.std.proofs.Common.{◌≡◌, ◌+◌, ◌∙◌, ℕ, Bool, true, false, Option, Some, None, List, [], refl, sym, ap, subst, map, arith, not}
+use Rattle.std.proofs.Common.{◌≡◌, ◌∙◌, ℕ, Bool, true, false, Option, Some, None, List, [], refl, sym, ap, subst, map, arith, not}
 use Rattle.std.specs.Option.{option_map_or}
 use Rattle.std.proofs.lemmas.Bool.{both_ways}
 use Rattle.base_types.specs.declared.command.Command.TheVariants as commands
@@ -14,7 +14,8 @@ use Rattle.cacheless.specs.Facts.{Facts}
 use Rattle.cacheless.specs.Owed.{owed_after, started_in}
 use Rattle.cacheless.specs.Session.{Session, Well, Badly, Unsettled, opening_of, number_of, outcome_of, is_settled, plan_admitted, plan_first}
 use Rattle.cacheless.specs.Types.{Oid, Purpose, OwnLock}
-use Rattle.cacheless.proofs.Allowed.EndsReleased.{Fits as RunsFit, end_by, end_from, EndsBy}
+use Rattle.cacheless.specs.OwnTransaction.{end_by, RunsFit}
+use Rattle.cacheless.proofs.Allowed.EndsReleased.{end_from, EndsBy}
 use Rattle.cacheless.proofs.Allowed.NextTransaction.{well_admitted}
 use Rattle.cacheless.proofs.Allowed.TransactionEnds.{later_at}
 use Rattle.cacheless.proofs.Tests.{not_true}

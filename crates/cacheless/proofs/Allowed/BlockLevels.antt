@@ -1,22 +1,12 @@
 -- The levels of a block: its own, which no savepoint began, and within it those of savepoints.
 use Rattle.std.proofs.Common.{◌≡◌, ◌≤◌, ◌+◌, ◌∙◌, ◌∷◌, ◌++◌, ℕ, zero, suc, add-one, Bool, true, false, not, Option, Some, None, List, [], refl, sym, ap, take, arith}
-use Rattle.std.specs.Prelude.{⊤}
 use Rattle.std.specs.Option.{option_map_or}
 use Rattle.std.specs.Str.{bytes_eq}
 use Rattle.std.proofs.lemmas.Bool.{both_ways}
 use Rattle.command_answers.specs.declared.error.CommandError.TheVariants as errors
 use Rattle.txn_blocks.specs.Blocks.{Level, Blocks, Outside, no_block, is_open, refused_without, is_savepoint, place_of, place_with, levels_around, levels_up_to, innermost}
 use Rattle.history_model.specs.Changing.{is_empty}
-
--- the levels began one after another, none before the command of the first number, and all before that of the second
-abbrev pub LevelsRise : ℕ → ℕ → List Level → Type 0
-LevelsRise from number [] = from ≤ number
-LevelsRise from number (level ∷ levels) = (from ≤ level.first) × LevelsRise (level.first + 1) number levels
-
--- the outermost level is the block's own: no savepoint began it
-abbrev pub IsOutermostPlain : List Level → Type 0
-IsOutermostPlain [] = ⊤
-IsOutermostPlain (level ∷ levels) = level.savepoint ≡ None
+use Rattle.cacheless.specs.OwnTransaction.{LevelsRise, IsOutermostPlain}
 
 pub rise_more : (from n : ℕ) (levels : List Level) → LevelsRise from n levels → LevelsRise from (n + 1) levels
 rise_more from n [] rise = omega (arith, rise)

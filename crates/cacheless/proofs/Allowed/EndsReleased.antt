@@ -1,4 +1,4 @@
--- The transaction of a backend, by its blocks and its running command: what an end releases of it.
+-- What an end releases of the transaction of its backend.
 use Rattle.std.proofs.Common.{◌≡◌, ◌≤◌, ◌+◌, ◌∙◌, ◌⊎◌, inl, inr, ℕ, suc, zero, Bool, true, false, not, Option, Some, None, List, [], ◌∷◌, ◌++◌, refl, sym, ap, subst, length, map, min, take, is_some, if◌then◌else◌, arith}
 use Rattle.std.specs.Option.{option_map_or, option_or}
 use Rattle.std.specs.Prelude.{nat_le}
@@ -7,85 +7,29 @@ use Rattle.base_types.specs.declared.command.Command.TheVariants as commands
 use Rattle.event_kinds.specs.declared.entry.Event.TheVariants as events
 use Rattle.inval_messages.specs.Lists.{has_write_from}
 use Rattle.command_answers.specs.declared.error.CommandError.TheVariants as errors
-use Rattle.txn_blocks.specs.Blocks.{Block, Level, Blocks, Outside, Inside, Failed, is_open, refused_in, refused_of, refused_by, innermost, levels_up_to, blocks_well}
+use Rattle.txn_blocks.specs.Blocks.{Block, Level, Blocks, Outside, Inside, Failed, refused_in, refused_of, refused_by, innermost, levels_up_to, blocks_well}
 use Rattle.ddl_effect.specs.Commands.{plan_of}
 use Rattle.ddl_effect.specs.Opens.{opens_before}
-use Rattle.ddl_effect.specs.Plans.{Done}
-use Rattle.ddl_effect.specs.declared.told.Told.TheVariants as tells
 use Rattle.history_model.specs.Sent.{unsent_in}
 use Rattle.history_model.specs.Transactions.{is_visible}
 use Rattle.txn_blocks.specs.declared.transaction.RunningTransaction.{RunningTransaction as Running}
 use Rattle.history_model.specs.Changing.{is_empty}
 use Rattle.cacheless.specs.Work.{work_of}
-use Rattle.cacheless.specs.Ends.{End, Ends, Commits, TakesBack, end_of_all, end_of_block, end_well_in, end_badly_in, end_in, xid_of, next_sent, next_of_end}
+use Rattle.cacheless.specs.Ends.{End, Ends, Commits, TakesBack, end_of_block, end_well_in, end_badly_in, end_in, xid_of, next_sent, next_of_end}
 use Rattle.cacheless.specs.Facts.{Facts}
 use Rattle.cacheless.specs.Owed.{Owes, OwesScan, owed_first_in, owed_after, scans_owed_in, owed_in}
 use Rattle.cacheless.specs.Plays.{IsEnd, IsLastEnd, MayPlay, MayPlayLast, MayPlayIn}
-use Rattle.cacheless.specs.Session.{Session, Outcome, Well, Badly, Unsettled, held_before, number_of, outcome_of, is_settled, plan_admitted, plan_first, is_blocked}
+use Rattle.cacheless.specs.Session.{Session, Outcome, Well, Badly, Unsettled, number_of, outcome_of, is_settled, plan_admitted, plan_first, is_blocked}
 use Rattle.cacheless.specs.Sessions.{ends_command}
 use Rattle.cacheless.specs.Types.{Xid, Command, CommandError, Event, OpenRelation}
 use Rattle.cacheless.proofs.Allowed.OwnEntries.{ends_out}
-use Rattle.cacheless.specs.Settled.{blocks_after}
 use Rattle.cacheless.proofs.Plans.SilentActs.{both_empty}
-use Rattle.cacheless.proofs.Allowed.BlockLevels.{LevelsRise, IsOutermostPlain, rise_within, rise_above, rise_take, IsWithin, within, none_outside}
-use Rattle.cacheless.proofs.Allowed.NextTransaction.{outermost, first_at, RunsBlock, RunsFailed, RunsAt, RunsIn, RunsBy, some_first, block_open, place_there, well_admitted, runs_cut, blocks_out}
-use Rattle.cacheless.proofs.Allowed.OpenSince.{OpensIn}
+use Rattle.cacheless.proofs.Allowed.BlockLevels.{rise_within, rise_above, rise_take, IsWithin, within, none_outside}
+use Rattle.cacheless.proofs.Allowed.NextTransaction.{some_first, block_open, place_there, well_admitted, runs_cut, blocks_out}
 use Rattle.cacheless.specs.declared.progress.Due.TheVariants as dues
+use Rattle.cacheless.specs.OwnTransaction.{LevelsRise, outermost, first_at, RunsBlock, RunsFailed, RunsAt, RunsIn, RunsBy, RunsAfter, TransactionFits, end_by, OpensIn, RunsFit}
 
--- the transaction once the release is made, by the blocks after the command: none after the last one
-abbrev pub RunsAfter : Facts → Option Command → Session → Type 0
-RunsAfter facts None s = facts.running ≡ None
-RunsAfter facts (Some command) s = RunsIn facts (blocks_after command s)
-
--- the transaction of a backend, before the release and after it
-abbrev pub TransactionFits : Facts → Option Command → Session → Bool → Type 0
-TransactionFits facts o s true = RunsAfter facts o s
-TransactionFits facts o s false = RunsBy facts o s s.blocks.block
-
--- the end of the running command, or after the last one that of what still runs
-abbrev pub end_by : Facts → Option Command → Session → End
-end_by facts None s = end_of_all facts
-end_by facts (Some command) s = end_in facts command (work_of s)
-
--- a commit on its way: it is that of the running transaction, and nothing has to come before its next entry
-pub record OnCommit (facts : Facts) (o : Option Command) (s : Session) : Type 0 where
-  pub command : Command
-  pub at : o ≡ Some command
-  pub going : s.ended ≡ false
-  pub out : is_settled (outcome_of s.left) ≡ true
-  pub free : owed_in facts command (work_of s) ≡ []
-  pub end : end_in facts command (work_of s) ≡ Commits (first_at facts)
-  pub written : has_write_from (first_at facts) facts.lists ≡ true
-
--- taking back on its way: nothing is left of it but the release
-pub record OnTakingBack (facts : Facts) (o : Option Command) (s : Session) (from : ℕ) : Type 0 where
-  pub runs : is_some facts.running ≡ true
-  pub going : s.ended ≡ false
-  pub out : is_settled (outcome_of s.left) ≡ true
-  pub end : end_by facts o s ≡ TakesBack from
-  pub none : has_write_from from facts.lists ≡ false
-
--- the transaction is that of the command or of the block, and the relations that are open are its own; one that is visible is on its commit, and one of which writes were just taken back on its taking back; where something is owed after the last event one runs
-pub record Fits (facts : Facts) (o : Option Command) (s : Session) : Type 0 where
-  pub transaction : TransactionFits facts o s s.ended
-  pub first : first_at facts ≤ number_of s
-  pub opens : is_open s.blocks ≡ not (is_empty s.blocks.levels)
-  pub levels : LevelsRise 0 (number_of s) s.blocks.levels
-  pub plain : IsOutermostPlain s.blocks.levels
-  pub blocked : s.blocked ≡ is_blocked s.blocks o
-  pub settled : is_settled (outcome_of (plan_first s.blocks s.opens o)) ≡ true → s.left ≡ plan_first s.blocks s.opens o
-  pub written : has_write_from 0 facts.lists ≡ true → option_map_or (λ t. is_some t.xid) facts.running false ≡ true
-  pub visible : is_visible facts.running ≡ true → OnCommit facts o s
-  pub taken : (from : ℕ) → facts.due ≡ dues.Gone from → OnTakingBack facts o s from
-  pub accepts : is_empty (owed_after facts.due) ≡ false → is_some facts.running ≡ true
-  pub past : o ≡ None → s.left ≡ Done tells.Ok
-  pub inside : OpensIn s.blocks.block s.opens
-  pub since : opens_before (first_at facts) s.opens ≡ []
-  pub free : s.ended ≡ true → facts.running ≡ None → s.opened ≡ []
-  pub over : s.ended ≡ true → is_settled (outcome_of s.left) ≡ true
-  pub held : o ≡ None → s.ended ≡ false → s.opened ≡ held_before s
-
--- its next entry
+-- the next entry of an end
 pub record EndsBy (facts : Facts) (o : Option Command) (s : Session) (event : Event) : Type 0 where
   pub going : s.ended ≡ false
   pub out : is_settled (outcome_of s.left) ≡ true
@@ -106,7 +50,7 @@ is_last facts s (events.Visible xid) ends is = absurd is
 is_last facts s (events.Publish count) ends is = absurd is
 is_last facts s event ends is = absurd (cc ends)
 
-pub ends_by : (next : ℕ) (facts : Facts) (o : Option Command) (s : Session) (event : Event) → ends_command event ≡ true → Fits facts o s → MayPlayIn next facts o s event → EndsBy facts o s event
+pub ends_by : (next : ℕ) (facts : Facts) (o : Option Command) (s : Session) (event : Event) → ends_command event ≡ true → RunsFit facts o s → MayPlayIn next facts o s event → EndsBy facts o s event
 ends_by next facts (Some command) s event ends fits plays = by_ended s.ended refl end.1
   where
     end : IsEnd facts command s event
@@ -284,7 +228,7 @@ badly_back s first is = by_blocked s.blocked is
     by_blocked true end = cc end
     by_blocked false end = cc end
 
-module _ (facts : Facts) (o : Option Command) (s : Session) (command : Command) (at : o ≡ Some command) (fits : Fits facts o s) (going : s.ended ≡ false) where
+module _ (facts : Facts) (o : Option Command) (s : Session) (command : Command) (at : o ≡ Some command) (fits : RunsFit facts o s) (going : s.ended ≡ false) where
   runs_by : RunsBy facts o s s.blocks.block
   runs_by = subst (TransactionFits facts o s) going fits.transaction
 
@@ -443,19 +387,19 @@ module _ (facts : Facts) (o : Option Command) (s : Session) (command : Command) 
       by_outcome Unsettled outcome end = absurd (cc end)
 
 -- a commit is that of the running transaction as a whole
-pub commit_first : (facts : Facts) (o : Option Command) (s : Session) (first : ℕ) → Fits facts o s → s.ended ≡ false → end_by facts o s ≡ Commits first → first_begun facts s ≡ first
+pub commit_first : (facts : Facts) (o : Option Command) (s : Session) (first : ℕ) → RunsFit facts o s → s.ended ≡ false → end_by facts o s ≡ Commits first → first_begun facts s ≡ first
 commit_first facts None s first fits going is = from_all facts.running (number_of s) first (ap end_from is)
 commit_first facts (Some command) s first fits going is = first_of_commit facts (Some command) s command refl fits going first is
 
 -- what an end releases; after the last command all that runs
-pub end_releases : (facts : Facts) (o : Option Command) (s : Session) (from : ℕ) → Fits facts o s → s.ended ≡ false → end_from (end_by facts o s) ≡ Some from → Releases facts o s from
+pub end_releases : (facts : Facts) (o : Option Command) (s : Session) (from : ℕ) → RunsFit facts o s → s.ended ≡ false → end_from (end_by facts o s) ≡ Some from → Releases facts o s from
 end_releases facts None s from fits going is = Whole (from_all facts.running (number_of s) from is) (ap (λ n. opens_before n s.opens) (sym (from_all facts.running 0 from is)) ∙ fits.since) (λ later none. none)
 end_releases facts (Some command) s from fits going is = released_by facts (Some command) s command refl fits going from is
 
 -- a visible transaction is on its commit
-pub commit_end : (facts : Facts) (o : Option Command) (s : Session) → Fits facts o s → is_visible facts.running ≡ true → end_by facts o s ≡ Commits (first_at facts)
+pub commit_end : (facts : Facts) (o : Option Command) (s : Session) → RunsFit facts o s → is_visible facts.running ≡ true → end_by facts o s ≡ Commits (first_at facts)
 commit_end facts o s fits visible = let c = fits.visible visible in ap (λ x. end_by facts x s) c.at ∙ c.end
 
 -- and what is taken back on its taking back
-pub back_end : (facts : Facts) (o : Option Command) (s : Session) (from : ℕ) → Fits facts o s → facts.due ≡ dues.Gone from → end_by facts o s ≡ TakesBack from
+pub back_end : (facts : Facts) (o : Option Command) (s : Session) (from : ℕ) → RunsFit facts o s → facts.due ≡ dues.Gone from → end_by facts o s ≡ TakesBack from
 back_end facts o s from fits gone = (fits.taken from gone).end

@@ -23,21 +23,13 @@ use Rattle.cacheless.specs.Schedule.{has_stopped}
 use Rattle.cacheless.specs.Session.{Session, outcome_of, is_settled}
 use Rattle.cacheless.specs.Sessions.{ends_command, session_of}
 use Rattle.cacheless.specs.declared.progress.Due.TheVariants as dues
+use Rattle.cacheless.specs.OwnTransaction.{first_at, TransactionFits, end_by, OnTakingBack, RunsFit}
 use Rattle.cacheless.proofs.Allowed.ActsNext.{owing_next, unsettled_next, waits}
-use Rattle.cacheless.proofs.Allowed.EndsNext.{end_next}
-use Rattle.cacheless.proofs.Allowed.EndsReleased.{OnTakingBack, Fits, TransactionFits, end_by, EndsBy, ComesNow, comes_now}
+use Rattle.cacheless.proofs.Allowed.EndsNext.{is_of_end, end_next}
+use Rattle.cacheless.proofs.Allowed.EndsReleased.{EndsBy, ComesNow, comes_now}
 use Rattle.cacheless.proofs.Allowed.NextEntries.{HasNext, IsFree, start_next, owed_next, stop_next}
-use Rattle.cacheless.proofs.Allowed.NextTransaction.{first_at}
 use Rattle.cacheless.proofs.Allowed.Patient.{nothing_owed}
 use Rattle.cacheless.proofs.Allowed.TransactionsKept.{allowed_transaction}
-
--- an event that comes next of an end is one of an end
-is_of_end : (facts : Facts) (end : End) (event : Event) → ComesNow facts end event → ends_command event ≡ true
-is_of_end facts end (events.Visible xid) comes = refl
-is_of_end facts end (events.Publish count) comes = refl
-is_of_end facts end (events.Gone from) comes = refl
-is_of_end facts end (events.Release from) comes = refl
-is_of_end facts end event comes = absurd comes
 
 end_plays : (next : ℕ) (facts : Facts) (command : Command) (s : Session) (event : Event) → ends_command event ≡ true → IsEnd facts command s event → MayPlay next facts command s event
 end_plays next facts command s (events.Visible xid) ends is = is
@@ -81,11 +73,11 @@ module _ (scenario : Scenario) (history : List Entry) (b : ℕ) (s : Session) (n
   abbrev facts : Facts
   facts = facts_of history b
 
-  fits : Fits facts o s
+  fits : RunsFit facts o s
   fits = allowed_transaction scenario history b s spelled allowed is
 
   ends : (event : Event) → EndsBy facts o s event → MayPlayIn (next_oid history) facts o s event → HasNext scenario history b
-  ends event ending may = end_next scenario history b s number spelled allowed is stopped fits event ending may
+  ends event ending may = end_next scenario history b s number allowed is stopped fits event ending may
 
   -- the end of a command
   command_ends : (command : Command) (event : Event) → o ≡ Some command → s.ended ≡ false → is_settled (outcome_of s.left) ≡ true → owed_after facts.due ≡ [] → owed_at_end facts command s ≡ [] → next_of_end facts (end_in facts command (work_of s)) ≡ Some event → HasNext scenario history b

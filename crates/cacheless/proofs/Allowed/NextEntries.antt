@@ -35,7 +35,7 @@ use Rattle.cacheless.specs.Types.{Oid, Mode, Row, Purpose, Scenario, Command, En
 use Rattle.cacheless.specs.declared.progress.Due.{Due}
 use Rattle.cacheless.specs.declared.progress.Due.TheVariants as dues
 use Rattle.local_caches.specs.Kept.{rows_kept}
-use Rattle.cacheless.specs.Facts.{due_last, Facts, facts_of, facts_by}
+use Rattle.cacheless.specs.Facts.{due_last, Facts, facts_of}
 use Rattle.cacheless.specs.Output.{IsAllowed}
 use Rattle.cacheless.specs.Work.{work_of}
 use Rattle.cacheless.specs.Owed.{OwesLook, owed_after, is_quiet, owed_in, has_looked_in, is_next_in}
@@ -45,6 +45,7 @@ use Rattle.cacheless.specs.Schedule.{has_stopped, is_stopped, LooksTruly}
 use Rattle.cacheless.specs.Session.{Session, number_of, first_of, outcome_of, is_settled}
 use Rattle.cacheless.specs.Sessions.{noted, commands_left, entered, session_by, session_of}
 use Rattle.cacheless.specs.Settled.{class_oid, if_locked, has_taken_no_other, has_accepted_in, looked_up_in, gives_in, acted, is_finished_in, finished_as, next_session, settled}
+use Rattle.cacheless.proofs.FactsAfter.{facts_by}
 use Rattle.cacheless.proofs.Allowed.AllowedHistories.{allowed_sound, plays_economical}
 use Rattle.cacheless.proofs.Allowed.LooksBound.{LooksBound, BoundIn, looks_bound, owed_look_may, wanted_look_may, unfound_look_may, acted-same}
 use Rattle.cacheless.proofs.Allowed.NextOnCourse.{entered_noted, noted_finished, no_start}
@@ -264,9 +265,9 @@ abbrev pub IsLater : Event → Type 0
 IsLater events.Start = ⊥
 IsLater event = ⊤
 
-lives : (last n : ℕ) (event : Event) → IsLater event → last ≤ n → FollowsLife (Alive last) n event
-lives last n events.Start later low = absurd later
-lives last n event later low = low
+pub later_lives : (last n : ℕ) (event : Event) → IsLater event → last ≤ n → FollowsLife (Alive last) n event
+later_lives last n events.Start later low = absurd later
+later_lives last n event later low = low
 
 shown : (event : Event) → FollowsVisible false event
 shown event = tt
@@ -277,7 +278,7 @@ lives_on scenario history b s event allowed is stopped later = goes (subst (Life
   where
     goes : (life_of history b ≡ Stopped) ⊎ LivesTo (life_of history b) (number_of s) → FollowsLife (life_of history b) (number_of s) event
     goes (inl over) = absurd (both_ways _ stopped (ap is_stopped over))
-    goes (inr alive) = subst (λ x. FollowsLife x (number_of s) event) (sym alive.alive) (lives alive.last (number_of s) event later alive.most)
+    goes (inr alive) = subst (λ x. FollowsLife x (number_of s) event) (sym alive.alive) (later_lives alive.last (number_of s) event later alive.most)
 
 pub free_lives : (scenario : Scenario) (history : List Entry) (b : ℕ) (s : Session) (event : Event) → IsFree scenario history b s → IsLater event → FollowsLife (life_of history b) (number_of s) event
 free_lives scenario history b s event free later = lives_on scenario history b s event free.allowed free.is free.stopped later

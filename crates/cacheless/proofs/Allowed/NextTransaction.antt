@@ -1,5 +1,5 @@
 -- The blocks and the transaction of a backend when it passes to its next command.
-use Rattle.std.proofs.Common.{◌≡◌, ◌⊎◌, ◌+◌, ◌∙◌, ◌&&◌, ◌∷◌, ◌++◌, inl, inr, ℕ, suc, take, Bool, true, false, not, Option, Some, None, List, [], refl, sym, ap, subst, is_none, is_some, arith}
+use Rattle.std.proofs.Common.{◌≡◌, ◌+◌, ◌∙◌, ◌&&◌, ◌∷◌, ◌++◌, inl, inr, ℕ, suc, take, Bool, true, false, not, Option, Some, None, List, [], refl, sym, ap, subst, is_none, is_some, arith}
 use Rattle.std.specs.Option.{option_map_or, option_or}
 use Rattle.std.proofs.lemmas.Bool.{both_ways}
 use Rattle.std.proofs.Math.Bool.{and-false}
@@ -16,48 +16,8 @@ use Rattle.cacheless.specs.Work.{work_of}
 use Rattle.cacheless.specs.Owed.{OwesLook, owed_first_in, begins_in}
 use Rattle.cacheless.specs.Ends.{End, Ends, Commits, TakesBack, end_of_all, end_of_block, end_well_in, end_badly_in, end_in}
 use Rattle.cacheless.specs.Settled.{blocks_after}
-use Rattle.cacheless.proofs.Allowed.BlockLevels.{LevelsRise, IsOutermostPlain, rise_more, rise_take, rise_push, IsWithin, within, outside_is, HasOutermost, has_outermost}
-
--- the first command of the running transaction, or 0
-abbrev pub first_at : Facts → ℕ
-first_at facts = option_map_or (λ t. t.first) facts.running 0
-
--- the transaction of a command that begins one
-pub record RunsAlone (facts : Facts) (o : Option Command) (s : Session) : Type 0 where
-  pub command : Command
-  pub at : o ≡ Some command
-  pub begins : begins_in command (work_of s) ≡ true
-  pub first : first_at facts ≡ number_of s
-
--- the first command of the outermost level, or this one where there is no level
-abbrev pub outermost : ℕ → List Level → ℕ
-outermost number [] = number
-outermost number (level ∷ levels) = level.first
-
--- the transaction of a block, whichever command runs: its outermost level began it
-pub record RunsBlock (facts : Facts) (levels : List Level) : Type 0 where
-  pub runs : is_some facts.running ≡ true
-  pub first : (command : ℕ) → first_at facts ≡ outermost command levels
-
--- the transaction of a block whose innermost level failed: none where that was the outermost one too
-abbrev pub RunsFailed : Facts → List Level → Type 0
-RunsFailed facts (level ∷ inner ∷ levels) = RunsBlock facts (level ∷ inner ∷ levels)
-RunsFailed facts levels = facts.running ≡ None
-
--- the transaction of a backend between two commands, by its levels and its block
-abbrev pub RunsAt : Facts → List Level → Block → Type 0
-RunsAt facts levels Outside = facts.running ≡ None
-RunsAt facts levels Inside = RunsBlock facts levels
-RunsAt facts levels Failed = RunsFailed facts levels
-
--- the same by its blocks
-abbrev pub RunsIn : Facts → Blocks → Type 0
-RunsIn facts blocks = RunsAt facts blocks.levels blocks.block
-
--- the transaction of a backend in a command, by the blocks before it: outside blocks that of the command
-abbrev pub RunsBy : Facts → Option Command → Session → Block → Type 0
-RunsBy facts o s Outside = (facts.running ≡ None) ⊎ RunsAlone facts o s
-RunsBy facts o s block = RunsAt facts s.blocks.levels block
+use Rattle.cacheless.specs.OwnTransaction.{LevelsRise, IsOutermostPlain, outermost, RunsBlock, RunsFailed, RunsAt, RunsIn, RunsBy}
+use Rattle.cacheless.proofs.Allowed.BlockLevels.{rise_more, rise_take, rise_push, IsWithin, within, outside_is, HasOutermost, has_outermost}
 
 -- the levels of blocks before a command of this number
 pub record LevelsFit (number : ℕ) (blocks : Blocks) : Type 0 where

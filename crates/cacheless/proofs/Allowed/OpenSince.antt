@@ -1,6 +1,6 @@
 -- The relations that a backend has open are of its block, and of its transaction.
 use Rattle.std.proofs.Common.{◌≡◌, ◌∙◌, ℕ, zero, suc, Bool, true, false, Option, Some, None, List, [], ◌∷◌, ◌++◌, ◌+◌, ◌||◌, ◌≤◌, cond, filter, arith, refl, sym, ap, subst, length, take, drop, slice_get}
-use Rattle.std.specs.Prelude.{⊤, nat_lt}
+use Rattle.std.specs.Prelude.{nat_lt}
 use Rattle.std.specs.List.{list_any}
 use Rattle.std.proofs.lemmas.Bool.{le-ltb}
 use Rattle.std.proofs.lemmas.List.Folds.{list_any-append}
@@ -11,12 +11,8 @@ use Rattle.txn_blocks.specs.Blocks.{Block, Outside, Inside, Failed, Blocks, refu
 use Rattle.cacheless.specs.Session.{Session, Outcome, Well, Badly, Unsettled, number_of, outcome_of, is_settled, plan_first}
 use Rattle.cacheless.specs.Settled.{opens_with, opens_well, opens_badly, opens_after, blocks_after}
 use Rattle.cacheless.specs.Types.{Command, OpenRelation, Opening}
+use Rattle.cacheless.specs.OwnTransaction.{OpensIn}
 use Rattle.cacheless.proofs.Allowed.NextTransaction.{block_open, well_admitted}
-
--- none is open outside a block
-abbrev pub OpensIn : Block → List OpenRelation → Type 0
-OpensIn Outside opens = opens ≡ []
-OpensIn block opens = ⊤
 
 neither : (a b : Bool) → (a || b) ≡ false → (a ≡ false) × (b ≡ false)
 neither true b none = absurd (cc none)

@@ -19,8 +19,9 @@ use Rattle.cacheless.specs.Facts.{Facts}
 use Rattle.cacheless.specs.Owed.{Owes, OwesLook, OwesScan, owed_first_in, owed_after, begins_in, scans_owed_in, owed_in}
 use Rattle.cacheless.specs.Session.{Session, Outcome, Well, Badly, Unsettled, opening_of, number_of, outcome_of}
 use Rattle.cacheless.specs.declared.progress.Due.TheVariants as dues
-use Rattle.cacheless.proofs.Allowed.EndsReleased.{RunsAfter, TransactionFits, OnCommit, OnTakingBack, Fits, end_by, EndsBy, IsCommit, commit_first}
-use Rattle.cacheless.proofs.Allowed.NextTransaction.{first_at, RunsBlock, RunsBy, failed_on}
+use Rattle.cacheless.specs.OwnTransaction.{first_at, RunsBlock, RunsBy, RunsAfter, TransactionFits, end_by, OnCommit, OnTakingBack, RunsFit}
+use Rattle.cacheless.proofs.Allowed.EndsReleased.{EndsBy, IsCommit, commit_first}
+use Rattle.cacheless.proofs.Allowed.NextTransaction.{failed_on}
 
 -- the session after an entry of an end, with its locks
 abbrev pub later_at : Session → List OwnLock → ℕ → Session
@@ -81,7 +82,7 @@ owed_later facts later command s locks at goes scans = λ i. start i ++ goes.fre
     start = ap (λ t. elim (begins_in command (work_of s) && t) as (λ x. List Owes) [ true ↦ OwesLook ∷ [] | false ↦ [] ]) (none_some later.running goes.some)
         ∙ ap (λ t. elim t as (λ x. List Owes) [ true ↦ OwesLook ∷ [] | false ↦ [] ]) (and-false (begins_in command (work_of s)))
 
-module _ (facts later : Facts) (o : Option Command) (s : Session) (event : Event) (locks : List OwnLock) (at : ℕ) (fits : Fits facts o s) (ends : EndsBy facts o s event) where
+module _ (facts later : Facts) (o : Option Command) (s : Session) (event : Event) (locks : List OwnLock) (at : ℕ) (fits : RunsFit facts o s) (ends : EndsBy facts o s event) where
   runs_later : GoesOn facts later → (t : Bool) → TransactionFits facts o s t → s.ended ≡ t → TransactionFits later o (later_at s locks at) t
   runs_later goes true none is = absurd (both_ways _ ends.going is)
   runs_later goes false by is = by_block s.blocks.block by
@@ -100,7 +101,7 @@ module _ (facts later : Facts) (o : Option Command) (s : Session) (event : Event
 
   -- where the transaction goes on
   pub fits_ending : GoesOn facts later → (has_write_from 0 later.lists ≡ true → option_map_or (λ t. is_some t.xid) later.running false ≡ true)
-      → (is_visible later.running ≡ true → OnCommit later o (later_at s locks at)) → ((from : ℕ) → later.due ≡ dues.Gone from → OnTakingBack later o (later_at s locks at) from) → Fits later o (later_at s locks at)
+      → (is_visible later.running ≡ true → OnCommit later o (later_at s locks at)) → ((from : ℕ) → later.due ≡ dues.Gone from → OnTakingBack later o (later_at s locks at) from) → RunsFit later o (later_at s locks at)
   fits_ending goes written visible taken = record {
     transaction = runs_later goes s.ended fits.transaction refl;
     first = subst (λ n. n ≤ number_of s) (sym (first_same facts later goes)) fits.first;
@@ -162,7 +163,7 @@ module _ (facts later : Facts) (o : Option Command) (s : Session) (event : Event
 
   -- the release is made: what runs then fits the blocks after the command, and isn't visible
   pub fits_released : (from : ℕ) → later.due ≡ dues.Nothing → first_at later ≤ number_of s → (has_write_from 0 later.lists ≡ true → option_map_or (λ t. is_some t.xid) later.running false ≡ true) → is_visible later.running ≡ false → RunsAfter later o s
-      → opens_before (first_at later) s.opens ≡ [] → (later.running ≡ None → opens_before from s.opens ≡ []) → Fits later o (released_at from)
+      → opens_before (first_at later) s.opens ≡ [] → (later.running ≡ None → opens_before from s.opens ≡ []) → RunsFit later o (released_at from)
   fits_released from last low written hidden runs_on since free = record {
     transaction = by_command o runs_on;
     first = low;

@@ -18,11 +18,9 @@ use Rattle.cacheless.specs.Owed.{begins_in}
 use Rattle.cacheless.specs.Session.{Session, Well, held_in, number_of, outcome_of, is_settled, plan_first, is_blocked}
 use Rattle.cacheless.specs.Settled.{blocks_after}
 use Rattle.cacheless.specs.declared.progress.Due.TheVariants as dues
+use Rattle.cacheless.specs.OwnTransaction.{LevelsRise, IsOutermostPlain, first_at, RunsBlock, RunsFailed, RunsAt, RunsIn, RunsBy, RunsAfter, TransactionFits, OpensIn, RunsFit}
 use Rattle.cacheless.proofs.Entries.EnteredLooks.{not_absent}
-use Rattle.cacheless.proofs.Allowed.BlockLevels.{LevelsRise, IsOutermostPlain}
-use Rattle.cacheless.proofs.Allowed.EndsReleased.{RunsAfter, TransactionFits, Fits}
-use Rattle.cacheless.proofs.Allowed.NextTransaction.{first_at, RunsBlock, RunsFailed, RunsAt, RunsIn, RunsBy, some_first, failed_on}
-use Rattle.cacheless.proofs.Allowed.OpenSince.{OpensIn}
+use Rattle.cacheless.proofs.Allowed.NextTransaction.{some_first, failed_on}
 
 -- what such an entry leaves of the facts: its transaction runs, with its first command, and isn't visible
 pub record StaysInside (facts later : Facts) (number : ℕ) : Type 0 where
@@ -134,7 +132,7 @@ module _ (facts later : Facts) (o : Option Command) (s now : Session) (fits_firs
       by_goes (Starts c here starts outside none) = ap (opens_before (first_at later)) (subst (λ b. OpensIn b s.opens) outside inside)
 
 -- so all that holds of it does
-pub fits_inside : (facts later : Facts) (o : Option Command) (s now : Session) → Fits facts o s → StaysInside facts later (number_of s) → StaysAt s now → RunsHere facts o s → is_visible facts.running ≡ false → IsWellOnceOver s → (o ≡ None → now.opened ≡ s.opened) → Fits later o now
+pub fits_inside : (facts later : Facts) (o : Option Command) (s now : Session) → RunsFit facts o s → StaysInside facts later (number_of s) → StaysAt s now → RunsHere facts o s → is_visible facts.running ≡ false → IsWellOnceOver s → (o ≡ None → now.opened ≡ s.opened) → RunsFit later o now
 fits_inside facts later o s now fits stays same goes hidden over opened = record {
   transaction = subst (TransactionFits later o now) (sym same.ended) (by_ended s.ended refl fits.transaction);
   first = first_low facts later o s now fits.first stays same goes;

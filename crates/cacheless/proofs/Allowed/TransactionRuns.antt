@@ -21,10 +21,9 @@ use Rattle.cacheless.specs.Owed.{Owes, OwesLook, OwesScan, missing, owed_first_i
 use Rattle.cacheless.specs.Session.{Session, Outcome, Unsettled, Well, Badly, opening_of, held_in, number_of, outcome_of, is_settled, plan_admitted, plan_first, refused_first, is_blocked}
 use Rattle.cacheless.specs.Settled.{is_finished_in}
 use Rattle.cacheless.specs.Told.{tells_of_scans}
+use Rattle.cacheless.specs.OwnTransaction.{RunsFailed, RunsBy, TransactionFits, OpensIn, RunsFit}
 use Rattle.cacheless.proofs.Allowed.BlockLevels.{IsWithin, within, outside_is}
-use Rattle.cacheless.proofs.Allowed.EndsReleased.{TransactionFits, Fits}
-use Rattle.cacheless.proofs.Allowed.NextTransaction.{RunsFailed, RunsBy, place_there, failed_mends}
-use Rattle.cacheless.proofs.Allowed.OpenSince.{OpensIn}
+use Rattle.cacheless.proofs.Allowed.NextTransaction.{place_there, failed_mends}
 use Rattle.cacheless.proofs.Allowed.TransactionGoesOn.{RunsHere, Goes, Starts}
 
 -- a command that the blocks refuse fails
@@ -59,7 +58,7 @@ alone_rests : (told : Told) → tells_of_scans told ≡ false → told_rests_on 
 alone_rests (tells.Regclass oid) alone = absurd (cc alone)
 alone_rests told alone = refl
 
-module _ (facts : Facts) (command : Command) (s : Session) (fits : Fits facts (Some command) s) (none : facts.running ≡ None) where
+module _ (facts : Facts) (command : Command) (s : Session) (fits : RunsFit facts (Some command) s) (none : facts.running ≡ None) where
   -- nothing is owed after its last event
   due_none : owed_after facts.due ≡ []
   due_none = by_list (owed_after facts.due) refl
@@ -190,7 +189,7 @@ pub record OverAlone (s : Session) : Type 0 where
   pub alone : tells_of_scans told ≡ false
 
 -- so where it isn't finished a transaction runs, or it begins one
-pub runs_here : (facts : Facts) (command : Command) (s : Session) → Fits facts (Some command) s → is_finished_in facts command (work_of s) ≡ false → ((told : Told) → plan_of s.opens command ≡ Done told → DoesNoAct s told) → (s.ended ≡ true → OverAlone s) → RunsHere facts (Some command) s
+pub runs_here : (facts : Facts) (command : Command) (s : Session) → RunsFit facts (Some command) s → is_finished_in facts command (work_of s) ≡ false → ((told : Told) → plan_of s.opens command ≡ Done told → DoesNoAct s told) → (s.ended ≡ true → OverAlone s) → RunsHere facts (Some command) s
 runs_here facts command s fits unfinished plain over = by_running facts.running refl
   where
     Here : Type 0

@@ -23,7 +23,7 @@ use Rattle.cacheless.specs.declared.progress.Due.{Due}
 use Rattle.cacheless.specs.declared.progress.Due.TheVariants as dues
 use Rattle.cacheless.specs.Work.{work_of}
 use Rattle.cacheless.specs.Ends.{End, Ends, Commits, TakesBack, end_in, end_left_in, next_of_end}
-use Rattle.cacheless.specs.Facts.{Facts, due_last, facts_of, facts_by}
+use Rattle.cacheless.specs.Facts.{Facts, due_last, facts_of}
 use Rattle.cacheless.specs.OnCourse.{is_absent}
 use Rattle.cacheless.specs.Output.{IsAllowed}
 use Rattle.cacheless.specs.Owed.{Owes, OwesScan, missing, act_next, owed_first_in, owed_after, scans_owed_in, owed_in, is_next_in}
@@ -32,13 +32,14 @@ use Rattle.cacheless.specs.Plays.{IsLock, IsWrite, IsClash, MayPlayLast, MayPlay
 use Rattle.cacheless.specs.Session.{Session, Badly, opening_of, held_in, number_of, none_open, at_command, outcome_of, is_settled, plan_first}
 use Rattle.cacheless.specs.Sessions.{ends_command, written, resumed, noted, placed_at, counted, entered, session_of}
 use Rattle.cacheless.specs.Settled.{act_done, is_finished_in, blocks_after, opens_after, finished_as, next_session}
+use Rattle.cacheless.specs.OwnTransaction.{LevelsRise, first_at, RunsFailed, RunsAt, RunsIn, RunsBy, TransactionFits, end_by, OpensIn, RunsFit}
+use Rattle.cacheless.proofs.FactsAfter.{facts_by}
 use Rattle.cacheless.proofs.Allowed.ActsNext.{unmapped}
-use Rattle.cacheless.proofs.Allowed.BlockLevels.{LevelsRise}
-use Rattle.cacheless.proofs.Allowed.EndsReleased.{TransactionFits, Fits, end_by, EndsBy, ends_by, is_end, IsCommit, comes_now, from_of, IsInner, Releases, Whole, Inner, end_releases}
+use Rattle.cacheless.proofs.Allowed.EndsReleased.{EndsBy, ends_by, is_end, IsCommit, comes_now, from_of, IsInner, Releases, Whole, Inner, end_releases}
 use Rattle.cacheless.proofs.Allowed.KeptAlong.{Makes, IsKept, HoldsBy, kept_along}
 use Rattle.cacheless.proofs.Allowed.NextOnCourse.{entered_noted, no_start}
-use Rattle.cacheless.proofs.Allowed.NextTransaction.{LevelsFit, first_at, RunsFailed, RunsAt, RunsIn, RunsBy, levels_next, next_silent, well_admitted}
-use Rattle.cacheless.proofs.Allowed.OpenSince.{OpensIn, inside_next, since_next, since_none}
+use Rattle.cacheless.proofs.Allowed.NextTransaction.{LevelsFit, levels_next, next_silent, well_admitted}
+use Rattle.cacheless.proofs.Allowed.OpenSince.{inside_next, since_next, since_none}
 use Rattle.cacheless.proofs.Allowed.OwnEntries.{IsNoted}
 use Rattle.cacheless.proofs.Allowed.TransactionEnds.{GoesOn, fits_ending, commits_on, takes_back_on, fits_released, write_from_first, none_from, ended_running, ended_lists, kept_running, kept_lists, goes_first, begun_xid, begun_visible, written_runs}
 use Rattle.cacheless.proofs.Allowed.TransactionGoesOn.{StaysInside, StaysAt, IsWellOnceOver, RunsHere, Goes, fits_inside}
@@ -67,7 +68,7 @@ quiet_facts facts later n has same lists last = record {
   last = last;
 }
 
-inside_facts : (history : List Entry) (b n : ℕ) (event : Event) (o : Option Command) (s : Session) → IsInside event → Fits (facts_of history b) o s → StaysInside (facts_of history b) (facts_by history b n event (facts_of history b)) n
+inside_facts : (history : List Entry) (b n : ℕ) (event : Event) (o : Option Command) (s : Session) → IsInside event → RunsFit (facts_of history b) o s → StaysInside (facts_of history b) (facts_by history b n event (facts_of history b)) n
 inside_facts history b n (events.Look true) o s inside fits = quiet_facts (facts_of history b) _ n fits.written refl refl (λ from is. cc is)
 inside_facts history b n (events.Look false) o s inside fits = quiet_facts (facts_of history b) _ n fits.written refl refl (λ from is. cc is)
 inside_facts history b n (events.Fetch count) o s inside fits = quiet_facts (facts_of history b) _ n fits.written refl refl (λ from is. by_full (count == 32) from is)
@@ -182,7 +183,7 @@ inside_hidden true (events.Release from) inside follows = absurd inside
 inside_hidden true event inside follows = absurd follows
 
 -- after the last command no scan is lacking, where none runs
-scan_past : (facts : Facts) (s : Session) (scan : Purpose) → Fits facts None s → facts.running ≡ None → is_next_in scan facts (work_of s) ≡ true → ⊥
+scan_past : (facts : Facts) (s : Session) (scan : Purpose) → RunsFit facts None s → facts.running ≡ None → is_next_in scan facts (work_of s) ≡ true → ⊥
 scan_past facts s scan fits none next = both_ways _ (λ i. list_any (same_scan scan) (elim (outcome_of (fits.past refl i)) as (λ x. List Purpose) [ Badly ↦ [] | other ↦ flat_map (λ o. take 1 (missing facts.kept (build_scans o.kind o.rel))) (bare i) ++ act_next facts (fits.past refl i) ])) next
   where
     by_block : s.ended ≡ false → (block : Block) → s.blocks.block ≡ block → OpensIn block s.opens → RunsBy facts None s block → s.opened ≡ []
@@ -202,11 +203,11 @@ module _ (scenario : Scenario) (history : List Entry) (b : ℕ) (s : Session) wh
   facts = facts_of history b
 
   -- what a fetch rests on is owed
-  fetch_runs : (o : Option Command) → Fits facts o s → last_event_of history b ≡ Some (events.Look true) → is_some facts.running ≡ true
+  fetch_runs : (o : Option Command) → RunsFit facts o s → last_event_of history b ≡ Some (events.Look true) → is_some facts.running ≡ true
   fetch_runs o fits last = fits.accepts (ap (λ l. is_empty (owed_after (due_last l))) last)
 
   -- after the last command a transaction runs, where such an entry comes
-  last_runs : (event : Event) → IsInside event → Fits facts None s → Makes scenario history b None s event → is_some facts.running ≡ true
+  last_runs : (event : Event) → IsInside event → RunsFit facts None s → Makes scenario history b None s event → is_some facts.running ≡ true
   last_runs (events.Look some_wait) inside fits makes = makes.plays.0
   last_runs (events.Fetch count) inside fits makes = fetch_runs None fits makes.follows.event.0
   last_runs events.FetchReset inside fits makes = fetch_runs None fits makes.follows.event
@@ -223,11 +224,11 @@ module _ (scenario : Scenario) (history : List Entry) (b : ℕ) (s : Session) wh
   last_runs (events.ClashRunning name xid) inside fits makes = absurd makes.plays
   last_runs event inside fits makes = absurd inside
 
-  here_of : (o : Option Command) (event : Event) → IsInside event → Fits facts o s → Makes scenario history b o s event → RunsHere facts o s
+  here_of : (o : Option Command) (event : Event) → IsInside event → RunsFit facts o s → Makes scenario history b o s event → RunsHere facts o s
   here_of None event inside fits makes = Goes (last_runs event inside fits makes)
   here_of (Some command) event inside fits makes = runs_here facts command s fits (makes.waits command refl).unfinished (makes.course.follows command makes.at).plain (λ over. let alone = makes.course.going command makes.at over in record { told = alone.told; left = alone.left; alone = alone.alone })
 
-  once_of : (o : Option Command) (event : Event) → Fits facts o s → Makes scenario history b o s event → IsWellOnceOver s
+  once_of : (o : Option Command) (event : Event) → RunsFit facts o s → Makes scenario history b o s event → IsWellOnceOver s
   once_of None event fits makes = λ over. ap outcome_of (fits.past refl)
   once_of (Some command) event fits makes = λ over. ap outcome_of (makes.course.going command makes.at over).left
 
@@ -236,8 +237,8 @@ module _ (scenario : Scenario) (history : List Entry) (b : ℕ) (s : Session) wh
   opened_of (Some command) event later left at inside makes none = absurd (cc none)
 
   -- an entry that is none of an end
-  inside_enters : (o : Option Command) (event : Event) (left : List Command) → IsInside event → Makes scenario history b o s event → Fits facts o s
-      → Fits (facts_by history b (number_of s) event facts) o (entered (facts_by history b (number_of s) event facts) left (length history + 1) (number_of s) event s)
+  inside_enters : (o : Option Command) (event : Event) (left : List Command) → IsInside event → Makes scenario history b o s event → RunsFit facts o s
+      → RunsFit (facts_by history b (number_of s) event facts) o (entered (facts_by history b (number_of s) event facts) left (length history + 1) (number_of s) event s)
   inside_enters o event left inside makes fits = fits_inside facts later o s (entered later left (length history + 1) (number_of s) event s) fits (inside_facts history b (number_of s) event o s inside fits)
       (entered_stays later left (length history + 1) (number_of s) event s (noted_stays (next_oid history) facts o s event inside makes.plays)) (here_of o event inside fits makes)
       (inside_hidden (is_visible facts.running) event inside makes.follows.visible) (once_of o event fits makes) (opened_of o event later left (length history + 1) inside makes)
@@ -255,10 +256,10 @@ module _ (scenario : Scenario) (history : List Entry) (b : ℕ) (s : Session) wh
   commit_free (Some command) event ends may commit = unmapped (scans_owed_in facts (work_of s)) (both_empty (owed_first_in facts command (work_of s) ++ owed_after facts.due) (map OwesScan (scans_owed_in facts (work_of s)))
       (sym (ap (λ e. elim e as (λ x. List Owes) [ TakesBack from ↦ owed_after facts.due | end ↦ owed_in facts command (work_of s) ]) commit.is) ∙ (is_end (next_oid history) facts command s event ends may).0)).1
 
-  module _ (o : Option Command) (left : List Command) (fits : Fits facts o s) where
+  module _ (o : Option Command) (left : List Command) (fits : RunsFit facts o s) where
     -- the visibility step
     shows_enters : (xid : Xid) → Makes scenario history b o s (events.Visible xid)
-        → Fits (facts_by history b (number_of s) (events.Visible xid) facts) o (entered (facts_by history b (number_of s) (events.Visible xid) facts) left (length history + 1) (number_of s) (events.Visible xid) s)
+        → RunsFit (facts_by history b (number_of s) (events.Visible xid) facts) o (entered (facts_by history b (number_of s) (events.Visible xid) facts) left (length history + 1) (number_of s) (events.Visible xid) s)
     shows_enters xid makes = fits_ending facts later o s event _ (length history + 1) fits ends goes (λ is. begun_xid (number_of s) facts.running (fits.written is))
         (λ is. commits_on facts later o s event _ (length history + 1) fits ends goes commit refl (commit_free o event refl makes.plays commit)) (λ from is. absurd (cc is))
       where
@@ -282,7 +283,7 @@ module _ (scenario : Scenario) (history : List Entry) (b : ℕ) (s : Session) wh
 
     -- a publish
     publish_enters : (count : ℕ) → Makes scenario history b o s (events.Publish count)
-        → Fits (facts_by history b (number_of s) (events.Publish count) facts) o (entered (facts_by history b (number_of s) (events.Publish count) facts) left (length history + 1) (number_of s) (events.Publish count) s)
+        → RunsFit (facts_by history b (number_of s) (events.Publish count) facts) o (entered (facts_by history b (number_of s) (events.Publish count) facts) left (length history + 1) (number_of s) (events.Publish count) s)
     publish_enters count makes = fits_ending facts later o s event _ (length history + 1) fits ends goes (λ is. begun_xid (number_of s) facts.running (fits.written is))
         (λ is. commits_on facts later o s event _ (length history + 1) fits ends goes commit refl (commit_free o event refl makes.plays commit)) (λ from is. absurd (cc is))
       where
@@ -306,7 +307,7 @@ module _ (scenario : Scenario) (history : List Entry) (b : ℕ) (s : Session) wh
 
     -- taking back
     back_enters : (from : ℕ) → Makes scenario history b o s (events.Gone from)
-        → Fits (facts_by history b (number_of s) (events.Gone from) facts) o (entered (facts_by history b (number_of s) (events.Gone from) facts) left (length history + 1) (number_of s) (events.Gone from) s)
+        → RunsFit (facts_by history b (number_of s) (events.Gone from) facts) o (entered (facts_by history b (number_of s) (events.Gone from) facts) left (length history + 1) (number_of s) (events.Gone from) s)
     back_enters from makes = fits_ending facts later o s event _ (length history + 1) fits ends goes (λ is. begun_xid (number_of s) facts.running written_here)
         (λ is. absurd (both_ways _ hidden (sym (begun_visible (number_of s) facts.running) ∙ is)))
         (λ n is. let same : from ≡ n = (let both : dues.Gone from ≡ dues.Gone n = is in cc both) in
@@ -342,7 +343,7 @@ module _ (scenario : Scenario) (history : List Entry) (b : ℕ) (s : Session) wh
 
     -- the release
     release_enters : (from : ℕ) → Makes scenario history b o s (events.Release from)
-        → Fits (facts_by history b (number_of s) (events.Release from) facts) o (entered (facts_by history b (number_of s) (events.Release from) facts) left (length history + 1) (number_of s) (events.Release from) s)
+        → RunsFit (facts_by history b (number_of s) (events.Release from) facts) o (entered (facts_by history b (number_of s) (events.Release from) facts) left (length history + 1) (number_of s) (events.Release from) s)
     release_enters from makes = by_part (end_releases facts o s from fits ends.going (from_of facts (end_by facts o s) from (comes_now facts (end_by facts o s) event ends.comes)))
       where
         event : Event
@@ -362,7 +363,7 @@ module _ (scenario : Scenario) (history : List Entry) (b : ℕ) (s : Session) wh
         inner_hidden inner false may = refl
         inner_hidden inner true may = absurd (omega (arith, inner.above, first_of_it facts.running may.0))
 
-        by_part : Releases facts o s from → Fits later o (entered later left (length history + 1) (number_of s) event s)
+        by_part : Releases facts o s from → RunsFit later o (entered later left (length history + 1) (number_of s) event s)
         by_part (Whole is bare on) = fits_released facts later o s event _ (length history + 1) fits ends from refl
             (subst (λ n. n ≤ number_of s) (sym (ap (λ r. option_map_or (λ (t : Running). t.first) r 0) ended)) (omega arith))
             (λ some. absurd (both_ways _ (ended_lists facts.running facts.lists (number_of s) from is fits.written) some)) (ap (λ r. is_visible r) ended) (on later ended)
@@ -380,7 +381,7 @@ module _ (scenario : Scenario) (history : List Entry) (b : ℕ) (s : Session) wh
             same = kept_running facts.running (number_of s) from inner.runs inner.above
 
   -- the stop
-  stop_enters : (left : List Command) → Fits facts None s → facts.running ≡ None → Fits (facts_by history b (number_of s) events.Stop facts) None (entered (facts_by history b (number_of s) events.Stop facts) left (length history + 1) (number_of s) events.Stop s)
+  stop_enters : (left : List Command) → RunsFit facts None s → facts.running ≡ None → RunsFit (facts_by history b (number_of s) events.Stop facts) None (entered (facts_by history b (number_of s) events.Stop facts) left (length history + 1) (number_of s) events.Stop s)
   stop_enters left fits none = record {
     transaction = by_ended s.ended fits.transaction;
     first = fits.first;
@@ -421,8 +422,8 @@ module _ (scenario : Scenario) (history : List Entry) (b : ℕ) (s : Session) wh
       by_ended true runs = none
       by_ended false runs = by_block s.blocks.block runs
 
-  entry_enters : (o : Option Command) (event : Event) (left : List Command) → Makes scenario history b o s event → Fits facts o s
-      → Fits (facts_by history b (number_of s) event facts) o (entered (facts_by history b (number_of s) event facts) left (length history + 1) (number_of s) event s)
+  entry_enters : (o : Option Command) (event : Event) (left : List Command) → Makes scenario history b o s event → RunsFit facts o s
+      → RunsFit (facts_by history b (number_of s) event facts) o (entered (facts_by history b (number_of s) event facts) left (length history + 1) (number_of s) event s)
   entry_enters o (events.Look some_wait) left makes fits = inside_enters o (events.Look some_wait) left tt makes fits
   entry_enters o (events.Fetch count) left makes fits = inside_enters o (events.Fetch count) left tt makes fits
   entry_enters o events.FetchReset left makes fits = inside_enters o events.FetchReset left tt makes fits
@@ -444,7 +445,7 @@ module _ (scenario : Scenario) (history : List Entry) (b : ℕ) (s : Session) wh
   entry_enters (Some command) events.Fail left makes fits = absurd makes.plays
 
 -- an act that is done without an entry
-act_fits : (facts : Facts) (command : Command) (s : Session) (act : Act) (further : List Row → Plan) (given : List Row) → s.left ≡ Do act further → Fits facts (Some command) s → Fits facts (Some command) (act_done act given (further given) s)
+act_fits : (facts : Facts) (command : Command) (s : Session) (act : Act) (further : List Row → Plan) (given : List Row) → s.left ≡ Do act further → RunsFit facts (Some command) s → RunsFit facts (Some command) (act_done act given (further given) s)
 act_fits facts command s act further given left fits = record {
   transaction = subst (TransactionFits facts (Some command) (act_done act given (further given) s)) (sym going) (by_block s.blocks.block (subst (TransactionFits facts (Some command) s) going fits.transaction));
   first = fits.first;
@@ -510,7 +511,7 @@ still_ending : (facts : Facts) (command : Command) (s : Session) (event : Event)
 still_ending facts command s event done going comes = both_ways _ (ap (λ e. is_none e) comes) (subst (λ t. is_none (elim t as (λ x. Option Event) [ true ↦ None | false ↦ next_of_end facts (end_in facts command (work_of s)) ]) ≡ true) going done.none)
 
 -- a command that is finished is passed over
-pass_fits : (facts : Facts) (command : Command) (next : Option Command) (s : Session) → is_finished_in facts command (work_of s) ≡ true → Fits facts (Some command) s → Fits facts next (next_session command next s)
+pass_fits : (facts : Facts) (command : Command) (next : Option Command) (s : Session) → is_finished_in facts command (work_of s) ≡ true → RunsFit facts (Some command) s → RunsFit facts next (next_session command next s)
 pass_fits facts command next s finished fits = record {
   transaction = runs_next now.blocks.block passes_to;
   first = subst (λ n. first_at facts ≤ n) (sym counts) (omega (arith, fits.first));
@@ -556,7 +557,7 @@ pass_fits facts command next s finished fits = record {
     levels = levels_next s command (well_admitted (Some command) s command refl fits.settled) (record { opens = fits.opens; rise = fits.levels; plain = fits.plain })
 
 -- and at its start none runs
-start_fits : (history : List Entry) (b c : ℕ) (o : Option Command) → has_write_from 0 (facts_of history b).lists ≡ false → Fits (facts_by history b c events.Start (facts_of history b)) o (at_command no_block none_open [] [] (length history + 1) o)
+start_fits : (history : List Entry) (b c : ℕ) (o : Option Command) → has_write_from 0 (facts_of history b).lists ≡ false → RunsFit (facts_by history b c events.Start (facts_of history b)) o (at_command no_block none_open [] [] (length history + 1) o)
 start_fits history b c o bare = record {
   transaction = inl refl;
   first = omega arith;
@@ -577,7 +578,7 @@ start_fits history b c o bare = record {
   held = λ none going. refl;
 }
 
-pub transactions_kept : (scenario : Scenario) → IsKept scenario (λ facts. has_write_from 0 facts.lists ≡ false) Fits
+pub transactions_kept : (scenario : Scenario) → IsKept scenario (λ facts. has_write_from 0 facts.lists ≡ false) RunsFit
 transactions_kept scenario = record {
   first = λ b. refl;
   starts = start_fits;
@@ -587,6 +588,6 @@ transactions_kept scenario = record {
 }
 
 -- so it is after an allowed history
-pub allowed_transaction : (scenario : Scenario) (history : List Entry) (b : ℕ) (s : Session) → AreSpelled scenario → IsAllowed scenario history → session_of scenario history b ≡ Some s → Fits (facts_of history b) (slice_get (commands_of scenario b) (length s.finished)) s
-allowed_transaction scenario history b s spelled allowed is = subst (HoldsBy scenario (λ facts. has_write_from 0 facts.lists ≡ false) Fits (transactions_kept scenario) b (facts_of history b)) is
-    (kept_along scenario (λ facts. has_write_from 0 facts.lists ≡ false) Fits (transactions_kept scenario) history spelled allowed b)
+pub allowed_transaction : (scenario : Scenario) (history : List Entry) (b : ℕ) (s : Session) → AreSpelled scenario → IsAllowed scenario history → session_of scenario history b ≡ Some s → RunsFit (facts_of history b) (slice_get (commands_of scenario b) (length s.finished)) s
+allowed_transaction scenario history b s spelled allowed is = subst (HoldsBy scenario (λ facts. has_write_from 0 facts.lists ≡ false) RunsFit (transactions_kept scenario) b (facts_of history b)) is
+    (kept_along scenario (λ facts. has_write_from 0 facts.lists ≡ false) RunsFit (transactions_kept scenario) history spelled allowed b)

@@ -1,11 +1,12 @@
 use Rattle.backend_core.proofs.Fitting.Entered.{is_few}
-use Rattle.backend_core.proofs.Entries.Committing.{commit_call, commit_enters}
+use Rattle.backend_core.proofs.Entries.Committing.{commit_enters}
+use Rattle.backend_core.proofs.Entries.EndEntries.{end_call}
 use Rattle.std.proofs.Common.{refl}
 use Rattle.backend_core.proofs.Entries.Noting.{noted_with}
 use Rattle.backend_core.proofs.backend.Backend.commit.Goals as goal
 
 pub visible-requires-clause-call : goal.visible-requires-clause-call
-visible-requires-clause-call g c = commit_call _ _ c.args.self.now _ c.requires.ready.waits c.requires.next
+visible-requires-clause-call g c = end_call _ _ c.args.self.now c.requires.ready.waits _ refl c.requires.next
 
 pub enter_visible-requires : goal.enter_visible-requires
 enter_visible-requires g c = record { few = is_few _ _ c.args.self.now c.requires.ready.waits }

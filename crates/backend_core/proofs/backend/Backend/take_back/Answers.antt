@@ -1,11 +1,12 @@
 use Rattle.backend_core.proofs.Fitting.Entered.{is_few}
-use Rattle.backend_core.proofs.Entries.TakingBack.{take_back_call, take_back_enters}
+use Rattle.backend_core.proofs.Entries.EndEntries.{end_call}
+use Rattle.backend_core.proofs.Entries.TakingBack.{take_back_enters}
 use Rattle.std.proofs.Common.{refl}
 use Rattle.backend_core.proofs.Entries.Noting.{noted_with}
 use Rattle.backend_core.proofs.backend.Backend.take_back.Goals as goal
 
 pub gone-requires-clause-call : goal.gone-requires-clause-call
-gone-requires-clause-call g c = take_back_call _ _ c.args.self.now _ c.requires.ready.waits c.requires.next
+gone-requires-clause-call g c = end_call _ _ c.args.self.now c.requires.ready.waits _ refl c.requires.next
 
 pub enter_gone-requires : goal.enter_gone-requires
 enter_gone-requires g c = record { few = is_few _ _ c.args.self.now c.requires.ready.waits }
