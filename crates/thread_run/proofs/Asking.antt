@@ -268,8 +268,8 @@ each_map result other script so (n ∷ ns) (x ∷ xs) (y ∷ ys) each = (so n (l
 pub each_some : {T E S F : Type 0} (result : Result T E) (refusal : F) (script : Scenario) (ns : List ℕ) (xs ys : List (List Asked)) → AskedEach result script ns xs ys → AskedEach (err_of S F refusal) script ns xs ys
 each_some {T} {E} {S} {F} result refusal script ns xs ys each = each_map result (err_of S F refusal) script (by_some result) ns xs ys each
 
-pub each_well : {T E S F : Type 0} (result : Result T E) (done : T) (value : S) (script : Scenario) (ns : List ℕ) (xs ys : List (List Asked)) → result ≡ Ok done → AskedEach result script ns xs ys → AskedEach (ok_of S F value) script ns xs ys
-each_well {T} {E} {S} {F} result done value script ns xs ys is each = each_map (ok_of T E done) (ok_of S F value) script (λ b commands old new asks. asks) ns xs ys (subst (λ r. AskedEach r script ns xs ys) is each)
+pub each_done : {T E S F : Type 0} (done : T) (value : S) (script : Scenario) (ns : List ℕ) (xs ys : List (List Asked)) → AskedEach (ok_of T E done) script ns xs ys → AskedEach (ok_of S F value) script ns xs ys
+each_done {T} {E} {S} {F} done value script ns xs ys each = each_map (ok_of T E done) (ok_of S F value) script (λ b commands old new asks. asks) ns xs ys each
 
 -- a refusal that is handed on
 pub refused_each : {T E S F : Type 0} (inner : Result S F) (result : Result T E) (script : Scenario) (ns : List ℕ) (xs ys : List (List Asked)) → IsErr result → AskedEach inner script ns xs ys → AskedEach result script ns xs ys

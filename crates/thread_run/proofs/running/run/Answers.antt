@@ -1,12 +1,12 @@
 use lib.ListN.{length-map}
-use Rattle.std.proofs.Common.{◌∙◌, map, sym, ap, arith}
+use Rattle.std.proofs.Common.{◌∙◌, map, sym, ap, arith, Ok}
 use Rattle.std.proofs.lemmas.List.FromFn.{length-range_with_len}
 use Rattle.std.specs.List.{range_with_len}
 use Rattle.std.proofs.lemmas.Result.{IfOk-from_err}
 use Rattle.script_backends.specs.Sessions.{transcripts_of}
 use Rattle.turn_table.specs.Passes.{start_of}
 use Rattle.thread_run.specs.declared.refusal.RunRefusal.TheVariants as refusals
-use Rattle.thread_run.proofs.Asking.{each_none, each_some, each_well, refused_each, run_asked}
+use Rattle.thread_run.proofs.Asking.{each_none, each_some, each_done, refused_each, run_asked}
 use Rattle.thread_run.proofs.Ends.{all_of, all_seats, all_ended, run_is, run_sessions, run_stands, run_coherent}
 use Rattle.thread_run.proofs.Stopping.{none_fell_same, refused_so}
 use Rattle.thread_run.proofs.running.run.Goals as goal
@@ -103,5 +103,5 @@ returns-in_default-all_lines-clause-asked g c = let asked = g.G.Gate.asked in
 
 pub returns-clause-asked : goal.returns-clause-asked
 returns-clause-asked g c = let asked = g.G.Gate.asked in
-    each_well c.run_backends.result c.in_ok-run_backends.field-0 _ c.args.script.now (range_with_len 1 c.args.script.now.backends) (map asked c.args.gates.now.items) (map asked c.run_backends.new.gates.items) c.in_ok-run_backends.is
-    (run_asked c.run_backends.result (start_of c.in-Ok.table).whole c.args.script.now (map (λ p. p.number) c.in-Ok.passes.items) (range_with_len 1 c.args.script.now.backends) (map asked c.args.gates.now.items) (map asked c.run_backends.new.gates.items) c.in-Ok.ensures.script c.in-Ok.ensures.numbers c.run_backends.ensures.asked)
+    each_done tt _ c.args.script.now (range_with_len 1 c.args.script.now.backends) (map asked c.args.gates.now.items) (map asked c.run_backends.new.gates.items)
+    (run_asked (Ok tt) (start_of c.in-Ok.table).whole c.args.script.now (map (λ p. p.number) c.in-Ok.passes.items) (range_with_len 1 c.args.script.now.backends) (map asked c.args.gates.now.items) (map asked c.run_backends.new.gates.items) c.in-Ok.ensures.script c.in-Ok.ensures.numbers c.in_ok-run_backends.ensures.asked)
