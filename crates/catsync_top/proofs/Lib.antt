@@ -7,3 +7,4 @@ pub mod Readable
 pub mod Checked
 pub mod Numbers
 pub mod Made
+pub mod Gates

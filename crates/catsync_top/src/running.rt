@@ -4,6 +4,7 @@ ghost use Rattle.edge_io.specs.Taken.{Grows, GrowsByFront};
 ghost use Rattle.thread_run.specs.Stops.{NoneFell, OneRose};
 ghost use Rattle.cacheless.specs.declared.check_kind.CheckKind.TheVariants as kinds;
 ghost use Rattle.catsync_top.specs.declared.arguments.Word.TheVariants as words;
+ghost use Rattle.catsync_top.specs.Gates.{HasAsked};
 ghost use Rattle.catsync_top.specs.Sessions.{RanCoherently};
 ghost use Rattle.catsync_top.specs.Top.{HasRead, IsBad, IsTooLong, HasScript, HadNoFault, HadNoStop, IfBadScript, IfDiffers, HasEnded, IsRefusalOfInput};
 
@@ -45,6 +46,7 @@ pub(crate) fn run_script<R: Threads + Wait + Sync, S: Source, K: Sink, G: Gate>(
     ensures stopped { result ≡ Status.Stopped → OneRose (map G.stops gates.old.items) (map G.stops gates.new.items) }
     ensures stopped_read { result ≡ Status.Stopped → HasRead (words.Output kinds.Run) (S.left source.old) (S.left source.new) }
     ensures gates_kept { NoneFell (map G.stops gates.old.items) (map G.stops gates.new.items) }
+    ensures asked { HasAsked result (S.left source.old) (S.left source.new) (map G.asked gates.old.items) (map G.asked gates.new.items) }
     ensures refused_unasked { IsRefusalOfInput result → gates.new ≡ gates.old }
     ensures gates_steady { result ≢ Status.Stopped → result ≢ Status.NoMemory → map G.stops gates.new.items ≡ map G.stops gates.old.items }
     ensures complete { HasScript (words.Output kinds.Run) (S.left source.old) → HadNoFault (S.faults source.old) (S.faults source.new) → HadNoFault (K.faults sink.old) (K.faults sink.new) → HadNoStop (words.Output kinds.Run) (map G.stops gates.old.items) (map G.stops gates.new.items) → HasEnded (words.Output kinds.Run) result }

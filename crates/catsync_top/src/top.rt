@@ -8,6 +8,7 @@ ghost use Rattle.cacheless.specs.declared.check_kind.CheckKind.{CheckKind};
 ghost use Rattle.cacheless.specs.declared.check_kind.CheckKind.TheVariants as kinds;
 ghost use Rattle.catsync_top.specs.declared.arguments.Word.{Word};
 ghost use Rattle.catsync_top.specs.declared.arguments.Word.TheVariants as words;
+ghost use Rattle.catsync_top.specs.Gates.{HasAsked};
 ghost use Rattle.catsync_top.specs.Sessions.{RanCoherently, HasMadeByWalk};
 ghost use Rattle.catsync_top.specs.Top.{Ask, AskToMake, AskNothing, AskSomething, Ran, HasFound, HasDifferedAsAsked, HasRead, IsBad, IsTooLong, HasScript, HadNoFault, HadNoStop, IfBadScript, IfDiffers, HasEnded, IsEndOfMaking, IsRefusalOfInput};
 
@@ -108,6 +109,7 @@ pub fn catsync<R: Threads + Wait + Sync, S: Source, K: Sink, G: Gate>(
     // The gates: `run` alone asks them, once it has read a script, and where one stopped a backend the status is `Stopped` or `NoMemory`.
     ensures gates { NoneFell (map G.stops gates.old.items) (map G.stops gates.new.items) }
     ensures unasked { (Ask (map string_bytes arguments.now) (words.Output kinds.Run) → ⊥) → gates.new ≡ gates.old }
+    ensures asked { Ask (map string_bytes arguments.now) (words.Output kinds.Run) → HasAsked result (S.left source.old) (S.left source.new) (map G.asked gates.old.items) (map G.asked gates.new.items) }
     ensures refused_unasked { IsRefusalOfInput result → gates.new ≡ gates.old }
     ensures stopped { result ≡ Status.Stopped → Ask (map string_bytes arguments.now) (words.Output kinds.Run) × OneRose (map G.stops gates.old.items) (map G.stops gates.new.items) }
     ensures stopped_read { result ≡ Status.Stopped → HasRead (words.Output kinds.Run) (S.left source.old) (S.left source.new) }

@@ -1,9 +1,11 @@
 use Rattle.std.proofs.Common.{◌∙◌, refl, subst, arith}
-use Rattle.std.specs.List.{All}
+use Rattle.std.specs.List.{All, range_with_len}
 use Rattle.edge_io.specs.Taken.{Grows, GrowsByFront}
 use Rattle.out_text.specs.Typed.{IsTyped, IsLine}
 use Rattle.cacheless.specs.declared.check_kind.CheckKind.TheVariants as kinds
 use Rattle.catsync_top.specs.declared.arguments.Word.TheVariants as words
+use Rattle.catsync_top.specs.Gates.{AsRun}
+use Rattle.catsync_top.proofs.Gates.{asked_well, asked_some}
 use Rattle.catsync_top.proofs.Inputs.{has_read}
 use Rattle.catsync_top.proofs.Written.{has_run}
 use Rattle.catsync_top.proofs.running.run_script.Goals as goal
@@ -25,3 +27,23 @@ returns-clause-write_front g c =
 pub returns-in-Err-Stopped-clause-stopped_read : goal.returns-in-Err-Stopped-clause-stopped_read
 returns-in-Err-Stopped-clause-stopped_read g c =
     λ _. has_read (words.Output kinds.Run) _ _ c.in-Ok.input.items c.deref.result.now (record { script = c.in-Ok-read_script.read.script; rest_at = c.in-Ok-read_script.read.rest_at }) c.in-Ok.ensures.bytes (grind arith) c.deref.ensures.value c.in-Ok-read_script.ensures
+
+pub returns-in-Ok-put_output-clause-asked : goal.returns-in-Ok-put_output-clause-asked
+returns-in-Ok-put_output-clause-asked g c =
+    AsRun (has_read (words.Output kinds.Run) _ _ c.in-Ok.input.items c.deref.result.now (record { script = c.in-Ok-read_script.read.script; rest_at = c.in-Ok-read_script.read.rest_at }) c.in-Ok.ensures.bytes (grind arith) c.deref.ensures.value c.in-Ok-read_script.ensures)
+    (asked_well c.in-Ok-run.ran tt c.in-Ok-read_script.read.script _ _ _ c.in-Ok-run.ensures.asked)
+
+pub returns-clause-asked : goal.returns-clause-asked
+returns-clause-asked g c =
+    AsRun (has_read (words.Output kinds.Run) _ _ c.in-Ok.input.items c.deref.result.now (record { script = c.in-Ok-read_script.read.script; rest_at = c.in-Ok-read_script.read.rest_at }) c.in-Ok.ensures.bytes (grind arith) c.deref.ensures.value c.in-Ok-read_script.ensures)
+    (asked_well c.in-Ok-run.ran tt c.in-Ok-read_script.read.script _ _ _ c.in-Ok-run.ensures.asked)
+
+pub returns-in-Err-Stopped-clause-asked : goal.returns-in-Err-Stopped-clause-asked
+returns-in-Err-Stopped-clause-asked g c =
+    AsRun (has_read (words.Output kinds.Run) _ _ c.in-Ok.input.items c.deref.result.now (record { script = c.in-Ok-read_script.read.script; rest_at = c.in-Ok-read_script.read.rest_at }) c.in-Ok.ensures.bytes (grind arith) c.deref.ensures.value c.in-Ok-read_script.ensures)
+    (asked_some _ tt c.in-Ok-read_script.read.script _ _ _ c.run.ensures.asked)
+
+pub returns-in-Err-NoMemory-clause-asked : goal.returns-in-Err-NoMemory-clause-asked
+returns-in-Err-NoMemory-clause-asked g c =
+    AsRun (has_read (words.Output kinds.Run) _ _ c.in-Ok.input.items c.deref.result.now (record { script = c.in-Ok-read_script.read.script; rest_at = c.in-Ok-read_script.read.rest_at }) c.in-Ok.ensures.bytes (grind arith) c.deref.ensures.value c.in-Ok-read_script.ensures)
+    (asked_some _ tt c.in-Ok-read_script.read.script _ _ _ c.run.ensures.asked)
