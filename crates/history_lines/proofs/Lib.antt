@@ -9,3 +9,4 @@ pub mod TakenWrites
 pub mod Taken
 pub mod PastLast
 pub mod Allowing
+pub mod TwoOpen
