@@ -56,7 +56,7 @@ pub const MOST_CHECKED: usize = 268_435_456;
 ///   stops rose.
 /// - `NoMemory`: at any point before writing.
 /// - `Differs`: of a check, exactly where what follows the script isn't an output of it, of `walk` or
-///   of `run` as asked, whose entries have texts.
+///   of `run` as asked.
 /// - `Done`: the input was read to its end, and the whole output was written; for a check, what
 ///   follows the script is an output of it; for `make`, nothing was read.
 #[tactic(auto, using(thread_run::proofs::Stopping::none_fell_same))]
