@@ -6,4 +6,5 @@ pub mod Places
 pub mod Schedule
 pub mod Interleavings
 pub mod Verdicts
+pub mod NoneBegins
 pub mod Worked

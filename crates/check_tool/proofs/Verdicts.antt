@@ -38,7 +38,7 @@ allowed-prefix scenario history rest all = record {
   economical = EachEntry-prefix _ history rest all.economical;
 }
 
-reached-prefix : (kind : CheckKind) (scenario : Scenario) (history rest : List Entry) → MayBeReached kind scenario (history ++ rest) → MayBeReached kind scenario history
+pub reached-prefix : (kind : CheckKind) (scenario : Scenario) (history rest : List Entry) → MayBeReached kind scenario (history ++ rest) → MayBeReached kind scenario history
 reached-prefix kind scenario history rest all = record { allowed = allowed-prefix scenario history rest all.allowed; interleaved = interleaved-prefix kind scenario history rest all.interleaved }
 
 -- the backends of an allowed history are those of the script
