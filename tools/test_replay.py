@@ -74,6 +74,14 @@ OVERTAKEN = ("setup 1: create table t (a int4)", "setup 1: alter table t alter c
              "2: lock table t in row share mode", "2: show t statistics", "2: lock table t in row exclusive mode",
              "2: show t statistics", "2: commit", "steps 2 to scan attribute, 1 to 4, 2 to 4, 1 to end, 2 to end")
 NOT_TAKEN = tuple(line.replace("1 to 4", "1 to 3").replace("show t", "peek t") for line in OVERTAKEN if "default" not in line)
+# A trigger is disabled before a peek, which accepts nothing; and one is made within a rebuild.
+DISABLED = ("setup 1: create table t (a int4)", "setup 1: create trigger r on t", "setup 1: create table p (a int4)",
+            "setup 1: alter table t add constraint f foreign key (a) references p (a)", "setup 2: begin", "setup 2: open t",
+            "1: alter table t disable trigger r", "2: peek t triggers", "2: lock table t in row exclusive mode", "2: peek t triggers",
+            "2: commit", "steps 1 to end, 2 to end")
+TRIGGER_MADE = ("setup 1: create table t (a int4)", "setup 2: begin", "setup 2: open t",
+                "setup 1: alter table t alter column a set statistics 100", "1: create trigger r on t", "2: lock table t in row share mode",
+                "2: peek t triggers", "2: commit", "steps 2 to scan class, 1 to 3, 2 to end, 1 to end")
 TABLE_FIRST = ("setup 1: create table t (a int4)", "setup 1: create index i on t (a)", "setup 1: create index j on t (a)",
                "1: drop index i", "2: drop index j", "steps 1 to lock, 2 to end, 1 to end")
 LOCKED_ALONE = ("setup 1: create table t (a int4)", "2: begin", "server 2.1: lock table t in access share mode", "1: drop table t",
@@ -474,6 +482,15 @@ class Played(unittest.TestCase):
         self.assertEqual([(each.stale, each.differs) for each in (overtaken, not_taken)], [([], True), ([], False)])
         self.assertRegex(overtaken.text, "; 1 answer is stale until a later message$")
 
+    def test_triggers(self):
+        """A table's own triggers are shown as its descriptor has them, also where that is old."""
+        disabled, made = (outcome_of(self.play(script_of(*lines))) for lines in (DISABLED, TRIGGER_MADE))
+        self.assertEqual([each.server.text for each in disabled.compared if each.text.startswith("peek")], ["triggers r:e", "triggers r:d"])
+        self.assertEqual([(each.part, each.words, each.catalogs) for outcome in (disabled, made) for found in outcome.found for each in found],
+                         [("triggers", "an older rebuild may be put over a newer one", "r:e")])
+        self.assertEqual([[tuple(each[2:]) for each in outcome.stale] for outcome in (disabled, made)],
+                         [[], [("relhastriggers", "false", "true"), ("triggers", "-", "r:e")]])
+
     def test_table_first(self):
         """A drop is refused in the server alone where a `drop index` has the table locked; what else refuses it isn't named."""
         for source, words in ((script_of(*TABLE_FIRST), "the table first"), (example("races/drops_that_cross"), "the table first"),
@@ -596,6 +613,7 @@ class Played(unittest.TestCase):
                 output = read_output(Trace(self.play(example(name))).text().encode("ascii"))
                 check_script(name, example(name), output)
                 self.assertIn(b"<svg", picture_of(output, False, span_of(len(output.entries)), {}).encode("ascii"))
+        self.assertIn("l 2 4 constraints f:fk:v:1:16384:1\n", Trace(self.play(example("races/foreign_key_unchecked"))).text())
 
 
 @unittest.skipUnless(HAS_PROGRAM, NO_PROGRAM)

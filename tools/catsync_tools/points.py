@@ -17,6 +17,7 @@ MODES = (None, "as", "rs", "rx", "su", "sh", "sr", "ex", "ax")
 CATALOG_SCHEMA = 11     # where a name is looked for first
 ERROR = 21              # of errors and what is worse (14 and later)
 SCAN_KEY, SCAN_ARGUMENT = 72, 64        # of ScanKeyData: its size, and where its value is
+TRIGGER_TABLE = 4       # where a row of pg_trigger has its table's oid
 MESSAGE, OF_DESCRIPTOR = 16, 254        # of SharedInvalidationMessage (sinval.h): its size, and what one for a descriptor begins with
 CACHE_FUNCTIONS = ("CatCacheInvalidate", "CreateCacheMemoryContext", "SearchCatCache", "SearchCatCache1", "SearchCatCacheList",
                    "ReleaseCatCache", "PrepareToInvalidateCacheTuple", "InitCatCache", "ResetCatalogCaches",
@@ -152,7 +153,8 @@ class Watched(Traced):
             return self.both("write", "+" + catalog, "*%d" % self.number(2))
         header = self.u64(self.argument(2 if sign == "=" else 1) + 16)
         row = self.read(header + self.read(header + 22, 1)[0], 68)
-        oid = int.from_bytes(row[:4], "little")
+        at = TRIGGER_TABLE if catalog == "trg" else 0
+        oid = int.from_bytes(row[at:at + 4], "little")
         if oid < FIRST_OID:
             return False
         name = (row[4:].split(b"\0")[0].decode("ascii", "replace"),) if catalog == "class" else ()

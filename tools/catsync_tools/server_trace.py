@@ -4,6 +4,7 @@ An entry is made where the server has made its event. Its rows, oids and numbers
 the command's last row in the server, with the rows that it writes here; a publish and a fetch have the messages that these rows
 have here; of looks that follow each other and find nothing one is kept. What is made for the server alone has no entry.
 """
+import re
 from typing import Dict, List, Optional, Tuple
 
 from .caches import datum_of
@@ -13,6 +14,7 @@ from .story import Model
 from .waits import CONFLICTING
 
 MOST_FETCHED, MOST_PUBLISHED = 32, 64
+OID = re.compile("(?<![^ :])[0-9]+(?![^ :;])")         # of an answer: a number that is a word, or a part of an item
 
 Command = Tuple[int, int]
 
@@ -53,8 +55,7 @@ class Trace:
             if take:
                 take(command, *[self.numbers.get(part, 0) if isinstance(part, int) else part for part in made.event[1:]])
         names = {str(there): str(ours) for there, ours in self.numbers.items()}
-        answers = ["l %d %d %s" % (command + (" ".join(names.get(word.rstrip(";:"), word.rstrip(";:")) + word[len(word.rstrip(";:")):]
-                                                       for word in answer.text.split(" ")),))
+        answers = ["l %d %d %s" % (command + (OID.sub(lambda found: names.get(found.group(), found.group()), answer.text),))
                    for command, answer in sorted(self.play.answers.items())]
         return "\n".join(self.lines + answers + ["end", ""])
 
