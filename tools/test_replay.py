@@ -87,6 +87,10 @@ TABLE_FIRST = ("setup 1: create table t (a int4)", "setup 1: create index i on t
 LOCKED_ALONE = ("setup 1: create table t (a int4)", "2: begin", "server 2.1: lock table t in access share mode", "1: drop table t",
                 "2: commit", "steps 2 to 1, 1 to end, 2 to end")
 VIEWED_ALONE = ("1: create table t (a int4)", "server 1.1: create view v as select * from t", "1: drop table t")
+# The server refuses a foreign key that there is here, by its types; and drops what goes on with it.
+DONE_HERE_ALONE = ("1: create table p (a text)", "1: create table t (a int4)",
+                   "1: alter table t add constraint f foreign key (a) references p (a)", "1: drop table t", "1: create table u (a int4)",
+                   "2: show u")
 # Of a bare table nothing is read after pg_attribute; a check is, as a default.
 CHECKED = tuple(line.replace("alter column a set default 5", "add constraint c check (a > 0)") for line in OVERTAKEN
                 if "fillfactor" not in line)
@@ -614,6 +618,11 @@ class Played(unittest.TestCase):
                 check_script(name, example(name), output)
                 self.assertIn(b"<svg", picture_of(output, False, span_of(len(output.entries)), {}).encode("ascii"))
         self.assertIn("l 2 4 constraints f:fk:v:1:16384:1\n", Trace(self.play(example("races/foreign_key_unchecked"))).text())
+        trace = Trace(self.play(script_of(*DONE_HERE_ALONE)))
+        output = read_output(trace.text().encode("ascii"))
+        self.assertRegex(trace.fault, "^line %d: backend 1 sees no row of con to change$" % (len(output.entries) + 1))
+        self.assertEqual([answer.text[:11] for answer in output.answers], ["ok", "ok", "error 42804"])
+        self.assertIn(b"<svg", picture_of(output, False, span_of(len(output.entries)), {}).encode("ascii"))
 
 
 @unittest.skipUnless(HAS_PROGRAM, NO_PROGRAM)
