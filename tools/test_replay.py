@@ -127,6 +127,10 @@ HELD_BESIDE_A_RESET = (
     "steps 3 to 2, 1 to 3, 2 to 2, 1 to 4, 2 to fetch, 2 to scan attribute, 1 to 6, 3 to end, 2 to end, 1 to end")
 # What is held in the end has the table locked that another one has a descriptor of.
 ENDS_LOCKED = ("setup 1: create table t (a int4)", "1: alter table t add column b int4", "2: show t", "steps 2 to 1, 1 to scan attribute, 2 to end")
+# Held as a command fails: before its release, and in a block between that it is gone and its release.
+ABSENT = ("1: create table t (a int4)", "2: show u", "steps 2 to scan relname, 2 to look, 1 to end, 2 to end")
+FAILED = ("setup 1: create table t (a int4)", "2: begin", "2: alter table t add column b int4", "2: create table t (a int4)", "2: rollback",
+          "1: show t columns", "1: show t columns", "steps 2 to gone, 1 to 2, 2 to end, 1 to end")
 REFUSED = ("setup 1: create table t (a int4)", "1: alter table t add column b int4", "2: show t columns", "2: show t columns",
            "steps 2*20 1*22 2*3 1*4")
 
@@ -448,7 +452,7 @@ class Played(unittest.TestCase):
         """What is played as here, with so many holds."""
         for source, held in ((example("negative_entry"), 2), (example("granted_not_clear"), 3), (example("rename_seen_too_late"), 1),
                              (example("two_creators"), 0), (script_of(*DROPPED), 1), (script_of(*ROLLED_BACK), 3),
-                             (script_of(*REFUSED), 2)):
+                             (script_of(*REFUSED), 2), (script_of(*ABSENT), 1), (script_of(*FAILED), 1)):
             outcome = outcome_of(self.play(source))
             self.assertEqual((outcome.held, outcome.found, outcome.stale), (held, [[]] * len(outcome.compared), []), outcome)
 

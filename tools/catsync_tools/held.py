@@ -209,6 +209,8 @@ class Backend:
     def begin(self, ask, wake):
         """Lets a thread ask the session, which calls `wake` once it is answered."""
         self.is_busy, self.telling = True, []
+        if self.watched is not None:
+            self.watched.is_failing = False
 
         def work():
             try:
