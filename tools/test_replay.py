@@ -15,6 +15,7 @@ import signal
 import subprocess
 import sys
 import tempfile
+import threading
 import time
 import unittest
 import unittest.mock
@@ -572,8 +573,28 @@ class Played(unittest.TestCase):
             self.play(source)
         self.assertEqual(str(raised.exception), "backend 1 doesn't come to the end of 'select pg_sleep(60)' within 1 s: it waits for "
                          "Timeout PgSleep")
-        self.assertEqual(self.stage.server.session("postgres").ask("select count(*) from pg_database where datname like 'catsync%'").rows,
-                         [("0",)])
+        with contextlib.closing(self.stage.server.session("postgres")) as session:
+            self.assertEqual(session.ask("select count(*) from pg_database where datname like 'catsync%'").rows, [("0",)])
+
+    def test_patience_with_signals(self):
+        """A process that is only signaled makes nothing."""
+        source = script_of("1: create table t (a int4)", "server 1.1: select pg_sleep(60)")
+        play, until = Play(self.stage, source, run_of(source, self.program)), time.monotonic() + 30
+
+        def disturb():
+            while time.monotonic() < until and play.seconds == 0:
+                for backend in play.backends.values():
+                    with contextlib.suppress(OSError):
+                        os.kill(backend.pid, signal.SIGUSR1)
+                time.sleep(0.1)
+        thread = threading.Thread(target=disturb)
+        thread.start()
+        try:
+            with unittest.mock.patch.object(self.stage, "patience", 2), self.assertRaisesRegex(Fault, "within 2 s"):
+                play.play()
+            self.assertLess(time.monotonic(), until)
+        finally:
+            thread.join()
 
     def test_same_each_time(self):
         """Two plays of a script make the same events by as many stops."""
