@@ -15,6 +15,7 @@ import signal
 import subprocess
 import sys
 import tempfile
+import threading
 import time
 import unittest
 import unittest.mock
@@ -74,11 +75,23 @@ OVERTAKEN = ("setup 1: create table t (a int4)", "setup 1: alter table t alter c
              "2: lock table t in row share mode", "2: show t statistics", "2: lock table t in row exclusive mode",
              "2: show t statistics", "2: commit", "steps 2 to scan attribute, 1 to 4, 2 to 4, 1 to end, 2 to end")
 NOT_TAKEN = tuple(line.replace("1 to 4", "1 to 3").replace("show t", "peek t") for line in OVERTAKEN if "default" not in line)
+# A trigger is disabled before a peek, which accepts nothing; and one is made within a rebuild.
+DISABLED = ("setup 1: create table t (a int4)", "setup 1: create trigger r on t", "setup 1: create table p (a int4)",
+            "setup 1: alter table t add constraint f foreign key (a) references p (a)", "setup 2: begin", "setup 2: open t",
+            "1: alter table t disable trigger r", "2: peek t triggers", "2: lock table t in row exclusive mode", "2: peek t triggers",
+            "2: commit", "steps 1 to end, 2 to end")
+TRIGGER_MADE = ("setup 1: create table t (a int4)", "setup 2: begin", "setup 2: open t",
+                "setup 1: alter table t alter column a set statistics 100", "1: create trigger r on t", "2: lock table t in row share mode",
+                "2: peek t triggers", "2: commit", "steps 2 to scan class, 1 to 3, 2 to end, 1 to end")
 TABLE_FIRST = ("setup 1: create table t (a int4)", "setup 1: create index i on t (a)", "setup 1: create index j on t (a)",
                "1: drop index i", "2: drop index j", "steps 1 to lock, 2 to end, 1 to end")
 LOCKED_ALONE = ("setup 1: create table t (a int4)", "2: begin", "server 2.1: lock table t in access share mode", "1: drop table t",
                 "2: commit", "steps 2 to 1, 1 to end, 2 to end")
 VIEWED_ALONE = ("1: create table t (a int4)", "server 1.1: create view v as select * from t", "1: drop table t")
+# The server refuses a foreign key that there is here, by its types; and drops what goes on with it.
+DONE_HERE_ALONE = ("1: create table p (a text)", "1: create table t (a int4)",
+                   "1: alter table t add constraint f foreign key (a) references p (a)", "1: drop table t", "1: create table u (a int4)",
+                   "2: show u")
 # Of a bare table nothing is read after pg_attribute; a check is, as a default.
 CHECKED = tuple(line.replace("alter column a set default 5", "add constraint c check (a > 0)") for line in OVERTAKEN
                 if "fillfactor" not in line)
@@ -115,6 +128,10 @@ HELD_BESIDE_A_RESET = (
     "steps 3 to 2, 1 to 3, 2 to 2, 1 to 4, 2 to fetch, 2 to scan attribute, 1 to 6, 3 to end, 2 to end, 1 to end")
 # What is held in the end has the table locked that another one has a descriptor of.
 ENDS_LOCKED = ("setup 1: create table t (a int4)", "1: alter table t add column b int4", "2: show t", "steps 2 to 1, 1 to scan attribute, 2 to end")
+# Held as a command fails: before its release, and in a block between that it is gone and its release.
+ABSENT = ("1: create table t (a int4)", "2: show u", "steps 2 to scan relname, 2 to look, 1 to end, 2 to end")
+FAILED = ("setup 1: create table t (a int4)", "2: begin", "2: alter table t add column b int4", "2: create table t (a int4)", "2: rollback",
+          "1: show t columns", "1: show t columns", "steps 2 to gone, 1 to 2, 2 to end, 1 to end")
 REFUSED = ("setup 1: create table t (a int4)", "1: alter table t add column b int4", "2: show t columns", "2: show t columns",
            "steps 2*20 1*22 2*3 1*4")
 
@@ -436,7 +453,7 @@ class Played(unittest.TestCase):
         """What is played as here, with so many holds."""
         for source, held in ((example("negative_entry"), 2), (example("granted_not_clear"), 3), (example("rename_seen_too_late"), 1),
                              (example("two_creators"), 0), (script_of(*DROPPED), 1), (script_of(*ROLLED_BACK), 3),
-                             (script_of(*REFUSED), 2)):
+                             (script_of(*REFUSED), 2), (script_of(*ABSENT), 1), (script_of(*FAILED), 1)):
             outcome = outcome_of(self.play(source))
             self.assertEqual((outcome.held, outcome.found, outcome.stale), (held, [[]] * len(outcome.compared), []), outcome)
 
@@ -473,6 +490,15 @@ class Played(unittest.TestCase):
                                  [("statistics", "they aren't looked for", None, True)]])
         self.assertEqual([(each.stale, each.differs) for each in (overtaken, not_taken)], [([], True), ([], False)])
         self.assertRegex(overtaken.text, "; 1 answer is stale until a later message$")
+
+    def test_triggers(self):
+        """A table's own triggers are shown as its descriptor has them, also where that is old."""
+        disabled, made = (outcome_of(self.play(script_of(*lines))) for lines in (DISABLED, TRIGGER_MADE))
+        self.assertEqual([each.server.text for each in disabled.compared if each.text.startswith("peek")], ["triggers r:e", "triggers r:d"])
+        self.assertEqual([(each.part, each.words, each.catalogs) for outcome in (disabled, made) for found in outcome.found for each in found],
+                         [("triggers", "an older rebuild may be put over a newer one", "r:e")])
+        self.assertEqual([[tuple(each[2:]) for each in outcome.stale] for outcome in (disabled, made)],
+                         [[], [("relhastriggers", "false", "true"), ("triggers", "-", "r:e")]])
 
     def test_table_first(self):
         """A drop is refused in the server alone where a `drop index` has the table locked; what else refuses it isn't named."""
@@ -547,8 +573,28 @@ class Played(unittest.TestCase):
             self.play(source)
         self.assertEqual(str(raised.exception), "backend 1 doesn't come to the end of 'select pg_sleep(60)' within 1 s: it waits for "
                          "Timeout PgSleep")
-        self.assertEqual(self.stage.server.session("postgres").ask("select count(*) from pg_database where datname like 'catsync%'").rows,
-                         [("0",)])
+        with contextlib.closing(self.stage.server.session("postgres")) as session:
+            self.assertEqual(session.ask("select count(*) from pg_database where datname like 'catsync%'").rows, [("0",)])
+
+    def test_patience_with_signals(self):
+        """A process that is only signaled makes nothing."""
+        source = script_of("1: create table t (a int4)", "server 1.1: select pg_sleep(60)")
+        play, until = Play(self.stage, source, run_of(source, self.program)), time.monotonic() + 30
+
+        def disturb():
+            while time.monotonic() < until and play.seconds == 0:
+                for backend in play.backends.values():
+                    with contextlib.suppress(OSError):
+                        os.kill(backend.pid, signal.SIGUSR1)
+                time.sleep(0.1)
+        thread = threading.Thread(target=disturb)
+        thread.start()
+        try:
+            with unittest.mock.patch.object(self.stage, "patience", 2), self.assertRaisesRegex(Fault, "within 2 s"):
+                play.play()
+            self.assertLess(time.monotonic(), until)
+        finally:
+            thread.join()
 
     def test_same_each_time(self):
         """Two plays of a script make the same events by as many stops."""
@@ -596,6 +642,12 @@ class Played(unittest.TestCase):
                 output = read_output(Trace(self.play(example(name))).text().encode("ascii"))
                 check_script(name, example(name), output)
                 self.assertIn(b"<svg", picture_of(output, False, span_of(len(output.entries)), {}).encode("ascii"))
+        self.assertIn("l 2 4 constraints f:fk:v:1:16384:1\n", Trace(self.play(example("races/foreign_key_unchecked"))).text())
+        trace = Trace(self.play(script_of(*DONE_HERE_ALONE)))
+        output = read_output(trace.text().encode("ascii"))
+        self.assertRegex(trace.fault, "^line %d: backend 1 sees no row of con to change$" % (len(output.entries) + 1))
+        self.assertEqual([answer.text[:11] for answer in output.answers], ["ok", "ok", "error 42804"])
+        self.assertIn(b"<svg", picture_of(output, False, span_of(len(output.entries)), {}).encode("ascii"))
 
 
 @unittest.skipUnless(HAS_PROGRAM, NO_PROGRAM)

@@ -3,12 +3,11 @@ backend has accepted all messages, so that none is left that would tell it."""
 import re
 from typing import List, NamedTuple, Optional
 
-from .descriptors import SHOWN
 from .held import ACCEPTS, OPENS
 from .sql import QUERIES
 
 # Each field of a descriptor (descriptors.py) as the catalogs have it.
-CATALOGS = {field: QUERIES[field] for field in SHOWN}
+CATALOGS = {field: QUERIES[field] for field in ("statistics", "fillfactor")}
 CATALOGS.update({
     "relhasindex": "select relhasindex::text from pg_class where oid = T",
     "indexes": "select string_agg(indexrelid::text, ' ' order by indexrelid) from pg_index where indrelid = T and indislive",

@@ -40,7 +40,8 @@ VERSIONS = {15: Offsets(
     {"defaults": 0, "checks": 8, "default count": 24, "check count": 26, "not null": 28},
     Array(112, {"target": 72, "dropped": 101}), Array(16, {"number": 0, "text": 8}), Array(24, {"name": 0, "valid": 16}),
     Array(88, {"name": 8, "enabled": 22}), 8, 4, 4)}
-SHOWN = ("statistics", "fillfactor")        # fields of which an answer is what the descriptor says
+SHOWN = ("statistics", "fillfactor", "triggers")        # fields of which an answer is what the descriptor says
+OF_KEYS = re.compile("(?<![^ ])RI_ConstraintTrigger_[^ ]*(?: |$)")        # triggers that no answer has
 
 
 def offsets_of(version):
@@ -60,6 +61,11 @@ def fields_at(memory, at, rel, offsets):
         return {field: value for field, value in found.items() if value is not None}
     except OSError:
         return None
+
+
+def as_shown(value):
+    """A field's value as an answer has it: without the triggers of foreign keys."""
+    return OF_KEYS.sub("", value).rstrip() or "-"
 
 
 def words(items):

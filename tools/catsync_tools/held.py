@@ -4,7 +4,7 @@ import re
 import threading
 from typing import Callable, Dict, List, NamedTuple, Optional, Set, Tuple
 
-from .descriptors import SHOWN, fields_at
+from .descriptors import SHOWN, as_shown, fields_at
 from .interrupts import waiting
 from .points import AFTER, Executable, Watched
 from .sql import GUARD, QUERIES, Answer, Asked
@@ -87,7 +87,7 @@ class Reading(Asked):
     def fields(self, shown, oid=None):
         """The values of the fields. The descriptor is read before the queries for the others, which accept messages."""
         backend, rel = self.backend, oid or self.backend.opened
-        said = {field: value for field, value in (backend.descriptor(oid) or {}).items() if field in SHOWN}
+        said = {field: as_shown(value) for field, value in (backend.descriptor(oid) or {}).items() if field in SHOWN}
         if said and shown.field:
             said = {field: value for field, value in said.items() if field == shown.field}
         if said:
@@ -102,7 +102,7 @@ class Reading(Asked):
     def note(self, rel, said):
         """Notes what an answer is read from. What the session itself is about to change only it can see."""
         backend = self.backend
-        catalogs = {field: self.value(QUERIES[field], rel) if rel in backend.changing else backend.sent.catalogs(field, rel)
+        catalogs = {field: self.value(QUERIES[field], rel) if rel in backend.changing else as_shown(backend.sent.catalogs(field, rel))
                     for field in said}
         backend.seen[backend.command] = Seen(rel, {field: Kept(value, catalogs[field]) for field, value in said.items()},
                                              backend.is_waiting(rel), len(backend.log))
@@ -209,6 +209,8 @@ class Backend:
     def begin(self, ask, wake):
         """Lets a thread ask the session, which calls `wake` once it is answered."""
         self.is_busy, self.telling = True, []
+        if self.watched is not None:
+            self.watched.is_failing = False
 
         def work():
             try:

@@ -17,7 +17,8 @@ from .sql import Answer, referred_in, tokens_of
 # Differences that come where commands overlap: the words of docs/PROFILE.md.
 OVERTAKEN, FEWER_LOOKS, TORN = "an older rebuild may be put over a newer one", "they aren't looked for", "half of one commit"
 TABLE_FIRST = "the table first"
-CHANGES = {"statistics": ("=att",), "fillfactor": ("=class",)}      # how a field that is read from a descriptor is changed
+# How a field that is read from a descriptor is changed.
+CHANGES = {"statistics": ("=att",), "fillfactor": ("=class",), "triggers": ("+trg", "=trg")}
 LOCKED = "55P03"
 
 
@@ -162,7 +163,7 @@ def is_half_here(play: Play, command, rel, changes):
         if own == backend and of <= number:
             scans = [] if text.startswith("release ") and of < number else scans + [at] * bool(
                 re.match("scan (?:%s) %s " % ("|".join(BUILD_SCANS), rel), text))
-        elif own != backend and any("%s(%s," % (change, rel) in text for change in changes):
+        elif own != backend and re.search(r"(?:%s)\((?:[0-9]+,)?%s," % ("|".join(map(re.escape, changes)), rel), text):
             writers.add(own)
         elif own in writers and text.startswith(("visible ", "gone ")):
             writers.discard(own)

@@ -17,6 +17,8 @@ MODES = (None, "as", "rs", "rx", "su", "sh", "sr", "ex", "ax")
 CATALOG_SCHEMA = 11     # where a name is looked for first
 ERROR = 21              # of errors and what is worse (14 and later)
 SCAN_KEY, SCAN_ARGUMENT = 72, 64        # of ScanKeyData: its size, and where its value is
+TRIGGER_TABLE = 4       # where a row of pg_trigger has its table's oid
+TAKEN_BACK = ("gone", "release")        # at these an error puts interrupts off once more (PostgresMain, postgres.c), with no light-weight lock
 MESSAGE, OF_DESCRIPTOR = 16, 254        # of SharedInvalidationMessage (sinval.h): its size, and what one for a descriptor begins with
 CACHE_FUNCTIONS = ("CatCacheInvalidate", "CreateCacheMemoryContext", "SearchCatCache", "SearchCatCache1", "SearchCatCacheList",
                    "ReleaseCatCache", "PrepareToInvalidateCacheTuple", "InitCatCache", "ResetCatalogCaches",
@@ -47,6 +49,7 @@ class Watched(Traced):
         super().__init__(pid, executable)
         self.executable, self.note = executable, note
         self.is_committing = False
+        self.is_failing = False                     # whether the running command has raised an error
         self.asked = None                           # the lock that it waits for
         self.descriptors: Dict[int, int] = {}       # of each relation that it has opened: where its descriptor is
         self.opened = None                          # the first that it has opened since this was emptied
@@ -152,7 +155,8 @@ class Watched(Traced):
             return self.both("write", "+" + catalog, "*%d" % self.number(2))
         header = self.u64(self.argument(2 if sign == "=" else 1) + 16)
         row = self.read(header + self.read(header + 22, 1)[0], 68)
-        oid = int.from_bytes(row[:4], "little")
+        at = TRIGGER_TABLE if catalog == "trg" else 0
+        oid = int.from_bytes(row[at:at + 4], "little")
         if oid < FIRST_OID:
             return False
         name = (row[4:].split(b"\0")[0].decode("ascii", "replace"),) if catalog == "class" else ()
@@ -201,6 +205,7 @@ class Watched(Traced):
         """An error is raised: a lock that was waited for isn't granted."""
         if self.number(0) < ERROR:
             return False
+        self.is_failing = True
         asked, self.asked = self.asked, None
         return self.note(AFTER, ("lock",) + asked + ("held",) if asked else ("error",))
 
@@ -208,6 +213,7 @@ class Watched(Traced):
         """Why it mustn't be held at an event, or None: others would wait for it, and nothing would end that."""
         if self.u32(self.place("CritSectionCount")):
             return "in a critical section"
-        if self.u32(self.place("InterruptHoldoffCount")) > (event[0] in KINDS and KINDS[event[0]].is_in_commit):
+        put_off = (event[0] in KINDS and KINDS[event[0]].is_in_commit) + (self.is_failing and event[0] in TAKEN_BACK)
+        if self.u32(self.place("InterruptHoldoffCount")) > put_off:
             return "interrupts are held off, as by a light-weight lock"
         return None

@@ -16,6 +16,7 @@ from .tracing import Unplayable
 
 DIFFERS = 1
 TRACE_LACKS = "the trace has each scan, and not that a rebuild is put over one that was made inside of it"
+TRACE_ENDS = "the trace ends early, where what the server made doesn't go with the rows of here: %s"
 
 
 def command_of(text):
@@ -74,11 +75,14 @@ def main(words):
             return Unplayable.status if any(point.fault for point in found.points) else DIFFERS if any(
                 point.stale for point in found.points) else 0
         plays = [Play(stage, source, run).play() for _ in range(options.times or 1)]
-    if options.trace:
-        write_file(options.trace, Trace(plays[0]).text())
     outcomes = [outcome_of(play) for play in plays]
     head = "beside " + stage.name
-    write_output("\n".join(times_text(head, outcomes) if options.times else once_text(head, plays[0], outcomes[0], options)) + "\n")
+    lines = times_text(head, outcomes) if options.times else once_text(head, plays[0], outcomes[0], options)
+    if options.trace:
+        trace = Trace(plays[0])
+        write_file(options.trace, trace.text())
+        lines += ["", TRACE_ENDS % trace.fault] * bool(trace.fault)
+    write_output("\n".join(lines) + "\n")
     return DIFFERS if any(outcome.differs for outcome in outcomes) else 0
 
 

@@ -4,15 +4,19 @@ An entry is made where the server has made its event. Its rows, oids and numbers
 the command's last row in the server, with the rows that it writes here; a publish and a fetch have the messages that these rows
 have here; of looks that follow each other and find nothing one is kept. What is made for the server alone has no entry.
 """
+import re
 from typing import Dict, List, Optional, Tuple
 
 from .caches import datum_of
+from .faults import Fault
+from .held import Made
 from .outputs import Output, entry_of
 from .play import Play
 from .story import Model
 from .waits import CONFLICTING
 
 MOST_FETCHED, MOST_PUBLISHED = 32, 64
+OID = re.compile("(?<![^ :])[0-9]+(?![^ :;])")         # of an answer: a number that is a word, or a part of an item
 
 Command = Tuple[int, int]
 
@@ -29,10 +33,12 @@ class NoUses:
 
 
 class Trace:
-    """The history of a play, entry by entry."""
+    """The history of a play, entry by entry. `fault` says why it ends early, if it does: where something was done in one of the two
+    alone the rows of here don't go with what the server made."""
 
     def __init__(self, play: Play):
-        self.play, self.lines = play, []
+        self.play, self.lines, self.fault = play, [], ""
+        self.come: Dict[int, int] = {}                      # of each backend: to which of its commands
         self.here: Dict[Command, List[str]] = {}            # of each command its entries here
         for backend, command, text in play.run.steps:
             self.here.setdefault((backend, command), []).append(text)
@@ -46,17 +52,25 @@ class Trace:
 
     def text(self):
         """The whole history, and the server's answers."""
-        for made in self.play.log:
-            command = made.backend, made.command
-            self.left[command, made.event[0]] -= 1
-            take = getattr(self, "take_" + made.event[0], None)
-            if take:
-                take(command, *[self.numbers.get(part, 0) if isinstance(part, int) else part for part in made.event[1:]])
+        try:
+            for made in self.play.log:
+                self.take(made)
+        except Fault as fault:
+            self.fault = str(fault)
         names = {str(there): str(ours) for there, ours in self.numbers.items()}
-        answers = ["l %d %d %s" % (command + (" ".join(names.get(word.rstrip(";:"), word.rstrip(";:")) + word[len(word.rstrip(";:")):]
-                                                       for word in answer.text.split(" ")),))
-                   for command, answer in sorted(self.play.answers.items())]
+        answers = ["l %d %d %s" % (command + (OID.sub(lambda found: names.get(found.group(), found.group()), answer.text),))
+                   for command, answer in sorted(self.play.answers.items())
+                   if not self.fault or command[1] < self.come.get(command[0], 0)]
         return "\n".join(self.lines + answers + ["end", ""])
+
+    def take(self, made: Made):
+        """What a backend has made next."""
+        command = made.backend, made.command
+        self.left[command, made.event[0]] -= 1
+        take = getattr(self, "take_" + made.event[0], None)
+        if take:
+            take(command, *[self.numbers.get(part, 0) if isinstance(part, int) else part for part in made.event[1:]])
+        self.come[made.backend] = made.command
 
     def put(self, command: Command, text):
         """One more entry."""

@@ -117,14 +117,16 @@ class Stage:
                 raise error
 
     def handle(self, backends):
-        """Handles what these backends' processes were stopped by: whether any was."""
+        """Handles what these backends' processes were stopped by: whether any has made something. A signal alone, as a timer's of an idle
+        one, is nothing."""
         found = False
         for backend in backends:
             while backend.watched is not None and backend.watched.is_running:
+                watched, stops = backend.watched, backend.watched.stops
                 with followed(backend):
-                    if backend.watched.poll() is None:
+                    if watched.poll() is None:
                         break
-                found = True
+                found = found or watched.stops > stops
         return found
 
     def wait(self, backends, is_ready):
