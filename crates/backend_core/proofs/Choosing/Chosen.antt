@@ -17,7 +17,7 @@ use Rattle.cacheless.specs.May.{lacks_any, owes_nothing, may_play_now}
 use Rattle.cacheless.specs.Work.{work_of}
 use Rattle.cacheless.specs.Owed.{begins_in, Owes as Owing, OwesLook, OwesFetch, OwesScan, owed_after, owed_in, started_in}
 use Rattle.cacheless.specs.Plays.{may_look_in, MayPlayIn}
-use Rattle.cacheless.specs.Ends.{TakesBack, end_in, end_of_all, Commits, Ends, End, end_well_in, end_badly_in}
+use Rattle.cacheless.specs.Ends.{TakesBack, end_in, Commits, Ends, End, end_well_in, end_badly_in}
 use Rattle.cacheless.specs.Session.{Session, Well, Badly, Unsettled, number_of, outcome_of}
 use Rattle.cacheless.specs.State.{owed_first, work_at, one_if, is_out, is_absent, is_quiet}
 use Rattle.txn_blocks.specs.declared.transaction.RunningTransaction.{RunningTransaction}

@@ -5,29 +5,25 @@ use Rattle.std.proofs.lemmas.Bool.{eq-eqb}
 use Rattle.std.proofs.lemmas.List.{length-take, take_min}
 use Rattle.event_kinds.specs.declared.entry.Event.TheVariants as events
 use Rattle.inval_messages.specs.Lists.{Written, unsent_after}
-use Rattle.history_model.specs.Drawn.{next_oid}
 use Rattle.history_model.specs.MayFollow.{FollowsVisible, FollowsGone}
 use Rattle.history_model.specs.Sent.{unsent_in, unsent_of}
 use Rattle.history_model.specs.Transactions.{begun, has_xid, is_visible}
 use Rattle.txn_blocks.specs.declared.transaction.RunningTransaction.{RunningTransaction as Running}
 use Rattle.seg_calls.specs.Calls.{entry_of, ArePublishedNext, MayCall, Appends}
 use Rattle.txn_blocks.specs.declared.transaction.RunningTransaction.{RunningTransaction}
-use Rattle.cacheless.specs.Work.{work_of}
-use Rattle.cacheless.specs.Ends.{Ends, Commits, TakesBack}
+use Rattle.cacheless.specs.Ends.{Commits, TakesBack}
 use Rattle.cacheless.specs.Facts.{Facts, due_last, due_after, facts_of}
 use Rattle.cacheless.specs.Holds.{HasEntered}
 use Rattle.cacheless.specs.OnCourse.{AllOnCourse}
-use Rattle.cacheless.specs.Owed.{Owes, owed_after, owed_in}
-use Rattle.cacheless.specs.Plays.{MayPlayIn}
+use Rattle.cacheless.specs.Owed.{owed_after}
 use Rattle.cacheless.specs.Session.{Session, number_of}
 use Rattle.cacheless.specs.Sessions.{ends_command}
 use Rattle.cacheless.specs.State.{lists_at, unsent_at}
-use Rattle.cacheless.proofs.Allowed.Releases.{OwesNoScan, owes_no_scan}
-use Rattle.backend_core.specs.Types.{Xid, Command, Scenario, Entry, Event, Message, OwnLock, Progress, Backend, Frame}
+use Rattle.backend_core.specs.Types.{Xid, Command, Scenario, Entry, Event, Message, OwnLock, Progress, Backend}
 use Rattle.backend_core.specs.Agrees.{IsPlayed, RunsFit, command_at, AwaitsEntry}
 use Rattle.backend_core.specs.Fits.{is_gone_due, Fits}
 use Rattle.backend_core.specs.Steps.{IsEndNext, Enters}
-use Rattle.backend_core.proofs.Entries.EndEntries.{end_plays, end_now, end_call, end_enters}
+use Rattle.backend_core.proofs.Entries.EndEntries.{end_now, end_call, end_enters}
 use Rattle.cacheless.proofs.Allowed.EndsReleased.{end_by, IsCommit, ShowsNow, PublishesNow, comes_now, back_end}
 use Rattle.cacheless.proofs.Allowed.TransactionEnds.{later_at, write_from_first, written_runs}
 use Rattle.backend_core.proofs.Choosing.Chosen.{started_still}

@@ -1,7 +1,5 @@
 -- The entries of an end of a backend that waits.
-use Rattle.std.proofs.Common.{◌≡◌, ◌≢◌, ◌≤◌, ◌+◌, ◌∙◌, ◌&&◌, inl, inr, ℕ, Bool, true, false, Option, Some, None, List, [], refl, sym, ap, subst, length, drop, arith}
-use Rattle.std.specs.Option.{option_map_or}
-use Rattle.std.proofs.lemmas.Bool.{both_ways}
+use Rattle.std.proofs.Common.{◌≡◌, ◌≢◌, ◌≤◌, ◌+◌, ◌∙◌, ℕ, true, Option, List, refl, sym, ap, subst, length, drop, arith}
 use Rattle.event_kinds.specs.declared.entry.Event.TheVariants as events
 use Rattle.history_model.specs.Drawn.{next_oid}
 use Rattle.history_model.specs.Lapped.{FetchesFrom}
@@ -10,34 +8,22 @@ use Rattle.history_model.specs.MayFollow.{FollowsLife}
 use Rattle.history_model.specs.Lives.{life_by, last_event_of}
 use Rattle.history_model.specs.declared.life.Life.TheVariants.{Alive}
 use Rattle.history_model.specs.Transactions.{is_visible, running_transaction_of}
-use Rattle.history_model.specs.Changing.{is_empty}
 use Rattle.seg_calls.specs.Calls.{entry_of, MayCall, Appends}
-use Rattle.txn_blocks.specs.declared.transaction.RunningTransaction.{RunningTransaction}
 use Rattle.cacheless.specs.Facts.{facts_of, facts_by}
 use Rattle.cacheless.specs.Holds.{HasEntered, with_own}
-use Rattle.cacheless.specs.Work.{work_of}
-use Rattle.cacheless.specs.Ends.{Ends, TakesBack, end_of_all}
-use Rattle.cacheless.specs.Rule.{same_end, may_come}
-use Rattle.cacheless.specs.May.{is_next_of_end, may_end_at, may_play_at, may_last_at, may_play_now}
 use Rattle.cacheless.specs.OnCourse.{AllOnCourse}
 use Rattle.cacheless.specs.Plays.{MayPlayIn}
 use Rattle.cacheless.specs.Schedule.{LooksTruly}
 use Rattle.cacheless.specs.Sessions.{ends_command, entered}
-use Rattle.cacheless.specs.State.{facts_at, work_at, owed_after, has_write_since}
 use Rattle.cacheless.proofs.Deciding.{holds_decides}
-use Rattle.cacheless.proofs.Tests.{both_true}
 use Rattle.cacheless.specs.Awaiting.{answer_after}
-use Rattle.backend_core.specs.Types.{Command, Scenario, Entry, Event, Progress, Frame, Backend}
+use Rattle.backend_core.specs.Types.{Scenario, Entry, Event, Progress, Frame, Backend}
 use Rattle.backend_core.specs.Agrees.{IsPlayed, command_at, AwaitsEntry}
 use Rattle.backend_core.specs.Fits.{Fits}
 use Rattle.backend_core.specs.Steps.{IsEndNext, Enters}
 use Rattle.cacheless.proofs.Allowed.EndsReleased.{EndsBy, ends_by}
 use Rattle.backend_core.proofs.Fitting.Entered.{fits_at}
 use Rattle.backend_core.proofs.Own.{waiting, OwnEntry, own_enters}
-use Rattle.backend_core.proofs.Fitting.Rebuilding.{owed_bare}
-use Rattle.cacheless.specs.Owed.{owed_in}
-use Rattle.cacheless.proofs.Same.{owes_nothing_is}
-use Rattle.cacheless.proofs.Plans.SilentActs.{empty_list}
 
 -- what is so of each event of an end
 record IsPlain (scenario : Scenario) (old : List Entry) (b c : ℕ) (event : Event) : Type 0 where

@@ -1,6 +1,6 @@
 -- A backend joins.
-use Rattle.std.proofs.Common.{◌≡◌, ◌+◌, ◌∙◌, ◌∷◌, ◌++◌, ◌==◌, inl, ℕ, true, false, Option, Some, None, List, [], refl, sym, ap, subst, length, slice_get, arith}
-use Rattle.std.proofs.lemmas.Bool.{eq-eqb, both_ways}
+use Rattle.std.proofs.Common.{◌≡◌, ◌+◌, ◌∙◌, ◌∷◌, ◌++◌, ◌==◌, ℕ, true, false, Option, None, List, [], refl, sym, ap, subst, length, slice_get, arith}
+use Rattle.std.proofs.lemmas.Bool.{eq-eqb}
 use Rattle.event_kinds.specs.declared.entry.Event.TheVariants as events
 use Rattle.txn_blocks.specs.Blocks.{no_block}
 use Rattle.inval_messages.specs.Lists.{has_write_from}
@@ -10,7 +10,6 @@ use Rattle.history_model.specs.MayFollow.{FollowsLife}
 use Rattle.history_model.specs.Lives.{life_of}
 use Rattle.history_model.specs.Transactions.{is_visible}
 use Rattle.txn_blocks.specs.declared.transaction.RunningTransaction.{RunningTransaction as Running}
-use Rattle.history_model.specs.Changing.{is_empty}
 use Rattle.history_model.proofs.Sound.{sound_is_legal}
 use Rattle.history_model.proofs.Reading.{life_of-own}
 use Rattle.seg_calls.specs.Calls.{entry_of, MayCall, Appends}

@@ -1,28 +1,19 @@
 -- What was written is taken back.
-use Rattle.std.proofs.Common.{◌≡◌, ◌+◌, ◌∙◌, ℕ, Bool, true, false, Option, Some, None, List, [], refl, sym, ap, subst, length, is_some, ◌&&◌}
-use Rattle.std.specs.List.{cons_option}
-use Rattle.std.specs.Option.{option_map_or}
+use Rattle.std.proofs.Common.{◌≡◌, ◌+◌, ◌∙◌, ℕ, true, false, Option, Some, List, refl, sym, ap, subst, length, ◌&&◌}
 use Rattle.std.proofs.lemmas.Bool.{both_ways, false_from_ne_true}
 use Rattle.event_kinds.specs.declared.entry.Event.TheVariants as events
 use Rattle.inval_messages.specs.Lists.{has_write_from, lists_from, sent_in}
 use Rattle.history_model.specs.MayFollow.{FollowsVisible, FollowsGone}
 use Rattle.history_model.specs.Transactions.{is_visible}
-use Rattle.txn_blocks.specs.declared.transaction.RunningTransaction.{RunningTransaction as Running}
 use Rattle.seg_calls.specs.Calls.{entry_of, MayCall, Appends}
-use Rattle.cacheless.specs.Work.{work_of}
-use Rattle.cacheless.specs.Ends.{End, Ends, Commits, TakesBack, end_in, end_well_in, end_badly_in}
+use Rattle.cacheless.specs.Ends.{Commits, TakesBack}
 use Rattle.cacheless.specs.Facts.{Facts, due_last, facts_of, facts_by}
 use Rattle.history_model.specs.Lives.{last_event_of}
-use Rattle.cacheless.specs.declared.progress.Due.TheVariants as dues
-use Rattle.local_caches.specs.Kept.{nothing_kept}
 use Rattle.cacheless.proofs.Entries.EnteredFetches.{is_kept-spared}
 use Rattle.cacheless.specs.Holds.{HasEntered}
 use Rattle.cacheless.specs.OnCourse.{AllOnCourse}
-use Rattle.cacheless.specs.Owed.{Owes, owed_after, owed_in, missing}
 use Rattle.cacheless.specs.Session.{Session, number_of}
-use Rattle.cacheless.proofs.Allowed.Releases.{ends_free}
-use Rattle.ddl_effect.specs.Plans.{Plan, Done, Do, left_rests_on, told_rests_on}
-use Rattle.backend_core.specs.Types.{Purpose, Command, Scenario, Entry, Event, OwnLock, Progress, Backend, Frame}
+use Rattle.backend_core.specs.Types.{Command, Scenario, Entry, Event, OwnLock, Progress, Backend}
 use Rattle.backend_core.specs.Agrees.{IsPlayed, RunsFit, command_at, AwaitsEntry}
 use Rattle.backend_core.specs.Fits.{Fits, FramesFit}
 use Rattle.backend_core.specs.Steps.{IsEndNext, Enters}

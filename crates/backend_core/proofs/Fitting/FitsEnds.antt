@@ -1,5 +1,5 @@
 -- What the choice keeps with an entry of an end.
-use Rattle.std.proofs.Common.{◌≡◌, ◌+◌, ◌∙◌, ℕ, Bool, true, false, Option, Some, None, List, [], refl, sym, ap, subst, map, arith, not}
+use Rattle.std.proofs.Common.{◌≡◌, ◌∙◌, ℕ, Bool, true, false, Option, Some, None, List, [], refl, sym, ap, subst, map, arith, not}
 use Rattle.std.specs.Option.{option_map_or}
 use Rattle.std.proofs.lemmas.Bool.{both_ways}
 use Rattle.base_types.specs.declared.command.Command.TheVariants as commands

@@ -1,5 +1,5 @@
 -- What the choice keeps where a backend goes on without an entry.
-use Rattle.std.proofs.Common.{◌≡◌, ◌≤◌, ◌+◌, ◌∙◌, ◌==◌, ◌&&◌, ◌++◌, ◌∷◌, inl, inr, ℕ, Bool, true, false, Option, Some, None, List, [], refl, sym, ap, subst, map, is_none, arith, ◌||◌}
+use Rattle.std.proofs.Common.{◌≡◌, ◌≤◌, ◌+◌, ◌∙◌, ◌==◌, ◌&&◌, ◌++◌, ◌∷◌, ℕ, Bool, true, false, Option, Some, None, List, [], refl, sym, ap, subst, map, is_none, arith, ◌||◌}
 use Rattle.std.specs.Option.{option_map_or}
 use Rattle.std.proofs.lemmas.Bool.{both_ways, ne_eqb, and_parts, or_from}
 use Rattle.std.proofs.lemmas.List.{length_push}
@@ -8,15 +8,14 @@ use Rattle.txn_blocks.specs.Blocks.{Block, Blocks, Outside, Inside, Failed, ends
 use Rattle.ddl_effect.specs.Opens.{opens_before}
 use Rattle.base_types.specs.declared.scan.Purpose.TheVariants as scans
 use Rattle.ddl_effect.specs.Plans.{Act, Plan, Do, Lookup, Absent, Open}
-use Rattle.event_kinds.specs.declared.entry.Event.TheVariants as events
 use Rattle.txn_blocks.specs.declared.transaction.RunningTransaction.{RunningTransaction as Running}
 use Rattle.history_model.specs.Changing.{is_empty}
 use Rattle.cacheless.specs.Facts.{Facts}
 use Rattle.cacheless.specs.Session.{Session, Outcome, Well, Badly, Unsettled, opening_of, held_in, held_before, number_of, outcome_of, is_settled}
 use Rattle.cacheless.specs.Work.{work_of}
 use Rattle.cacheless.specs.Owed.{OwesScan, owed_first_in, owed_after, scans_owed_in, owed_in, started_in, act_owed}
-use Rattle.cacheless.specs.Ends.{End, Ends, Commits, TakesBack, end_well_in, end_badly_in, end_in, end_of_all, end_left_in, next_of_end}
-use Rattle.cacheless.specs.Settled.{act_done, is_finished_in, blocks_after, finished_as, next_session, class_oid, opened_by, opens_well, opens_badly}
+use Rattle.cacheless.specs.Ends.{End, Ends, Commits, TakesBack, end_well_in, end_badly_in, end_in, end_left_in, next_of_end}
+use Rattle.cacheless.specs.Settled.{act_done, is_finished_in, finished_as, next_session, class_oid, opened_by, opens_well, opens_badly}
 use Rattle.cacheless.proofs.Plans.SilentActs.{both_empty, empty_list, IsDoneHere, gives_class}
 use Rattle.backend_core.specs.Types.{Row, Command, Event, Frame, Opening}
 use Rattle.cacheless.proofs.Allowed.EndsReleased.{Fits as RunsFit}
@@ -32,7 +31,6 @@ use Rattle.cacheless.specs.Suspects.{lacks}
 use Rattle.std.specs.List.{list_any}
 use Rattle.std.proofs.lemmas.List.Folds.{list_any-append}
 use Rattle.local_caches.specs.Kept.{is_kept, rows_kept}
-use Rattle.cacheless.specs.declared.progress.Due.TheVariants as dues
 
 -- a look that was made for an act is used, where that is done: then its lookup has found no relation, and the command says so
 absent_after : (facts : Facts) (s : Session) (frames : List Frame) (act : Act) (further : List Row → Plan) (given : List Row) → IsDoneHere facts s act further given → ((name : List ℕ) (mode : Mode) → act ≡ Lookup name mode → class_oid given ≡ None → is_absent (further given) ≡ true)

@@ -1,19 +1,18 @@
 -- The relations that a session has open: their descriptors are among those that are held, from command to command.
-use Rattle.std.proofs.Common.{◌≡◌, ◌∙◌, ℕ, zero, suc, Bool, true, false, Option, Some, None, List, [], ◌∷◌, ◌++◌, ◌+◌, ◌||◌, ◌≤◌, cond, filter, arith, refl, sym, ap, subst, map, length, take, drop, slice_get}
+use Rattle.std.proofs.Common.{◌≡◌, ◌∙◌, ℕ, zero, suc, Bool, true, false, Option, Some, None, List, [], ◌∷◌, ◌++◌, ◌+◌, ◌||◌, cond, filter, refl, sym, ap, subst, map, length, take, drop, slice_get}
 use Rattle.std.specs.Prelude.{nat_lt}
 use Rattle.std.specs.List.{list_any}
-use Rattle.std.proofs.lemmas.Bool.{both_ways, false_from_ne_true, le-ltb}
+use Rattle.std.proofs.lemmas.Bool.{both_ways, false_from_ne_true}
 use Rattle.std.proofs.lemmas.List.Folds.{list_any-append}
 use Rattle.std.proofs.lemmas.Map.Keys.{any_passes_from_place}
 use Rattle.base_types.specs.declared.command.Command.TheVariants as commands
-use Rattle.command_answers.specs.declared.error.CommandError.TheVariants as errors
 use Rattle.ddl_effect.specs.Opens.{place_latest, without_latest, opens_before}
-use Rattle.txn_blocks.specs.Blocks.{Block, Level, Outside, Inside, Failed, Blocks, refused_in, refused_by, innermost, levels_up_to, blocks_begun, blocks_well, blocks_badly}
+use Rattle.txn_blocks.specs.Blocks.{Block, Level, Outside, Inside, Failed, Blocks, innermost, levels_up_to, blocks_badly}
 use Rattle.cacheless.specs.Work.{work_of}
 use Rattle.cacheless.specs.Ends.{End, Ends, Commits, TakesBack, end_of_block, end_in, end_well_in, end_badly_in}
 use Rattle.cacheless.specs.Facts.{Facts}
-use Rattle.cacheless.specs.Session.{Session, Outcome, Well, Badly, Unsettled, opening_of, held_in, number_of, outcome_of, is_settled, plan_first}
-use Rattle.cacheless.specs.Settled.{opens_with, opens_well, opens_badly, opens_passed, opens_after, blocks_after, next_session}
+use Rattle.cacheless.specs.Session.{Session, Outcome, Well, Badly, Unsettled, opening_of, held_in, number_of, outcome_of}
+use Rattle.cacheless.specs.Settled.{opens_with, opens_well, opens_badly, opens_passed}
 use Rattle.cacheless.specs.Types.{OpenRelation}
 use Rattle.backend_core.specs.Types.{Command, Opening}
 use Rattle.cacheless.proofs.Allowed.EndsReleased.{end_from, from_block}
