@@ -1,4 +1,4 @@
-ghost use Rattle.std.specs.Prelude.{◌≡◌, ◌+◌, ◌++◌, ◌∷◌, [], List, length, IfOk, OnOk, All};
+ghost use Rattle.std.specs.Prelude.{◌≡◌, ◌≤◌, ◌+◌, ◌^◌, ◌++◌, ◌∷◌, [], List, length, IfOk, OnOk, OnErr, IsSomeAnd, All};
 ghost use Rattle.std.specs.Bool.{Decides};
 ghost use Rattle.std.specs.Option.{option_map};
 ghost use Rattle.base_types.specs.Scenario.{IsBackend};
@@ -89,9 +89,10 @@ impl Queue {
     }
 }
 
-// How many messages were published, after an event.
+// How many messages were published, after an event. Out of memory only where 64 bits don't hold it.
 fn published(event: &Event, old: u64) -> Result<u64, NoMemory>
-    ensures { IfOk result (λ n. n ≡ published_after event.now old) }
+    ensures ok { IfOk result (λ n. n ≡ published_after event.now old) }
+    ensures only { OnErr result (2 ^ 64 ≤ published_after event.now old) }
 {
     match event {
         Event::Publish { count } => old.checked_add(*count as u64).ok_or(NoMemory),
@@ -99,9 +100,11 @@ fn published(event: &Event, old: u64) -> Result<u64, NoMemory>
     }
 }
 
-// How many messages a backend is past after one of its events, where so many were published before.
+// How many messages a backend is past after one of its events, where so many were published before. Out of
+// memory only where 64 bits don't hold it.
 fn placed(published: u64, event: &Event, old: Option<u64>) -> Result<Option<u64>, NoMemory>
-    ensures { IfOk result (λ place. place ≡ place_after published event.now old) }
+    ensures ok { IfOk result (λ place. place ≡ place_after published event.now old) }
+    ensures only { OnErr result (IsSomeAnd (place_after published event.now old) (λ place. 2 ^ 64 ≤ place)) }
 {
     match event {
         Event::Start | Event::FetchReset => Ok(Some(published)),
@@ -113,7 +116,8 @@ fn placed(published: u64, event: &Event, old: Option<u64>) -> Result<Option<u64>
 
 // A place so many messages further, if there is one.
 fn moved(old: Option<u64>, count: u32) -> Result<Option<u64>, NoMemory>
-    ensures { IfOk result (λ place. place ≡ option_map (λ n. n + count) old) }
+    ensures ok { IfOk result (λ place. place ≡ option_map (λ n. n + count) old) }
+    ensures only { OnErr result (IsSomeAnd (option_map (λ n. n + count) old) (λ place. 2 ^ 64 ≤ place)) }
 {
     let Some(place) = old else {
         return Ok(None);

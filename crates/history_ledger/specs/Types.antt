@@ -2,6 +2,7 @@
 pub use Rattle.base_types.specs.declared.ids.Oid.{Oid}
 pub use Rattle.base_types.specs.declared.ids.Xid.{Xid}
 pub use Rattle.base_types.specs.declared.row.Row.{Row}
+pub use Rattle.base_types.specs.declared.row.Row.TheVariants.{Class}
 pub use Rattle.base_types.specs.declared.row_key.RowKey.{RowKey}
 pub use Rattle.base_types.specs.declared.scan.Purpose.TheVariants.{RelName}
 pub use Rattle.event_kinds.specs.declared.entry.Entry.{Entry}

@@ -15,7 +15,7 @@ use Rattle.history_model.specs.Oids.{drawn_by, made_by}
 use Rattle.history_model.specs.Changing.{changed_key, relations_changed, is_validation, modes_enough, is_there, leaves_kind, are_from, is_last_write}
 use Rattle.history_model.specs.Allows.{follows_own, may_look, may_fetch, has_looked, may_lock, may_refuse, may_unlock, may_end, allows_event, fetches_from, allows}
 use Rattle.history_model.specs.After.{standing_by}
-use Rattle.history_ledger.specs.Types.{Oid, Xid, Row, Reader, Grant, Message, Item, Entry, Event, Start, Look, Fetch, FetchReset, LockOk, LockHeld, Unlock, Scan, Write, ClashRow, ClashRunning, Publish, Written, RunningTransaction}
+use Rattle.history_ledger.specs.Types.{Oid, Xid, Row, Class, Reader, Grant, Message, Item, Add, Entry, Event, Start, Look, Fetch, FetchReset, LockOk, LockHeld, Unlock, Scan, Write, ClashRow, ClashRunning, Publish, Written, RunningTransaction}
 use Rattle.segment_rows.specs.Kept.{xid_in, reader_at}
 use Rattle.segment_rows.specs.Words.{messages_at, may_clash, old_at, frees_names, covers_item, IsPlaced, DrawsNext, rows_after}
 use Rattle.history_ledger.specs.Held.{standing_at, published_in, Keeps}
@@ -25,6 +25,27 @@ use Rattle.history_ledger.specs.declared.ledger.Ledger.{Ledger}
 abbrev pub messages_from : Store → Reader → Event → List Message
 messages_from store reader (Write xid items) = flat_map (messages_at store reader) items
 messages_from store reader event = []
+
+-- a change makes a relation
+abbrev pub makes_relation : Item → Bool
+makes_relation (Add (Class oid name kind fill)) = true
+makes_relation item = false
+
+-- an event grants a lock
+abbrev pub grants_lock : Event → Bool
+grants_lock (LockOk rel mode) = true
+grants_lock (Write xid items) = list_any makes_relation items
+grants_lock event = false
+
+-- a backend writes
+abbrev pub is_write : Event → Bool
+is_write (Write xid items) = true
+is_write event = false
+
+-- a backend publishes
+abbrev pub is_publish : Event → Bool
+is_publish (Publish count) = true
+is_publish event = false
 
 -- a write is of a later command than those whose lists are kept
 abbrev pub IsInOrder : ℕ → Event → List Written → Type 0
@@ -70,11 +91,23 @@ may_do_at store held end next last b c own (ClashRunning name xid) = has_user st
 may_do_at store held end next last b c own (ClashRow name rel) = may_clash store (xid_in own.running) name rel
 may_do_at store held end next last b c own event = may_end c own event
 
+-- to tell whether a backend may do this takes memory: for rows, keys or messages
+abbrev pub takes_memory : Event → Bool
+takes_memory (Scan purpose rows) = true
+takes_memory (Write xid items) = true
+takes_memory (ClashRow name rel) = true
+takes_memory event = false
+
 -- an entry may follow
 abbrev pub may_follow_at : Ledger → ℕ → Entry → Bool
 may_follow_at ledger size e =
     follows_own e.command (standing_at ledger.backends e.backend) e.event && fetches_from size (length ledger.log.items) (standing_at ledger.backends e.backend) e.event
     && may_do_at ledger.rows.store ledger.locks (length ledger.log.items) ledger.rows.next_oid ledger.rows.last_xid e.backend e.command (standing_at ledger.backends e.backend) e.event
+
+-- to tell whether an entry may follow takes memory: its life, the ends before it and the queue allow it
+abbrev pub follows_in_memory : Ledger → ℕ → Entry → Bool
+follows_in_memory ledger size e =
+    follows_own e.command (standing_at ledger.backends e.backend) e.event && fetches_from size (length ledger.log.items) (standing_at ledger.backends e.backend) e.event && takes_memory e.event
 
 -- a segment allows an entry, and a queue of this size its fetch
 abbrev pub may_come : ℕ → Segment → Entry → Bool

@@ -1,10 +1,10 @@
-ghost use Rattle.std.specs.Prelude.{◌≡◌, ◌++◌, take, OnOk, IfOk};
-ghost use Rattle.std.specs.List.{flat_map};
+ghost use Rattle.std.specs.Prelude.{◌≡◌, ◌++◌, true, take, OnOk, OnErr, IfOk};
+ghost use Rattle.std.specs.List.{flat_map, list_any};
 ghost use Rattle.history_model.specs.Held.{granted_by, held_by};
 ghost use Rattle.history_model.specs.Messages.{log_after};
 ghost use Rattle.segment_rows.specs.Kept.{reader_of};
 ghost use Rattle.history_ledger.specs.Held.{standing_of};
-ghost use Rattle.history_ledger.specs.Words.{messages_from, PublishesUnsent, IsCounted};
+ghost use Rattle.history_ledger.specs.Words.{messages_from, makes_relation, grants_lock, is_write, is_publish, PublishesUnsent, IsCounted};
 
 use crate::own::Own;
 use base_types::{Mode, NoMemory, Row, Xid};
@@ -21,7 +21,8 @@ pub(crate) fn enter_locks(
     c: u32,
     event: &Event,
 ) -> Result<(), NoMemory>
-    ensures { OnOk result (locks.new ≡ held_by b c event.now locks.old) }
+    ensures ok { OnOk result (locks.new ≡ held_by b c event.now locks.old) }
+    ensures only { OnErr result (grants_lock event.now ≡ true) }
 {
     match event {
         Event::LockOk { rel, mode } => locks.grant(Grant {
@@ -45,7 +46,8 @@ pub(crate) fn enter_locks(
 
 // Grants the relations that a write makes.
 fn grant_new(locks: &mut GrantTable, b: u32, c: u32, items: &[Item]) -> Result<(), NoMemory>
-    ensures { OnOk result (locks.new ≡ locks.old ++ flat_map (granted_by b c) items.now) }
+    ensures ok { OnOk result (locks.new ≡ locks.old ++ flat_map (granted_by b c) items.now) }
+    ensures only { OnErr result (list_any makes_relation items.now ≡ true) }
 {
     for item in items {
         if let Item::Add(Row::Class { oid, .. }) = item {
@@ -65,6 +67,7 @@ pub(crate) fn enter_log(log: &mut Vec<Message>, own: &Own, event: &Event) -> Res
     requires { PublishesUnsent (standing_of own.now) event.now }
     ensures log { OnOk result (log.new.items ≡ log_after (standing_of own.now) event.now log.old.items) }
     ensures counted { OnOk result (IsCounted event.now (standing_of own.now).running) }
+    ensures only { OnErr result (is_publish event.now ≡ true) }
 {
     match event {
         Event::Publish { count } => {
@@ -92,7 +95,8 @@ pub(crate) fn messages_sent(
     own: Option<Xid>,
     event: &Event,
 ) -> Result<Vec<Message>, NoMemory>
-    ensures { IfOk result (λ messages. messages.items ≡ messages_from rows.now.store (reader_of own) event.now) }
+    ensures ok { IfOk result (λ messages. messages.items ≡ messages_from rows.now.store (reader_of own) event.now) }
+    ensures only { OnErr result (is_write event.now ≡ true) }
 {
     match event {
         Event::Write { items, .. } => rows.announced(own, items.as_slice()),

@@ -1,4 +1,4 @@
-ghost use Rattle.std.specs.Prelude.{◌≡◌, ◌==◌, IfOk, length};
+ghost use Rattle.std.specs.Prelude.{◌≡◌, ◌==◌, true, IfOk, OnErr, length};
 ghost use Rattle.history_model.specs.Allows.{is_holder as does_hold};
 ghost use Rattle.segment_rows.specs.Kept.{xid_in, reader_at};
 ghost use Rattle.history_ledger.specs.Held.{standing_of};
@@ -16,25 +16,28 @@ impl Ledger {
     ghost use Rattle.history_model.specs.Lapped.{FetchesFrom};
     ghost use Rattle.history_model.specs.MayFollow.{MayFollow};
     ghost use Rattle.history_ledger.specs.Held.{Keeps, Reads};
-    ghost use Rattle.history_ledger.specs.Words.{may_do_at, may_follow_at, may_come};
+    ghost use Rattle.history_ledger.specs.Words.{may_do_at, may_follow_at, may_come, takes_memory, follows_in_memory};
     ghost use Rattle.catalog_rows.specs.Store.{rows_of_scan};
     ghost use Rattle.history_model.specs.Segment.{Segment};
     ghost use Rattle.history_model.specs.Allows.{may_lock as does_allow_lock, may_refuse as does_refuse, may_unlock as does_allow_unlock};
     ghost use Rattle.segment_rows.specs.Words.{may_clash as does_allow_clash};
 
     /// Whether the entry may follow, and a fetch be of a queue of this size: exactly what the
-    /// definitions say of each history that is read here.
+    /// definitions say of each history that is read here. Out of memory only where rows, keys or messages
+    /// are asked for.
     pub fn may_follow(&self, e: &Entry, size: u32) -> Result<bool, NoMemory>
         ensures now { IfOk result (λ yes. yes ≡ may_follow_at self.now size e.now) }
         ensures rule { (s : Segment) → Keeps s self.now → IfOk result (λ yes. yes ≡ may_come size s e.now) }
         ensures decides { (seen : List Entry) → Reads seen self.now → IfOk result (λ yes. Decides yes (MayFollow seen e.now × FetchesFrom size seen e.now.backend e.now.event)) }
+        ensures only { OnErr result (follows_in_memory self.now size e.now ≡ true) }
     {
         self.may_follow_now(e, size)
     }
 
     // The same, by what is held.
     fn may_follow_now(&self, e: &Entry, size: u32) -> Result<bool, NoMemory>
-        ensures { IfOk result (λ yes. yes ≡ may_follow_at self.now size e.now) }
+        ensures now { IfOk result (λ yes. yes ≡ may_follow_at self.now size e.now) }
+        ensures only { OnErr result (follows_in_memory self.now size e.now ≡ true) }
     {
         let none = Own::new(self.alloc);
         let own = self.backends.get(e.backend, &none);
@@ -47,7 +50,8 @@ impl Ledger {
 
     // Whether the backend of this standing may do this next.
     fn may_do(&self, own: &Own, b: u32, command: u32, event: &Event) -> Result<bool, NoMemory>
-        ensures { IfOk result (λ yes. yes ≡ may_do_at self.now.rows.store self.now.locks (length self.now.log.items) self.now.rows.next_oid self.now.rows.last_xid b command (standing_of own.now) event.now) }
+        ensures now { IfOk result (λ yes. yes ≡ may_do_at self.now.rows.store self.now.locks (length self.now.log.items) self.now.rows.next_oid self.now.rows.last_xid b command (standing_of own.now) event.now) }
+        ensures only { OnErr result (takes_memory event.now ≡ true) }
     {
         let end = self.log.len();
         match event {

@@ -1,9 +1,9 @@
-ghost use Rattle.std.specs.Prelude.{◌≡◌, ◌<◌, ◌++◌, ◌∷◌, [], OnOk};
+ghost use Rattle.std.specs.Prelude.{◌≡◌, ◌<◌, ◌++◌, ◌∷◌, [], true, OnOk, OnErr};
 ghost use Rattle.std.specs.List.{AllByRecursion};
 ghost use Rattle.command_lists.specs.Lists.{all_lists, new_list, with_messages};
 ghost use Rattle.history_model.specs.Segment.{asks as asks_next, life_by, running_by, wrote_by};
 ghost use Rattle.history_model.specs.Messages.{lists_after, position_after as position_left, waited_after as has_waited_after};
-ghost use Rattle.history_ledger.specs.Words.{IsInOrder, FetchesWaiting, IsCounted};
+ghost use Rattle.history_ledger.specs.Words.{IsInOrder, FetchesWaiting, IsCounted, is_write};
 
 use crate::own::{Own, waits};
 use base_types::NoMemory;
@@ -30,7 +30,8 @@ impl Own {
         requires order { IsInOrder command event.now (standing_of self.old).lists }
         requires waits { FetchesWaiting end (standing_of self.old).position event.now }
         requires counted { IsCounted event.now (standing_of self.old).running }
-        ensures { OnOk result (standing_of self.new ≡ standing_by (with_messages messages.now (new_list command)) end command event.now (standing_of self.old)) }
+        ensures ok { OnOk result (standing_of self.new ≡ standing_by (with_messages messages.now (new_list command)) end command event.now (standing_of self.old)) }
+        ensures only { OnErr result (is_write event.now ≡ true) }
     {
         enter_lists(&mut self.lists, command, event, self.running, messages)?;
         self.running = running_after(command, event, self.running);
@@ -52,7 +53,8 @@ fn enter_lists(
     messages: &[Message],
 ) -> Result<(), NoMemory>
     requires { IsInOrder command event.now (all_lists lists.old.lists) }
-    ensures { OnOk result (all_lists lists.new.lists ≡ lists_after (with_messages messages.now (new_list command)) event.now running (all_lists lists.old.lists)) }
+    ensures ok { OnOk result (all_lists lists.new.lists ≡ lists_after (with_messages messages.now (new_list command)) event.now running (all_lists lists.old.lists)) }
+    ensures only { OnErr result (is_write event.now ≡ true) }
 {
     match event {
         Event::Write { .. } => register(lists, command, messages),

@@ -182,7 +182,7 @@ pub scan_one : (ledger : Ledger) (s : Progress) (scan : Purpose) (count : ℕ) (
 scan_one ledger s scan count k = let p = (played ledger s (events.Scan scan count) k).0 in one_of_key k.seen s.id scan p.sound p.columns p.names
 
 -- a lock that is granted isn't held, and one that is given back is
-pub lock_new : (ledger : Ledger) (s : Progress) (rel : Oid) (mode : Mode) → MayTake ledger s (events.LockOk rel mode) → has_lock s.locks.items rel mode ≡ false
+lock_new : (ledger : Ledger) (s : Progress) (rel : Oid) (mode : Mode) → MayTake ledger s (events.LockOk rel mode) → has_lock s.locks.items rel mode ≡ false
 lock_new ledger s rel mode k = sym (session_locks ledger s (events.LockOk rel mode) k rel mode) ∙ k.comes.follows.event.0
 
 lock_held : (ledger : Ledger) (s : Progress) (rel : Oid) (mode : Mode) → MayTake ledger s (events.Unlock rel mode) → has_lock s.locks.items rel mode ≡ true
@@ -255,25 +255,24 @@ no_fail_plays next s None is = cc is
 no_fail_plays next s (Some command) is = cc is
 
 -- what takes no memory and nothing of the ledger suits the session
-pub suits_alone : (ledger : Ledger) (s : Progress) (event : Event) → MayTake ledger s event → is_stop event ≡ false → ((count : ℕ) → event ≡ events.Fetch count → ⊥) → ((scan : Purpose) (rows : ℕ) → event ≡ events.Scan scan rows → ⊥) → ((rel : Oid) (mode : Mode) → event ≡ events.LockOk rel mode → ⊥)
-    → ((xid : Xid) (items : List Item) → event ≡ events.Write xid items → ⊥) → ((from : ℕ) → event ≡ events.Release from → ⊥) → SuitsAlone s event
-suits_alone ledger s (events.Look some_wait) k inside fetch scan lock write release = tt
-suits_alone ledger s events.FetchReset k inside fetch scan lock write release = tt
-suits_alone ledger s (events.LockHeld rel mode holder held) k inside fetch scan lock write release = tt
-suits_alone ledger s (events.Unlock rel mode) k inside fetch scan lock write release = lock_held ledger s rel mode k
-suits_alone ledger s (events.ClashRow name rel) k inside fetch scan lock write release = tt
-suits_alone ledger s (events.ClashRunning name xid) k inside fetch scan lock write release = tt
-suits_alone ledger s (events.Visible xid) k inside fetch scan lock write release = tt
-suits_alone ledger s (events.Publish count) k inside fetch scan lock write release = publish_next ledger s count k
-suits_alone ledger s (events.Gone from) k inside fetch scan lock write release = tt
-suits_alone ledger s (events.Fetch count) k inside fetch scan lock write release = absurd (fetch count refl)
-suits_alone ledger s (events.Scan purpose rows) k inside fetch scan lock write release = absurd (scan purpose rows refl)
-suits_alone ledger s (events.LockOk rel mode) k inside fetch scan lock write release = absurd (lock rel mode refl)
-suits_alone ledger s (events.Write xid items) k inside fetch scan lock write release = absurd (write xid items refl)
-suits_alone ledger s (events.Release from) k inside fetch scan lock write release = absurd (release from refl)
-suits_alone ledger s events.Stop k inside fetch scan lock write release = absurd (cc inside)
-suits_alone ledger s events.Start k inside fetch scan lock write release = absurd (no_start_plays (next_oid k.seen) s (slice_get s.commands s.finished) (may ledger s events.Start k))
-suits_alone ledger s events.Fail k inside fetch scan lock write release = absurd (no_fail_plays (next_oid k.seen) s (slice_get s.commands s.finished) (may ledger s events.Fail k))
+pub suits_alone : (ledger : Ledger) (s : Progress) (event : Event) → MayTake ledger s event → is_stop event ≡ false → ((count : ℕ) → event ≡ events.Fetch count → ⊥) → ((scan : Purpose) (rows : ℕ) → event ≡ events.Scan scan rows → ⊥) → ((xid : Xid) (items : List Item) → event ≡ events.Write xid items → ⊥) → ((from : ℕ) → event ≡ events.Release from → ⊥) → SuitsAlone s event
+suits_alone ledger s (events.Look some_wait) k inside fetch scan write release = tt
+suits_alone ledger s events.FetchReset k inside fetch scan write release = tt
+suits_alone ledger s (events.LockHeld rel mode holder held) k inside fetch scan write release = tt
+suits_alone ledger s (events.Unlock rel mode) k inside fetch scan write release = lock_held ledger s rel mode k
+suits_alone ledger s (events.ClashRow name rel) k inside fetch scan write release = tt
+suits_alone ledger s (events.ClashRunning name xid) k inside fetch scan write release = tt
+suits_alone ledger s (events.Visible xid) k inside fetch scan write release = tt
+suits_alone ledger s (events.Publish count) k inside fetch scan write release = publish_next ledger s count k
+suits_alone ledger s (events.Gone from) k inside fetch scan write release = tt
+suits_alone ledger s (events.Fetch count) k inside fetch scan write release = absurd (fetch count refl)
+suits_alone ledger s (events.Scan purpose rows) k inside fetch scan write release = absurd (scan purpose rows refl)
+suits_alone ledger s (events.LockOk rel mode) k inside fetch scan write release = lock_new ledger s rel mode k
+suits_alone ledger s (events.Write xid items) k inside fetch scan write release = absurd (write xid items refl)
+suits_alone ledger s (events.Release from) k inside fetch scan write release = absurd (release from refl)
+suits_alone ledger s events.Stop k inside fetch scan write release = absurd (cc inside)
+suits_alone ledger s events.Start k inside fetch scan write release = absurd (no_start_plays (next_oid k.seen) s (slice_get s.commands s.finished) (may ledger s events.Start k))
+suits_alone ledger s events.Fail k inside fetch scan write release = absurd (no_fail_plays (next_oid k.seen) s (slice_get s.commands s.finished) (may ledger s events.Fail k))
 
 -- on a relation that is still to be drawn there is no lock
 none_held : (b : ℕ) (rel : Oid) (next : ℕ) (held : List Grant) → rel.0 ≡ next → AllByRecursion (λ g. g.rel.0 < next) held → holds held b rel AccessExclusive ≡ false

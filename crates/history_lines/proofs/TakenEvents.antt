@@ -1,5 +1,5 @@
 -- What the calls that enter an event make of a session.
-use Rattle.std.proofs.Common.{◌≡◌, ◌≤◌, ◌+◌, ◌∙◌, ◌&&◌, ℕ, Bool, true, false, Option, Some, None, Result, Ok, Err, OnOk, List, length, slice_get, refl, sym, ap, subst}
+use Rattle.std.proofs.Common.{◌≡◌, ◌+◌, ◌∙◌, ◌&&◌, ℕ, Bool, true, false, Option, Some, None, Result, Ok, Err, OnOk, OnErr, List, length, slice_get, refl, sym, ap, subst}
 use Rattle.event_kinds.specs.declared.entry.Event.TheVariants as events
 use Rattle.history_model.specs.Log.{fetched_by}
 use Rattle.history_model.specs.Versions.{answer_of}
@@ -7,11 +7,12 @@ use Rattle.history_ledger.specs.Held.{Reads}
 use Rattle.inval_messages.specs.declared.message.Message.{Message}
 use Rattle.base_types.specs.declared.row.Row.{Row}
 use Rattle.base_types.specs.declared.scan.Purpose.{Purpose}
-use Rattle.cacheless.specs.Holds.{Holds, Rests, HasEntered}
+use Rattle.cacheless.specs.Holds.{Holds, Rests, HasEntered, entry_of}
 use Rattle.cacheless.specs.Rule.{may_come}
 use Rattle.cacheless.specs.May.{has_looked_at, is_next_at, may_play_now}
 use Rattle.cacheless.specs.State.{IsLockedIn, facts_at, work_at}
 use Rattle.cacheless.specs.Awaiting.{HasTaken, answer_after}
+use Rattle.history_lines.specs.Takes.{ComesNext, MayTake}
 use Rattle.history_lines.specs.Types.{Scenario, Command, Entry, Event, Ledger, Progress}
 
 -- of three tests that hold the middle one holds
@@ -55,10 +56,6 @@ with_room s room = record s { locks = record { items = s.locks.items; room = roo
 room_same : (s p : Progress) → IsLockedIn s.locks.items s p → p ≡ with_room s p.locks.room
 room_same s p same = same.is ∙ (λ i. record s { locks = record { items = same.locks_are i; room = p.locks.room } })
 
--- the bound on how many commands it has finished stays
-pub reserved_few : (s p : Progress) → IsLockedIn s.locks.items s p → s.finished ≤ 20000 → p.finished ≤ 20000
-reserved_few s p same few = subst (λ (x : Progress). x.finished ≤ 20000) (sym same.is) few
-
 -- it holds the same session
 room_holds : (scenario : Scenario) (seen : List Entry) (s : Progress) (room : ℕ) → Holds scenario seen s → Holds scenario seen (with_room s room)
 room_holds scenario seen s room h = record {
@@ -91,8 +88,24 @@ room_takes scenario seen s room event now rests takes = record {
 }
 
 -- what a session takes for which room for a lock was made it takes
-pub reserved_takes : (scenario : Scenario) (seen : List Entry) (s p : Progress) (event : Event) (now : Progress) → IsLockedIn s.locks.items s p → ((rests : Rests scenario seen p) → HasTaken scenario seen p event rests now) → (rests : Rests scenario seen s) → HasTaken scenario seen s event rests now
+reserved_takes : (scenario : Scenario) (seen : List Entry) (s p : Progress) (event : Event) (now : Progress) → IsLockedIn s.locks.items s p → ((rests : Rests scenario seen p) → HasTaken scenario seen p event rests now) → (rests : Rests scenario seen s) → HasTaken scenario seen s event rests now
 reserved_takes scenario seen s p event now same takes rests = room_takes scenario seen s p.locks.room event now rests (subst (λ x. (r : Rests scenario seen x) → HasTaken scenario seen x event r now) (room_same s p same) takes (room_rests scenario seen s p.locks.room rests))
+
+-- whatever it reads of the ledger
+pub reserved_taken : (ledger : Ledger) (at : ℕ) (s p : Progress) (event : Event) (now : Progress) → IsLockedIn s.locks.items s p → ((scenario : Scenario) (seen : List Entry) (rests : Rests scenario seen p) → Reads seen ledger → at ≡ length seen + 1 → HasTaken scenario seen p event rests now)
+    → (scenario : Scenario) (seen : List Entry) (rests : Rests scenario seen s) → Reads seen ledger → at ≡ length seen + 1 → HasTaken scenario seen s event rests now
+reserved_taken ledger at s p event now same takes scenario seen rests reads place = reserved_takes scenario seen s p event now same (λ r. takes scenario seen r reads place) rests
+
+-- what may be taken may be taken once room for a lock was made
+pub reserved_may : (ledger : Ledger) (s p : Progress) (event : Event) → IsLockedIn s.locks.items s p → ((scenario : Scenario) (seen : List Entry) → Rests scenario seen s → Rests scenario seen p) → MayTake ledger s event → MayTake ledger p event
+reserved_may ledger s p event same rests may = record {
+  scenario = may.scenario;
+  seen = may.seen;
+  reads = may.reads;
+  counted = may.counted;
+  rests = rests may.scenario may.seen may.rests;
+  comes = subst (λ (x : Progress). ComesNext may.scenario may.seen (entry_of x.id (x.finished + 1) event)) (sym same.is) may.comes;
+}
 
 -- a call that enters an event takes it
 pub event_takes : (was now : Progress) (given event : Event) → given ≡ event → ((scenario : Scenario) (seen : List Entry) (rests : Rests scenario seen was) → HasEntered scenario seen was event rests now) → now.answer ≡ answer_after event was.answer
@@ -128,3 +141,8 @@ pub takes_scan : {E : Type 0} (result : Result (Unit {0}) E) (ledger : Ledger) (
     → OnOk result ((scenario : Scenario) (seen : List Entry) (rests : Rests scenario seen was) → Reads seen ledger → at ≡ length seen + 1 → HasTaken scenario seen was given rests now)
 takes_scan (Ok done) ledger at was now given scan count is takes = λ scenario seen rests reads place. subst (λ e. HasTaken scenario seen was e rests now) (sym is) (takes scenario seen count rests reads place)
 takes_scan (Err e) ledger at was now given scan count is takes = tt
+
+-- what holds whatever comes out holds where memory is refused
+pub whatever_fails : {T E P : Type 0} (result : Result T E) → P → OnErr result P
+whatever_fails (Ok done) holds = tt
+whatever_fails (Err e) holds = holds

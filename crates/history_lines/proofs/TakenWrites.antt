@@ -14,13 +14,12 @@ use Rattle.lock_modes.specs.declared.own_lock.OwnLock.{OwnLock}
 use Rattle.inval_messages.specs.declared.message.Message.{Message}
 use Rattle.cacheless.specs.Holds.{Rests, HasEntered}
 use Rattle.cacheless.specs.Locks.{locked_by}
-use Rattle.cacheless.specs.State.{IsLockedIn, messages_in, locks_made}
+use Rattle.cacheless.specs.State.{messages_in, locks_made}
 use Rattle.base_types.specs.declared.ids.Oid.{Oid}
 use Rattle.base_types.specs.declared.ids.Xid.{Xid}
 use Rattle.cacheless.specs.Awaiting.{HasTaken}
 use Rattle.history_lines.specs.Takes.{MakesOne, MayWrite}
 use Rattle.history_lines.specs.Types.{Scenario, Entry, Ledger, Progress}
-use Rattle.history_lines.proofs.TakenEvents.{reserved_takes}
 
 -- a write with these messages, which makes this relation, if it makes one
 pub written_takes : {E : Type 0} (result : Result (Unit {0}) E) (was now : Progress) (xid : Xid) (messages : List Message) (made : Option Oid) → OnOk result (now.answer ≡ None)
@@ -65,25 +64,19 @@ one_made None (Some rel) is = absurd (cc is)
 one_made (Some rel) None is = absurd (cc is)
 one_made (Some rel) (Some other) is = let same : new_lock rel 0 ≡ new_lock other 0 = cc is in ap (λ (lock : OwnLock). Some lock.rel) same
 
--- and isn't locked, also once room for a lock is made
-pub made_new : (s p : Progress) (items : List Item) (found : Option Oid) (may : MayWrite s items) → IsLockedIn s.locks.items s p → ((command : ℕ) → flat_map (locked_by command) items ≡ locks_made command found) → IfSome found (λ rel. has_lock p.locks.items rel AccessExclusive ≡ false)
-made_new s p items found may same are = subst (λ l. IfSome found (λ rel. has_lock l rel AccessExclusive ≡ false)) (sym same.locks_are) (subst (λ o. IfSome o (λ rel. has_lock s.locks.items rel AccessExclusive ≡ false)) (one_made may.one.made found (sym (may.one.locks 0) ∙ are 0)) may.new)
+-- and isn't locked
+pub made_new : (s : Progress) (items : List Item) (found : Option Oid) (may : MayWrite s items) → ((command : ℕ) → flat_map (locked_by command) items ≡ locks_made command found) → IfSome found (λ rel. has_lock s.locks.items rel AccessExclusive ≡ false)
+made_new s items found may are = subst (λ o. IfSome o (λ rel. has_lock s.locks.items rel AccessExclusive ≡ false)) (one_made may.one.made found (sym (may.one.locks 0) ∙ are 0)) may.new
 
--- a write after room for a lock was made
-pub write_takes : {E : Type 0} (result : Result (Unit {0}) E) (ledger : Ledger) (s p now : Progress) (xid : Xid) (items : List Item) (messages : List Message) (made : Option Oid) → IsLockedIn s.locks.items s p → ((seen : List Entry) → Reads seen ledger → messages ≡ messages_in seen s.id items)
+-- a write of the items that the ledger gives messages of
+pub write_takes : {E : Type 0} (result : Result (Unit {0}) E) (ledger : Ledger) (s now : Progress) (xid : Xid) (items : List Item) (messages : List Message) (made : Option Oid) → ((seen : List Entry) → Reads seen ledger → messages ≡ messages_in seen s.id items)
     → ((command : ℕ) → flat_map (locked_by command) items ≡ locks_made command made)
-    → OnOk result ((scenario : Scenario) (seen : List Entry) (items : List Item) (rests : Rests scenario seen p) → messages ≡ messages_in seen p.id items → flat_map (locked_by (p.finished + 1)) items ≡ locks_made (p.finished + 1) made → HasTaken scenario seen p (events.Write xid items) rests now)
+    → OnOk result ((scenario : Scenario) (seen : List Entry) (items : List Item) (rests : Rests scenario seen s) → messages ≡ messages_in seen s.id items → flat_map (locked_by (s.finished + 1)) items ≡ locks_made (s.finished + 1) made → HasTaken scenario seen s (events.Write xid items) rests now)
     → OnOk result ((scenario : Scenario) (seen : List Entry) (rests : Rests scenario seen s) → Reads seen ledger → HasTaken scenario seen s (events.Write xid items) rests now)
-write_takes (Ok done) ledger s p now xid items messages made same given locks takes = λ scenario seen rests reads.
-    reserved_takes scenario seen s p (events.Write xid items) now same (λ r. takes scenario seen items r (given seen reads ∙ ap (λ (x : Progress). messages_in seen x.id items) (sym same.is)) (locks (p.finished + 1))) rests
-write_takes (Err e) ledger s p now xid items messages made same given locks takes = tt
+write_takes (Ok done) ledger s now xid items messages made given locks takes = λ scenario seen rests reads. takes scenario seen items rests (given seen reads) (locks (s.finished + 1))
+write_takes (Err e) ledger s now xid items messages made given locks takes = tt
 
 -- a write of these items is one of the same
 pub written_as : {E : Type 0} (result : Result (Unit {0}) E) (ledger : Ledger) (was now : Progress) (xid : Xid) (items given : List Item) → items ≡ given → OnOk result ((scenario : Scenario) (seen : List Entry) (rests : Rests scenario seen was) → Reads seen ledger → HasTaken scenario seen was (events.Write xid items) rests now)
     → OnOk result ((scenario : Scenario) (seen : List Entry) (rests : Rests scenario seen was) → Reads seen ledger → HasTaken scenario seen was (events.Write xid given) rests now)
 written_as result ledger was now xid items given same takes = subst (λ l. OnOk result ((scenario : Scenario) (seen : List Entry) (rests : Rests scenario seen was) → Reads seen ledger → HasTaken scenario seen was (events.Write xid l) rests now)) same takes
-
--- where room for a lock is made first, the commands stay as they were
-pub commands_kept : {E : Type 0} (result : Result (Unit {0}) E) (s p now : Progress) → IsLockedIn s.locks.items s p → OnOk result (now.commands ≡ p.commands) → OnOk result (now.commands ≡ s.commands)
-commands_kept (Ok done) s p now same stays = stays ∙ ap (λ (x : Progress). x.commands) same.is
-commands_kept (Err e) s p now same stays = tt

@@ -4,7 +4,7 @@ use Rattle.std.specs.List.{AllByRecursion, flat_map}
 use Rattle.std.specs.Option.{IfSome}
 use Rattle.base_types.specs.declared.ids.Oid.{Oid}
 use Rattle.base_types.specs.declared.mode.Mode.TheVariants.{AccessExclusive}
-use Rattle.event_kinds.specs.declared.entry.Event.TheVariants.{Look, FetchReset, LockHeld, Unlock, ClashRow, ClashRunning, Visible, Publish, Gone, Stop}
+use Rattle.event_kinds.specs.declared.entry.Event.TheVariants.{Look, FetchReset, LockOk, LockHeld, Unlock, Scan, Write, ClashRow, ClashRunning, Visible, Publish, Release, Gone, Stop}
 use Rattle.event_kinds.specs.declared.entry.Item.{Item}
 use Rattle.lock_modes.specs.Own.{has_lock}
 use Rattle.ddl_effect.specs.Stages.{plan_at, want_of}
@@ -47,10 +47,11 @@ pub record MayTake (ledger : Ledger) (s : Progress) (event : Event) : Type 0 whe
   pub rests : Rests scenario seen s
   pub comes : ComesNext scenario seen (entry_of s.id (s.finished + 1) event)
 
--- what an event that takes no memory and nothing of the ledger needs: to give a lock back, to hold it; to publish, that this is what comes next
+-- what an event that takes no memory and nothing of the ledger needs: to be granted a lock, not to hold it; to give one back, to hold it; to publish, that this is what comes next
 abbrev pub SuitsAlone : Progress → Event → Type 0
 SuitsAlone s (Look some_wait) = ⊤
 SuitsAlone s FetchReset = ⊤
+SuitsAlone s (LockOk rel mode) = has_lock s.locks.items rel mode ≡ false
 SuitsAlone s (LockHeld rel mode holder held) = ⊤
 SuitsAlone s (Unlock rel mode) = has_lock s.locks.items rel mode ≡ true
 SuitsAlone s (ClashRow name rel) = ⊤
@@ -71,6 +72,13 @@ pub record MayWrite (s : Progress) (items : List Item) : Type 0 where
   pub order : AllByRecursion (λ list. list.command < s.finished + 1) (lists_at s)
   pub one : MakesOne items
   pub new : IfSome one.made (λ rel. has_lock s.locks.items rel AccessExclusive ≡ false)
+
+-- to enter the event takes memory, where there is room for a lock
+abbrev pub enters_in_memory : Event → Bool
+enters_in_memory (Scan purpose rows) = true
+enters_in_memory (Write xid items) = true
+enters_in_memory (Release from) = true
+enters_in_memory event = false
 
 -- the event is a stop
 abbrev pub is_stop : Event → Bool

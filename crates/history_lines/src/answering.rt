@@ -1,8 +1,10 @@
-ghost use Rattle.std.specs.Prelude.{◌≡◌, ◌+◌, ◌++◌, ◌∷◌, [], true, List, length, IfOk, OnOk};
+ghost use Rattle.std.specs.Prelude.{◌≡◌, ◌+◌, ◌++◌, ◌∷◌, [], ◌≤◌, ◌^◌, true, false, List, length, IfOk, OnOk, OnErr};
 ghost use Rattle.std.specs.Bool.{Decides};
 ghost use Rattle.base_types.specs.Scenario.{Scenario, IsBackend};
 ghost use Rattle.event_kinds.specs.declared.entry.Entry.{Entry};
+ghost use Rattle.history_model.specs.Drawn.{next_oid as oid_drawn_next};
 ghost use Rattle.history_ledger.specs.Held.{Reads};
+ghost use Rattle.history_ledger.specs.Words.{takes_memory};
 ghost use Rattle.history_lines.specs.Answered.{IsAnswered};
 ghost use Rattle.history_lines.specs.Stands.{Follows, IsHeld};
 ghost use Rattle.history_lines.specs.AllowedNext.{IsAllowedNext, CanTake, lines_held};
@@ -67,7 +69,8 @@ impl Held {
     // Whether the script, whose queue has this size, allows an entry next.
     fn may_enter(&self, size: u32, e: &Entry) -> Result<bool, NoMemory>
         requires { IsHeld self.now.ledger self.now.sessions.items }
-        ensures { (scenario : Scenario) (seen : List Entry) → Follows scenario seen self.now.ledger self.now.sessions.items → size ≡ scenario.size → IfOk result (λ yes. Decides yes (IsAllowedNext scenario seen e.now)) }
+        ensures decides { (scenario : Scenario) (seen : List Entry) → Follows scenario seen self.now.ledger self.now.sessions.items → size ≡ scenario.size → IfOk result (λ yes. Decides yes (IsAllowedNext scenario seen e.now)) }
+        ensures only { OnErr result ((seen : List Entry) → Reads seen self.now.ledger → takes_memory e.now.event ≡ false → 2 ^ 32 ≤ oid_drawn_next seen) }
     {
         if !self.has_session(e.backend) {
             return Ok(false);

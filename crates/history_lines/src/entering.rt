@@ -1,6 +1,6 @@
 // How a session takes an entry of its backend.
 
-ghost use Rattle.std.specs.Prelude.{◌≡◌, ◌≤◌, ◌+◌, ◌++◌, ◌∷◌, [], true, OnOk, length};
+ghost use Rattle.std.specs.Prelude.{◌≡◌, ◌≤◌, ◌+◌, ◌++◌, ◌∷◌, [], true, OnOk, OnErr, length};
 ghost use Rattle.event_kinds.specs.declared.entry.Entry.{Entry};
 ghost use Rattle.history_model.specs.Legal.{IsLegal};
 ghost use Rattle.history_model.specs.MayFollow.{MayFollow};
@@ -33,7 +33,8 @@ impl Session {
         e: &Entry,
     ) -> Result<(), NoMemory>
         requires { ComesTo ledger.now self.old e.now }
-        ensures { OnOk result ((scenario : Scenario) (seen : List Entry) → Reads seen ledger.now → at ≡ length seen + 1 → AreSpelled scenario → IsLegal seen → Plays scenario seen → MayFollow seen e.now → IsNext scenario seen e.now → IsSessionOf scenario seen e.now.backend self.old → IsSessionOf scenario (seen ++ e.now ∷ []) e.now.backend self.new) }
+        ensures ok { OnOk result ((scenario : Scenario) (seen : List Entry) → Reads seen ledger.now → at ≡ length seen + 1 → AreSpelled scenario → IsLegal seen → Plays scenario seen → MayFollow seen e.now → IsNext scenario seen e.now → IsSessionOf scenario seen e.now.backend self.old → IsSessionOf scenario (seen ++ e.now ∷ []) e.now.backend self.new) }
+        ensures only { OnErr result (is_stop e.now.event ≡ false) }
     {
         match &e.event {
             Event::Start => self.start(alloc),
@@ -77,6 +78,7 @@ impl Session {
         requires inside { is_stop event.now ≡ false }
         ensures { OnOk result ((scenario : Scenario) (seen : List Entry) → Reads seen ledger.now → at ≡ length seen + 1 → AwaitsEntry scenario seen self.old.progress self.old.lines → ComesNext scenario seen (entry_of self.old.progress.id (self.old.progress.finished + 1) event.now) → IsSessionOf scenario (with_own seen self.old.progress event.now) self.old.progress.id self.new) }
     {
+        self.progress.reserve_lock()?;
         enter(&mut self.progress, alloc, ledger, at, event)?;
         self.settle(alloc)
     }

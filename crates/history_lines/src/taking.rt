@@ -1,27 +1,26 @@
 // How an event is entered into the session of its backend: what its call asks for holds of each event that a
 // script allows.
 
-ghost use Rattle.std.specs.Prelude.{◌≡◌, ◌≤◌, ◌+◌, true, false, OnOk, List, ℕ, length, take};
+ghost use Rattle.std.specs.Prelude.{◌≡◌, ◌≤◌, ◌<◌, ◌+◌, true, false, OnOk, OnErr, List, ℕ, length, take};
 ghost use Rattle.base_types.specs.Scenario.{Scenario};
 ghost use Rattle.event_kinds.specs.declared.entry.Entry.{Entry};
-ghost use Rattle.lock_modes.specs.Own.{has_lock};
 ghost use Rattle.history_ledger.specs.Held.{Reads};
 ghost use Rattle.cacheless.specs.Holds.{Rests};
 ghost use Rattle.cacheless.specs.May.{HasRoom};
 ghost use Rattle.cacheless.specs.State.{unsent_at};
 ghost use Rattle.cacheless.specs.Awaiting.{HasTaken};
-ghost use Rattle.history_lines.specs.Takes.{MayTake, SuitsAlone, is_stop};
+ghost use Rattle.history_lines.specs.Takes.{MayTake, SuitsAlone, enters_in_memory, is_stop};
 
 use crate::writing::write;
-use base_types::{Mode, NoMemory, Oid, Purpose};
+use base_types::{NoMemory, Purpose};
 use cacheless::Progress;
 use event_kinds::Event;
 use history_ledger::Ledger;
 use row_visibility::Clash;
 use std::alloc::Global;
 
-// Enters an event that comes next, and is no stop, in the entry of this number. Out of memory, the session
-// may not be used any more.
+// Enters an event that comes next, and is no stop, in the entry of this number. Condition: there is room
+// for a lock. Out of memory, the session may not be used any more.
 pub(crate) fn enter(
     progress: &mut Progress,
     alloc: Global,
@@ -31,8 +30,10 @@ pub(crate) fn enter(
 ) -> Result<(), NoMemory>
     requires comes { MayTake ledger.now progress.old event.now }
     requires inside { is_stop event.now ≡ false }
+    requires place { 0 < progress.old.locks.room }
     ensures same { OnOk result (progress.new.commands ≡ progress.old.commands) }
     ensures takes { OnOk result ((scenario : Scenario) (seen : List Entry) (rests : Rests scenario seen progress.old) → Reads seen ledger.now → at ≡ length seen + 1 → HasTaken scenario seen progress.old event.now rests progress.new) }
+    ensures only { OnErr result (enters_in_memory event.now ≡ true) }
 {
     match event {
         Event::Fetch { count } => {
@@ -40,7 +41,6 @@ pub(crate) fn enter(
             Ok(())
         }
         Event::Scan { purpose, .. } => scan(progress, ledger, at, purpose),
-        Event::LockOk { rel, mode } => lock(progress, *rel, *mode),
         Event::Write { xid, items } => write(progress, alloc, ledger, *xid, items.as_slice()),
         Event::Release { from } => progress.enter_release(alloc, *from),
         event => {
@@ -75,23 +75,11 @@ fn scan(
     progress.enter_scan(purpose, rows, at)
 }
 
-// It was granted a lock, which it doesn't hold.
-fn lock(progress: &mut Progress, rel: Oid, mode: Mode) -> Result<(), NoMemory>
-    requires few { progress.old.finished ≤ 20000 }
-    requires room { HasRoom progress.old }
-    requires new { has_lock progress.old.locks.items rel mode ≡ false }
-    ensures same { OnOk result (progress.new.commands ≡ progress.old.commands) }
-    ensures takes { OnOk result ((scenario : Scenario) (seen : List Entry) (rests : Rests scenario seen progress.old) → HasTaken scenario seen progress.old (Event.LockOk rel mode) rests progress.new) }
-{
-    progress.reserve_lock()?;
-    progress.enter_lock(rel, mode);
-    Ok(())
-}
-
 // An event that takes no memory and nothing of the ledger.
 fn enter_alone(progress: &mut Progress, event: &Event)
     requires few { progress.old.finished ≤ 20000 }
     requires room { HasRoom progress.old }
+    requires place { 0 < progress.old.locks.room }
     requires suits { SuitsAlone progress.old event.now }
     ensures same { progress.new.commands ≡ progress.old.commands }
     ensures takes { (scenario : Scenario) (seen : List Entry) (rests : Rests scenario seen progress.old) → HasTaken scenario seen progress.old event.now rests progress.new }
@@ -99,6 +87,7 @@ fn enter_alone(progress: &mut Progress, event: &Event)
     match event {
         Event::Look { yes } => progress.enter_look(*yes),
         Event::FetchReset => progress.enter_reset(),
+        Event::LockOk { rel, mode } => progress.enter_lock(*rel, *mode),
         Event::LockHeld {
             rel,
             mode,

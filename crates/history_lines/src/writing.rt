@@ -1,6 +1,6 @@
 // How a write is entered into the session of its backend.
 
-ghost use Rattle.std.specs.Prelude.{◌≡◌, ◌≤◌, OnOk, List, ℕ};
+ghost use Rattle.std.specs.Prelude.{◌≡◌, ◌≤◌, ◌<◌, OnOk, List, ℕ};
 ghost use Rattle.std.specs.List.{flat_map};
 ghost use Rattle.base_types.specs.Scenario.{Scenario};
 ghost use Rattle.event_kinds.specs.declared.entry.Entry.{Entry};
@@ -17,7 +17,7 @@ use event_kinds::{Event, Item};
 use history_ledger::Ledger;
 use std::alloc::Global;
 
-// It wrote.
+// It wrote. Condition: there is room for a lock.
 pub(crate) fn write(
     progress: &mut Progress,
     alloc: Global,
@@ -26,12 +26,12 @@ pub(crate) fn write(
     items: &[Item],
 ) -> Result<(), NoMemory>
     requires few { progress.old.finished ≤ 20000 }
+    requires place { 0 < progress.old.locks.room }
     requires may { MayWrite progress.old items.now }
     ensures same { OnOk result (progress.new.commands ≡ progress.old.commands) }
     ensures takes { OnOk result ((scenario : Scenario) (seen : List Entry) (rests : Rests scenario seen progress.old) → Reads seen ledger.now → HasTaken scenario seen progress.old (Event.Write xid items.now) rests progress.new) }
 {
     let messages = ledger.messages_written(progress.id, items)?;
-    progress.reserve_lock()?;
     progress.enter_write(alloc, xid, &messages, relation_made(items))
 }
 

@@ -1,9 +1,9 @@
 use Rattle.std.proofs.Common.{◌∙◌, Ok, refl, sym, ap, subst}
 use Rattle.base_types.specs.declared.memory.NoMemory.{NoMemory}
 use Rattle.event_kinds.specs.declared.entry.Event.TheVariants as events
-use Rattle.history_lines.specs.Takes.{MayTake, MayWrite}
-use Rattle.history_lines.proofs.Allowing.{few, room, lock_new, release_out, suits_alone, write_may}
-use Rattle.history_lines.proofs.TakenEvents.{released_takes, takes_alone, takes_reading, takes_scan}
+use Rattle.history_lines.specs.Takes.{MayTake, MayWrite, enters_in_memory}
+use Rattle.history_lines.proofs.Allowing.{few, room, release_out, suits_alone, write_may}
+use Rattle.history_lines.proofs.TakenEvents.{released_takes, takes_alone, takes_reading, takes_scan, whatever_fails}
 use Rattle.history_lines.proofs.TakenWrites.{written_as}
 use Rattle.history_lines.proofs.taking.enter.Goals as goal
 
@@ -13,16 +13,10 @@ fetch-requires c = subst (MayTake c.args.ledger.now c.args.progress.now) c.in-Fe
 pub scan-requires : goal.scan-requires
 scan-requires c = (c.in-Scan.rows, subst (MayTake c.args.ledger.now c.args.progress.now) c.in-Scan.is c.requires.comes)
 
-pub lock-requires : goal.lock-requires
-lock-requires c = record {
-  few = few _ _ _ c.requires.comes;
-  room = room _ _ _ c.requires.comes;
-  new = lock_new c.args.ledger.now c.args.progress.now c.in-LockOk.rel c.in-LockOk.mode (subst (MayTake c.args.ledger.now c.args.progress.now) c.in-LockOk.is c.requires.comes);
-}
-
 pub write-requires : goal.write-requires
 write-requires c = record {
   few = few _ _ _ c.requires.comes;
+  place = c.requires.place;
   may = subst (MayWrite c.args.progress.now) (sym c.as_slice.ensures) (write_may c.args.ledger.now c.args.progress.now c.in-Write.xid c.in-Write.items (subst (MayTake c.args.ledger.now c.args.progress.now) c.in-Write.is c.requires.comes));
 }
 
@@ -36,7 +30,8 @@ pub enter_alone-requires : goal.enter_alone-requires
 enter_alone-requires c = record {
   few = few _ _ _ c.requires.comes;
   room = room _ _ _ c.requires.comes;
-  suits = suits_alone c.args.ledger.now c.args.progress.now c.args.event.now c.requires.comes c.requires.inside c.in_default.not-Fetch c.in_default.not-Scan c.in_default.not-LockOk c.in_default.not-Write c.in_default.not-Release;
+  place = c.requires.place;
+  suits = suits_alone c.args.ledger.now c.args.progress.now c.args.event.now c.requires.comes c.requires.inside c.in_default.not-Fetch c.in_default.not-Scan c.in_default.not-Write c.in_default.not-Release;
 }
 
 pub returns-in-Fetch-clause-takes : goal.returns-in-Fetch-clause-takes
@@ -44,9 +39,6 @@ returns-in-Fetch-clause-takes c = takes_reading {E = NoMemory} (Ok tt) c.args.le
 
 pub returns-in-Scan-clause-takes : goal.returns-in-Scan-clause-takes
 returns-in-Scan-clause-takes c = takes_scan c.scan.result c.args.ledger.now c.args.at c.args.progress.now c.scan.new.progress c.args.event.now c.in-Scan.purpose c.in-Scan.rows c.in-Scan.is c.scan.ensures.takes
-
-pub returns-in-LockOk-clause-takes : goal.returns-in-LockOk-clause-takes
-returns-in-LockOk-clause-takes c = takes_alone c.lock.result c.args.ledger.now c.args.at c.args.progress.now c.lock.new.progress c.args.event.now (events.LockOk c.in-LockOk.rel c.in-LockOk.mode) c.in-LockOk.is c.lock.ensures.takes
 
 pub returns-in-Write-clause-takes : goal.returns-in-Write-clause-takes
 returns-in-Write-clause-takes c = takes_reading c.write.result c.args.ledger.now c.args.at c.args.progress.now c.write.new.progress c.args.event.now (events.Write c.in-Write.xid c.in-Write.items) c.in-Write.is (written_as c.write.result c.args.ledger.now c.args.progress.now c.write.new.progress c.in-Write.xid c.as_slice.result.now c.in-Write.items c.as_slice.ensures c.write.ensures.takes)
@@ -56,3 +48,12 @@ returns-in-Release-clause-takes c = released_takes c.enter_release.result c.args
 
 pub returns-in_default-clause-takes : goal.returns-in_default-clause-takes
 returns-in_default-clause-takes c = takes_alone {E = NoMemory} (Ok tt) c.args.ledger.now c.args.at c.args.progress.now c.enter_alone.new.progress c.args.event.now c.args.event.now refl c.enter_alone.ensures.takes
+
+pub returns-in-Scan-clause-only : goal.returns-in-Scan-clause-only
+returns-in-Scan-clause-only c = whatever_fails c.scan.result (ap enters_in_memory c.in-Scan.is)
+
+pub returns-in-Write-clause-only : goal.returns-in-Write-clause-only
+returns-in-Write-clause-only c = whatever_fails c.write.result (ap enters_in_memory c.in-Write.is)
+
+pub returns-in-Release-clause-only : goal.returns-in-Release-clause-only
+returns-in-Release-clause-only c = whatever_fails c.enter_release.result (ap enters_in_memory c.in-Release.is)

@@ -10,6 +10,12 @@ returns-in-Look-clause-takes c = event_takes c.args.progress.now c.enter_look.ne
 pub returns-in-FetchReset-clause-takes : goal.returns-in-FetchReset-clause-takes
 returns-in-FetchReset-clause-takes c = event_takes c.args.progress.now c.enter_reset.new.self c.args.event.now events.FetchReset c.in-FetchReset.is c.enter_reset.ensures.holds c.enter_reset.ensures.answer
 
+pub returns-in-LockOk-clause-takes : goal.returns-in-LockOk-clause-takes
+returns-in-LockOk-clause-takes c = event_takes c.args.progress.now c.enter_lock.new.self c.args.event.now (events.LockOk c.in-LockOk.rel c.in-LockOk.mode) c.in-LockOk.is c.enter_lock.ensures.holds c.enter_lock.ensures.answer
+
+pub enter_lock-requires-clause-new : goal.enter_lock-requires-clause-new
+enter_lock-requires-clause-new c = subst (SuitsAlone c.args.progress.now) c.in-LockOk.is c.requires.suits
+
 pub returns-in-LockHeld-clause-takes : goal.returns-in-LockHeld-clause-takes
 returns-in-LockHeld-clause-takes c = event_takes c.args.progress.now c.enter_refused.new.self c.args.event.now (events.LockHeld c.in-LockHeld.rel c.in-LockHeld.mode c.in-LockHeld.holder c.in-LockHeld.held) c.in-LockHeld.is c.enter_refused.ensures.holds c.enter_refused.ensures.answer
 

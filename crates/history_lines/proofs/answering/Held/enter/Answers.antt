@@ -13,4 +13,4 @@ pub enter-requires : goal.enter-requires
 enter-requires c = can_enter c.args.self.now.ledger c.args.self.now.sessions.items c.args.e.now c.requires
 
 pub returns : goal.returns
-returns c = on_ok_weaker c.enter.result (λ enters. entered_follows c.args.self.now.ledger c.enter.new.self c.args.self.now.sessions.items c.args.e.now c.args.at c.index_mut-session.result.now c.take.new.self c.requires c.index_mut-session.ensures.value c.in_ok-take.ensures enters) c.enter.ensures.history
+returns c = on_ok_weaker c.enter.result (λ enters. entered_follows c.args.self.now.ledger c.enter.new.self c.args.self.now.sessions.items c.args.e.now c.args.at c.index_mut-session.result.now c.take.new.self c.requires c.index_mut-session.ensures.value c.in_ok-take.ensures.ok enters) c.enter.ensures.history
