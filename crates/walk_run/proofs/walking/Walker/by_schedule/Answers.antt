@@ -1,4 +1,5 @@
-use Rattle.std.proofs.Common.{◌∙◌, subst, sym}
+use Rattle.std.proofs.Common.{◌∙◌, subst}
+use Rattle.std.specs.List.{flat_map}
 use Rattle.base_types.specs.Scenario.{turns_of}
 use Rattle.backend_core.proofs.Entries.Inside.{if_refused}
 use Rattle.walk_run.specs.Walks.{FollowsSteps}
@@ -28,5 +29,6 @@ returns-in_err-by_line-clause-leaves g c = leaves_then c.args.script.now (g.L.Se
     c.loop-line.invariant.script c.loop-line.invariant.leaves c.in_err-by_line.ensures.leaves
 
 pub returns-in_err-by_line-clause-follows : goal.returns-in_err-by_line-clause-follows
-returns-in_err-by_line-clause-follows g c = if_refused c.from_residual.result (items_follow turns_of c.args.script.now (g.L.Seg.script c.loop-line.seg) (g.L.Seg.history c.args.seg.now) (g.L.Seg.history c.loop-line.seg) (g.L.Seg.history c.by_line.new.seg) c.loop-line.self.backends.items _ c.loop-line.line-index _
-    c.loop-line-test.true c.line-item.is c.loop-line.invariant.script c.loop-line.invariant.goes c.in_err-by_line.ensures.follows)
+returns-in_err-by_line-clause-follows g c = if_refused c.from_residual.result (subst (λ lines. FollowsSteps c.args.script.now (g.L.Seg.history c.args.seg.now) (g.L.Seg.history c.by_line.new.seg) (flat_map turns_of lines)) c.steps-lines.ensures.value
+    (items_follow turns_of c.args.script.now (g.L.Seg.script c.loop-line.seg) (g.L.Seg.history c.args.seg.now) (g.L.Seg.history c.loop-line.seg) (g.L.Seg.history c.by_line.new.seg) c.loop-line.self.backends.items c.steps-lines.result.now c.loop-line.line-index _
+    c.loop-line-test.true c.line-item.is c.loop-line.invariant.script c.loop-line.invariant.goes c.in_err-by_line.ensures.follows))
