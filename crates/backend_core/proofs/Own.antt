@@ -13,7 +13,7 @@ use Rattle.history_model.proofs.Reading.{life_of-own}
 use Rattle.history_model.proofs.Sound.{sound_is_legal}
 use Rattle.seg_calls.specs.Calls.{places_for, Appends}
 use Rattle.history_model.specs.Changing.{is_empty}
-use Rattle.cacheless.specs.Facts.{Facts, facts_of, facts_by}
+use Rattle.cacheless.specs.Facts.{Facts, facts_of}
 use Rattle.cacheless.specs.Holds.{HasEntered, entry_of, with_own}
 use Rattle.cacheless.specs.MayEnter.{SuitsHistory}
 use Rattle.cacheless.specs.OnCourse.{FollowsPlan, TellsAlone, IsOnCourse, CourseOf, AllOnCourse}
@@ -26,6 +26,7 @@ use Rattle.cacheless.specs.Settled.{gives_in, gives_left}
 use Rattle.cacheless.specs.Work.{work_of}
 use Rattle.cacheless.specs.State.{session_at}
 use Rattle.cacheless.specs.Telling.{AreLines, TellsNow}
+use Rattle.cacheless.proofs.FactsAfter.{facts_by}
 use Rattle.cacheless.proofs.Allowed.AtRest.{IsStuck, WaitsForEntry}
 use Rattle.cacheless.proofs.Allowed.Economical.{plays_needed}
 use Rattle.cacheless.proofs.Allowed.NextKeeps.{KeepsAllBy, next_keeps}

@@ -37,7 +37,7 @@ use Rattle.history_model.proofs.Granted.{granted_to, unheld}
 use Rattle.history_model.proofs.Past.{IsPast, past-end, past-other, past-own, past-new}
 use Rattle.cacheless.specs.declared.progress.Due.{Due}
 use Rattle.cacheless.specs.declared.progress.Due.TheVariants as dues
-use Rattle.cacheless.specs.Facts.{due_last, Facts, facts_of, facts_by}
+use Rattle.cacheless.specs.Facts.{due_last, Facts, facts_of}
 use Rattle.cacheless.specs.Locks.{grant_of, locks_by}
 use Rattle.cacheless.specs.Session.{Session, first_of}
 use Rattle.cacheless.specs.Work.{work_of}
@@ -45,6 +45,7 @@ use Rattle.cacheless.specs.Owed.{Owes, OwesLook, OwesFetch, OwesScan, owed_first
 use Rattle.cacheless.specs.Settled.{settled}
 use Rattle.cacheless.specs.Sessions.{placed_at, counted, entered, commands_left, session_of}
 use Rattle.cacheless.specs.Plays.{IsNext, Plays}
+use Rattle.cacheless.proofs.FactsAfter.{facts_by}
 use Rattle.cacheless.proofs.Reading.{session_of-own, session_of-other}
 use Rattle.cacheless.proofs.Settling.{is_empty-after}
 use Rattle.cacheless.proofs.HeldLocks.{is_of, locks_of, settled-locks, counted-locks, Follows, locks_are_held}

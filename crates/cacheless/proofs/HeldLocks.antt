@@ -36,13 +36,14 @@ use Rattle.history_model.specs.Sound.{MayComeNext, IsSound}
 use Rattle.history_model.proofs.Prefixes.{EachEntry-weaker, each-keeps}
 use Rattle.history_model.proofs.Reading.{held_of-more, life_of-own, life_of-other}
 use Rattle.history_model.proofs.Locked.{AreBarred, held_bars_all}
-use Rattle.cacheless.specs.Facts.{Facts, facts_of, facts_by}
+use Rattle.cacheless.specs.Facts.{Facts, facts_of}
 use Rattle.cacheless.specs.Locks.{grant_of, locked_by, locks_by}
 use Rattle.cacheless.specs.Session.{Session, first_of, none_open, at_command}
 use Rattle.cacheless.specs.Work.{work_of}
 use Rattle.cacheless.specs.Owed.{accepts_in}
 use Rattle.cacheless.specs.Settled.{done_here, act_done, acted_on, acted, is_finished_in, next_session, settled}
 use Rattle.cacheless.specs.Sessions.{placed_at, counted, accepted, entered, commands_left, session_by, session_of}
+use Rattle.cacheless.proofs.FactsAfter.{facts_by}
 use Rattle.cacheless.proofs.Reading.{session_of-own, session_of-other}
 
 -- a grant of the backend

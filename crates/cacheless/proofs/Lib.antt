@@ -1,3 +1,4 @@
+pub mod FactsAfter
 pub mod Reading
 pub mod Settling
 pub mod Plans

@@ -14,7 +14,7 @@ use Rattle.history_model.specs.Lives.{last_event_of}
 use Rattle.history_model.specs.Read.{is_usable, rows_read, place_read}
 use Rattle.history_model.proofs.Reading.{last_event_of-own}
 use Rattle.cacheless.specs.Answering.{AreLastScans, KeepsAbsent, PlacesFit}
-use Rattle.cacheless.specs.Facts.{Facts, facts_of, facts_by, kept_if, kept_by}
+use Rattle.cacheless.specs.Facts.{Facts, facts_of, kept_if}
 use Rattle.cacheless.specs.Holds.{FactsFit, HasEntered, Rests, entry_of, with_own}
 use Rattle.cacheless.specs.OnCourse.{is_absent, IsOnCourse, FollowsPlan, CourseOf, AllOnCourse}
 use Rattle.cacheless.specs.Work.{work_of}
@@ -23,6 +23,7 @@ use Rattle.cacheless.specs.Plays.{IsWrite, MayPlayIn}
 use Rattle.cacheless.specs.Session.{Session}
 use Rattle.cacheless.specs.Sessions.{written, resumed}
 use Rattle.cacheless.specs.State.{kept_at, session_at}
+use Rattle.cacheless.proofs.FactsAfter.{facts_by, kept_by}
 use Rattle.cacheless.proofs.Plans.CommandUnder.{never_absent}
 use Rattle.cacheless.proofs.Plans.SilentActs.{on_its_way, its_place}
 use Rattle.cacheless.proofs.Reading.{facts_of-own}

@@ -16,8 +16,9 @@ use Rattle.history_model.specs.Versions.{answer_of}
 use Rattle.history_model.proofs.Prefixes.{own-own, own-other}
 use Rattle.history_model.proofs.Reading.{last_event_of-own, last_event_of-other, running_transaction_of-own, running_transaction_of-other, lists_of-own, lists_of-other, is_usable-own, is_usable-other, rows_read-own, rows_read-other, read_at-own, read_at-other}
 use Rattle.cacheless.specs.Types.{Row, Purpose, Event}
-use Rattle.cacheless.specs.Facts.{facts_of, facts_by, due_last, kept_if, kept_in, kept_by}
+use Rattle.cacheless.specs.Facts.{facts_of, due_last, kept_if, kept_in}
 use Rattle.cacheless.specs.Sessions.{session_of, session_by}
+use Rattle.cacheless.proofs.FactsAfter.{facts_by, kept_by}
 
 spared_step : (t u : Bool) (given : List Row) (at : Option ℕ) (old : Option Read) → old ≡ kept_if u given (unwrap_or at 0) → kept_if (t && u) given (unwrap_or at 0) ≡ (if t then old else None)
 spared_step true u given at old is = sym is

@@ -1,15 +1,13 @@
 -- What a backend's next entry depends on of a history: facts of its own entries alone, as the code has them.
-use Rattle.std.specs.Prelude.{ℕ, Bool, true, false, Option, Some, None, List, ◌+◌, ◌==◌, length}
+use Rattle.std.specs.Prelude.{ℕ, Bool, true, false, Option, Some, None, List, ◌==◌}
 use Rattle.event_kinds.specs.declared.entry.Event.TheVariants as events
-use Rattle.inval_messages.specs.Lists.{Written, lists_from, sent_in}
-use Rattle.local_caches.specs.Kept.{Read, Kept, nothing_kept, kept_with, kept_spared}
+use Rattle.inval_messages.specs.Lists.{Written}
+use Rattle.local_caches.specs.Kept.{Read, Kept}
 use Rattle.history_model.specs.Lives.{last_event_of}
-use Rattle.history_model.specs.Transactions.{running_by, running_transaction_of}
+use Rattle.history_model.specs.Transactions.{running_transaction_of}
 use Rattle.txn_blocks.specs.declared.transaction.RunningTransaction.{RunningTransaction as Running}
-use Rattle.history_model.specs.Sent.{messages_written, lists_by, lists_of}
+use Rattle.history_model.specs.Sent.{lists_of}
 use Rattle.history_model.specs.Read.{is_usable, rows_read, place_read}
-use Rattle.history_model.specs.Log.{fetched_by}
-use Rattle.history_model.specs.Versions.{answer_of}
 use Rattle.cacheless.specs.Types.{Row, Entry, Event}
 use Rattle.cacheless.specs.declared.progress.Due.{Due}
 use Rattle.cacheless.specs.declared.progress.Due.TheVariants as dues
@@ -59,23 +57,4 @@ facts_of history b = record {
   running = running_transaction_of history b;
   lists = lists_of history b;
   kept = kept_in history b;
-}
-
--- what is kept after an event
-abbrev pub kept_by : List Entry → ℕ → Event → Kept → Kept
-kept_by before b (events.Scan scan count) kept = kept_with scan (answer_of before b scan) (length before + 1) kept
-kept_by before b (events.Fetch count) kept = kept_spared (fetched_by before b count) kept
-kept_by before b events.FetchReset kept = nothing_kept
-kept_by before b (events.Write xid items) kept = kept_spared (messages_written before b items) kept
-kept_by before b (events.Gone from) kept = kept_spared (sent_in (lists_from from (lists_of before b))) kept
-kept_by before b events.Fail kept = nothing_kept
-kept_by before b event kept = kept
-
--- the facts after an entry of the backend
-abbrev pub facts_by : List Entry → ℕ → ℕ → Event → Facts → Facts
-facts_by before b command event old = record {
-  due = due_after event;
-  running = running_by command event old.running;
-  lists = lists_by before b command event old.lists;
-  kept = kept_by before b event old.kept;
 }

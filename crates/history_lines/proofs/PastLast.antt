@@ -9,7 +9,7 @@ use Rattle.lock_modes.specs.declared.own_lock.OwnLock.{OwnLock}
 use Rattle.txn_blocks.specs.Blocks.{Blocks, no_block}
 use Rattle.history_model.proofs.Prefixes.{each-keeps}
 use Rattle.history_model.specs.Changing.{is_empty}
-use Rattle.cacheless.specs.Facts.{Facts, facts_of, facts_by}
+use Rattle.cacheless.specs.Facts.{Facts, facts_of}
 use Rattle.cacheless.specs.Work.{work_of}
 use Rattle.cacheless.specs.Plays.{IsNext, Plays}
 use Rattle.cacheless.specs.Owed.{owed_first_in, owed_after}
@@ -17,6 +17,7 @@ use Rattle.cacheless.specs.Session.{Session as Course, Finished, none_open, outc
 use Rattle.cacheless.specs.Sessions.{written, resumed, noted, entered, commands_left, session_by, session_of}
 use Rattle.cacheless.specs.Settled.{done_here, act_done, acted_on, acted, is_finished_in, blocks_after, opens_after, finished_as, next_session, settled}
 use Rattle.cacheless.specs.Types.{Row, OpenRelation}
+use Rattle.cacheless.proofs.FactsAfter.{facts_by}
 use Rattle.cacheless.proofs.Allowed.SettledCourse.{first_left}
 use Rattle.cacheless.proofs.Reading.{session_of-own, session_of-other}
 use Rattle.history_lines.specs.Types.{Scenario, Command, Entry, Event}

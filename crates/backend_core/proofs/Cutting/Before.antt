@@ -7,7 +7,7 @@ use Rattle.event_kinds.specs.declared.entry.Event.TheVariants as events
 use Rattle.ddl_effect.specs.Commands.{commands_of}
 use Rattle.txn_blocks.specs.Blocks.{no_block}
 use Rattle.history_model.specs.Drawn.{next_oid}
-use Rattle.cacheless.specs.Facts.{Facts, facts_of, facts_by}
+use Rattle.cacheless.specs.Facts.{Facts, facts_of}
 use Rattle.cacheless.specs.Holds.{Holds, Rests, HasEntered, HasStarted, HasActed, HasPassed, entry_of, with_own}
 use Rattle.cacheless.specs.Work.{work_of}
 use Rattle.cacheless.specs.Plays.{MayPlayIn}
@@ -15,6 +15,7 @@ use Rattle.cacheless.specs.Session.{Session, first_of, none_open, at_command, ou
 use Rattle.cacheless.specs.Sessions.{placed_at, counted, accepted, entered, commands_left, session_by, session_of}
 use Rattle.cacheless.specs.Settled.{act_done, acted, is_finished_in, finished_as, next_session, settled}
 use Rattle.cacheless.specs.State.{Rest, session_at}
+use Rattle.cacheless.proofs.FactsAfter.{facts_by}
 use Rattle.cacheless.proofs.CommandEnds.{left_none}
 use Rattle.cacheless.proofs.Reading.{facts_of-own, facts_of-other, session_of-own, session_of-other}
 use Rattle.cacheless.proofs.Resting.{first_left, left_command, settled_at_rest}

@@ -17,12 +17,13 @@ use Rattle.history_model.specs.declared.life.Life.TheVariants.{Unstarted, Alive,
 use Rattle.history_model.proofs.Allows.{legal_follows}
 use Rattle.history_model.proofs.Prefixes.{EachEntry-more, EachFrom-both, each-keeps}
 use Rattle.history_model.proofs.Reading.{life_of-own, life_of-other}
-use Rattle.cacheless.specs.Facts.{Facts, facts_of, facts_by}
+use Rattle.cacheless.specs.Facts.{Facts, facts_of}
 use Rattle.cacheless.specs.Work.{work_of}
 use Rattle.cacheless.specs.Plays.{MayPlayIn, MayPlayAt, IsNext, Plays}
 use Rattle.cacheless.specs.Session.{Session, first_of, none_open, at_command}
 use Rattle.cacheless.specs.Sessions.{placed_at, counted, accepted, entered, commands_left, session_by, session_of}
 use Rattle.cacheless.specs.Settled.{done_here, act_done, acted_on, acted, is_finished_in, finished_as, next_session, settled}
+use Rattle.cacheless.proofs.FactsAfter.{facts_by}
 use Rattle.cacheless.proofs.Allowed.NextOnCourse.{counted_tally, noted_finished}
 use Rattle.cacheless.proofs.HeldLocks.{settled-locks}
 use Rattle.cacheless.proofs.Reading.{session_of-own, session_of-other}

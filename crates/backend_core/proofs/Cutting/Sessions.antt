@@ -7,10 +7,11 @@ use Rattle.ddl_effect.specs.Commands.{commands_of}
 use Rattle.txn_blocks.specs.Blocks.{no_block}
 use Rattle.history_model.specs.Prefixes.{EachFrom}
 use Rattle.history_model.proofs.Prefixes.{each-keeps}
-use Rattle.cacheless.specs.Facts.{Facts, facts_of, facts_by}
+use Rattle.cacheless.specs.Facts.{Facts, facts_of}
 use Rattle.cacheless.specs.Session.{first_of, none_open, at_command, Session}
 use Rattle.cacheless.specs.Sessions.{entered, session_by, session_of}
 use Rattle.cacheless.specs.Settled.{settled}
+use Rattle.cacheless.proofs.FactsAfter.{facts_by}
 use Rattle.cacheless.proofs.Reading.{session_of-own, session_of-other}
 use Rattle.backend_core.specs.Types.{Scenario, Entry, Event}
 

@@ -13,7 +13,7 @@ use Rattle.history_model.specs.Lives.{life_by}
 use Rattle.history_model.specs.declared.life.Life.TheVariants.{Alive}
 use Rattle.history_model.specs.Transactions.{begun}
 use Rattle.seg_calls.specs.Calls.{entry_of, Appends}
-use Rattle.cacheless.specs.Facts.{Facts, due_after, facts_of, facts_by}
+use Rattle.cacheless.specs.Facts.{Facts, due_after, facts_of}
 use Rattle.cacheless.specs.declared.progress.Due.TheVariants as dues
 use Rattle.cacheless.specs.Holds.{HasEntered, with_own}
 use Rattle.cacheless.specs.OnCourse.{AllOnCourse}
@@ -37,6 +37,7 @@ use Rattle.backend_core.proofs.Fitting.Sought.{well_settled}
 use Rattle.backend_core.proofs.Fitting.Rebuilding.{bare_fits}
 use Rattle.backend_core.specs.Words.{has_error}
 use Rattle.std.proofs.Math.Bool.{and-false}
+use Rattle.cacheless.proofs.FactsAfter.{facts_by}
 
 -- the facts and the session after such an entry
 abbrev later_of : List Entry → Backend → Event → Facts

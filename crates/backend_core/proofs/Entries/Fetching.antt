@@ -20,7 +20,7 @@ use Rattle.history_model.specs.Changing.{is_empty}
 use Rattle.seg_calls.specs.Calls.{entry_of, due_to, MayCall, Appends, Fetches}
 use Rattle.cacheless.specs.declared.progress.Due.{Due as DueNext}
 use Rattle.cacheless.specs.declared.progress.Due.TheVariants as dues
-use Rattle.cacheless.specs.Facts.{due_last, Facts, due_after, due_fetched, facts_of, facts_by}
+use Rattle.cacheless.specs.Facts.{due_last, Facts, due_after, due_fetched, facts_of}
 use Rattle.cacheless.specs.Holds.{HasEntered, with_own}
 use Rattle.cacheless.specs.OnCourse.{is_absent, AllOnCourse}
 use Rattle.cacheless.specs.Owed.{OwesFetch, owed_after, counts_full, scans_owed_in, started_in, missing, builds_missing, act_owed}
@@ -30,6 +30,7 @@ use Rattle.cacheless.specs.Sessions.{resumed, placed_at, entered}
 use Rattle.cacheless.specs.State.{one_if, kept_at, nothing_kept, is_kept}
 use Rattle.cacheless.specs.Suspects.{lacks}
 use Rattle.cacheless.specs.Work.{work_of}
+use Rattle.cacheless.proofs.FactsAfter.{facts_by}
 use Rattle.cacheless.proofs.Entries.EnteredFetches.{is_kept-spared}
 use Rattle.cacheless.proofs.Lacking.{lacks_more}
 use Rattle.cacheless.specs.Awaiting.{answer_after}

@@ -14,12 +14,13 @@ use Rattle.history_model.specs.Changing.{is_empty}
 use Rattle.history_model.proofs.Sound.{sound_is_legal}
 use Rattle.history_model.proofs.Reading.{life_of-own}
 use Rattle.seg_calls.specs.Calls.{entry_of, MayCall, Appends}
-use Rattle.cacheless.specs.Facts.{Facts, facts_of, facts_by}
+use Rattle.cacheless.specs.Facts.{Facts, facts_of}
 use Rattle.cacheless.specs.Holds.{HasStarted}
 use Rattle.cacheless.specs.Owed.{owed_after, started_in}
 use Rattle.cacheless.specs.Plays.{MayPlayAt}
 use Rattle.cacheless.specs.Session.{none_open, at_command}
 use Rattle.cacheless.specs.State.{kept_at, session_at}
+use Rattle.cacheless.proofs.FactsAfter.{facts_by}
 use Rattle.cacheless.proofs.Allowed.TransactionsKept.{transactions_kept}
 use Rattle.cacheless.proofs.Reading.{facts_of-own}
 use Rattle.cacheless.specs.Awaiting.{AnswersNow}

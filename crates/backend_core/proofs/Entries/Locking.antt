@@ -15,7 +15,7 @@ use Rattle.history_model.specs.Drawn.{next_oid}
 use Rattle.history_model.specs.Held.{held_of}
 use Rattle.history_model.specs.Transactions.{begun}
 use Rattle.seg_calls.specs.Calls.{entry_of, MayRequest, Appends, Locks}
-use Rattle.cacheless.specs.Facts.{Facts, facts_of, facts_by}
+use Rattle.cacheless.specs.Facts.{Facts, facts_of}
 use Rattle.cacheless.specs.Holds.{HasEntered, with_own}
 use Rattle.cacheless.specs.May.{owes_nothing, names_relation, is_lock_at, may_play_at}
 use Rattle.cacheless.specs.Rule.{may_come}
@@ -28,6 +28,7 @@ use Rattle.cacheless.specs.Sessions.{entered}
 use Rattle.cacheless.specs.Settled.{if_locked, has_taken_no_other}
 use Rattle.cacheless.specs.Silently.{gives_next, looks_up_at}
 use Rattle.cacheless.specs.State.{facts_at, work_at, owed_after, kept_at, rows_kept, row_sought, is_absent}
+use Rattle.cacheless.proofs.FactsAfter.{facts_by}
 use Rattle.cacheless.proofs.WantedPlans.{first_up}
 use Rattle.cacheless.proofs.Plans.ClearLocks.{session_holds}
 use Rattle.cacheless.proofs.Allowed.NextKeeps as keeping

@@ -16,7 +16,7 @@ use Rattle.history_model.proofs.Waiting.{not_waited}
 use Rattle.seg_calls.specs.Calls.{MayCall, Appends}
 use Rattle.cacheless.specs.declared.progress.Due.{Due as DueNext}
 use Rattle.cacheless.specs.declared.progress.Due.TheVariants as dues
-use Rattle.cacheless.specs.Facts.{Facts, due_looked, facts_of, facts_by}
+use Rattle.cacheless.specs.Facts.{Facts, due_looked, facts_of}
 use Rattle.cacheless.specs.Holds.{HasEntered, with_own}
 use Rattle.cacheless.specs.May.{is_missing, is_next_of_act}
 use Rattle.cacheless.specs.Work.{work_of}
@@ -53,6 +53,7 @@ use Rattle.backend_core.proofs.Stacking.Stacks.{IsSplit, split, top_push, on_top
 use Rattle.backend_core.specs.Frames.{top, on_top, with_look, IsStack}
 use Rattle.std.specs.List.{find, cons_option}
 use Rattle.base_types.specs.Scans.{build_scans}
+use Rattle.cacheless.proofs.FactsAfter.{facts_by}
 use Rattle.cacheless.proofs.Plans.SilentActs.{empty_list}
 use Rattle.cacheless.proofs.Same.{owes_nothing_is}
 

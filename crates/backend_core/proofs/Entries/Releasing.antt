@@ -6,7 +6,7 @@ use Rattle.event_kinds.specs.declared.entry.Event.TheVariants as events
 use Rattle.txn_blocks.specs.declared.transaction.RunningTransaction.{RunningTransaction as Running}
 use Rattle.seg_calls.specs.Calls.{entry_of, Appends}
 use Rattle.cacheless.specs.Ends.{Commits, TakesBack}
-use Rattle.cacheless.specs.Facts.{Facts, facts_of, facts_by}
+use Rattle.cacheless.specs.Facts.{Facts, facts_of}
 use Rattle.cacheless.specs.Holds.{Rests, HasEntered}
 use Rattle.cacheless.specs.May.{has_failed}
 use Rattle.cacheless.specs.Owed.{started_in}
@@ -28,6 +28,7 @@ use Rattle.backend_core.proofs.Entries.WhereLeft.{entered_here}
 use Rattle.backend_core.proofs.Entries.EndEntries.{end_now, end_own, end_enters}
 use Rattle.backend_core.proofs.Fitting.Released.{fails_at, frames_left, left_fits, left_unlooked, left_top, left_looks, plain_unlooked}
 use Rattle.backend_core.proofs.Fitting.Rebuilding.{usable_is}
+use Rattle.cacheless.proofs.FactsAfter.{facts_by}
 use Rattle.cacheless.proofs.Allowed.EndsReleased.{EndsBy, LetsGo, AllSent, NoWrite, IsInner, Releases, Whole, Inner, comes_now, from_of, first_begun, commit_first, end_releases}
 use Rattle.cacheless.proofs.Allowed.TransactionEnds.{ended_running, kept_running}
 use Rattle.backend_core.proofs.Fitting.FitsEnds.{released_at, fits_released, back_plain}

@@ -9,7 +9,7 @@ use Rattle.local_caches.specs.Kept.{is_keyed, Kept}
 use Rattle.history_model.specs.Drawn.{next_oid}
 use Rattle.history_model.specs.Versions.{answer_of}
 use Rattle.seg_calls.specs.Calls.{entry_of, MayRequest, Appends}
-use Rattle.cacheless.specs.Facts.{Facts, facts_of, facts_by}
+use Rattle.cacheless.specs.Facts.{Facts, facts_of}
 use Rattle.cacheless.specs.Holds.{HasEntered, with_own}
 use Rattle.cacheless.specs.May.{has_failed}
 use Rattle.cacheless.specs.OnCourse.{AllOnCourse}
@@ -19,6 +19,7 @@ use Rattle.cacheless.specs.Plays.{MayPlayIn}
 use Rattle.cacheless.specs.Session.{Session, Badly, number_of, outcome_of}
 use Rattle.cacheless.specs.Sessions.{entered}
 use Rattle.cacheless.specs.State.{kept_at, kept_with, is_absent, one_if, is_kept}
+use Rattle.cacheless.proofs.FactsAfter.{facts_by}
 use Rattle.cacheless.proofs.OneOfKey.{one_of_key}
 use Rattle.cacheless.proofs.Same.{next_is, next_same}
 use Rattle.cacheless.proofs.Tests.{and_true, not_true}

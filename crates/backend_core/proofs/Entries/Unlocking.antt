@@ -12,7 +12,7 @@ use Rattle.history_model.specs.MayFollow.{AllowsUnlock}
 use Rattle.history_model.specs.Transactions.{has_written}
 use Rattle.history_model.proofs.Every.{any-weaker}
 use Rattle.seg_calls.specs.Calls.{entry_of, MayCall, Appends}
-use Rattle.cacheless.specs.Facts.{Facts, facts_of, facts_by}
+use Rattle.cacheless.specs.Facts.{Facts, facts_of}
 use Rattle.cacheless.specs.Holds.{HasEntered, with_own}
 use Rattle.cacheless.specs.Locks.{grant_of}
 use Rattle.cacheless.specs.Work.{work_of}
@@ -21,6 +21,7 @@ use Rattle.cacheless.specs.Plays.{IsUnlock, MayPlayIn}
 use Rattle.cacheless.specs.Session.{Session, number_of, outcome_of, is_settled}
 use Rattle.cacheless.specs.Sessions.{entered}
 use Rattle.cacheless.specs.State.{owed_after, is_absent}
+use Rattle.cacheless.proofs.FactsAfter.{facts_by}
 use Rattle.cacheless.proofs.HeldLocks.{lock_of_command, locks_of, locks_are_held, Follows}
 use Rattle.cacheless.proofs.Allowed.NextKeeps.{nothing_owed}
 use Rattle.cacheless.proofs.Plans.SilentActs.{on_its_way}

@@ -29,7 +29,7 @@ use Rattle.seg_calls.specs.declared.refusal.Written.{Written as Made}
 use Rattle.seg_calls.specs.declared.refusal.WriteRefusal.TheVariants as refusals
 use Rattle.seg_calls.specs.Calls.{entry_of, items_drawn, MayRequest, MayWrite, MakesWrite, Clashes, Writes, Appends}
 use Rattle.cacheless.specs.ActsDone.{made_in, opening_by}
-use Rattle.cacheless.specs.Facts.{Facts, facts_of, facts_by}
+use Rattle.cacheless.specs.Facts.{Facts, facts_of}
 use Rattle.cacheless.specs.Holds.{Rests, HasEntered, with_own}
 use Rattle.cacheless.specs.Locks.{locked_by}
 use Rattle.cacheless.specs.OnCourse.{OnItsWay, AllOnCourse}
@@ -40,6 +40,7 @@ use Rattle.cacheless.specs.Session.{Session, Well, Badly, Unsettled, number_of, 
 use Rattle.cacheless.specs.Sessions.{written, entered}
 use Rattle.cacheless.specs.State.{lists_at, kept_at, kept_spared, is_kept, messages_in, clash_event, error_of, one_if, relation_made, change_makes, locks_made}
 use Rattle.cacheless.specs.Suspects.{lacks}
+use Rattle.cacheless.proofs.FactsAfter.{facts_by}
 use Rattle.cacheless.proofs.Allowed.NamesRead.{read_as_now}
 use Rattle.cacheless.proofs.Allowed.NextKeeps.{spelled_at}
 use Rattle.cacheless.proofs.Plans.ClearLocks.{session_holds}

@@ -6,13 +6,14 @@ use Rattle.history_model.proofs.Allows.{legal_follows}
 use Rattle.history_model.proofs.Prefixes.{EachFrom-both, each-keeps}
 use Rattle.history_model.proofs.Touched.{entry_of}
 use Rattle.cacheless.specs.Types.{Scenario, Entry, Event}
-use Rattle.cacheless.specs.Facts.{Facts, facts_of, facts_by}
+use Rattle.cacheless.specs.Facts.{Facts, facts_of}
 use Rattle.cacheless.specs.OnCourse.{AllOnCourse, CourseOf}
 use Rattle.cacheless.specs.Output.{IsAllowed}
 use Rattle.cacheless.specs.Played.{AreSpelled, IsPlayed}
 use Rattle.cacheless.specs.Plays.{MayPlayAt, IsNext}
 use Rattle.cacheless.specs.Session.{Session}
 use Rattle.cacheless.specs.Sessions.{session_by, session_of}
+use Rattle.cacheless.proofs.FactsAfter.{facts_by}
 use Rattle.cacheless.proofs.Allowed.AllowedHistories.{played_more, played_start}
 use Rattle.cacheless.proofs.Reading.{facts_of-own, facts_of-other, session_of-own, session_of-other}
 

@@ -10,7 +10,7 @@ use Rattle.history_model.specs.Drawn.{next_oid}
 use Rattle.history_model.specs.MayFollow.{MayFollow}
 use Rattle.history_model.proofs.Touched.{entry_of}
 use Rattle.cacheless.specs.Types.{Row, Scenario, Command, Entry, Event}
-use Rattle.cacheless.specs.Facts.{Facts, facts_of, facts_by}
+use Rattle.cacheless.specs.Facts.{Facts, facts_of}
 use Rattle.cacheless.specs.OnCourse.{IsOnCourse, CourseOf}
 use Rattle.cacheless.specs.Output.{IsAllowed}
 use Rattle.cacheless.specs.Work.{work_of}
@@ -20,6 +20,7 @@ use Rattle.cacheless.specs.Plays.{MayPlayIn, MayPlayAt}
 use Rattle.cacheless.specs.Session.{Session, number_of, first_of, none_open, at_command}
 use Rattle.cacheless.specs.Sessions.{commands_left, entered, session_by, session_of}
 use Rattle.cacheless.specs.Settled.{act_done, done_here, acted_on, acted, is_finished_in, finished_as, next_session, settled}
+use Rattle.cacheless.proofs.FactsAfter.{facts_by}
 use Rattle.cacheless.proofs.Allowed.AlongAllowed.{Fact, holds_along}
 use Rattle.cacheless.proofs.Allowed.AtRest.{WaitsForEntry, WaitsAmong, WaitsIn, own-waits}
 use Rattle.cacheless.proofs.Allowed.LooksBound.{acted-same}

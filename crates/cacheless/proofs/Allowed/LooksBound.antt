@@ -18,7 +18,7 @@ use Rattle.history_model.proofs.Allows.{legal_follows}
 use Rattle.history_model.proofs.Prefixes.{EachFrom-both, each-keeps}
 use Rattle.history_model.proofs.Reading.{last_event_of-own, last_event_of-other}
 use Rattle.cacheless.specs.Types.{Row, Item, Scenario, Command, Entry, Event}
-use Rattle.cacheless.specs.Facts.{Facts, due_last, facts_of, facts_by}
+use Rattle.cacheless.specs.Facts.{Facts, due_last, facts_of}
 use Rattle.cacheless.specs.OnCourse.{FollowsPlan, AllOnCourse, CourseOf}
 use Rattle.cacheless.specs.Owed.{Owes, OwesLook, OwesFetch, OwesScan, owed_after, is_quiet, owed_first_in, counts_full, started_in, has_looked_in}
 use Rattle.cacheless.specs.Played.{AreSpelled, IsPlayed}
@@ -27,6 +27,7 @@ use Rattle.cacheless.specs.Session.{Session, Tally, number_of, first_of, none_op
 use Rattle.cacheless.specs.Sessions.{noted, placed_at, counted, written, commands_left, entered, session_by, session_of}
 use Rattle.cacheless.specs.Work.{work_of}
 use Rattle.cacheless.specs.Settled.{done_here, act_done, acted_on, acted, is_finished_in, finished_as, next_session, settled}
+use Rattle.cacheless.proofs.FactsAfter.{facts_by}
 use Rattle.cacheless.proofs.Allowed.AllowedHistories.{played_more, played_start}
 use Rattle.cacheless.proofs.Allowed.NextOnCourse.{entered_noted, noted_finished, no_start}
 use Rattle.cacheless.proofs.Allowed.OwnEntries.{IsNoted, ends_out}

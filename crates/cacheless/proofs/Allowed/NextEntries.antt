@@ -35,7 +35,7 @@ use Rattle.cacheless.specs.Types.{Oid, Mode, Row, Purpose, Scenario, Command, En
 use Rattle.cacheless.specs.declared.progress.Due.{Due}
 use Rattle.cacheless.specs.declared.progress.Due.TheVariants as dues
 use Rattle.local_caches.specs.Kept.{rows_kept}
-use Rattle.cacheless.specs.Facts.{due_last, Facts, facts_of, facts_by}
+use Rattle.cacheless.specs.Facts.{due_last, Facts, facts_of}
 use Rattle.cacheless.specs.Output.{IsAllowed}
 use Rattle.cacheless.specs.Work.{work_of}
 use Rattle.cacheless.specs.Owed.{OwesLook, owed_after, is_quiet, owed_in, has_looked_in, is_next_in}
@@ -45,6 +45,7 @@ use Rattle.cacheless.specs.Schedule.{has_stopped, is_stopped, LooksTruly}
 use Rattle.cacheless.specs.Session.{Session, number_of, first_of, outcome_of, is_settled}
 use Rattle.cacheless.specs.Sessions.{noted, commands_left, entered, session_by, session_of}
 use Rattle.cacheless.specs.Settled.{class_oid, if_locked, has_taken_no_other, has_accepted_in, looked_up_in, gives_in, acted, is_finished_in, finished_as, next_session, settled}
+use Rattle.cacheless.proofs.FactsAfter.{facts_by}
 use Rattle.cacheless.proofs.Allowed.AllowedHistories.{allowed_sound, plays_economical}
 use Rattle.cacheless.proofs.Allowed.LooksBound.{LooksBound, BoundIn, looks_bound, owed_look_may, wanted_look_may, unfound_look_may, acted-same}
 use Rattle.cacheless.proofs.Allowed.NextOnCourse.{entered_noted, noted_finished, no_start}

@@ -21,7 +21,7 @@ use Rattle.history_model.proofs.Touched.{entry_of}
 use Rattle.cacheless.specs.Types.{Purpose, Command, OpenRelation, Opening, Told, Entry, Event}
 use Rattle.cacheless.specs.Work.{work_of}
 use Rattle.cacheless.specs.Ends.{End, Ends, Commits, TakesBack, end_in, next_of_end, end_left_in, end_well_in, end_of_block, end_badly_in}
-use Rattle.cacheless.specs.Facts.{Facts, facts_of, facts_by}
+use Rattle.cacheless.specs.Facts.{Facts, facts_of}
 use Rattle.cacheless.specs.OnCourse.{DoesNoAct, StillHolds, TellsAlone, FollowsPlan}
 use Rattle.cacheless.specs.Owed.{Owes, OwesLook, OwesScan, missing, begins_in, owed_first_in, owed_after, builds_missing, act_owed, scans_owed_in, owed_in}
 use Rattle.cacheless.specs.Plays.{IsLock, IsUnlock, IsWrite, IsClash, MayPlay, owed_at_end}
@@ -29,6 +29,7 @@ use Rattle.cacheless.specs.Session.{Session, Outcome, Unsettled, Well, Badly, op
 use Rattle.cacheless.specs.Sessions.{written, resumed, noted}
 use Rattle.cacheless.specs.Settled.{is_finished_in}
 use Rattle.cacheless.specs.Told.{tells_of_scans}
+use Rattle.cacheless.proofs.FactsAfter.{facts_by}
 use Rattle.cacheless.proofs.Allowed.OwnEntries.{OwnEntry, IsNoted, with_own, ends_out}
 use Rattle.cacheless.proofs.Allowed.StaysOnCourse.{has_written-quiet}
 use Rattle.cacheless.proofs.Plans.SilentActs.{both_empty}

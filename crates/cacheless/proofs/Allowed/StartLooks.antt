@@ -12,13 +12,14 @@ use Rattle.history_model.specs.Changing.{is_empty}
 use Rattle.history_model.proofs.Prefixes.{each-keeps}
 use Rattle.history_model.proofs.Reading.{running_transaction_of-own, running_transaction_of-other}
 use Rattle.cacheless.specs.Types.{Scenario, Command, Entry, Event}
-use Rattle.cacheless.specs.Facts.{due_last, Facts, facts_of, facts_by}
+use Rattle.cacheless.specs.Facts.{due_last, Facts, facts_of}
 use Rattle.cacheless.specs.Work.{work_of}
 use Rattle.cacheless.specs.Owed.{Owes, OwesLook, begins_in, owed_first_in, owed_after}
 use Rattle.cacheless.specs.Plays.{MayPlayIn, MayPlayAt, IsNext, Plays}
 use Rattle.cacheless.specs.Session.{Session, first_of}
 use Rattle.cacheless.specs.Sessions.{commands_left, entered, session_by, session_of}
 use Rattle.cacheless.specs.Settled.{acted, is_finished_in, next_session, settled}
+use Rattle.cacheless.proofs.FactsAfter.{facts_by}
 use Rattle.cacheless.proofs.Allowed.LooksBound.{acted-same, look_may}
 use Rattle.cacheless.proofs.Allowed.NextEntries.{HasNext, IsFree, look_next}
 use Rattle.cacheless.proofs.Allowed.NextOnCourse.{no_start}

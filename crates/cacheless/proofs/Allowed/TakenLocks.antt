@@ -18,7 +18,7 @@ use Rattle.history_model.specs.Transactions.{has_written}
 use Rattle.history_model.proofs.Every.{any-right, every-weaker}
 use Rattle.history_model.proofs.Prefixes.{EachEntry-weaker}
 use Rattle.cacheless.specs.Types.{Oid, Mode, Row, Item, OwnLock, Scenario, Command, CommandError, Entry, Event}
-use Rattle.cacheless.specs.Facts.{Facts, facts_of, facts_by}
+use Rattle.cacheless.specs.Facts.{Facts, facts_of}
 use Rattle.cacheless.specs.Locks.{grant_of, locks_by}
 use Rattle.cacheless.specs.OnCourse.{OnItsWay, IsOnCourse, CourseOf}
 use Rattle.cacheless.specs.Output.{IsAllowed}
@@ -28,6 +28,7 @@ use Rattle.cacheless.specs.Played.{AreSpelled}
 use Rattle.cacheless.specs.Plays.{IsLock, IsUnlock, IsWrite, MayPlay, MayPlayLast, MayPlayIn}
 use Rattle.cacheless.specs.Session.{Session, number_of, first_of, outcome_of, is_settled}
 use Rattle.cacheless.specs.Sessions.{written, resumed, placed_at, counted, entered, session_of}
+use Rattle.cacheless.proofs.FactsAfter.{facts_by}
 use Rattle.cacheless.proofs.HeldLocks.{lock_of_command, locks_of, locks_are_held, Follows}
 use Rattle.cacheless.proofs.Allowed.AllowedHistories.{allowed_sound, allowed_on_course}
 use Rattle.cacheless.proofs.Allowed.KeptAlong.{IsKept, HoldsBy, kept_along}

@@ -23,7 +23,7 @@ use Rattle.cacheless.specs.declared.progress.Due.{Due}
 use Rattle.cacheless.specs.declared.progress.Due.TheVariants as dues
 use Rattle.cacheless.specs.Work.{work_of}
 use Rattle.cacheless.specs.Ends.{End, Ends, Commits, TakesBack, end_in, end_left_in, next_of_end}
-use Rattle.cacheless.specs.Facts.{Facts, due_last, facts_of, facts_by}
+use Rattle.cacheless.specs.Facts.{Facts, due_last, facts_of}
 use Rattle.cacheless.specs.OnCourse.{is_absent}
 use Rattle.cacheless.specs.Output.{IsAllowed}
 use Rattle.cacheless.specs.Owed.{Owes, OwesScan, missing, act_next, owed_first_in, owed_after, scans_owed_in, owed_in, is_next_in}
@@ -33,6 +33,7 @@ use Rattle.cacheless.specs.Session.{Session, Badly, opening_of, held_in, number_
 use Rattle.cacheless.specs.Sessions.{ends_command, written, resumed, noted, placed_at, counted, entered, session_of}
 use Rattle.cacheless.specs.Settled.{act_done, is_finished_in, blocks_after, opens_after, finished_as, next_session}
 use Rattle.cacheless.specs.OwnTransaction.{LevelsRise, first_at, RunsFailed, RunsAt, RunsIn, RunsBy, TransactionFits, end_by, OpensIn, RunsFit}
+use Rattle.cacheless.proofs.FactsAfter.{facts_by}
 use Rattle.cacheless.proofs.Allowed.ActsNext.{unmapped}
 use Rattle.cacheless.proofs.Allowed.EndsReleased.{EndsBy, ends_by, is_end, IsCommit, comes_now, from_of, IsInner, Releases, Whole, Inner, end_releases}
 use Rattle.cacheless.proofs.Allowed.KeptAlong.{Makes, IsKept, HoldsBy, kept_along}

@@ -14,12 +14,13 @@ use Rattle.history_model.specs.Changing.{is_empty}
 use Rattle.cacheless.specs.Types.{Oid, Mode, Command, CommandError, Clash, Scenario, Entry, Event, OwnLock}
 use Rattle.cacheless.specs.declared.progress.Due.TheVariants as dues
 use Rattle.cacheless.specs.declared.progress.Progress.{Progress}
-use Rattle.cacheless.specs.Facts.{facts_of, due_after, kept_by}
+use Rattle.cacheless.specs.Facts.{facts_of, due_after}
 use Rattle.cacheless.specs.Owed.{Owes, OwesLook, begins_in}
 use Rattle.cacheless.specs.Sessions.{refused_with}
 use Rattle.txn_blocks.specs.Transactions.{begun_own}
 use Rattle.cacheless.specs.State.{Kept, work_at, owed_first, lacks_builds, is_in_accept, locks_accepted, clash_event, error_of, failed_with, Rest, rest_of, session_at}
 use Rattle.cacheless.specs.Holds.{Rests, HasEntered}
+use Rattle.cacheless.proofs.FactsAfter.{kept_by}
 use Rattle.cacheless.proofs.Entries.Entering.{noted_after, with_locks, GoesOn, own_entered, runs_begun, counts_stay}
 use Rattle.cacheless.proofs.Settling.{is_empty-after}
 

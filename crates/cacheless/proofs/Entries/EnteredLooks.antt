@@ -14,13 +14,14 @@ use Rattle.ddl_effect.specs.Stages.{plan_at}
 use Rattle.cacheless.specs.Types.{Command, CommandError, Scenario, Entry, OpenRelation, OwnLock}
 use Rattle.cacheless.specs.declared.progress.Due.TheVariants as dues
 use Rattle.cacheless.specs.declared.progress.Progress.{Progress}
-use Rattle.cacheless.specs.Facts.{Facts, facts_of, facts_by}
+use Rattle.cacheless.specs.Facts.{Facts, facts_of}
 use Rattle.cacheless.specs.Session.{none_open, plan_admitted, plan_first, refused_first, at_command, first_of}
 use Rattle.cacheless.specs.Settled.{settled}
 use Rattle.cacheless.specs.Puts.{PutsOpened, is_opened}
 use Rattle.txn_blocks.specs.Transactions.{begun_own}
 use Rattle.cacheless.specs.State.{due_looked, is_absent, is_in_accept, locks_accepted, IsNew, Rest, tally_at, session_at}
 use Rattle.cacheless.specs.Holds.{CountsFit, Holds, Rests, HasNotStarted, entry_of, HasEntered, HasStarted}
+use Rattle.cacheless.proofs.FactsAfter.{facts_by}
 use Rattle.cacheless.proofs.Plans.ActOrder.{follows_order}
 use Rattle.cacheless.proofs.Plans.UnderLocks.{order_there}
 use Rattle.cacheless.proofs.Reading.{facts_of-own, session_of-own}

@@ -15,7 +15,7 @@ use Rattle.cacheless.specs.Types.{Command, Scenario, Entry, Event, OwnLock}
 use Rattle.cacheless.specs.declared.progress.Counts.{Counts}
 use Rattle.txn_blocks.specs.declared.transaction.RunningTransaction.{RunningTransaction}
 use Rattle.cacheless.specs.declared.progress.Progress.{Progress}
-use Rattle.cacheless.specs.Facts.{Facts, facts_of, facts_by}
+use Rattle.cacheless.specs.Facts.{Facts, facts_of}
 use Rattle.cacheless.specs.Session.{Session, first_of}
 use Rattle.cacheless.specs.Settled.{settled}
 use Rattle.cacheless.specs.Sessions.{noted, placed_at, counted, accepted, entered, commands_left, session_by, session_of}
@@ -24,6 +24,7 @@ use Rattle.cacheless.specs.Puts.{PutsOpened}
 use Rattle.txn_blocks.specs.Transactions.{begun_own, ends_own}
 use Rattle.cacheless.specs.State.{lists_at, is_absent, is_in_accept, locks_accepted, Rest, rest_of, session_at}
 use Rattle.cacheless.specs.Holds.{FactsFit, CountsFit, IsSought, Holds, Rests, IsWhere, HasEntered, entry_of, with_own}
+use Rattle.cacheless.proofs.FactsAfter.{facts_by}
 use Rattle.cacheless.proofs.Reading.{facts_of-own, session_of-own}
 use Rattle.cacheless.proofs.Same.{accept_same}
 use Rattle.cacheless.proofs.Resting.{first_left, settled_at_rest}
