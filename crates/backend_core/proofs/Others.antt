@@ -20,7 +20,7 @@ awaits-other scenario seen e s other waits = record {
   keeps = let k = waits.keeps in record {
     alive = k.alive;
     life = record { last = k.life.last; alive = life_of-other seen e s.progress.id other ∙ k.life.alive; most = k.life.most };
-    places = still.places;
+    absent = still.absent;
   };
   rests = still.rests;
   runs = subst (λ f. RunsFit f (command_at s) (waiting waits)) (sym (facts_of-other seen e s.progress.id other)) waits.runs;

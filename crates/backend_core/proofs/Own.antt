@@ -37,7 +37,7 @@ use Rattle.cacheless.proofs.Resting.{first_left, finished_same}
 use Rattle.cacheless.proofs.Same.{work_same}
 use Rattle.cacheless.specs.Awaiting.{HasNoEntry, AwaitsEntry as SessionAwaits, answer_after}
 use Rattle.cacheless.proofs.OwnAnswers.{waiting_is as session_is, at_session as command_is, own_next, own_tells}
-use Rattle.cacheless.proofs.OwnPlaces.{own_places}
+use Rattle.cacheless.proofs.OwnPlaces.{own_absent}
 use Rattle.backend_core.specs.Types.{Purpose, Row, Command, Scenario, Entry, Event, Progress, Backend}
 use Rattle.backend_core.specs.Agrees.{IsPlayed, RunsFit, command_at, Keeps, AgreesNow, AwaitsEntry, HasNotJoined}
 use Rattle.backend_core.specs.Fits.{Fits, is_lost}
@@ -51,7 +51,7 @@ waiting {s = s} waits = session_at s.progress waits.rests.holds.rest
 
 -- it waits too
 abbrev pub session_waits : {scenario : Scenario} {seen : List Entry} {s : Backend} → AwaitsEntry scenario seen s → SessionAwaits scenario seen s.progress s.lines
-session_waits waits = record { rests = waits.rests; places = waits.keeps.places; tells = waits.tells; lines_are = waits.lines; answered = waits.answered }
+session_waits waits = record { rests = waits.rests; absent = waits.keeps.absent; tells = waits.tells; lines_are = waits.lines; answered = waits.answered }
 
 -- one that hasn't joined has a session without entries
 abbrev pub no_entry : {scenario : Scenario} {seen : List Entry} {s : Backend} → HasNotJoined scenario seen s → HasNoEntry scenario seen s.progress
@@ -219,7 +219,7 @@ own_agrees scenario old was now event waits played courses plays follows goes fi
         alive = ap (life_of (with_own old was.progress event)) goes.moves.id ∙ life_of-own old (entry_of b (was.progress.finished + 1) event) b (eq-eqb b b refl) ∙ lives;
         most = omega (arith, goes.moves.finished);
       };
-      places = own_places scenario old was.progress now.progress event was.lines (session_waits waits) courses follows plays goes;
+      absent = own_absent scenario old was.progress now.progress event was.lines (session_waits waits) courses follows plays goes;
     }
 
     told : TellsNow scenario (with_own old was.progress event) now.progress goes.holds × AreLines scenario (with_own old was.progress event) now.progress (session_at now.progress goes.holds.rest) was.lines

@@ -14,7 +14,7 @@ use Rattle.cacheless.specs.State.{kept_at, session_at, is_absent, owes_nothing}
 use Rattle.cacheless.proofs.Allowed.TransactionsKept.{transactions_kept}
 use Rattle.cacheless.proofs.Resting.{free_now}
 use Rattle.history_model.specs.Changing.{is_empty}
-use Rattle.cacheless.proofs.Answers.Telling.{told_asked, act_places, act_tells, act_lines, with_answer, answer_holds, answer_tells, answer_places, pass_places, pass_tells, pass_lines}
+use Rattle.cacheless.proofs.Answers.Telling.{told_asked, act_absent, act_tells, act_lines, with_answer, answer_holds, answer_tells, answer_absent, pass_absent, pass_tells, pass_lines}
 use Rattle.backend_core.specs.Types.{Row, Command, Scenario, Entry, Line, Progress, Backend, Frame}
 use Rattle.backend_core.specs.Agrees.{RunsFit, command_at, AgreesNow, GoesOn, AwaitsEntry}
 use Rattle.backend_core.specs.Halts.{AwaitsCommand, begins_at}
@@ -51,7 +51,7 @@ act_agrees scenario seen was p keeps told quiet now acts acted kept same = recor
   keeps = record {
     alive = now.keeps.alive;
     life = record { last = now.keeps.life.last; alive = ap (life_of seen) acted.moves.id ∙ now.keeps.life.alive; most = omega (arith, now.keeps.life.most, acted.moves.finished) };
-    places = act_places scenario seen was.progress p now.holds now.tells.course acted kept now.keeps.places;
+    absent = act_absent scenario seen was.progress p now.holds now.tells.course acted kept;
   };
   holds = acted.holds;
   runs = then RunsFit (subst (λ o. RunsFit facts o (act_done acted.act acted.given (acted.further acted.given) s)) (sym acted.at)
@@ -162,11 +162,11 @@ answer_agrees : (scenario : Scenario) (seen : List Entry) (s : Backend) (command
     → AgreesNow scenario seen (record s { progress = with_answer s.progress text })
 unfolding answer_holds
 answer_agrees scenario seen s command text now at asked none told = record {
-  keeps = let k = now.keeps in record { alive = k.alive; life = record { last = k.life.last; alive = k.life.alive; most = k.life.most }; places = answer_places seen s.progress text k.places };
+  keeps = let k = now.keeps in record { alive = k.alive; life = record { last = k.life.last; alive = k.life.alive; most = k.life.most }; absent = answer_absent seen s.progress text k.absent };
   holds = answer_holds scenario seen s.progress text now.holds;
   runs = now.runs;
   fits = now.fits;
-  tells = answer_tells scenario seen s.progress command text now.holds now.tells now.keeps.places at asked none told;
+  tells = answer_tells scenario seen s.progress command text now.holds now.tells now.keeps.absent at asked none told;
   lines = now.lines;
   before = now.before;
 }
@@ -186,7 +186,7 @@ pass_agrees scenario seen was p lines line now passed kept none says pushed = re
   keeps = record {
     alive = now.keeps.alive;
     life = record { last = now.keeps.life.last; alive = ap (life_of seen) passed.id ∙ now.keeps.life.alive; most = omega (arith, now.keeps.life.most, passed.finished) };
-    places = pass_places scenario seen was.progress p now.holds passed kept now.keeps.places;
+    absent = pass_absent scenario seen was.progress p now.holds passed;
   };
   holds = passed.holds;
   runs = then RunsFit (passed_runs scenario seen was p now passed next);

@@ -4,7 +4,7 @@ use Rattle.history_model.specs.Lives.{life_of, last_event_of}
 use Rattle.history_model.specs.declared.life.Life.{Life}
 use Rattle.history_model.specs.declared.life.Life.TheVariants.{Unstarted, Alive, Stopped}
 use Rattle.history_model.specs.Transactions.{has_written}
-pub use Rattle.cacheless.specs.Answering.{PlacesFit}
+use Rattle.cacheless.specs.Answering.{KeepsAbsent}
 use Rattle.cacheless.specs.Facts.{facts_of}
 use Rattle.cacheless.specs.Holds.{Holds, Rests, HasNotStarted}
 use Rattle.cacheless.specs.Lines.{lines_of_backend}
@@ -35,7 +35,7 @@ pub record IsAlive (life : Life) (s : Backend) : Type 0 where
 pub record Keeps (seen : List Entry) (s : Backend) : Type 0 where
   pub alive : s.life ≡ lives.Alive
   pub life : IsAlive (life_of seen s.progress.id) s
-  pub places : PlacesFit seen s.progress
+  pub absent : KeepsAbsent seen s.progress
 
 -- a backend whose last entry is the history's last, before it has gone on without entries, or on the way
 pub record AgreesNow (scenario : Scenario) (seen : List Entry) (s : Backend) : Type 0 where

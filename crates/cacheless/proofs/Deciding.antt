@@ -260,7 +260,8 @@ holds_decides s next event t same scenario seen holds = subst (λ u. Decides u (
     (sym (same ∙ sym (λ i. may_come next (holds.facts i) (slice_get s.commands s.finished) (work_same s holds.rest holds.count i) event)))
     (come_decides next (facts_of seen s.id) (slice_get s.commands s.finished) (session_at s holds.rest) event)
 
-start_decides : (event : Event) → Decides (is_start event) (IsStart event)
+-- a backend without entries starts
+pub start_decides : (event : Event) → Decides (is_start event) (IsStart event)
 start_decides events.Start = always tt
 start_decides event = never (λ is. is)
 

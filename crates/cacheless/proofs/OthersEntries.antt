@@ -1,17 +1,14 @@
--- Another backend's entry leaves a session waiting where it is: its places, its answer and its lines.
+-- Another backend's entry leaves a session waiting where it is, with its answer and its lines.
 use Rattle.std.proofs.Common.{◌≡◌, ◌∙◌, ◌==◌, ◌∷◌, ◌++◌, [], ℕ, false, Option, Some, None, List, sym, ap, drop, refl}
 use Rattle.std.specs.Option.{option_map_or}
 use Rattle.ddl_effect.specs.Commands.{commands_of}
-use Rattle.local_caches.specs.Kept.{Kept, Read}
-use Rattle.history_model.proofs.Ordered.{if_some}
-use Rattle.history_model.proofs.Reading.{last_event_of-other, place_read-other}
-use Rattle.history_model.specs.Read.{place_read}
-use Rattle.cacheless.specs.Answering.{AreLastScans, PlacesFit}
+use Rattle.history_model.proofs.Reading.{last_event_of-other}
+use Rattle.cacheless.specs.Answering.{KeepsAbsent}
 use Rattle.cacheless.specs.Lines.{lines_from, lines_of_backend}
 use Rattle.cacheless.specs.Session.{Session}
 use Rattle.cacheless.specs.Sessions.{session_of}
 use Rattle.cacheless.specs.Settled.{settled}
-use Rattle.cacheless.specs.State.{kept_at, session_at}
+use Rattle.cacheless.specs.State.{session_at}
 use Rattle.cacheless.proofs.Allowed.StaysOnCourse.{has_written-other}
 use Rattle.cacheless.proofs.Answers.JudgedLines.{session_placed, finished_lines-more, line_stays}
 use Rattle.cacheless.proofs.Entries.Others.{holds-other, not_started-other}
@@ -21,15 +18,9 @@ use Rattle.cacheless.specs.Awaiting.{HasNoEntry, AwaitsEntry}
 use Rattle.cacheless.specs.Types.{Scenario, Entry, Line}
 use Rattle.cacheless.specs.declared.progress.Progress.{Progress}
 
--- the places of the scans that are kept
-pub kept-other : (seen : List Entry) (e : Entry) (b : ℕ) (kept : Kept) → (e.backend == b) ≡ false → AreLastScans seen b kept → AreLastScans (seen ++ e ∷ []) b kept
-kept-other seen e b kept other at = λ scan. if_some (λ (read : Read). place_read seen b scan ≡ read.at) (λ (read : Read). place_read (seen ++ e ∷ []) b scan ≡ read.at) (λ read is. place_read-other seen e b scan other ∙ is) (kept scan) (at scan)
-
-pub places-other : (seen : List Entry) (e : Entry) (s : Progress) → (e.backend == s.id) ≡ false → PlacesFit seen s → PlacesFit (seen ++ e ∷ []) s
-places-other seen e s other places = record {
-  kept = kept-other seen e s.id (kept_at s) other places.kept;
-  absent = λ name missed whole. places.absent name missed (record { untaken = λ from gone. whole.untaken from (last_event_of-other seen e s.id other ∙ gone); going = whole.going });
-}
+-- where a lookup found no relation its scan is kept still
+absent-other : (seen : List Entry) (e : Entry) (s : Progress) → (e.backend == s.id) ≡ false → KeepsAbsent seen s → KeepsAbsent (seen ++ e ∷ []) s
+absent-other seen e s other absent = λ name missed whole. absent name missed (record { untaken = λ from gone. whole.untaken from (last_event_of-other seen e s.id other ∙ gone); going = whole.going })
 
 -- a backend that waits for its next entry still waits for it
 unfoldable pub awaits-other : (scenario : Scenario) (seen : List Entry) (e : Entry) (s : Progress) (lines : List Line) → (e.backend == s.id) ≡ false → AwaitsEntry scenario seen s lines → AwaitsEntry scenario (seen ++ e ∷ []) s lines
@@ -43,7 +34,7 @@ awaits-other scenario seen e s lines other waits = record {
     };
     still = waits.rests.still;
   };
-  places = places-other seen e s other waits.places;
+  absent = absent-other seen e s other waits.absent;
   tells = record {
     answer = λ text command told at. waits.tells.answer text command told at
         ∙ sym (line_stays scenario seen e s.id _ waiting waiting command (session_placed scenario seen s.id waiting waiting_is).judged refl);

@@ -11,7 +11,7 @@ use Rattle.history_model.specs.Legal.{IsLegal}
 use Rattle.history_model.specs.MayFollow.{MayFollow}
 use Rattle.history_model.specs.Lives.{last_event_of}
 use Rattle.history_model.proofs.Reading.{last_event_of-own}
-use Rattle.cacheless.specs.Answering.{PlacesFit, AreLastScans}
+use Rattle.cacheless.specs.Answering.{KeepsAbsent}
 use Rattle.cacheless.specs.Facts.{Facts, facts_of}
 use Rattle.cacheless.specs.Holds.{HasEntered, HasStarted, entry_of, with_own}
 use Rattle.cacheless.specs.Judged.{ArePlaced}
@@ -235,8 +235,8 @@ own_tells scenario seen was now event lines waits spelled legal plays follows ma
 -- so after it the session answers
 pub own_answers : (scenario : Scenario) (seen : List Entry) (was now : Progress) (event : Event) (lines : List Line) (waits : AwaitsEntry scenario seen was lines) → AreSpelled scenario → IsLegal seen → Plays scenario seen
     → MayFollow seen (entry_of was.id (was.finished + 1) event) → MayPlayIn (next_oid seen) (facts_of seen was.id) (slice_get was.commands was.finished) (session_at was waits.rests.holds.rest) event → event ≢ events.Stop
-    → HasEntered scenario seen was event waits.rests now → now.answer ≡ answer_after event was.answer → PlacesFit (with_own seen was event) now → AnswersNow scenario (with_own seen was event) now lines
-own_answers scenario seen was now event lines waits spelled legal plays follows may stays goes answer places = record { holds = goes.holds; places = places; tells = told.0; lines_are = told.1 }
+    → HasEntered scenario seen was event waits.rests now → now.answer ≡ answer_after event was.answer → KeepsAbsent (with_own seen was event) now → AnswersNow scenario (with_own seen was event) now lines
+own_answers scenario seen was now event lines waits spelled legal plays follows may stays goes answer absent = record { holds = goes.holds; absent = absent; tells = told.0; lines_are = told.1 }
   where
     told : TellsNow scenario (with_own seen was event) now goes.holds × AreLines scenario (with_own seen was event) now (session_at now goes.holds.rest) lines
     told = own_tells scenario seen was now event lines waits spelled legal plays follows may stays goes answer
@@ -276,13 +276,10 @@ stop_lines scenario seen was now lines waits may goes = by_command (slice_get wa
 
 -- after its start
 unfoldable pub start_answers : (scenario : Scenario) (seen : List Entry) (was now : Progress) → HasNoEntry scenario seen was → AreSpelled scenario → IsLegal seen → Plays scenario seen → MayFollow seen (entry_of was.id 0 events.Start)
-    → HasStarted scenario seen was now → kept_at now ≡ kept_at was → now.answer ≡ was.answer → AnswersNow scenario (seen ++ entry_of was.id 0 events.Start ∷ []) now []
-start_answers scenario seen was now before spelled legal plays follows started kept answer = record {
+    → HasStarted scenario seen was now → now.answer ≡ was.answer → AnswersNow scenario (seen ++ entry_of was.id 0 events.Start ∷ []) now []
+start_answers scenario seen was now before spelled legal plays follows started answer = record {
   holds = started.holds;
-  places = record {
-    kept = subst (AreLastScans (seen ++ e ∷ []) now.id) (sym (kept ∙ before.waits.new.kept)) (λ scan. tt);
-    absent = keeps_none (seen ++ e ∷ []) now (ap is_absent (ap (λ (s : Session). s.left) started.session) ∙ not_absent no_block none_open (slice_get was.commands 0));
-  };
+  absent = keeps_none (seen ++ e ∷ []) now (ap is_absent (ap (λ (s : Session). s.left) started.session) ∙ not_absent no_block none_open (slice_get was.commands 0));
   tells = record {
     played = longer.0;
     course = subst (λ k. EntersCourse scenario (seen ++ e ∷ []) k (session_at now started.holds.rest)) (sym started.moves.id) (subst (EntersCourse scenario (seen ++ e ∷ []) b) (sym (started.session ∙ ap (at_command no_block none_open [] [] (length seen + 1)) first_is))

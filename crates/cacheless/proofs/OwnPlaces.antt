@@ -1,5 +1,5 @@
--- The places of the scans that a session keeps, after an entry of its own.
-use Rattle.std.proofs.Common.{◌≡◌, ◌+◌, ◌∙◌, [], ℕ, Bool, true, false, Option, Some, None, IfSome, List, refl, sym, ap, subst, slice_get}
+-- Where a lookup found no relation its scan is kept, and so its place, also after an entry of the session's own.
+use Rattle.std.proofs.Common.{◌≡◌, ◌+◌, ◌∙◌, [], ℕ, true, false, Option, Some, None, List, refl, sym, ap, subst, slice_get}
 use Rattle.std.proofs.lemmas.Bool.{both_ways, eq-eqb}
 use Rattle.base_types.specs.declared.ids.Xid.{Xid}
 use Rattle.base_types.specs.declared.scan.Purpose.TheVariants as scans
@@ -7,15 +7,14 @@ use Rattle.event_kinds.specs.declared.entry.Event.TheVariants as events
 use Rattle.ddl_effect.specs.Commands.{commands_of}
 use Rattle.ddl_effect.specs.Plans.{Lookup, Open, Search, Read, Lock, Write, Plan, Done, Fails, Absent, Do}
 use Rattle.ddl_effect.specs.Stages.{plan_at}
-use Rattle.local_caches.specs.Kept.{Read as KeptRead, is_kept}
+use Rattle.local_caches.specs.Kept.{is_kept}
 use Rattle.history_model.specs.Drawn.{next_oid}
 use Rattle.history_model.specs.MayFollow.{FollowsGone, MayFollow}
 use Rattle.history_model.specs.Lives.{last_event_of}
-use Rattle.history_model.specs.Read.{is_usable, rows_read, place_read}
 use Rattle.history_model.proofs.Reading.{last_event_of-own}
-use Rattle.cacheless.specs.Answering.{AreLastScans, KeepsAbsent, PlacesFit}
-use Rattle.cacheless.specs.Facts.{Facts, facts_of, kept_if}
-use Rattle.cacheless.specs.Holds.{FactsFit, HasEntered, Rests, entry_of, with_own}
+use Rattle.cacheless.specs.Answering.{KeepsAbsent}
+use Rattle.cacheless.specs.Facts.{Facts, facts_of}
+use Rattle.cacheless.specs.Holds.{HasEntered, Rests, entry_of, with_own}
 use Rattle.cacheless.specs.OnCourse.{is_absent, IsOnCourse, FollowsPlan, CourseOf, AllOnCourse}
 use Rattle.cacheless.specs.Work.{work_of}
 use Rattle.cacheless.specs.Owed.{is_next_in}
@@ -32,15 +31,7 @@ use Rattle.cacheless.specs.Awaiting.{AwaitsEntry}
 use Rattle.cacheless.specs.Types.{Purpose, Scenario, Command, Entry, Event, Item, Line}
 use Rattle.cacheless.specs.declared.progress.Progress.{Progress}
 
--- a session keeps its backend's scans, each with the place of the last one
-pub last_scans : (seen : List Entry) (s : Progress) → FactsFit (facts_of seen s.id) s → AreLastScans seen s.id (kept_at s)
-last_scans seen s fits = subst (AreLastScans seen s.id) (ap (λ (f : Facts). f.kept) fits) (λ scan. by_use scan (is_usable seen s.id scan))
-  where
-    by_use : (scan : Purpose) (t : Bool) → IfSome (kept_if t (rows_read seen s.id scan) (place_read seen s.id scan)) (λ (read : KeptRead). place_read seen s.id scan ≡ read.at)
-    by_use scan true = refl
-    by_use scan false = tt
-
--- and after an entry of its own those that the entry leaves
+-- the scans that a session keeps after an entry of its own
 kept_after : (scenario : Scenario) (seen : List Entry) (was now : Progress) (event : Event) (rests : Rests scenario seen was) → HasEntered scenario seen was event rests now → kept_at now ≡ kept_by seen was.id event (kept_at was)
 kept_after scenario seen was now event rests goes = ap (λ (f : Facts). f.kept) (sym goes.holds.facts ∙ ap (facts_of (with_own seen was event)) goes.moves.id
     ∙ facts_of-own seen (entry_of was.id (was.finished + 1) event) was.id (eq-eqb was.id was.id refl) ∙ ap (facts_by seen was.id (was.finished + 1) event) rests.holds.facts)
@@ -98,10 +89,10 @@ write_plays : (scenario : Scenario) (seen : List Entry) (was : Progress) (rests 
 write_plays scenario seen was rests next facts None courses at xid items plays = absurd plays
 write_plays scenario seen was rests next facts (Some command) courses at xid items plays = write_there next seen was.id (session_at was rests.holds.rest) command items (follows_plan scenario seen was rests courses command at) plays.1
 
-module _ (scenario : Scenario) (seen : List Entry) (was now : Progress) (rests : Rests scenario seen was) (places : PlacesFit seen was) (courses : AllOnCourse scenario seen) where
+module _ (scenario : Scenario) (seen : List Entry) (was now : Progress) (rests : Rests scenario seen was) (absent : KeepsAbsent seen was) (courses : AllOnCourse scenario seen) where
   -- where the plan and the scans are as they were, and nothing is taken back before
   absent_still : (event : Event) → kept_at now ≡ kept_at was → plan_at now.opens now.exec ≡ plan_at was.opens was.exec → now.ended ≡ was.ended → ((from : ℕ) → last_event_of seen was.id ≡ Some (events.Gone from) → ⊥) → KeepsAbsent (with_own seen was event) now
-  absent_still event kept plan ended untaken = λ name missed whole. ap (λ l. is_kept l (scans.RelName name)) kept ∙ places.absent name (sym plan ∙ missed) (record { untaken = untaken; going = sym ended ∙ whole.going })
+  absent_still event kept plan ended untaken = λ name missed whole. ap (λ l. is_kept l (scans.RelName name)) kept ∙ absent name (sym plan ∙ missed) (record { untaken = untaken; going = sym ended ∙ whole.going })
 
   -- where a lookup found no relation its scan is kept still, whichever entry it is
   absent_then : (event : Event) → MayFollow seen (entry_of was.id (was.finished + 1) event) → MayPlayIn (next_oid seen) (facts_of seen was.id) (slice_get was.commands was.finished) (session_at was rests.holds.rest) event
@@ -120,11 +111,8 @@ module _ (scenario : Scenario) (seen : List Entry) (was now : Progress) (rests :
   absent_then events.Fail follows plays keeps goes = absurd (fail_plays (next_oid seen) (facts_of seen was.id) (slice_get was.commands was.finished) (session_at was rests.holds.rest) plays)
   absent_then event follows plays keeps goes = absent_still event keeps (ap (λ (x : Session). x.left) goes.session) (ap (λ (x : Session). x.ended) goes.session) (λ from gone. subst (λ last. FollowsGone last event) gone follows.gone)
 
--- they are those of its last scans
-pub own_places : (scenario : Scenario) (seen : List Entry) (was now : Progress) (event : Event) (lines : List Line) (waits : AwaitsEntry scenario seen was lines) → AllOnCourse scenario seen
+-- so it is after each
+pub own_absent : (scenario : Scenario) (seen : List Entry) (was now : Progress) (event : Event) (lines : List Line) (waits : AwaitsEntry scenario seen was lines) → AllOnCourse scenario seen
     → MayFollow seen (entry_of was.id (was.finished + 1) event) → MayPlayIn (next_oid seen) (facts_of seen was.id) (slice_get was.commands was.finished) (session_at was waits.rests.holds.rest) event
-    → HasEntered scenario seen was event waits.rests now → PlacesFit (with_own seen was event) now
-own_places scenario seen was now event lines waits courses follows plays goes = record {
-  kept = last_scans (with_own seen was event) now goes.holds.facts;
-  absent = absent_then scenario seen was now waits.rests waits.places courses event follows plays (kept_after scenario seen was now event waits.rests goes) goes;
-}
+    → HasEntered scenario seen was event waits.rests now → KeepsAbsent (with_own seen was event) now
+own_absent scenario seen was now event lines waits courses follows plays goes = absent_then scenario seen was now waits.rests waits.absent courses event follows plays (kept_after scenario seen was now event waits.rests goes) goes

@@ -83,6 +83,9 @@ kept_read history b kept scan same has = sym (kept_rows_read history b scan (sym
 pub kept_place_read : (history : List Entry) (b : ℕ) (scan : Purpose) → is_usable history b scan ≡ true → place_kept (kept_in history b) scan ≡ place_read history b scan
 kept_place_read history b scan is = ap (λ t. option_map_or (λ (read : Read). read.at) (kept_if t (rows_read history b scan) (place_read history b scan)) 0) is
 
+pub kept_place : (history : List Entry) (b : ℕ) (kept : Kept) (scan : Purpose) → kept_in history b ≡ kept → is_kept kept scan ≡ true → place_read history b scan ≡ place_kept kept scan
+kept_place history b kept scan same has = sym (kept_place_read history b scan (sym (kept_usable history b scan) ∙ ap (λ k. is_kept k scan) same ∙ has)) ∙ ap (λ k. place_kept k scan) same
+
 -- the session of a backend after its own entry
 pub session_of-own : (scenario : Scenario) (history : List Entry) (e : Entry) (b : ℕ) → (e.backend == b) ≡ true
     → session_of scenario (history ++ e ∷ []) b ≡ session_by scenario (facts_by history b e.command e.event (facts_of history b)) b (length history + 1) e.command e.event (session_of scenario history b)

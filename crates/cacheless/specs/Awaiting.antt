@@ -3,7 +3,7 @@ use Rattle.std.specs.Prelude.{◌≡◌, ℕ, true, false, Option, None, List, [
 use Rattle.event_kinds.specs.declared.entry.Event.TheVariants as events
 use Rattle.history_model.specs.Lives.{last_event_of}
 use Rattle.history_model.specs.Transactions.{has_written}
-use Rattle.cacheless.specs.Answering.{PlacesFit}
+use Rattle.cacheless.specs.Answering.{KeepsAbsent}
 use Rattle.cacheless.specs.Facts.{facts_of}
 use Rattle.cacheless.specs.Holds.{Holds, Rests, HasNotStarted, HasEntered}
 use Rattle.cacheless.specs.Sessions.{session_of}
@@ -24,7 +24,7 @@ pub record HasNoEntry (scenario : Scenario) (seen : List Entry) (s : Progress) :
 -- one that goes on only with an entry, with the lines of its finished commands
 pub record AwaitsEntry (scenario : Scenario) (seen : List Entry) (s : Progress) (lines : List Line) : Type 0 where
   pub rests : Rests scenario seen s
-  pub places : PlacesFit seen s
+  pub absent : KeepsAbsent seen s
   pub tells : Tells scenario seen s (session_at s rests.holds.rest)
   pub lines_are : AreLines scenario seen s (session_at s rests.holds.rest) lines
   pub answered : is_to_answer_at s ≡ true → is_some s.answer ≡ true
@@ -32,7 +32,7 @@ pub record AwaitsEntry (scenario : Scenario) (seen : List Entry) (s : Progress) 
 -- one whose last entry is the history's last, before it has gone on without entries
 pub record AnswersNow (scenario : Scenario) (seen : List Entry) (s : Progress) (lines : List Line) : Type 0 where
   pub holds : Holds scenario seen s
-  pub places : PlacesFit seen s
+  pub absent : KeepsAbsent seen s
   pub tells : TellsNow scenario seen s holds
   pub lines_are : AreLines scenario seen s (session_at s holds.rest) lines
 

@@ -4,7 +4,7 @@ use Rattle.event_kinds.specs.declared.entry.Event.TheVariants as events
 use Rattle.history_model.specs.Lives.{last_event_of}
 use Rattle.cacheless.specs.Types.{Command, Scenario, Entry, Line}
 use Rattle.cacheless.specs.declared.progress.Progress.{Progress}
-use Rattle.cacheless.specs.Answering.{PlacesFit}
+use Rattle.cacheless.specs.Answering.{KeepsAbsent}
 use Rattle.cacheless.specs.Facts.{Facts, facts_of}
 use Rattle.cacheless.specs.Holds.{Holds}
 use Rattle.cacheless.specs.Lines.{line_of, lines_from}
@@ -52,6 +52,6 @@ pub record TellsNow (scenario : Scenario) (seen : List Entry) (s : Progress) (ho
 pub record HasGoneOn (scenario : Scenario) (seen : List Entry) (was : Progress) (held : Holds scenario seen was) (before : List Line) (now : Progress) (lines : List Line) : Type 0 where
   pub holds : Holds scenario seen now
   pub tells : TellsNow scenario seen now holds
-  pub places : PlacesFit seen now
+  pub absent : KeepsAbsent seen now
   pub id : now.id ≡ was.id
   pub lines_are : AreLines scenario seen was (session_at was held.rest) before → AreLines scenario seen now (session_at now holds.rest) lines

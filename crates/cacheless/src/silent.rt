@@ -38,7 +38,7 @@ impl Progress {
     ghost use Rattle.cacheless.specs.Settled.{has_taken_no_other as no_other, has_accepted_in, looked_up_in, gives_left, is_finished_in};
     ghost use Rattle.cacheless.specs.Silently.{opened_for, acts_on, is_ends as ends_silently_by, is_to_answer, is_to_answer_at, is_finished_at, Acts, Answers, Finishes, IsSilentOf, HasAnswered, IsLineOf, left_of};
     ghost use Rattle.cacheless.specs.Holds.{Holds, Rests, HasActed, HasPassed};
-    ghost use Rattle.cacheless.specs.Answering.{PlacesFit};
+    ghost use Rattle.cacheless.specs.Answering.{KeepsAbsent};
     ghost use Rattle.cacheless.specs.Telling.{TellsNow, HasGoneOn};
 
     /// Goes on as far as it can without an entry, and adds the lines of the commands that it passes over.
@@ -47,7 +47,7 @@ impl Progress {
         requires few { length self.old.commands ≤ 20000 }
         ensures rests { OnOk result ((scenario : Scenario) (seen : List Entry) → Holds scenario seen self.old → Rests scenario seen self.new) }
         ensures answered { OnOk result (is_to_answer_at self.new ≡ true → is_some self.new.answer ≡ true) }
-        ensures goes_on { OnOk result ((scenario : Scenario) (seen : List Entry) (held : Holds scenario seen self.old) → TellsNow scenario seen self.old held → PlacesFit seen self.old → HasGoneOn scenario seen self.old held lines.old self.new lines.new) }
+        ensures goes_on { OnOk result ((scenario : Scenario) (seen : List Entry) (held : Holds scenario seen self.old) → TellsNow scenario seen self.old held → KeepsAbsent seen self.old → HasGoneOn scenario seen self.old held lines.old self.new lines.new) }
         ensures kept { OnOk result (kept_at self.new ≡ kept_at self.old) }
         ensures same { OnOk result (self.new.commands ≡ self.old.commands) }
     {

@@ -1,5 +1,5 @@
 -- What an event meets that comes next of a backend, after some history that the ledger reads: what the calls that enter it ask for.
-use Rattle.std.proofs.Common.{◌≡◌, ◌≤◌, ◌<◌, ◌+◌, ◌∙◌, ◌==◌, ◌&&◌, ◌||◌, ℕ, Bool, true, false, Option, Some, None, List, [], ◌∷◌, ◌++◌, length, take, slice_get, refl, sym, ap, subst, arith}
+use Rattle.std.proofs.Common.{◌≡◌, ◌≤◌, ◌<◌, ◌+◌, ◌∙◌, ◌==◌, ◌&&◌, ◌||◌, ℕ, Bool, true, false, Option, Some, None, List, [], ◌∷◌, length, take, slice_get, refl, sym, ap, subst, arith}
 use Rattle.std.specs.Prelude.{nat_lt}
 use Rattle.std.specs.List.{AllByRecursion, flat_map}
 use Rattle.std.specs.Option.{IfSome}
@@ -63,7 +63,8 @@ use Rattle.cacheless.proofs.Resting.{settled_at_rest}
 use Rattle.cacheless.proofs.Written.DraftFits.{WriteFits}
 use Rattle.cacheless.proofs.Written.Listed.{lists_before_it}
 use Rattle.cacheless.proofs.Written.WriteFits.{write_fits}
-use Rattle.history_lines.specs.Comes.{is_start, comes_at}
+use Rattle.cacheless.specs.Nexts.{is_start}
+use Rattle.history_lines.specs.Comes.{comes_at}
 use Rattle.history_lines.specs.Stands.{IsSessionOf, AreCounted}
 use Rattle.history_lines.specs.Takes.{ComesNext, ComesTo, MayTake, SuitsAlone, MayWrite, is_stop}
 use Rattle.history_lines.specs.Types.{Scenario, Command, Entry, Event, Ledger, Progress, Session}

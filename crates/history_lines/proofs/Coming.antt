@@ -3,7 +3,6 @@ use Rattle.std.proofs.Common.{◌≡◌, ◌+◌, ◌∙◌, ◌==◌, ◌&&◌,
 use Rattle.std.specs.Bool.{Decides}
 use Rattle.std.proofs.lemmas.Bool.Decides.{Decides-eqb}
 use Rattle.base_types.specs.Scenario.{IsBackend}
-use Rattle.event_kinds.specs.declared.entry.Event.TheVariants as events
 use Rattle.ddl_effect.specs.Commands.{commands_of}
 use Rattle.history_model.specs.Drawn.{next_oid}
 use Rattle.history_model.specs.MayFollow.{MayFollow}
@@ -14,14 +13,15 @@ use Rattle.history_model.specs.declared.life.Life.TheVariants.{Stopped}
 use Rattle.history_model.proofs.Decided.{both_decide, decided_by}
 use Rattle.cacheless.specs.Facts.{facts_of}
 use Rattle.cacheless.specs.May.{may_play_now}
-use Rattle.cacheless.specs.Plays.{IsStart, MayPlayIn, MayPlayAt, IsNext}
+use Rattle.cacheless.specs.Plays.{MayPlayIn, MayPlayAt, IsNext}
 use Rattle.cacheless.specs.Session.{Session as Course, number_of}
 use Rattle.cacheless.specs.Sessions.{session_of}
 use Rattle.cacheless.specs.State.{session_at}
-use Rattle.cacheless.proofs.Deciding.{holds_decides}
+use Rattle.cacheless.specs.Nexts.{is_start}
+use Rattle.cacheless.proofs.Deciding.{holds_decides, start_decides}
 use Rattle.cacheless.proofs.Resting.{settled_at_rest}
 use Rattle.cacheless.specs.Awaiting.{AwaitsEntry}
-use Rattle.history_lines.specs.Comes.{is_start, comes_at}
+use Rattle.history_lines.specs.Comes.{comes_at}
 use Rattle.history_lines.specs.Stands.{HasNoEntry, IsGoing, Awaits, Over, IsSessionOf}
 use Rattle.history_lines.specs.Types.{Scenario, Entry, Event, Line, Progress, Session}
 
@@ -49,11 +49,6 @@ waiting_decides scenario seen next c event s lines waits same =
     plays : Decides (may_play_now next s event) (MayPlayIn (next_oid seen) (facts_of seen s.id) (slice_get (commands_of scenario s.id) (length course.finished)) course event)
     plays = subst (λ n. Decides (may_play_now next s event) (MayPlayIn n (facts_of seen s.id) (slice_get (commands_of scenario s.id) (length course.finished)) course event)) same
         (subst (λ o. Decides (may_play_now next s event) (MayPlayIn next (facts_of seen s.id) o course event)) (sym (at_session scenario seen s lines waits)) (holds_decides s next event (may_play_now next s event) refl scenario seen waits.rests.holds))
-
--- a backend without entries starts
-start_decides : (event : Event) → Decides (is_start event) (IsStart event)
-start_decides events.Start = (λ is. tt, λ is. refl)
-start_decides event = (λ is. absurd (cc), λ is. absurd is)
 
 -- one that has stopped does nothing more
 stopped_refuses : (seen : List Entry) (b c : ℕ) (event : Event) → life_of seen b ≡ Stopped → FollowsLife (life_of seen b) c event → ⊥

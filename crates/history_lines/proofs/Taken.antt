@@ -12,7 +12,7 @@ use Rattle.history_model.specs.declared.life.Life.{Life}
 use Rattle.history_model.specs.declared.life.Life.TheVariants.{Unstarted, Alive, Stopped}
 use Rattle.history_model.proofs.Reading.{life_of-own}
 use Rattle.history_ledger.specs.Held.{Reads}
-use Rattle.cacheless.specs.Answering.{PlacesFit}
+use Rattle.cacheless.specs.Answering.{KeepsAbsent}
 use Rattle.cacheless.specs.Facts.{facts_of}
 use Rattle.cacheless.specs.Holds.{Holds, Rests, HasEntered, HasNotStarted, HasStarted, entry_of, with_own}
 use Rattle.cacheless.specs.Rule.{may_come}
@@ -26,12 +26,13 @@ use Rattle.cacheless.specs.Telling.{TellsNow, HasGoneOn}
 use Rattle.cacheless.proofs.Allowed.AllowedHistories.{plays_on_course}
 use Rattle.cacheless.proofs.Resting.{settled_at_rest}
 use Rattle.cacheless.specs.Awaiting.{AwaitsEntry, AnswersNow, HasTaken}
-use Rattle.history_lines.specs.Comes.{comes_at, is_start}
+use Rattle.cacheless.specs.Nexts.{is_start}
+use Rattle.history_lines.specs.Comes.{comes_at}
 use Rattle.history_lines.specs.Stands.{HasNoEntry, HasStopped, IsGoing, Awaits, Over, Stands, IsSessionOf}
 use Rattle.history_lines.specs.Takes.{ComesNext, HasSettled, is_stop}
 use Rattle.history_lines.specs.Types.{Scenario, Command, Entry, Event, Ledger, Line, Progress, Session}
 use Rattle.cacheless.proofs.OwnAnswers.{own_answers, stop_lines, start_answers}
-use Rattle.cacheless.proofs.OwnPlaces.{own_places}
+use Rattle.cacheless.proofs.OwnPlaces.{own_absent}
 
 -- where a session that has started is
 started_stands : (scenario : Scenario) (seen : List Entry) (s : Session) → s.is_started ≡ true → Stands scenario seen s → IsGoing scenario seen s
@@ -115,7 +116,7 @@ own_plays scenario seen was event rests next =
 -- what a session has to tell after an entry of its own, but for its stop
 own_now : (scenario : Scenario) (seen : List Entry) (was now : Progress) (event : Event) (lines : List Line) (waits : AwaitsEntry scenario seen was lines) → ComesNext scenario seen (entry_of was.id (was.finished + 1) event) → is_stop event ≡ false → HasTaken scenario seen was event waits.rests now → AnswersNow scenario (with_own seen was event) now lines
 own_now scenario seen was now event lines waits comes inside takes = own_answers scenario seen was now event lines waits comes.spelled comes.legal comes.plays comes.follows plays (λ is. both_ways _ inside (ap is_stop is)) takes.goes takes.answer
-    (own_places scenario seen was now event lines waits played.1 comes.follows plays takes.goes)
+    (own_absent scenario seen was now event lines waits played.1 comes.follows plays takes.goes)
   where
     plays : MayPlayIn (next_oid seen) (facts_of seen was.id) (slice_get was.commands was.finished) (session_at was waits.rests.holds.rest) event
     plays = own_plays scenario seen was event waits.rests comes.next
@@ -125,12 +126,12 @@ own_now scenario seen was now event lines waits comes inside takes = own_answers
 
 -- a session that has gone on awaits its next entry
 pub settles : {E : Type 0} (result : Result (Unit {0}) E) (was now : Session) → OnOk result ((scenario : Scenario) (seen : List Entry) → Holds scenario seen was.progress → Rests scenario seen now.progress) → OnOk result (is_to_answer_at now.progress ≡ true → is_some now.progress.answer ≡ true)
-    → OnOk result ((scenario : Scenario) (seen : List Entry) (held : Holds scenario seen was.progress) → TellsNow scenario seen was.progress held → PlacesFit seen was.progress → HasGoneOn scenario seen was.progress held was.lines now.progress now.lines)
+    → OnOk result ((scenario : Scenario) (seen : List Entry) (held : Holds scenario seen was.progress) → TellsNow scenario seen was.progress held → KeepsAbsent seen was.progress → HasGoneOn scenario seen was.progress held was.lines now.progress now.lines)
     → OnOk result ((scenario : Scenario) (seen : List Entry) → AnswersNow scenario seen was.progress was.lines → HasSettled scenario seen was now)
 settles (Ok done) was now rests answered goes_on = λ scenario seen old.
-    let gone = goes_on scenario seen old.holds old.tells old.places in
+    let gone = goes_on scenario seen old.holds old.tells old.absent in
     record {
-      waits = record { rests = record { holds = gone.holds; still = (rests scenario seen old.holds).still }; places = gone.places; tells = gone.tells.tells; lines_are = gone.lines_are old.lines_are; answered = answered };
+      waits = record { rests = record { holds = gone.holds; still = (rests scenario seen old.holds).still }; absent = gone.absent; tells = gone.tells.tells; lines_are = gone.lines_are old.lines_are; answered = answered };
       id = gone.id;
     }
 settles (Err e) was now rests answered goes_on = tt
@@ -158,7 +159,7 @@ pub started : {E : Type 0} (result : Result (Unit {0}) E) (was mid now : Session
 started (Ok done) was mid now mid_is lines kept answer starts settled now_is = λ scenario seen before comes.
     let has = starts scenario seen before.none.waits in
     let after = settled scenario (seen ++ entry_of was.progress.id 0 events.Start ∷ []) (subst (AnswersNow scenario (seen ++ entry_of was.progress.id 0 events.Start ∷ []) mid.progress) (sym (lines ∙ before.lines_are))
-    (start_answers scenario seen was.progress mid.progress before.none comes.spelled comes.legal comes.plays comes.follows has kept answer)) in
+    (start_answers scenario seen was.progress mid.progress before.none comes.spelled comes.legal comes.plays comes.follows has answer)) in
     awaiting_session scenario (seen ++ entry_of was.progress.id 0 events.Start ∷ []) was.progress.id now (now_is ∙ mid_is) (after.id ∙ has.moves.id) after.waits
 started (Err e) was mid now mid_is lines kept answer starts settled now_is = tt
 

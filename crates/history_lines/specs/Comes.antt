@@ -1,13 +1,8 @@
 -- Whether an entry may come next in the session of its backend, by what is held.
-use Rattle.std.specs.Prelude.{ℕ, Bool, true, false, ◌+◌, ◌==◌, ◌&&◌, if◌then◌else◌}
-use Rattle.event_kinds.specs.declared.entry.Event.TheVariants.{Start}
+use Rattle.std.specs.Prelude.{ℕ, Bool, ◌+◌, ◌==◌, ◌&&◌, if◌then◌else◌}
 use Rattle.cacheless.specs.May.{may_play_now}
+use Rattle.cacheless.specs.Nexts.{is_start}
 use Rattle.history_lines.specs.Types.{Event, Session}
-
--- the event is a start
-abbrev pub is_start : Event → Bool
-is_start Start = true
-is_start event = false
 
 -- a start comes first; after that an entry of the running command comes next where the command lets it
 abbrev pub comes_at : ℕ → Session → ℕ → Event → Bool

@@ -138,7 +138,7 @@ module _ (scenario : Scenario) (seen : List Entry) (was : Backend) (awaits : Awa
     keeps = let k = awaits.agrees.keeps in record {
       alive = k.alive;
       life = record { last = k.life.last; alive = k.life.alive; most = k.life.most };
-      places = record { kept = k.places.kept; absent = λ name says_absent. absurd (cc says_absent) };
+      absent = λ name says_absent. absurd (cc says_absent);
     };
     rests = record { holds = holds; still = λ command at. absurd (let both : None ≡ Some command = sym none ∙ at in cc both) };
     runs = subst (λ o. RunsFit facts o (session_at now rest)) (sym none) (subst (RunsFit facts None) (sym session) awaits.runs);

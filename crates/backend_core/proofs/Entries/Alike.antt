@@ -40,7 +40,7 @@ module _ (scenario : Scenario) (seen : List Entry) (s : Backend) (locks : Roomy 
     keeps = let k = waits.keeps in record {
       alive = k.alive;
       life = record { last = k.life.last; alive = k.life.alive; most = k.life.most };
-      places = record { kept = k.places.kept; absent = λ name missed whole. k.places.absent name missed (record { untaken = whole.untaken; going = whole.going }) };
+      absent = λ name missed whole. k.absent name missed (record { untaken = whole.untaken; going = whole.going });
     };
     rests = record { holds = holds_same waits.rests.holds; still = still };
     runs = subst (RunsFit (facts_of seen s.progress.id) (command_at s)) (sym (session_same waits.rests.holds.rest)) waits.runs;

@@ -14,7 +14,6 @@ use Rattle.history_model.specs.declared.life.Life.TheVariants.{Alive}
 use Rattle.history_model.specs.Transactions.{begun}
 use Rattle.seg_calls.specs.Calls.{entry_of, Appends}
 use Rattle.cacheless.specs.Facts.{Facts, due_after, facts_of}
-use Rattle.cacheless.specs.declared.progress.Due.TheVariants as dues
 use Rattle.cacheless.specs.Holds.{HasEntered, with_own}
 use Rattle.cacheless.specs.OnCourse.{AllOnCourse}
 use Rattle.cacheless.specs.Owed.{owed_after, started_in}
@@ -28,7 +27,6 @@ use Rattle.backend_core.specs.Types.{Oid, Mode, Command, CommandError, Scenario,
 use Rattle.backend_core.specs.Agrees.{IsPlayed, command_at, AwaitsEntry}
 use Rattle.backend_core.specs.Fits.{looks_due, LooksFit, TakesFit, FramesFit, is_lost, is_gone_due}
 use Rattle.backend_core.specs.Steps.{Enters}
-use Rattle.backend_core.proofs.Choosing.Chosen.{Acts}
 use Rattle.backend_core.proofs.Fitting.Entered.{fits_at}
 use Rattle.backend_core.proofs.Entries.Inside.{runs_on, inside_fits}
 use Rattle.backend_core.proofs.Own.{waiting, own_enters}

@@ -15,7 +15,7 @@ use Rattle.history_model.specs.Lapped.{is_lapped}
 use Rattle.history_model.specs.Lives.{life_by, last_event_of}
 use Rattle.history_model.specs.declared.life.Life.TheVariants.{Alive}
 use Rattle.history_model.specs.Log.{log_of, position_of, fetched_by}
-use Rattle.history_model.specs.Transactions.{begun, is_visible}
+use Rattle.history_model.specs.Transactions.{begun}
 use Rattle.history_model.specs.Changing.{is_empty}
 use Rattle.seg_calls.specs.Calls.{entry_of, due_to, MayCall, Appends, Fetches}
 use Rattle.cacheless.specs.declared.progress.Due.{Due as DueNext}
@@ -41,7 +41,7 @@ use Rattle.backend_core.specs.Steps.{Enters, MakesEntry}
 use Rattle.backend_core.specs.Noted.{noted_of, noted_given, noted_reset, IsNoted}
 use Rattle.backend_core.specs.declared.next.Next.TheVariants as nexts
 use Rattle.backend_core.specs.Words.{is_unfound, finds_none, has_begun, marks_build, told_after, has_error, looked_after, frames_given, frames_reset_of}
-use Rattle.backend_core.proofs.Choosing.Chosen.{Busy, Due, may_call, hidden, one_at_most, started_still}
+use Rattle.backend_core.proofs.Choosing.Chosen.{Busy, Due, may_call, one_at_most, started_still}
 use Rattle.backend_core.proofs.Fitting.Entered.{fits_at}
 use Rattle.backend_core.proofs.Fitting.FitsEntries.{StaysAt, fits_inside}
 use Rattle.backend_core.proofs.Fitting.Sought.{takes_cleared, unfound_held, well_there}

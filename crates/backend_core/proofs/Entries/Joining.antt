@@ -1,6 +1,6 @@
 -- A backend joins.
-use Rattle.std.proofs.Common.{◌≡◌, ◌+◌, ◌∙◌, ◌∷◌, ◌++◌, ◌==◌, inl, ℕ, true, false, Option, Some, None, List, [], refl, sym, ap, subst, length, slice_get, arith}
-use Rattle.std.proofs.lemmas.Bool.{eq-eqb, both_ways}
+use Rattle.std.proofs.Common.{◌≡◌, ◌+◌, ◌∙◌, ◌∷◌, ◌++◌, ◌==◌, ℕ, true, false, Option, None, List, [], refl, sym, ap, subst, length, slice_get, arith}
+use Rattle.std.proofs.lemmas.Bool.{eq-eqb}
 use Rattle.event_kinds.specs.declared.entry.Event.TheVariants as events
 use Rattle.txn_blocks.specs.Blocks.{no_block}
 use Rattle.inval_messages.specs.Lists.{has_write_from}
@@ -10,7 +10,6 @@ use Rattle.history_model.specs.MayFollow.{FollowsLife}
 use Rattle.history_model.specs.Lives.{life_of}
 use Rattle.history_model.specs.Transactions.{is_visible}
 use Rattle.txn_blocks.specs.declared.transaction.RunningTransaction.{RunningTransaction as Running}
-use Rattle.history_model.specs.Changing.{is_empty}
 use Rattle.history_model.proofs.Sound.{sound_is_legal}
 use Rattle.history_model.proofs.Reading.{life_of-own}
 use Rattle.seg_calls.specs.Calls.{entry_of, MayCall, Appends}
@@ -76,7 +75,7 @@ join_agrees scenario old was p before played follows started kept same = record 
   keeps = record {
     alive = refl;
     life = record { last = 0; alive = ap (life_of (old ++ e ∷ [])) started.moves.id ∙ life_of-own old e b own; most = omega arith };
-    places = answers.places;
+    absent = answers.absent;
   };
   holds = started.holds;
   runs = subst (λ f. RunsFit f (slice_get p.commands p.finished) (session_at p started.holds.rest)) (sym facts_are)
@@ -113,7 +112,7 @@ join_agrees scenario old was p before played follows started kept same = record 
     first_command = ap (λ l. slice_get l p.finished) started.moves.commands ∙ ap (slice_get was.progress.commands) (started.moves.finished ∙ before.new.progress.finished)
 
     answers : AnswersNow scenario (old ++ e ∷ []) p []
-    answers = start_answers scenario old was.progress p (no_entry before) played.spelled (sound_is_legal old played.sound) played.plays follows started kept same
+    answers = start_answers scenario old was.progress p (no_entry before) played.spelled (sound_is_legal old played.sound) played.plays follows started same
 
 pub join_enters : (scenario : Scenario) (old new : List Entry) (had has : ℕ → ℕ) (was : Backend) (p : Progress) → HasNotJoined scenario old was → IsPlayed scenario old → HasStarted scenario old was.progress p → kept_at p ≡ kept_at was.progress → p.answer ≡ was.progress.answer
     → Appends old new had has (entry_of was.progress.id 0 events.Start) → Enters scenario old new had has was (record was { progress = p; life = lives.Alive })

@@ -9,8 +9,7 @@ use Rattle.history_model.specs.Drawn.{next_oid}
 use Rattle.history_model.specs.Legal.{IsLegal}
 use Rattle.history_model.specs.MayFollow.{MayFollow, AllowsLook}
 use Rattle.history_model.specs.Log.{is_waiting}
-use Rattle.history_model.specs.Transactions.{begun, is_visible}
-use Rattle.txn_blocks.specs.declared.transaction.RunningTransaction.{RunningTransaction as Running}
+use Rattle.history_model.specs.Transactions.{begun}
 use Rattle.history_model.specs.Changing.{is_empty}
 use Rattle.history_model.proofs.Waiting.{not_waited}
 use Rattle.seg_calls.specs.Calls.{MayCall, Appends}
@@ -20,7 +19,6 @@ use Rattle.cacheless.specs.Facts.{Facts, due_looked, facts_of}
 use Rattle.cacheless.specs.Holds.{HasEntered, with_own}
 use Rattle.cacheless.specs.May.{is_missing, is_next_of_act}
 use Rattle.cacheless.specs.Work.{work_of}
-use Rattle.cacheless.specs.Ends.{TakesBack, end_of_all}
 use Rattle.cacheless.specs.OnCourse.{AllOnCourse}
 use Rattle.cacheless.specs.Owed.{OwesLook, owed_after, begins_in, started_in, owed_in}
 use Rattle.cacheless.specs.Plays.{MayPlayIn}
@@ -40,10 +38,10 @@ use Rattle.backend_core.specs.Words.{has_error, is_looked_for, is_unfound, scan_
 use Rattle.backend_core.proofs.Entries.WhereLeft.{entered_here}
 use Rattle.backend_core.proofs.Choosing.Running.{entry_runs}
 use Rattle.backend_core.proofs.Choosing.TakenBack.{taken_plain}
-use Rattle.backend_core.proofs.Choosing.Chosen.{Busy, Due, Begins, Scans, StartsNow, starts_now, may_call, hidden, started_most, started_by, started_now, started_still, look_may, Acts, Sought, standing}
+use Rattle.backend_core.proofs.Choosing.Chosen.{Busy, Due, Begins, Scans, StartsNow, starts_now, may_call, started_most, started_by, started_now, started_still, look_may, Acts, Sought, standing}
 use Rattle.backend_core.proofs.Fitting.Entered.{fits_at}
 use Rattle.backend_core.proofs.Entries.Inside.{inside_fits}
-use Rattle.backend_core.proofs.Own.{waiting, over, unlost, plays_next, own_agrees, next_makes}
+use Rattle.backend_core.proofs.Own.{waiting, unlost, plays_next, own_agrees, next_makes}
 use Rattle.backend_core.proofs.Fitting.Sought.{takes_cleared, unfound_facts, sought_looked, sought_rebuilt, next_act, well_most, unheld_lacking}
 use Rattle.ddl_effect.specs.Stages.{plan_at}
 use Rattle.ddl_effect.specs.Plans.{Plan, left_rests_on, told_rests_on, Done, Do, Absent, Open, Lookup, Search, Read, Lock, Write}

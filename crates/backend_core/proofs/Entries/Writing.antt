@@ -22,7 +22,6 @@ use Rattle.ddl_effect.specs.Plans.{Done, Write}
 use Rattle.ddl_effect.specs.Stages.{plan_at}
 use Rattle.history_model.specs.Drawn.{next_oid}
 use Rattle.history_model.specs.Held.{held_of}
-use Rattle.history_model.specs.Transactions.{begun}
 use Rattle.history_model.specs.Transactions.{has_written}
 use Rattle.history_model.proofs.Ordered.{locks_exclude}
 use Rattle.seg_calls.specs.declared.refusal.Written.{Written as Made}

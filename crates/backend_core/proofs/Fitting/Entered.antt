@@ -1,13 +1,12 @@
 -- What a backend keeps with its own entry.
-use Rattle.std.proofs.Common.{◌≤◌, ◌+◌, ◌∙◌, Bool, List, refl, sym, ap, subst, length, drop, slice_get, arith}
-use Rattle.std.proofs.lemmas.Bool.{eq-eqb, lt-ltb}
+use Rattle.std.proofs.Common.{◌≤◌, ◌+◌, Bool, List, length, drop, slice_get, arith}
+use Rattle.std.proofs.lemmas.Bool.{lt-ltb}
 use Rattle.cacheless.specs.Facts.{facts_of}
-use Rattle.cacheless.specs.Holds.{CountsFit, HasEntered, entry_of, with_own}
+use Rattle.cacheless.specs.Holds.{CountsFit, HasEntered, with_own}
 use Rattle.cacheless.specs.May.{HasRoom}
 use Rattle.cacheless.specs.Sessions.{entered}
 use Rattle.cacheless.specs.State.{session_at}
 use Rattle.cacheless.proofs.FactsAfter.{facts_by}
-use Rattle.cacheless.proofs.Reading.{facts_of-own}
 use Rattle.backend_core.specs.Types.{Scenario, Entry, Event, Progress, Backend, Frame}
 use Rattle.backend_core.specs.Agrees.{command_at, AwaitsEntry}
 use Rattle.backend_core.specs.Fits.{Fits}

@@ -12,7 +12,7 @@ use Rattle.txn_blocks.specs.Blocks.{Blocks}
 use Rattle.history_model.specs.Lives.{last_event_of}
 use Rattle.cacheless.specs.Types.{Mode, Row, Command, Scenario, Entry, Event, Line}
 use Rattle.cacheless.specs.declared.progress.Progress.{Progress}
-use Rattle.cacheless.specs.Answering.{IsToldText, AreLastScans, IsWhole, PlacesFit}
+use Rattle.cacheless.specs.Answering.{IsToldText, IsWhole, KeepsAbsent}
 use Rattle.cacheless.specs.Facts.{Facts, facts_of}
 use Rattle.cacheless.specs.Holds.{FactsFit, Holds, HasActed, HasPassed}
 use Rattle.cacheless.specs.Lines.{line_of, lines_from}
@@ -111,15 +111,12 @@ absent_kept seen was rest command (Write draft) further given fits way at done n
 unsettled : (scenario : Scenario) (seen : List Entry) (was p : Progress) (held : Holds scenario seen was) (acted : HasActed scenario seen was held p) → is_settled (outcome_of (plan_at was.opens was.exec)) ≡ false
 unsettled scenario seen was p held acted = ap (λ x. is_settled (outcome_of x)) acted.left
 
--- an act leaves the places
-pub act_places : (scenario : Scenario) (seen : List Entry) (was p : Progress) (held : Holds scenario seen was) → EntersCourse scenario seen was.id (session_at was held.rest) → (acted : HasActed scenario seen was held p) → kept_at p ≡ kept_at was → PlacesFit seen was → PlacesFit seen p
-act_places scenario seen was p held course acted kept places = record {
-  kept = subst (λ b. AreLastScans seen b (kept_at p)) (sym acted.moves.id) (subst (AreLastScans seen was.id) (sym kept) places.kept);
-  absent = λ name missed whole. ap (λ l. is_kept l (scans.RelName name)) kept
-      ∙ absent_kept seen was held.rest acted.command acted.act acted.further acted.given held.facts
+-- an act leaves the scans that are kept
+pub act_absent : (scenario : Scenario) (seen : List Entry) (was p : Progress) (held : Holds scenario seen was) → EntersCourse scenario seen was.id (session_at was held.rest) → (acted : HasActed scenario seen was held p) → kept_at p ≡ kept_at was → KeepsAbsent seen p
+act_absent scenario seen was p held course acted kept = λ name missed whole. ap (λ l. is_kept l (scans.RelName name)) kept
+    ∙ absent_kept seen was held.rest acted.command acted.act acted.further acted.given held.facts
       (on_its_way seen was.id s acted.command acted.act acted.further (course.follows acted.command (at_finished scenario seen was held ∙ acted.at)) acted.left) acted.left
-      (is_done_here (facts_of seen was.id) s acted.act acted.further acted.given acted.gives) name (sym (ap (λ x. x.left) acted.session) ∙ missed);
-}
+      (is_done_here (facts_of seen was.id) s acted.act acted.further acted.given acted.gives) name (sym (ap (λ x. x.left) acted.session) ∙ missed)
   where
     s : Session
     s = session_at was held.rest
@@ -191,9 +188,9 @@ whole_now seen s session same stands = by_last (last_event_of seen s.id) refl st
     by_last (Some event) is going = record { untaken = λ from gone. absurd (let no : Some event ≡ Some (events.Gone from) = sym is ∙ gone in cc no); going = sym same ∙ going }
 
 -- what the code answers is the line of its command
-pub answered_line : (scenario : Scenario) (seen : List Entry) (s : Progress) (command : Command) (text : List ℕ) (holds : Holds scenario seen s) → TellsNow scenario seen s holds → PlacesFit seen s → slice_get s.commands s.finished ≡ Some command → is_to_answer command s ≡ true → s.answer ≡ None → IsToldText command s text
+pub answered_line : (scenario : Scenario) (seen : List Entry) (s : Progress) (command : Command) (text : List ℕ) (holds : Holds scenario seen s) → TellsNow scenario seen s holds → KeepsAbsent seen s → slice_get s.commands s.finished ≡ Some command → is_to_answer command s ≡ true → s.answer ≡ None → IsToldText command s text
     → record { backend = s.id; command = number_of (session_at s holds.rest); text = text } ≡ line_of scenario seen s.id (number_of (session_at s holds.rest)) (finished_as (session_at s holds.rest)) command
-answered_line scenario seen s command text holds now places at out none told = told_now scenario seen s command text now.played holds (now.course.follows command (at_finished scenario seen s holds ∙ at)) here.stands now.course.kinds here.judged places.kept (λ name missed. places.absent name missed (whole_now seen s (session_at s holds.rest) refl (whole name missed here.stands))) out told
+answered_line scenario seen s command text holds now absent at out none told = told_now scenario seen s command text now.played holds (now.course.follows command (at_finished scenario seen s holds ∙ at)) here.stands now.course.kinds here.judged (λ name missed. absent name missed (whole_now seen s (session_at s holds.rest) refl (whole name missed here.stands))) out told
   where
     whole : (name : List ℕ) → plan_at s.opens s.exec ≡ Absent name → TellsStill seen s.id (session_at s holds.rest) command → is_over (last_event_of seen s.id) (session_at s holds.rest) ≡ false
     whole name missed (inl stands) = stands
@@ -203,15 +200,15 @@ answered_line scenario seen s command text holds now places at out none told = t
     here = now.here command at (ap (λ o. is_some o) none)
 
 -- so with its answer the code tells what the history says
-pub answer_tells : (scenario : Scenario) (seen : List Entry) (s : Progress) (command : Command) (text : List ℕ) (holds : Holds scenario seen s) → TellsNow scenario seen s holds → PlacesFit seen s → slice_get s.commands s.finished ≡ Some command → is_to_answer command s ≡ true → s.answer ≡ None → IsToldText command s text
+pub answer_tells : (scenario : Scenario) (seen : List Entry) (s : Progress) (command : Command) (text : List ℕ) (holds : Holds scenario seen s) → TellsNow scenario seen s holds → KeepsAbsent seen s → slice_get s.commands s.finished ≡ Some command → is_to_answer command s ≡ true → s.answer ≡ None → IsToldText command s text
     → TellsNow scenario seen (with_answer s text) (answer_holds scenario seen s text holds)
 unfolding answer_holds
-answer_tells scenario seen s command text holds now places at out none told = record {
+answer_tells scenario seen s command text holds now absent at out none told = record {
   played = now.played;
   course = now.course;
   tells = record {
     answer = λ other c is here. let one : text ≡ other = cc is in let it : command ≡ c = (let both : Some command ≡ Some c = sym at ∙ here in cc both) in
-        (λ i. record { backend = s.id; command = number_of session; text = sym one i }) ∙ answered_line scenario seen s command text holds now places at out none told ∙ ap (line_of scenario seen s.id (number_of session) (finished_as session)) it;
+        (λ i. record { backend = s.id; command = number_of session; text = sym one i }) ∙ answered_line scenario seen s command text holds now absent at out none told ∙ ap (line_of scenario seen s.id (number_of session) (finished_as session)) it;
     out = λ some. (and_parts (is_settled (outcome_of (plan_at s.opens s.exec))) _ out).0;
   };
   here = λ c here unanswered. absurd (cc unanswered);
@@ -226,16 +223,14 @@ answer_tells scenario seen s command text holds now places at out none told = re
 pub answered_holds : (scenario : Scenario) (seen : List Entry) (was p : Progress) → HasAnswered was p → Holds scenario seen was → Holds scenario seen p
 answered_holds scenario seen was p has holds = subst (Holds scenario seen) (sym has.is) (answer_holds scenario seen was has.text holds)
 
--- the places are as they were
-pub answer_places : (seen : List Entry) (s : Progress) (text : List ℕ) → PlacesFit seen s → PlacesFit seen (with_answer s text)
-answer_places seen s text places = record { kept = places.kept; absent = λ name missed whole. places.absent name missed (record { untaken = whole.untaken; going = whole.going }) }
+-- and keeps the scan of a lookup that found no relation
+pub answer_absent : (seen : List Entry) (s : Progress) (text : List ℕ) → KeepsAbsent seen s → KeepsAbsent seen (with_answer s text)
+answer_absent seen s text absent = λ name missed whole. absent name missed (record { untaken = whole.untaken; going = whole.going })
 
--- the passing to the next command leaves the places
-pub pass_places : (scenario : Scenario) (seen : List Entry) (was p : Progress) (held : Holds scenario seen was) (passed : HasPassed scenario seen was held p) → kept_at p ≡ kept_at was → PlacesFit seen was → PlacesFit seen p
-pass_places scenario seen was p held passed kept places = record {
-  kept = subst (λ b. AreLastScans seen b (kept_at p)) (sym passed.id) (subst (AreLastScans seen was.id) (sym kept) places.kept);
-  absent = λ name missed whole. absurd (both_ways _ (not_absent blocks (opens_after passed.command (session_at was held.rest)) next) (ap is_absent (sym (ap (λ x. x.left) passed.session) ∙ missed)));
-}
+-- the next command has no such lookup yet
+pub pass_absent : (scenario : Scenario) (seen : List Entry) (was p : Progress) (held : Holds scenario seen was) (passed : HasPassed scenario seen was held p) → KeepsAbsent seen p
+pass_absent scenario seen was p held passed =
+    λ name missed whole. absurd (both_ways _ (not_absent blocks (opens_after passed.command (session_at was held.rest)) next) (ap is_absent (sym (ap (λ x. x.left) passed.session) ∙ missed)))
   where
     next : Option Command
     next = slice_get was.commands (was.finished + 1)
@@ -303,11 +298,11 @@ pass_lines scenario seen was p held now passed lines line says are = ap (λ l. l
         ∙ ap (λ n. line_of scenario seen was.id n (finished_as s) passed.command) (let n : number_of s ≡ 1 + length s.finished = omega arith in n)
 
 -- each of these goes on
-pub act_goes : (scenario : Scenario) (seen : List Entry) (was p : Progress) (held : Holds scenario seen was) (lines : List Line) → HasActed scenario seen was held p → kept_at p ≡ kept_at was → p.answer ≡ was.answer → TellsNow scenario seen was held → PlacesFit seen was → HasGoneOn scenario seen was held lines p lines
-act_goes scenario seen was p held lines acted kept same now places = record {
+pub act_goes : (scenario : Scenario) (seen : List Entry) (was p : Progress) (held : Holds scenario seen was) (lines : List Line) → HasActed scenario seen was held p → kept_at p ≡ kept_at was → p.answer ≡ was.answer → TellsNow scenario seen was held → HasGoneOn scenario seen was held lines p lines
+act_goes scenario seen was p held lines acted kept same now = record {
   holds = acted.holds;
   tells = act_tells scenario seen was p held now acted same;
-  places = act_places scenario seen was p held now.course acted kept places;
+  absent = act_absent scenario seen was p held now.course acted kept;
   id = acted.moves.id;
   lines_are = act_lines scenario seen was p held acted lines;
 }
@@ -316,38 +311,38 @@ act_goes scenario seen was p held lines acted kept same now places = record {
 pub told_asked : (was p : Progress) (asked : Answers was) (has : HasAnswered was p) → IsToldText asked.command was has.text
 told_asked was p asked has = subst (λ c. IsToldText c was has.text) (let both : Some has.command ≡ Some asked.command = sym has.at ∙ asked.at in cc both) has.told
 
-pub answer_goes : (scenario : Scenario) (seen : List Entry) (was p : Progress) (held : Holds scenario seen was) (lines : List Line) → Answers was → HasAnswered was p → TellsNow scenario seen was held → PlacesFit seen was → HasGoneOn scenario seen was held lines p lines
+pub answer_goes : (scenario : Scenario) (seen : List Entry) (was p : Progress) (held : Holds scenario seen was) (lines : List Line) → Answers was → HasAnswered was p → TellsNow scenario seen was held → KeepsAbsent seen was → HasGoneOn scenario seen was held lines p lines
 unfolding answer_holds
-answer_goes scenario seen was p held lines asked has now places = subst (λ x. HasGoneOn scenario seen was held lines x lines) (sym has.is) goes
+answer_goes scenario seen was p held lines asked has now absent = subst (λ x. HasGoneOn scenario seen was held lines x lines) (sym has.is) goes
   where
     goes : HasGoneOn scenario seen was held lines (with_answer was has.text) lines
     goes = record {
       holds = answer_holds scenario seen was has.text held;
-      tells = answer_tells scenario seen was asked.command has.text held now places asked.at asked.asked asked.none (told_asked was p asked has);
-      places = answer_places seen was has.text places;
+      tells = answer_tells scenario seen was asked.command has.text held now absent asked.at asked.asked asked.none (told_asked was p asked has);
+      absent = answer_absent seen was has.text absent;
       id = refl;
       lines_are = λ are. are;
     }
 
-pub pass_goes : (scenario : Scenario) (seen : List Entry) (was p : Progress) (held : Holds scenario seen was) (lines after : List Line) (line : Line) → HasPassed scenario seen was held p → kept_at p ≡ kept_at was → p.answer ≡ None → IsLineOf was line → after ≡ lines ++ line ∷ [] → TellsNow scenario seen was held → PlacesFit seen was → HasGoneOn scenario seen was held lines p after
-pass_goes scenario seen was p held lines after line passed kept none says pushed now places = record {
+pub pass_goes : (scenario : Scenario) (seen : List Entry) (was p : Progress) (held : Holds scenario seen was) (lines after : List Line) (line : Line) → HasPassed scenario seen was held p → p.answer ≡ None → IsLineOf was line → after ≡ lines ++ line ∷ [] → TellsNow scenario seen was held → HasGoneOn scenario seen was held lines p after
+pass_goes scenario seen was p held lines after line passed none says pushed now = record {
   holds = passed.holds;
   tells = pass_tells scenario seen was p held now passed none;
-  places = pass_places scenario seen was p held passed kept places;
+  absent = pass_absent scenario seen was p held passed;
   id = passed.id;
   lines_are = λ are. pushed ∙ pass_lines scenario seen was p held now passed lines line says are;
 }
 
 -- nothing done is nothing changed
-pub none_goes : (scenario : Scenario) (seen : List Entry) (s : Progress) (held : Holds scenario seen s) (lines : List Line) → TellsNow scenario seen s held → PlacesFit seen s → HasGoneOn scenario seen s held lines s lines
-none_goes scenario seen s held lines now places = record { holds = held; tells = now; places = places; id = refl; lines_are = λ are. are }
+pub none_goes : (scenario : Scenario) (seen : List Entry) (s : Progress) (held : Holds scenario seen s) (lines : List Line) → TellsNow scenario seen s held → KeepsAbsent seen s → HasGoneOn scenario seen s held lines s lines
+none_goes scenario seen s held lines now absent = record { holds = held; tells = now; absent = absent; id = refl; lines_are = λ are. are }
 
 -- one after another
 pub goes_further : (scenario : Scenario) (seen : List Entry) (was mid p : Progress) (held : Holds scenario seen was) (before between lines : List Line) (goes : HasGoneOn scenario seen was held before mid between) → HasGoneOn scenario seen mid goes.holds between p lines → HasGoneOn scenario seen was held before p lines
 goes_further scenario seen was mid p held before between lines goes further = record {
   holds = further.holds;
   tells = further.tells;
-  places = further.places;
+  absent = further.absent;
   id = further.id ∙ goes.id;
   lines_are = λ are. further.lines_are (goes.lines_are are);
 }

@@ -7,7 +7,7 @@ use Rattle.cacheless.proofs.progress.Progress.settle.Goals as goal
 pub settling-init : goal.settling-init
 settling-init c = record {
   holds = λ scenario seen holds. holds;
-  goes = λ scenario seen held now places. none_goes scenario seen c.args.self.now held c.args.lines.now now places;
+  goes = λ scenario seen held now absent. none_goes scenario seen c.args.self.now held c.args.lines.now now absent;
   kept = refl;
   same = refl;
 }
@@ -15,8 +15,8 @@ settling-init c = record {
 pub settling-preserved : goal.settling-preserved
 settling-preserved c = record {
   holds = λ scenario seen holds. (c.in_ok-finish-in-Finish.ensures.passes scenario seen (c.settling.invariant.holds scenario seen holds)).holds;
-  goes = λ scenario seen held now places. let on = c.settling.invariant.goes scenario seen held now places in
-      goes_further scenario seen _ _ _ held _ _ _ on (pass_goes scenario seen c.settling.self _ on.holds c.settling.lines _ _ (c.in_ok-finish-in-Finish.ensures.passes scenario seen on.holds) c.in_ok-finish-in-Finish.ensures.kept c.in_ok-finish-in-Finish.ensures.answer c.in_ok-finish-in-Finish.ensures.line c.in_ok-push-in-Finish.ensures.ok on.tells on.places);
+  goes = λ scenario seen held now absent. let on = c.settling.invariant.goes scenario seen held now absent in
+      goes_further scenario seen _ _ _ held _ _ _ on (pass_goes scenario seen c.settling.self _ on.holds c.settling.lines _ _ (c.in_ok-finish-in-Finish.ensures.passes scenario seen on.holds) c.in_ok-finish-in-Finish.ensures.answer c.in_ok-finish-in-Finish.ensures.line c.in_ok-push-in-Finish.ensures.ok on.tells);
   kept = c.in_ok-finish-in-Finish.ensures.kept ∙ c.settling.invariant.kept;
   same = c.in_ok-finish-in-Finish.ensures.same ∙ c.settling.invariant.same;
 }
@@ -24,8 +24,8 @@ settling-preserved c = record {
 pub settling-preserved-in_ok-act-in-Act : goal.settling-preserved-in_ok-act-in-Act
 settling-preserved-in_ok-act-in-Act c = record {
   holds = λ scenario seen holds. (c.in_ok-act-in-Act.ensures.acts scenario seen (c.settling.invariant.holds scenario seen holds)).holds;
-  goes = λ scenario seen held now places. let on = c.settling.invariant.goes scenario seen held now places in
-      goes_further scenario seen _ _ _ held _ _ _ on (act_goes scenario seen c.settling.self _ on.holds c.settling.lines (c.in_ok-act-in-Act.ensures.acts scenario seen on.holds) c.in_ok-act-in-Act.ensures.kept c.in_ok-act-in-Act.ensures.answer on.tells on.places);
+  goes = λ scenario seen held now absent. let on = c.settling.invariant.goes scenario seen held now absent in
+      goes_further scenario seen _ _ _ held _ _ _ on (act_goes scenario seen c.settling.self _ on.holds c.settling.lines (c.in_ok-act-in-Act.ensures.acts scenario seen on.holds) c.in_ok-act-in-Act.ensures.kept c.in_ok-act-in-Act.ensures.answer on.tells);
   kept = c.in_ok-act-in-Act.ensures.kept ∙ c.settling.invariant.kept;
   same = c.in_ok-act-in-Act.ensures.same ∙ c.settling.invariant.same;
 }
@@ -33,8 +33,8 @@ settling-preserved-in_ok-act-in-Act c = record {
 pub settling-preserved-in_ok-answer-in-Answer : goal.settling-preserved-in_ok-answer-in-Answer
 settling-preserved-in_ok-answer-in-Answer c = let has = c.in_ok-answer-in-Answer.ensures.answers in record {
   holds = λ scenario seen holds. answered_holds scenario seen c.settling.self _ has (c.settling.invariant.holds scenario seen holds);
-  goes = λ scenario seen held now places. let on = c.settling.invariant.goes scenario seen held now places in
-      goes_further scenario seen _ _ _ held _ _ _ on (answer_goes scenario seen c.settling.self _ on.holds c.settling.lines (subst (IsSilentOf c.settling.self) c.in-Answer.is c.silent.ensures) has on.tells on.places);
+  goes = λ scenario seen held now absent. let on = c.settling.invariant.goes scenario seen held now absent in
+      goes_further scenario seen _ _ _ held _ _ _ on (answer_goes scenario seen c.settling.self _ on.holds c.settling.lines (subst (IsSilentOf c.settling.self) c.in-Answer.is c.silent.ensures) has on.tells on.absent);
   kept = ap kept_at has.is ∙ c.settling.invariant.kept;
   same = ap (λ p. p.commands) has.is ∙ c.settling.invariant.same;
 }
