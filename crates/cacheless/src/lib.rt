@@ -40,7 +40,7 @@
 //!
 //! specs/Awaiting says where a session is between two entries of its backend, and right after one. The laws of it are in
 //! proofs: OwnPlaces and OwnAnswers (over EndEntries) for an entry of its own, OthersEntries for another backend's. After either, its
-//! places, answer and lines are those of the longer history. Who makes the entry cites them: backend_core does, and
+//! answer and lines are those of the longer history. Who makes the entry cites them: backend_core does, and
 //! history_lines, which judges a given history.
 #![tactic(auto)]
 

@@ -1,4 +1,4 @@
--- The transaction of a backend, by its blocks and its running command: what an end releases of it.
+-- What an end releases of the transaction of its backend.
 use Rattle.std.proofs.Common.{◌≡◌, ◌≤◌, ◌+◌, ◌∙◌, ◌⊎◌, inl, inr, ℕ, suc, zero, Bool, true, false, not, Option, Some, None, List, [], ◌∷◌, ◌++◌, refl, sym, ap, subst, length, map, min, take, is_some, if◌then◌else◌, arith}
 use Rattle.std.specs.Option.{option_map_or, option_or}
 use Rattle.std.specs.Prelude.{nat_le}
@@ -29,7 +29,7 @@ use Rattle.cacheless.proofs.Allowed.NextTransaction.{some_first, block_open, pla
 use Rattle.cacheless.specs.declared.progress.Due.TheVariants as dues
 use Rattle.cacheless.specs.OwnTransaction.{LevelsRise, outermost, first_at, RunsBlock, RunsFailed, RunsAt, RunsIn, RunsBy, RunsAfter, TransactionFits, end_by, OpensIn, RunsFit}
 
--- its next entry
+-- the next entry of an end
 pub record EndsBy (facts : Facts) (o : Option Command) (s : Session) (event : Event) : Type 0 where
   pub going : s.ended ≡ false
   pub out : is_settled (outcome_of s.left) ≡ true
