@@ -115,8 +115,8 @@ unsettled scenario seen was p held acted = ap (λ x. is_settled (outcome_of x)) 
 pub act_absent : (scenario : Scenario) (seen : List Entry) (was p : Progress) (held : Holds scenario seen was) → EntersCourse scenario seen was.id (session_at was held.rest) → (acted : HasActed scenario seen was held p) → kept_at p ≡ kept_at was → KeepsAbsent seen p
 act_absent scenario seen was p held course acted kept = λ name missed whole. ap (λ l. is_kept l (scans.RelName name)) kept
     ∙ absent_kept seen was held.rest acted.command acted.act acted.further acted.given held.facts
-      (on_its_way seen was.id s acted.command acted.act acted.further (course.follows acted.command (at_finished scenario seen was held ∙ acted.at)) acted.left) acted.left
-      (is_done_here (facts_of seen was.id) s acted.act acted.further acted.given acted.gives) name (sym (ap (λ x. x.left) acted.session) ∙ missed)
+    (on_its_way seen was.id s acted.command acted.act acted.further (course.follows acted.command (at_finished scenario seen was held ∙ acted.at)) acted.left) acted.left
+    (is_done_here (facts_of seen was.id) s acted.act acted.further acted.given acted.gives) name (sym (ap (λ x. x.left) acted.session) ∙ missed)
   where
     s : Session
     s = session_at was held.rest
