@@ -19,7 +19,7 @@ use Rattle.cacheless.specs.Types.{Scenario, Entry, Line}
 use Rattle.cacheless.specs.declared.progress.Progress.{Progress}
 
 -- where a lookup found no relation its scan is kept still
-absent-other : (seen : List Entry) (e : Entry) (s : Progress) → (e.backend == s.id) ≡ false → KeepsAbsent seen s → KeepsAbsent (seen ++ e ∷ []) s
+pub absent-other : (seen : List Entry) (e : Entry) (s : Progress) → (e.backend == s.id) ≡ false → KeepsAbsent seen s → KeepsAbsent (seen ++ e ∷ []) s
 absent-other seen e s other absent = λ name missed whole. absent name missed (record { untaken = λ from gone. whole.untaken from (last_event_of-other seen e s.id other ∙ gone); going = whole.going })
 
 -- a backend that waits for its next entry still waits for it

@@ -68,6 +68,14 @@ released : (v : Bool) (from : ℕ) → FollowsVisible v (events.Release from)
 released true from = tt
 released false from = tt
 
+-- an event that comes next of an end is one of an end
+pub is_of_end : (facts : Facts) (end : End) (event : Event) → ComesNow facts end event → ends_command event ≡ true
+is_of_end facts end (events.Visible xid) comes = refl
+is_of_end facts end (events.Publish count) comes = refl
+is_of_end facts end (events.Gone from) comes = refl
+is_of_end facts end (events.Release from) comes = refl
+is_of_end facts end event comes = absurd comes
+
 module _ (history : List Entry) (b : ℕ) (o : Option Command) (s : Session) (fits : RunsFit (facts_of history b) o s) where
   abbrev facts : Facts
   facts = facts_of history b
@@ -152,14 +160,6 @@ module _ (history : List Entry) (b : ℕ) (o : Option Command) (s : Session) (fi
         event = (from_low from (end_releases facts o s from fits ending.going (from_of facts (end_by facts o s) from comes)), may_release from ending comes);
       }
       by_event e lives ending comes = absurd comes
-
--- an event that comes next of an end is one of an end
-pub is_of_end : (facts : Facts) (end : End) (event : Event) → ComesNow facts end event → ends_command event ≡ true
-is_of_end facts end (events.Visible xid) comes = refl
-is_of_end facts end (events.Publish count) comes = refl
-is_of_end facts end (events.Gone from) comes = refl
-is_of_end facts end (events.Release from) comes = refl
-is_of_end facts end event comes = absurd comes
 
 -- what is so of each event of an end
 pub record IsEndEvent (size : ℕ) (history : List Entry) (b c : ℕ) (event : Event) : Type 0 where
