@@ -23,7 +23,7 @@ use Rattle.cacheless.specs.Session.{Session, number_of, outcome_of, is_settled, 
 use Rattle.cacheless.specs.Sessions.{noted, ends_command, placed_at, commands_left, entered, session_of}
 use Rattle.cacheless.specs.Settled.{finished_as, settled}
 use Rattle.cacheless.specs.Silently.{is_to_answer}
-use Rattle.cacheless.specs.State.{kept_at, session_at}
+use Rattle.cacheless.specs.State.{session_at}
 use Rattle.cacheless.specs.Telling.{AreLines, TellsNow, AnswerFits, IsJudgedHere, IsOnItsEnd}
 use Rattle.cacheless.proofs.Allowed.AllowedHistories.{played_more, plays_on_course}
 use Rattle.cacheless.proofs.Allowed.NextKeeps.{KeepsAllBy, next_keeps}

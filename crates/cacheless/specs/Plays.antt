@@ -8,7 +8,6 @@ use Rattle.base_types.specs.declared.change.Change.TheVariants as changes
 use Rattle.base_types.specs.declared.row.Row.TheVariants as rows
 use Rattle.base_types.specs.declared.scan.Purpose.TheVariants as scans
 use Rattle.event_kinds.specs.declared.entry.Event.TheVariants as events
-use Rattle.event_kinds.specs.declared.entry.Item.TheVariants as items
 use Rattle.ddl_effect.specs.Plans.{Lookup, Lock, Write, Plan, Do}
 use Rattle.ddl_effect.specs.Commands.{commands_of}
 use Rattle.ddl_effect.specs.Drawing.{changes_of}

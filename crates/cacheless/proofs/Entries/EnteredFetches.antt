@@ -8,7 +8,7 @@ use Rattle.local_caches.specs.declared.local_caches.LocalCaches.{LocalCaches}
 use Rattle.ddl_effect.specs.Plans.{Plan, Done, Fails, Absent, Do}
 use Rattle.ddl_effect.specs.Stages.{plan_at, plan_again}
 use Rattle.history_model.specs.Log.{fetched_by}
-use Rattle.cacheless.specs.Types.{Oid, Message, Purpose, Scenario, Entry, Event, OpenRelation, OwnLock, Exec}
+use Rattle.cacheless.specs.Types.{Oid, Message, Purpose, Scenario, Entry, Event, OwnLock, Exec}
 use Rattle.cacheless.specs.declared.progress.Due.TheVariants as dues
 use Rattle.cacheless.specs.Suspects.{AreKnown}
 use Rattle.cacheless.specs.declared.suspects.Suspects.{Suspects}

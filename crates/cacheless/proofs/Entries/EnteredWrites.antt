@@ -20,7 +20,7 @@ use Rattle.ddl_effect.specs.declared.want.Want.TheVariants as wants
 use Rattle.history_model.specs.Sent.{cats_by, rels_by, written_by, messages_written}
 use Rattle.history_model.specs.Versions.{old_row, added_row}
 use Rattle.history_model.proofs.Every.{every-append}
-use Rattle.cacheless.specs.Types.{Oid, Xid, Message, Row, Purpose, Scenario, Entry, Event, Item, OpenRelation, OwnLock, Exec}
+use Rattle.cacheless.specs.Types.{Oid, Xid, Message, Purpose, Scenario, Entry, Event, Item, OwnLock, Exec}
 use Rattle.cacheless.specs.declared.progress.Due.TheVariants as dues
 use Rattle.cacheless.specs.Suspects.{AreKnown}
 use Rattle.cacheless.specs.declared.suspects.Suspects.{Suspects}

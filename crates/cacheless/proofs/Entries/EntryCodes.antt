@@ -15,7 +15,7 @@ use Rattle.ddl_effect.specs.Stages.{plan_at, want_of}
 use Rattle.ddl_effect.specs.declared.want.Want.TheVariants as wants
 use Rattle.history_model.specs.Log.{fetched_by}
 use Rattle.history_model.specs.Versions.{answer_of}
-use Rattle.cacheless.specs.Types.{Oid, Xid, Mode, Message, Row, Purpose, CommandError, Clash, Scenario, Entry, Item, OpenRelation, Opening, OwnLock, Exec}
+use Rattle.cacheless.specs.Types.{Oid, Xid, Mode, Message, Row, Purpose, CommandError, Clash, Scenario, Entry, Item, Opening, OwnLock, Exec}
 use Rattle.cacheless.specs.declared.progress.Due.{Due}
 use Rattle.cacheless.specs.declared.progress.Due.TheVariants as dues
 use Rattle.txn_blocks.specs.declared.transaction.RunningTransaction.{RunningTransaction}

@@ -1,8 +1,8 @@
 -- What is left of a command, whatever its acts gave, is a plan under locks.
-use Rattle.std.proofs.Common.{◌≡◌, ◌∙◌, ℕ, Bool, true, false, List, [], ◌∷◌, refl, ap, sym, subst}
+use Rattle.std.proofs.Common.{◌≡◌, ◌∙◌, ℕ, true, false, List, [], ◌∷◌, refl, ap, sym, subst}
 use Rattle.std.specs.Prelude.{⊤}
 use Rattle.ddl_effect.specs.Commands.{plan_of, writing}
-use Rattle.ddl_effect.specs.Plans.{Act, Plan, Done, Fails, Absent, Do, Lookup, Open, Search, Read, Lock, Write, is_absent, after_act}
+use Rattle.ddl_effect.specs.Plans.{Act, Plan, Done, Absent, Do, Lookup, Open, Search, Read, Lock, Write, is_absent, after_act}
 use Rattle.ddl_effect.specs.Replays.{after_all, step_of}
 use Rattle.ddl_effect.specs.Stages.{plan_at, plan_again, want_of}
 use Rattle.ddl_effect.specs.declared.exec.Exec.TheVariants as stages
