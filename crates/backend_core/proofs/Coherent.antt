@@ -1,9 +1,7 @@
 -- A backend that stands in a sound history is coherent with it.
-use Rattle.std.proofs.Common.{◌≡◌, ◌∙◌, inl, inr, ℕ, Bool, true, false, Option, Some, None, IfSome, List, [], is_some, refl, sym, ap, subst, take, map}
+use Rattle.std.proofs.Common.{◌≡◌, ◌∙◌, inl, inr, ℕ, Bool, true, false, IfSome, List, [], refl, sym, ap, subst, map}
 use Rattle.history_model.specs.Sound.{MayComeNext, IsSound}
 use Rattle.history_model.specs.Read.{is_usable, place_read, rows_read}
-use Rattle.history_model.specs.Coming.{IsAccounted}
-use Rattle.history_model.specs.Versions.{answer_of}
 use Rattle.history_model.proofs.Accounted.{usable_accounted, usable_read}
 use Rattle.history_model.proofs.Prefixes.{EachEntry-weaker}
 use Rattle.cacheless.specs.Facts.{kept_if, kept_in, facts_of}

@@ -1,24 +1,15 @@
 -- What the program's choice keeps of a session, by the facts of the backend's entries, the running command and the looks for the next scans.
-use Rattle.std.specs.Prelude.{◌≡◌, ◌≤◌, ◌+◌, ◌*◌, ◌==◌, ◌&&◌, ◌⊎◌, ⊤, ℕ, Bool, true, false, Option, Some, None, List, [], ◌∷◌, is_none, is_some, map, slice_get, not}
+use Rattle.std.specs.Prelude.{◌≡◌, ◌≤◌, ◌+◌, ◌*◌, ◌==◌, ◌&&◌, ⊤, ℕ, Bool, true, false, Option, Some, None, List, [], ◌∷◌, is_none, map, slice_get, not}
 use Rattle.std.specs.Option.{option_map_or}
 use Rattle.std.specs.List.{list_any}
 use Rattle.base_types.specs.Scans.{same_oid}
 use Rattle.base_types.specs.declared.scan.Purpose.TheVariants as scans
-use Rattle.event_kinds.specs.declared.entry.Event.TheVariants as events
-use Rattle.inval_messages.specs.Lists.{has_write_from}
 use Rattle.lock_modes.specs.Own.{is_own}
-use Rattle.ddl_effect.specs.Opens.{opens_before}
-use Rattle.ddl_effect.specs.Plans.{Plan, Done, Absent, Do, Lookup, Lock, Open, Search, told_rests_on, left_rests_on}
-use Rattle.txn_blocks.specs.Blocks.{Block, Level, Blocks, Outside, Inside, Failed, is_open}
-use Rattle.history_model.specs.Transactions.{is_visible}
-use Rattle.history_model.specs.Changing.{is_empty}
+use Rattle.ddl_effect.specs.Plans.{Plan, Done, Absent, Do, Lookup, Lock, Open, Search, told_rests_on}
 use Rattle.cacheless.specs.Facts.{Facts}
-use Rattle.cacheless.specs.Session.{Session, Badly, opening_of, held_before, number_of, outcome_of, is_settled, plan_first, is_blocked}
-use Rattle.cacheless.specs.Work.{work_of}
-use Rattle.cacheless.specs.Owed.{Owes, OwesLook, owed_after, owed_in, begins_in, started_in}
-use Rattle.cacheless.specs.Ends.{Commits, TakesBack, end_in, end_of_all}
-use Rattle.cacheless.specs.Settled.{blocks_after, opens_after}
-use Rattle.cacheless.specs.Types.{OpenRelation}
+use Rattle.cacheless.specs.Session.{Session, Badly, opening_of, held_before, number_of, outcome_of}
+use Rattle.cacheless.specs.Owed.{Owes, OwesLook, owed_after, started_in}
+use Rattle.cacheless.specs.Settled.{opens_after}
 use Rattle.cacheless.specs.State.{one_if, is_absent}
 use Rattle.cacheless.specs.Suspects.{lacks, same_kind}
 use Rattle.backend_core.specs.Types.{Oid, Command, OwnLock, Opening, Frame}

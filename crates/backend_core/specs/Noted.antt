@@ -1,5 +1,5 @@
 -- What a backend notes beside how far it is: whether the look for the next scan of its act is made, the rebuilds that are on their way, and whether messages came since its lookup began; and what each entry makes of that.
-use Rattle.std.specs.Prelude.{◌≡◌, ◌<◌, ◌+◌, ◌++◌, ◌∷◌, ◌&&◌, ◌||◌, ℕ, Bool, true, false, not, Option, Some, List, [], drop, length, map, ⊤}
+use Rattle.std.specs.Prelude.{◌≡◌, ◌<◌, ◌+◌, ◌++◌, ◌∷◌, ◌&&◌, ◌||◌, ℕ, true, false, not, Option, Some, List, [], drop, length, map, ⊤}
 use Rattle.event_kinds.specs.declared.entry.Event.TheVariants as events
 use Rattle.history_model.specs.Drawn.{next_oid}
 use Rattle.history_model.specs.Log.{fetched_by}
@@ -16,7 +16,7 @@ use Rattle.cacheless.specs.Session.{Session, opening_of, held_in}
 use Rattle.cacheless.specs.Sessions.{session_of, entered as session_after}
 use Rattle.cacheless.specs.Silently.{Acts as MayAct}
 use Rattle.cacheless.specs.State.{kept_at, kept_spared, is_kept, is_absent, session_at}
-use Rattle.backend_core.specs.Types.{Scenario, Item, Message, Entry, Event, Frame, Next, Progress, Backend}
+use Rattle.backend_core.specs.Types.{Scenario, Item, Message, Entry, Event, Next, Progress, Backend}
 use Rattle.backend_core.specs.declared.life.Life.TheVariants as lives
 use Rattle.backend_core.specs.declared.next.Next.TheVariants as nexts
 pub use Rattle.backend_core.specs.Choice.{Noted, noted_of}

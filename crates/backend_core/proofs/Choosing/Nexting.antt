@@ -1,7 +1,7 @@
 -- What a backend does next.
-use Rattle.std.proofs.Common.{◌≡◌, ◌∙◌, ◌⊎◌, inl, inr, ℕ, zero, suc, Bool, true, false, not, ◌&&◌, ◌||◌, Option, Some, None, List, [], ◌∷◌, ◌++◌, refl, sym, ap, subst, append_assoc, is_some, slice_get, length, take, min, ◌==◌}
+use Rattle.std.proofs.Common.{◌≡◌, ◌∙◌, ◌⊎◌, inl, inr, ℕ, Bool, true, false, not, ◌&&◌, ◌||◌, Option, Some, None, List, [], ◌∷◌, ◌++◌, refl, sym, ap, subst, append_assoc, is_some, slice_get, length, take, min, ◌==◌}
 use Rattle.std.specs.List.{find, list_any}
-use Rattle.std.specs.Option.{IsSomeAnd, option_map, option_map_or, option_and_then}
+use Rattle.std.specs.Option.{option_map, option_map_or, option_and_then}
 use Rattle.std.proofs.lemmas.Bool.{both_ways, and_parts, eq-eqb}
 use Rattle.std.proofs.lemmas.List.{append-nil, length-take}
 use Rattle.base_types.specs.Scans.{same_scan, build_scans}
@@ -13,11 +13,10 @@ use Rattle.ddl_effect.specs.Stages.{plan_at, want_of}
 use Rattle.ddl_effect.specs.declared.want.Want.TheVariants as wants
 use Rattle.event_kinds.specs.declared.entry.Event.TheVariants as events
 use Rattle.history_model.specs.Transactions.{is_visible}
-use Rattle.history_model.specs.Sent.{unsent_in}
 use Rattle.txn_blocks.specs.declared.transaction.RunningTransaction.{RunningTransaction as Running}
 use Rattle.history_model.specs.Changing.{is_empty}
 use Rattle.cacheless.specs.ActsDone.{reached, made_in, opening_by}
-use Rattle.cacheless.specs.Ends.{End, Ends, Commits, TakesBack, xid_of, next_sent, next_of_commit, next_of_taking_back, next_of_end, end_of_all, end_left_in}
+use Rattle.cacheless.specs.Ends.{End, Ends, Commits, TakesBack, next_of_commit, next_of_taking_back, next_of_end, end_of_all, end_left_in}
 use Rattle.cacheless.specs.Rule.{same_end, comes_next, may_come}
 use Rattle.cacheless.proofs.Allowed.EndsReleased.{PublishesNow, comes_now}
 use Rattle.cacheless.proofs.CommandEnds.{publishes_next, unsent_same}

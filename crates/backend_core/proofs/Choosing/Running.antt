@@ -1,5 +1,5 @@
 -- In a command that waits for an entry, and whose transaction's first look is made, a transaction runs.
-use Rattle.std.proofs.Common.{◌≡◌, ◌∙◌, ◌&&◌, true, false, Option, Some, List, [], ◌∷◌, sym, ap, subst, is_none, is_some}
+use Rattle.std.proofs.Common.{◌≡◌, ◌∙◌, ◌&&◌, true, false, Some, List, [], ◌∷◌, ap, subst, is_none, is_some}
 use Rattle.cacheless.specs.Facts.{Facts, facts_of}
 use Rattle.cacheless.specs.OnCourse.{AllOnCourse}
 use Rattle.cacheless.specs.Owed.{Owes, OwesLook, owed_first_in, begins_in}

@@ -1,7 +1,6 @@
 -- What the choice of the next entry rests on.
 use Rattle.std.proofs.Common.{◌≡◌, ◌+◌, ◌∙◌, ◌&&◌, true, false, Option, Some, None, List, [], refl, sym, ap, subst, is_none, arith, ℕ, Bool, not, inl, inr}
 use Rattle.std.proofs.lemmas.Bool.{both_ways, lt-ltb}
-use Rattle.event_kinds.specs.declared.entry.Event.TheVariants as events
 use Rattle.ddl_effect.specs.Stages.{plan_at, want_of}
 use Rattle.cacheless.specs.Facts.{Facts, facts_of}
 use Rattle.cacheless.specs.OnCourse.{AllOnCourse}
@@ -14,7 +13,7 @@ use Rattle.cacheless.specs.May.{has_looked_at, has_failed, lacks_opened}
 use Rattle.cacheless.specs.State.{owed_after, is_quiet, one_if, kept_at}
 use Rattle.cacheless.specs.Suspects.{lacks}
 use Rattle.cacheless.proofs.Same.{work_same}
-use Rattle.backend_core.specs.Types.{Purpose, Command, Scenario, Entry, Event, Backend}
+use Rattle.backend_core.specs.Types.{Purpose, Command, Scenario, Entry, Backend}
 use Rattle.backend_core.specs.Agrees.{command_at, AwaitsEntry}
 use Rattle.backend_core.specs.Fits.{looks_due, LooksFit, TakesFit, IsLookedFor, Lacks, Unfound, Said, finds_no_name, is_look, is_gone_due}
 use Rattle.backend_core.specs.Steps.{IsChoiceSound, IsGone, IsWhole}
@@ -27,7 +26,6 @@ use Rattle.std.specs.List.{list_any, cons_option}
 use Rattle.backend_core.specs.Words.{has_error}
 use Rattle.ddl_effect.specs.Plans.{Plan, Fails, Done, Do, left_rests_on, told_rests_on}
 use Rattle.ddl_effect.specs.declared.want.Want.TheVariants as wants
-use Rattle.cacheless.specs.Ends.{TakesBack, end_of_all}
 use Rattle.cacheless.proofs.CommandEnds.{end_same}
 use Rattle.local_caches.specs.Kept.{is_kept}
 

@@ -1,11 +1,8 @@
 -- What the choice keeps with an entry of a command that runs.
-use Rattle.std.proofs.Common.{◌≡◌, ◌∙◌, ℕ, Bool, true, false, Option, Some, None, List, Result, Ok, Err, OnErr, refl, sym, ap, subst, is_some, OnOk}
-use Rattle.std.specs.Option.{option_map_or}
-use Rattle.event_kinds.specs.declared.entry.Event.TheVariants as events
-use Rattle.inval_messages.specs.Lists.{has_write_from}
+use Rattle.std.proofs.Common.{◌≡◌, ℕ, Bool, true, Option, Some, None, List, Result, Ok, Err, OnErr, refl, sym, subst, is_some, OnOk}
 use Rattle.history_model.specs.Transactions.{begun}
 use Rattle.txn_blocks.specs.declared.transaction.RunningTransaction.{RunningTransaction as Running}
-use Rattle.cacheless.specs.Facts.{Facts, facts_of}
+use Rattle.cacheless.specs.Facts.{Facts}
 use Rattle.cacheless.specs.OnCourse.{AllOnCourse}
 use Rattle.cacheless.specs.Session.{Session, number_of}
 use Rattle.backend_core.specs.Types.{Command, Scenario, Entry, Backend, Frame}
@@ -14,7 +11,6 @@ use Rattle.backend_core.specs.Fits.{LooksFit, FramesFit, IsUnheld, Fits, IsLooke
 use Rattle.backend_core.specs.Steps.{MakesEntry, IsRefused, After}
 use Rattle.backend_core.proofs.Fitting.FitsEntries.{StaysAt, fits_inside}
 use Rattle.backend_core.proofs.Own.{waiting, over}
-use Rattle.cacheless.specs.declared.progress.Due.TheVariants as dues
 
 -- an entry that is made, after which memory is refused
 pub made_refused : {E : Type 0} (scenario : Scenario) (old new : List Entry) (had has : ℕ → ℕ) (b : ℕ) (result : Result (Unit {0}) E) → MakesEntry scenario old new had has b → OnErr result (IsRefused scenario old new had has b)

@@ -1,5 +1,5 @@
 -- What was written is taken back.
-use Rattle.std.proofs.Common.{◌≡◌, ◌+◌, ◌∙◌, ℕ, true, false, List, refl, sym, ap, subst, length, ◌&&◌}
+use Rattle.std.proofs.Common.{◌≡◌, ◌+◌, ◌∙◌, ℕ, true, List, refl, sym, ap, subst, length, ◌&&◌}
 use Rattle.event_kinds.specs.declared.entry.Event.TheVariants as events
 use Rattle.inval_messages.specs.Lists.{has_write_from, lists_from, sent_in}
 use Rattle.seg_calls.specs.Calls.{entry_of, Appends}

@@ -1,26 +1,13 @@
 -- What the choice keeps with an entry of a command that runs: a look, a fetch, a scan, a lock, a write, or one that is refused.
-use Rattle.std.proofs.Common.{◌≡◌, ◌≤◌, ◌+◌, ◌∙◌, ◌&&◌, ◌⊎◌, inl, inr, map, ℕ, Bool, true, false, not, Option, Some, None, refl, sym, ap, subst, length, is_none, is_some, arith, List, []}
-use Rattle.std.specs.Option.{option_map_or}
+use Rattle.std.proofs.Common.{◌≡◌, ◌+◌, ◌∙◌, ◌⊎◌, inl, inr, map, Bool, true, false, Option, Some, None, sym, ap, subst, length, List}
 use Rattle.std.proofs.lemmas.Bool.{both_ways}
-use Rattle.std.proofs.Math.Bool.{and-false}
-use Rattle.event_kinds.specs.declared.entry.Event.TheVariants as events
-use Rattle.inval_messages.specs.Lists.{has_write_from}
-use Rattle.txn_blocks.specs.Blocks.{Block, Level, Blocks, Outside, Inside, Failed, no_block, is_open, ends_block, refused_by, blocks_well, blocks_badly}
-use Rattle.history_model.specs.Transactions.{begun, is_visible}
-use Rattle.txn_blocks.specs.declared.transaction.RunningTransaction.{RunningTransaction as Running}
-use Rattle.history_model.specs.Changing.{is_empty}
 use Rattle.cacheless.specs.Facts.{Facts}
-use Rattle.cacheless.specs.Session.{Session, Well, opening_of, held_in, held_before, number_of, outcome_of, is_settled, plan_first, is_blocked}
-use Rattle.cacheless.specs.Work.{work_of}
-use Rattle.cacheless.specs.Settled.{blocks_after, opens_passed, opens_after}
-use Rattle.ddl_effect.specs.Opens.{opens_before}
-use Rattle.cacheless.specs.Owed.{begins_in}
+use Rattle.cacheless.specs.Session.{Session, Well, opening_of, held_in, held_before, number_of, outcome_of, is_settled}
+use Rattle.cacheless.specs.Settled.{opens_passed, opens_after}
 use Rattle.cacheless.specs.State.{is_absent}
-use Rattle.cacheless.proofs.Entries.EnteredLooks.{not_absent}
 use Rattle.backend_core.specs.Types.{Command, Frame}
 use Rattle.backend_core.specs.Fits.{LooksFit, FramesFit, IsUnheld, Fits, IsLookedFor, TakesFit, AreHeld, OpensFit}
 use Rattle.backend_core.proofs.Fitting.Over.{IsWellOnceOver, well_present}
-use Rattle.cacheless.specs.declared.progress.Due.TheVariants as dues
 
 -- what such an entry leaves of the session
 pub record StaysAt (s later : Session) : Type 0 where

@@ -6,7 +6,7 @@ use Rattle.ddl_effect.specs.Commands.{commands_of}
 use Rattle.ddl_effect.specs.Stages.{plan_at}
 use Rattle.history_model.specs.Drawn.{next_oid}
 use Rattle.history_model.specs.Lives.{life_of}
-use Rattle.history_model.specs.declared.life.Life.TheVariants.{Unstarted, Stopped}
+use Rattle.history_model.specs.declared.life.Life.TheVariants.{Unstarted}
 use Rattle.history_model.specs.MayFollow.{FollowsLife}
 use Rattle.seg_calls.specs.Calls.{entry_of}
 use Rattle.cacheless.specs.Facts.{facts_of}

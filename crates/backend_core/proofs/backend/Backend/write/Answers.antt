@@ -1,4 +1,4 @@
-use Rattle.std.proofs.Common.{refl, rules, arith}
+use Rattle.std.proofs.Common.{refl, arith}
 use Rattle.local_caches.specs.Caches.{kept_of}
 use Rattle.cacheless.proofs.Plans.CommandUnder.{writing_is}
 use Rattle.cacheless.specs.State.{is_kept}
