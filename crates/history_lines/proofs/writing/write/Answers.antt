@@ -1,4 +1,4 @@
-use Rattle.std.proofs.Common.{◌≡◌, ◌∙◌, ◌<◌, ◌+◌, sym, ap, subst}
+use Rattle.std.proofs.Common.{◌∙◌, ◌<◌, ◌+◌, sym, ap, subst}
 use Rattle.std.specs.List.{AllByRecursion}
 use Rattle.ddl_effect.specs.Stages.{plan_at, want_of}
 use Rattle.cacheless.specs.State.{lists_at}
