@@ -1,5 +1,5 @@
 use Rattle.event_kinds.specs.declared.entry.Event.TheVariants as events
-use Rattle.std.proofs.Common.{◌∙◌, ap, subst, sym}
+use Rattle.std.proofs.Common.{◌∙◌, ap, subst}
 use Rattle.history_lines.specs.Takes.{SuitsAlone}
 use Rattle.history_lines.proofs.TakenEvents.{event_takes, taken_as}
 use Rattle.history_lines.proofs.taking.enter_alone.Goals as goal

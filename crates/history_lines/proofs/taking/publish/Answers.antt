@@ -1,4 +1,4 @@
-use Rattle.std.proofs.Common.{◌∙◌, ap, length, refl, sym, arith}
+use Rattle.std.proofs.Common.{ap, length, sym}
 use Rattle.event_kinds.specs.declared.entry.Event.TheVariants as events
 use Rattle.history_lines.proofs.TakenEvents.{event_takes}
 use Rattle.history_lines.proofs.taking.publish.Goals as goal

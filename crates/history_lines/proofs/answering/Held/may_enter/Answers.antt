@@ -1,4 +1,4 @@
-use Rattle.std.proofs.Common.{◌∙◌, true, false, subst, arith}
+use Rattle.std.proofs.Common.{◌∙◌, subst, arith}
 use Rattle.std.specs.Bool.{Decides}
 use Rattle.history_model.specs.Lapped.{FetchesFrom}
 use Rattle.history_model.specs.MayFollow.{MayFollow}
