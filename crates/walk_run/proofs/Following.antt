@@ -11,7 +11,7 @@ use Rattle.backend_core.specs.declared.backend.Backend.{Backend}
 use Rattle.backend_core.specs.Words.{has_left}
 use Rattle.walk_run.specs.Walks.{AllStand, HasSchedule, IsDue, Goes, InTurn, GoesOn, IsRunning, FollowsTurn, FollowsSteps, FollowsStops}
 use Rattle.walk_run.proofs.ScheduleSteps.{found_at, stands_there, stopped_at, turns_by-schedule}
-use Rattle.walk_run.proofs.OneAfterAnother.{first_turn}
+use Rattle.walk_run.proofs.OneAfterAnother.{first_turn, goes_on_then}
 
 -- a backend that is read as running hasn't stopped
 runs_there : (s : Scenario) (h : List Entry) (bs : List Backend) (b : ℕ) (was : Backend) → IsBackend s.backends b → AllStand s h bs → was ≡ get_or bs (b - 1) was → has_left was.life ≡ false → has_stopped h b ≡ false
@@ -69,6 +69,9 @@ pub next_follows : (s t : Scenario) (h h' h'' : List Entry) (bs' : List Backend)
 next_follows s t h h' h'' bs' n m k same is goes later =
     let second : FollowsStops s h' m h'' = subst (λ x. FollowsStops s h' x h'') is (subst (λ x. FollowsStops x h' k h'') same later) in
     record { follows = λ none before. second.follows none (goes.turn none before) }
+
+pub next_goes : (s t : Scenario) (h h' h'' : List Entry) (bs' bs'' : List Backend) (n m k last : ℕ) → t ≡ s → k ≡ m → GoesOn s h n h' bs' m → GoesOn t h' k h'' bs'' last → GoesOn s h n h'' bs'' last
+next_goes s t h h' h'' bs' bs'' n m k last same is goes later = goes_on_then s t h h' h'' bs' bs'' n m last same goes (subst (λ x. GoesOn t h' x h'' bs'' last) is later)
 
 -- from the beginning
 pub all_follow : (s : Scenario) (start h : List Entry) → s.steps ≡ [] → start ≡ [] → FollowsStops s start 0 h → FollowsSchedule s h

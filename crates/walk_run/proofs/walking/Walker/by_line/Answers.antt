@@ -1,4 +1,5 @@
 use Rattle.std.proofs.Common.{◌∙◌, refl, replicate}
+use Rattle.std.proofs.lemmas.List.{get_or_default}
 use Rattle.base_types.specs.declared.command.Turns.{Turns}
 use Rattle.backend_core.proofs.Entries.Inside.{if_refused}
 use Rattle.walk_run.proofs.Leaving.{leaves_same, leaves_then}
@@ -17,7 +18,7 @@ pub loop-turns-preserved : goal.loop-turns-preserved
 loop-turns-preserved g c = record {
   script = c.in_ok-by_turns.ensures.script ∙ c.loop-turns.invariant.script;
   goes = items_go_on (λ (t : Turns). replicate t.count t.backend) (g.L.Seg.script c.args.seg.now) (g.L.Seg.script c.loop-turns.seg) (g.L.Seg.history c.args.seg.now) (g.L.Seg.history c.loop-turns.seg) (g.L.Seg.history c.by_turns.new.seg) c.loop-turns.self.backends.items c.by_turns.new.self.backends.items c.args.line.now c.loop-turns.turns-index _
-      c.loop-turns-test.true c.turns-item.is c.loop-turns.invariant.script c.loop-turns.invariant.goes c.in_ok-by_turns.ensures.goes;
+      c.loop-turns-test.true (get_or_default c.args.line.now c.loop-turns.turns-index (record { backend = 0; count = 0 }) _ c.loop-turns-test.true) c.loop-turns.invariant.script c.loop-turns.invariant.goes c.in_ok-by_turns.ensures.goes;
   leaves = leaves_then (g.L.Seg.script c.args.seg.now) (g.L.Seg.script c.loop-turns.seg) (g.L.Seg.history c.args.seg.now) (g.L.Seg.history c.loop-turns.seg) (g.L.Seg.history c.by_turns.new.seg) (g.L.Seg.promised c.args.seg.now) (g.L.Seg.promised c.loop-turns.seg) (g.L.Seg.promised c.by_turns.new.seg)
       c.loop-turns.invariant.script c.loop-turns.invariant.leaves c.in_ok-by_turns.ensures.leaves;
 }
@@ -28,4 +29,4 @@ returns-in_err-by_turns-clause-leaves g c = leaves_then (g.L.Seg.script c.args.s
 
 pub returns-in_err-by_turns-clause-follows : goal.returns-in_err-by_turns-clause-follows
 returns-in_err-by_turns-clause-follows g c = if_refused c.from_residual.result (items_follow (λ (t : Turns). replicate t.count t.backend) (g.L.Seg.script c.args.seg.now) (g.L.Seg.script c.loop-turns.seg) (g.L.Seg.history c.args.seg.now) (g.L.Seg.history c.loop-turns.seg) (g.L.Seg.history c.by_turns.new.seg) c.loop-turns.self.backends.items c.args.line.now c.loop-turns.turns-index _
-    c.loop-turns-test.true c.turns-item.is c.loop-turns.invariant.script c.loop-turns.invariant.goes c.in_err-by_turns.ensures.follows)
+    c.loop-turns-test.true (get_or_default c.args.line.now c.loop-turns.turns-index (record { backend = 0; count = 0 }) _ c.loop-turns-test.true) c.loop-turns.invariant.script c.loop-turns.invariant.goes c.in_err-by_turns.ensures.follows)

@@ -1,5 +1,6 @@
-use Rattle.std.proofs.Common.{◌∙◌, subst}
+use Rattle.std.proofs.Common.{◌≡◌, ◌∙◌, List, sym, subst, get_or}
 use Rattle.std.specs.List.{flat_map}
+use Rattle.base_types.specs.declared.command.Turns.{Turns}
 use Rattle.base_types.specs.Scenario.{turns_of}
 use Rattle.backend_core.proofs.Entries.Inside.{if_refused}
 use Rattle.walk_run.specs.Walks.{FollowsSteps}
@@ -18,8 +19,8 @@ loop-line-init g c = record {
 pub loop-line-preserved : goal.loop-line-preserved
 loop-line-preserved g c = record {
   script = c.in_ok-by_line.ensures.script ∙ c.loop-line.invariant.script;
-  goes = items_go_on turns_of c.args.script.now (g.L.Seg.script c.loop-line.seg) (g.L.Seg.history c.args.seg.now) (g.L.Seg.history c.loop-line.seg) (g.L.Seg.history c.by_line.new.seg) c.loop-line.self.backends.items c.by_line.new.self.backends.items _ c.loop-line.line-index _
-      c.loop-line-test.true c.line-item.is c.loop-line.invariant.script c.loop-line.invariant.goes c.in_ok-by_line.ensures.goes;
+  goes = items_go_on turns_of c.args.script.now (g.L.Seg.script c.loop-line.seg) (g.L.Seg.history c.args.seg.now) (g.L.Seg.history c.loop-line.seg) (g.L.Seg.history c.by_line.new.seg) c.loop-line.self.backends.items c.by_line.new.self.backends.items c.steps-lines.result.now c.loop-line.line-index c.as_slice.result.now
+      c.loop-line-test.true (subst (λ (l : List Turns). l ≡ get_or c.steps-lines.result.now c.loop-line.line-index l) (sym c.as_slice.ensures) c.line-item.is) c.loop-line.invariant.script c.loop-line.invariant.goes c.in_ok-by_line.ensures.goes;
   leaves = leaves_then c.args.script.now (g.L.Seg.script c.loop-line.seg) (g.L.Seg.history c.args.seg.now) (g.L.Seg.history c.loop-line.seg) (g.L.Seg.history c.by_line.new.seg) (g.L.Seg.promised c.args.seg.now) (g.L.Seg.promised c.loop-line.seg) (g.L.Seg.promised c.by_line.new.seg)
       c.loop-line.invariant.script c.loop-line.invariant.leaves c.in_ok-by_line.ensures.leaves;
 }
@@ -30,5 +31,5 @@ returns-in_err-by_line-clause-leaves g c = leaves_then c.args.script.now (g.L.Se
 
 pub returns-in_err-by_line-clause-follows : goal.returns-in_err-by_line-clause-follows
 returns-in_err-by_line-clause-follows g c = if_refused c.from_residual.result (subst (λ lines. FollowsSteps c.args.script.now (g.L.Seg.history c.args.seg.now) (g.L.Seg.history c.by_line.new.seg) (flat_map turns_of lines)) c.steps-lines.ensures.value
-    (items_follow turns_of c.args.script.now (g.L.Seg.script c.loop-line.seg) (g.L.Seg.history c.args.seg.now) (g.L.Seg.history c.loop-line.seg) (g.L.Seg.history c.by_line.new.seg) c.loop-line.self.backends.items c.steps-lines.result.now c.loop-line.line-index _
-    c.loop-line-test.true c.line-item.is c.loop-line.invariant.script c.loop-line.invariant.goes c.in_err-by_line.ensures.follows))
+    (items_follow turns_of c.args.script.now (g.L.Seg.script c.loop-line.seg) (g.L.Seg.history c.args.seg.now) (g.L.Seg.history c.loop-line.seg) (g.L.Seg.history c.by_line.new.seg) c.loop-line.self.backends.items c.steps-lines.result.now c.loop-line.line-index c.as_slice.result.now
+    c.loop-line-test.true (subst (λ (l : List Turns). l ≡ get_or c.steps-lines.result.now c.loop-line.line-index l) (sym c.as_slice.ensures) c.line-item.is) c.loop-line.invariant.script c.loop-line.invariant.goes c.in_err-by_line.ensures.follows))
