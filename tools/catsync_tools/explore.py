@@ -25,9 +25,9 @@ def part_of(text):
     """A part on the command line: its number, and of how many."""
     found = re.fullmatch("([0-9]{1,6})/([0-9]{1,6})", text)
     if not found or not 1 <= int(found.group(1)) <= int(found.group(2)):
-        raise Fault("not a part, as 3/64: %s" % text)
+        raise argparse.ArgumentTypeError("not a part, as 3/64: %s" % text)
     if int(found.group(2)) > MOST_PARTS:
-        raise Fault("a search has at most %d parts, and not those of %s" % (MOST_PARTS, text))
+        raise argparse.ArgumentTypeError("a search has at most %d parts, and not those of %s" % (MOST_PARTS, text))
     return int(found.group(1)), int(found.group(2))
 
 
