@@ -735,6 +735,23 @@ class Explorer(unittest.TestCase):
         self.assertLessEqual(max(shown), most + 1)
         return is_within, exploration.found, is_within and exploration.schedules
 
+    def test_search_that_pauses(self):
+        """Shares that pause after their first orders go on where they were: each order is made once, and their count only grows."""
+        for jobs in (1, 2):
+            exploration, made, shown = Exploration(Settings(wanted=(re.compile("x y z"),), jobs=jobs), read_source(TWO_CREATORS), PROGRAM,
+                                                   Progress()), [], []
+            add = exploration.add
+            with unittest.mock.patch("catsync_tools.search.FIRST", 8), unittest.mock.patch(
+                    "catsync_tools.search.SHARES", 4), unittest.mock.patch("catsync_tools.jobs.PAUSE", 0), unittest.mock.patch.object(
+                        exploration, "add", lambda *words: made.append(1) or add(*words)), unittest.mock.patch.object(
+                            exploration, "show", lambda far, *_: shown.append(sum(one.schedules for one in far) if len(far) > 1 else 0)):
+                self.assertTrue(exploration.run_orders(30))
+            self.assertEqual((exploration.schedules, exploration.found, exploration.is_over), (28, None, True))
+            self.assertEqual((shown, shown[-1]), (sorted(shown), 28))
+            self.assertTrue(jobs > 1 or len(made) == 9 + 28, len(made))
+            self.assertFalse(exploration.run_orders(27))
+            exploration.program.close()
+
     def test_signal_as_processes_start(self):
         """A signal that comes just before the processes are there, or to one of them as it starts, ends the search as any
         other does."""

@@ -262,7 +262,8 @@ class Exploration:
     def watch(self, jobs, numbers, most, shown, to_end=False):
         """Does these tasks, until one has found what is looked for, if not to the end; whether they stay within the limit."""
         for number, far in jobs.run(numbers, may_pause=not to_end):
-            self.far[number] = max(far, self.far[number])       # where it was begun anew it isn't as far yet
+            if far.schedules >= self.far[number].schedules:     # where it was begun anew it isn't as far yet
+                self.far[number] = far
             self.program.interrupts.check()
             self.show(self.far, *shown)
             if not to_end and self.first_found(jobs) is not None:

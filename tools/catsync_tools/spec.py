@@ -3,7 +3,7 @@ from typing import Dict, List, NamedTuple, Optional, Set
 
 from .arguments import MOST_ORDERS, Arguments, count_of
 from .compared import LeftOut, differences, expected_in
-from .faults import Fault, faults_of, read_file, write_output
+from .faults import Fault, faults_of, read_file, say, write_output
 from .inside import explored
 from .isolation import Placed, Spec, permutations_of, read_spec
 from .permutation import SET_UP, TEARDOWN, UNKNOWN, Permutation, Played, alone
@@ -107,7 +107,9 @@ def tell(whole: Whole, expected):
         head = [summary(number, len(expected), differ, len(unclear))]
     notes = notes_of(whole, left_out if expected is not None else None) + rows_unprinted(whole, unprinted)
     notes += differing(differs)
-    write_output("\n".join(head + lines + notes) + "\n")
+    write_output("\n".join(head + lines + (notes if expected is not None else [])) + "\n")
+    for note in notes if expected is None else []:      # a report has no other lines than isolationtester's
+        say(note)
     return DIFFERS if differ or stuck and expected is None else 0
 
 
