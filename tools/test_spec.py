@@ -68,6 +68,7 @@ class Format(unittest.TestCase):
                 ("session s step a {", "line 1: a '{' without its '}'"),
                 ("session s\nstep a {}\nstep a {}", "line 3: the step 'a' is there twice"),
                 (TWO + "permutation a x", "line 5: there is no step 'x'"),
+                (TWO.replace("BEGIN; }", "BEGIN;") + "permutation b", "line 5: there is no step 'b': the SQL of 'a' has it, up to the next '}'"),
                 (TWO + "permutation a(b)", "line 5: the step 'b', which 'a' waits for, isn't in its permutation"),
                 (TWO + "step x {}", "line 5: a session or a permutation is due here, not 'step'"),
                 (TWO + "permutation a;", "line 5: no part of a spec begins with ';'"),
@@ -434,6 +435,7 @@ class Reports(unittest.TestCase):
     def test_faults(self):
         """A fault is one line on standard error."""
         for words, expected in (([SPECS[0], "--most", "3"], "spec: --most is for --explore; spec --help says more\n"),
+                                ([SPECS[0], "--jobs", "3"], "spec: --jobs is for --explore; spec --help says more\n"),
                                 ([SPECS[0], "/no/out"], "spec: /no/out: reading failed: No such file or directory\n"),
                                 (["/no/such"], "spec: /no/such: reading failed: No such file or directory\n"),
                                 ([SPECS[0], SPECS[0], "--explore"], "spec: --explore doesn't go with OUT; spec --help says more\n"),
