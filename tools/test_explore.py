@@ -414,7 +414,7 @@ class Cut(Exploration):
     """A search that never comes to its end, and about how much of it the first orders are."""
 
     def __init__(self, part=0.2):
-        self.settings, self.guess, self.far, self.part, self.is_split = Settings(), None, [], part, False
+        self.settings, self.guess, self.far, self.part, self.is_split, self.is_guessed = Settings(), None, [], part, False, False
 
     def do(self, tasks, most, count, kind, shown=None, in_rounds=False):
         """Tells how far the first orders are."""
@@ -452,7 +452,10 @@ class HowFar(unittest.TestCase):
         for part, is_split in ((0.09, True), (0.085, False)):
             search = Cut(part)
             self.assertFalse(search.run_orders(300))
-            self.assertEqual((search.guess, search.is_split), (round(256 / part), is_split))
+            self.assertEqual((search.guess, search.is_split, search.is_guessed), (round(256 / part), is_split, not is_split))
+        for is_guessed, are in ((False, "are"), (True, "seem to be")):
+            self.assertEqual(Extent(300, True, "1", 300, True, "", 3012, is_guessed).text,
+                             "300 random schedules from seed 1, as there %s more than 300 orders" % are)
 
     def test_head(self):
         """Where no set comes only when commands are interleaved, how many come only when transactions are."""

@@ -144,7 +144,7 @@ def extent_of(options, exploration):
     """What was run."""
     most = None if options.random else options.most or MOST_ORDERS
     return Extent(exploration.schedules, exploration.is_random, options.seed, most, exploration.is_over, "",
-                  exploration.guess if exploration.is_random and most else None)
+                  exploration.guess if exploration.is_random and most else None, exploration.is_guessed)
 
 
 def part_found(options, exploration, data):

@@ -81,6 +81,7 @@ class Exploration:
         self.found: Optional[Turns] = None      # the schedule that was looked for
         self.far: List[Far] = []                # how far the last tasks came
         self.guess: Optional[int] = None        # about how many orders there are, where these are more than are to be run
+        self.is_guessed = False                 # that they are more
 
     # What is found
 
@@ -190,7 +191,8 @@ class Exploration:
         if self.do([self.orders_of(WHOLE)], min(most, FIRST), 1, "orders", most):
             return True
         self.guess = guess_of(self.far) or 0
-        if FIRST < most and self.guess < FAR_OVER * most and self.run_shares(self.shares(SHARES), most):
+        self.is_guessed = FIRST < most and self.guess >= FAR_OVER * most
+        if FIRST < most and not self.is_guessed and self.run_shares(self.shares(SHARES), most):
             return True
         self.guess = max(self.guess, most + 1)
         return False
