@@ -10,7 +10,7 @@ _catsync_options() {
     expect) echo --most --jobs --passed --program --help ;;
     picture) echo --html --script --brief --width --from --to --help ;;
     server) echo --programs --program --help ;;
-    spec) echo --explore --most --program --help ;;
+    spec) echo --explore --most --jobs --program --help ;;
     replay) echo --times --all --brief --trace --sweep --programs --program --help ;;
     esac
 }

@@ -80,13 +80,17 @@ class Expectations(unittest.TestCase):
                 ("expect never 1.2 ok and", "nothing follows the last 'and'"), ("expect 1.1 AND ", "nothing follows the last 'and'"),
                 ("expect 1.1 ok and 1.2 ok and", "nothing follows the last 'and'"),
                 ("expect some 2.2 ok or 2.2 error", "texts are joined by 'and' alone"), ("expect 1.1 ok OR 2 . 1 ok and 1.2 ok", "texts are joined by"),
-                ("expect 1.1 ok or 2.1", "texts are joined by"),
+                ("expect 1.1 ok or 2.1", "texts are joined by"), ("expect 1.1 ok or error", "texts are joined by"),
+                ("expect some 1.2 error 42701 and ok", "a command (B.C) is missing before 'ok': after 'and' comes B.C TEXT"),
+                ("expect 1.1 ok and Error 42P01", "a command (B.C) is missing before 'Error'"), ("expect 1.1 error 42701 and 42P07", "a command (B.C)"),
+                ("expect some 1.2 42701", "'error' is missing before 42701"), ("expect 2.1 ok and 1.2 42p01;", "'error' is missing before 42p01;"),
                 ("expect 1.1 columns a:int4 .. b:text", "'..' stands at the end of a text alone"), ("expect 1.1 columns ..; name t", "'..' stands"),
                 ("expect 1.1 columns .. ..", "'..' stands")):
             with self.subTest(text):
                 with self.assertRaisesRegex(Fault, "^line 7: " + re.escape(said)):
                     read_expectation(7, text)
-        for text in ("expect 1.1 used by an index or constraint", "expect 1.1 columns or:int4", "expect 1.1 columns a:int4 .. and 2.1 name t .."):
+        for text in ("expect 1.1 used by an index or constraint", "expect 1.1 and ok:int4", "expect 1.1 table 42701",
+                     "expect 1.1 columns or:int4", "expect 1.1 columns a:int4 .. and 2.1 name t .."):
             read_expectation(7, text)
 
     ANSWERS = Answers((
@@ -336,16 +340,26 @@ $""")
         status, printed, said = self.expect("--passed", given=given)
         self.assertEqual((status, said), (0, ""))
         self.assertRegex(printed, """^passed: standard input
-  line 7: expect 2.1 error 55P03 and 1.2 ok
+  passed: line 7: expect 2.1 error 55P03 and 1.2 ok
     [+] 2.1 error 55P03 relation 16384 is locked by backend 1 in ax
     [+] 1.2 ok
-  line 8: expect some 2.1 columns a:int4
+  passed: line 8: expect some 2.1 columns a:int4
     steps [0-9* ]+
     [+] 2.1 columns a:int4
-  line 9: expect never 2.1 error 42P01
+  passed: line 9: expect never 2.1 error 42P01
     none of all [0-9]+ orders has it
 1 passed, 0 failed
 $""")
+
+    @unittest.skipUnless(HAS_PROGRAM, NO_PROGRAM)
+    def test_passed_of_a_script_that_fails(self):
+        """Then each line says what became of it."""
+        given = ALTERED % (b"expect 1.2 ok\nexpect 2.1 ok\nexpect some 2.1 columns a:int4\nexpect never 2.1 columns a:int4\n"
+                           b"expect never 2.1 columns zz:int4\n")
+        status, printed, said = self.expect("--passed", given=given)
+        self.assertEqual((status, said), (1, ""))
+        self.assertEqual(re.findall("^ *([a-zA-Z ]+): line ([0-9]+)", printed, re.MULTILINE), [
+            ("passed", "7"), ("FAILED", "8"), ("passed", "9"), ("FAILED", "10"), ("says nothing", "11")])
 
     @unittest.skipUnless(HAS_PROGRAM, NO_PROGRAM)
     def test_doubts(self):
@@ -416,8 +430,8 @@ $""")
                     ([], ALTERED % b"expect 3.1 ok\n", "standard input: line 7: there is no command 1 of backend 3"),
                     (["/no/such.script"], b"", "/no/such.script: reading failed: No such file or directory"),
                     ([folder], b"", "%s: no file there ends with .script" % folder),
-                    (["--most", "0"], b"", "not a count: 0"),
-                    (["--most", "1" * 5000], b"", "not a count: 11"),
+                    (["--most", "0"], b"", "argument --most: not a count: 0; expect --help says more"),
+                    (["--jobs", "1" * 5000], b"", "argument --jobs: not a count: 11"),
                     (["--sideways"], b"", "unrecognized arguments: --sideways; expect --help says more"),
                     (["--program", "/nowhere"], ALTERED % b"expect 1.2 ok\n", "/nowhere: No such file or directory"),
                     (["--program", "/bin/false"], ALTERED % b"expect 1.2 ok\n", "standard input: /bin/false: exit status 1")):

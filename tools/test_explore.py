@@ -410,6 +410,23 @@ class FewestTurns(unittest.TestCase):
         self.assertGreater(unsure, 0)
 
 
+class Cut(Exploration):
+    """A search that never comes to its end, and about how much of it the first orders are."""
+
+    def __init__(self, part=0.2):
+        self.settings, self.guess, self.far, self.part, self.is_split, self.is_guessed = Settings(), None, [], part, False, False
+
+    def do(self, tasks, most, count, kind, shown=None, in_rounds=False):
+        """Tells how far the first orders are."""
+        self.far = [Far(256, self.part)]
+        return False
+
+    def shares(self, count):
+        """None."""
+        self.is_split = True
+        return []
+
+
 class HowFar(unittest.TestCase):
     """What is said of how far a search is."""
 
@@ -425,24 +442,20 @@ class HowFar(unittest.TestCase):
 
     def test_guess_of_a_search_that_is_cut(self):
         """It is that of the first orders, and more than were run."""
-        class Cut(Exploration):
-            """A search that never comes to its end."""
-            def __init__(self):
-                self.settings, self.guess, self.far = Settings(), None, []
-
-            def do(self, tasks, most, count, kind, shown=None):
-                """Tells how far the first orders are."""
-                self.far = [Far(256, 0.2)]
-                return False
-
-            def shares(self, count):
-                """None."""
-                return []
-
-        for most, guess in ((100, 1280), (1000, 1280), (1280, 1281), (5000, 5001)):
+        for most, guess, is_split in ((100, 1280, False), (1000, 1280, True), (1280, 1281, True), (5000, 5001, True)):
             search = Cut()
             self.assertFalse(search.run_orders(most))
-            self.assertEqual(search.guess, guess)
+            self.assertEqual((search.guess, search.is_split), (guess, is_split))
+
+    def test_far_more_orders(self):
+        """Where there seem to be ten times as many orders as are to be run no more are than the first ones."""
+        for part, is_split in ((0.09, True), (0.085, False)):
+            search = Cut(part)
+            self.assertFalse(search.run_orders(300))
+            self.assertEqual((search.guess, search.is_split, search.is_guessed), (round(256 / part), is_split, not is_split))
+        for is_guessed, are in ((False, "are"), (True, "seem to be")):
+            self.assertEqual(Extent(300, True, "1", 300, True, "", 3012, is_guessed).text,
+                             "300 random schedules from seed 1, as there %s more than 300 orders" % are)
 
     def test_head(self):
         """Where no set comes only when commands are interleaved, how many come only when transactions are."""
@@ -455,11 +468,14 @@ class HowFar(unittest.TestCase):
             self.assertEqual(head_of(extent, serial, sets), ["all 9 orders: 3 sets of answers, " + said])
 
     def test_estimate_while_a_search_goes_on(self):
-        """None by the first orders alone, which have seen too little of the tree, and no time that is reckoned by it."""
+        """None by the first orders alone, which have seen too little of the tree, and no time that is reckoned by it; and what comes
+        after the orders where there are too many."""
+        said, then = "%d of at most 5000 %s, 0 sets of answers", ", and then 5000 random schedules"
         for far, kind, shown in (
-                ([Far(30, 0.4)], "orders", (0, 5000, "30 of at most 5000 orders, 0 sets of answers")),
-                ([Far(300, 0.5), Far(0, 0.0)], "orders", (300, 1200, "300 of at most 5000 orders, 0 sets of answers; some 1200 by an estimate")),
-                ([Far(30, 0.0)], "random schedules", (30, 5000, "30 of at most 5000 random schedules, 0 sets of answers"))):
+                ([Far(30, 0.4)], "orders", (0, 5000, said % (30, "orders"), "")),
+                ([Far(300, 0.5), Far(0, 0.0)], "orders", (300, 1200, said % (300, "orders") + "; some 1200 by an estimate", "")),
+                ([Far(300, 0.1), Far(0, 0.0)], "orders", (300, 5000, said % (300, "orders") + "; some 6000 by an estimate", then)),
+                ([Far(30, 0.0)], "random schedules", (30, 5000, said % (30, "random schedules"), ""))):
             search = unittest.mock.Mock(so_far=lambda: "0 sets of answers")
             Exploration.show(search, far, 5000, kind)
             self.assertEqual(search.progress.show.call_args[0], shown)
@@ -472,9 +488,9 @@ class HowFar(unittest.TestCase):
             self.assertEqual(said.getvalue(), "")
             with unittest.mock.patch("catsync_tools.progress.LINE_PAUSE", 0):
                 progress.begun -= 50
-                progress.show(1, 4, "1 of at most 4 orders")
+                progress.show(1, 4, "1 of at most 4 orders", ", and then more")
             progress.clear()
-            self.assertRegex(said.getvalue(), "^explore: 1 of at most 4 orders, 15[0-9] s left\n$|, [23] min left\n$")
+            self.assertRegex(said.getvalue(), "^explore: 1 of at most 4 orders, 15[0-9] s left, and then more\n$|, [23] min left, and then more\n$")
 
 
 # The explorer, with the program.
@@ -705,12 +721,13 @@ class Explorer(unittest.TestCase):
                 yield piece
                 for done in range(1, count + 1):
                     time.sleep(seconds)
-                    piece.is_cut = piece.schedules == most_of_it
-                    piece.schedules = piece.schedules if piece.is_cut else done
-                    piece.found = [(number, done)] if finds and done == count and not piece.is_cut else None
+                    if piece.schedules == most_of_it:
+                        piece.is_cut = True
+                        yield piece
+                        piece.is_cut = False
+                    piece.schedules = done
+                    piece.found = [(number, done)] if finds and done == count else None
                     yield piece
-                    if piece.is_cut:
-                        return
             return task
         shown = []
         exploration.found, exploration.schedules = None, 0
@@ -720,6 +737,23 @@ class Explorer(unittest.TestCase):
             is_within = exploration.run_shares([(number,) + one for number, one in enumerate(made, 1)], most)
         self.assertLessEqual(max(shown), most + 1)
         return is_within, exploration.found, is_within and exploration.schedules
+
+    def test_search_that_pauses(self):
+        """Shares that pause after their first orders go on where they were: each order is made once, and their count only grows."""
+        for jobs in (1, 2):
+            exploration, made, shown = Exploration(Settings(wanted=(re.compile("x y z"),), jobs=jobs), read_source(TWO_CREATORS), PROGRAM,
+                                                   Progress()), [], []
+            add = exploration.add
+            with unittest.mock.patch("catsync_tools.search.FIRST", 8), unittest.mock.patch(
+                    "catsync_tools.search.SHARES", 4), unittest.mock.patch("catsync_tools.jobs.PAUSE", 0), unittest.mock.patch.object(
+                        exploration, "add", lambda *words: made.append(1) or add(*words)), unittest.mock.patch.object(
+                            exploration, "show", lambda far, *_: shown.append(sum(one.schedules for one in far) if len(far) > 1 else 0)):
+                self.assertTrue(exploration.run_orders(30))
+            self.assertEqual((exploration.schedules, exploration.found, exploration.is_over), (28, None, True))
+            self.assertEqual((shown, shown[-1]), (sorted(shown), 28))
+            self.assertTrue(jobs > 1 or len(made) == 9 + 28, len(made))
+            self.assertFalse(exploration.run_orders(27))
+            exploration.program.close()
 
     def test_signal_as_processes_start(self):
         """A signal that comes just before the processes are there, or to one of them as it starts, ends the search as any
@@ -971,9 +1005,9 @@ class Explorer(unittest.TestCase):
     def test_faults(self):
         """A fault is one line on standard error, exit status 2, and nothing is printed or written."""
         examples = os.path.join(TOP, "examples")
-        cases = [(["--most", "0"], TWO_CREATORS, "not a count: 0"),
-                 (["--part", "3/2"], TWO_CREATORS, "not a part, as 3/64: 3/2"),
-                 (["--part", "1/99999"], TWO_CREATORS, "a search has at most 4096 parts, and not those of 1/99999"),
+        cases = [(["--most", "0"], TWO_CREATORS, "argument --most: not a count: 0; explore --help says more"),
+                 (["--part", "3/2"], TWO_CREATORS, "argument --part: not a part, as 3/64: 3/2"),
+                 (["--part", "1/99999"], TWO_CREATORS, "argument --part: a search has at most 4096 parts, and not those of 1/99999"),
                  (["--part", "1/2", "--out", TOP], TWO_CREATORS, TOP + ": writing failed: Is a directory"),
                  (["--merge", "x", "--most", "3"], b"", "--most doesn't go with --merge; "),
                  (["--merge", "x", "--random", "3"], b"", "--random doesn't go with --merge; "),

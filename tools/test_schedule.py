@@ -179,6 +179,7 @@ FAULTY = (
     (b"backends 1\nsteps 1 to lok\nend\n", "line 2: '1 to lok' isn't 'B to C' with"),
     (b"backends 1\nsteps 1 to end 1\nend\n", "line 2: '1 to end 1' isn't 'B to C' with"),
     (b"backends 2\nsteps 1 to end 2 to end\nend\n", "line 2: '1 to end 2 to end': a comma comes after '1 to end'\n"),
+    (b"backends 2\nsteps 1 to end; 2 to end\nend\n", "line 2: '1 to end ; 2 to end': a comma comes after '1 to end', not ';'\n"),
     (b"backends 1\nsteps 2 to end\nend\n", "line 2: '2 to end': the script has 1 backend"),
     (b"backends 1\n1: begin\nsteps 1 to 2\nend\n", "line 3: '1 to 2': backend 1 has 1 command"),
     (b"backends 1\n1: begin\nsteps 1 to 0\nend\n", "line 3: '1 to 0': backend 1 has 1 command"),

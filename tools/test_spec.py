@@ -35,9 +35,10 @@ def said(sql, *before):
     return sayer.step(sql)
 
 
-def reported(data):
-    """A report without what it says of itself."""
-    return b"".join(line + b"\n" for line in data.split(b"\n")[:-1] if not line.startswith(b"# "))
+def without_notes(told):
+    """What is said on standard error beside how far it is and what a report doesn't say, and the lines of that."""
+    lines = without_progress("spec", told).splitlines(keepends=True)
+    return tuple("".join(line for line in lines if line.startswith("# ") == are_notes) for are_notes in (False, True))
 
 
 class Format(unittest.TestCase):
@@ -67,6 +68,7 @@ class Format(unittest.TestCase):
                 ("session s step a {", "line 1: a '{' without its '}'"),
                 ("session s\nstep a {}\nstep a {}", "line 3: the step 'a' is there twice"),
                 (TWO + "permutation a x", "line 5: there is no step 'x'"),
+                (TWO.replace("BEGIN; }", "BEGIN;") + "permutation b", "line 5: there is no step 'b': the SQL of 'a' has it, up to the next '}'"),
                 (TWO + "permutation a(b)", "line 5: the step 'b', which 'a' waits for, isn't in its permutation"),
                 (TWO + "step x {}", "line 5: a session or a permutation is due here, not 'step'"),
                 (TWO + "permutation a;", "line 5: no part of a spec begins with ';'"),
@@ -216,7 +218,7 @@ class Reports(unittest.TestCase):
     """Reports, and what lies between permutations."""
 
     def run_spec(self, text, *words, expected=None):
-        """What is printed for a spec, and the exit status."""
+        """What is printed for a spec, after a report what is said beside it, and the exit status."""
         with tempfile.TemporaryDirectory() as folder:
             paths = [os.path.join(folder, name) for name in ("x.spec", "x.out")]
             for path, content in zip(paths, (text, expected)):
@@ -224,17 +226,17 @@ class Reports(unittest.TestCase):
                     with open(path, "w", encoding="ascii") as file:
                         file.write(content)
             status, shown, told = call("spec", "--program", PROGRAM, *words, *paths[:1 + (expected is not None)])
-        self.assertEqual(without_progress("spec", told), "")
-        return status, shown.decode()
+        more, notes = without_notes(told)
+        self.assertEqual((more, bool(notes) and (expected is not None or "--explore" in words)), ("", False))
+        return status, shown.decode() + notes
 
     def test_examples(self):
-        """The report is isolationtester's own, byte for byte, but for what it says of itself at its end."""
+        """The report is isolationtester's own, byte for byte; what it doesn't say is on standard error."""
         self.assertEqual(len(SPECS), 5)
         for path in SPECS:
             with self.subTest(path):
                 status, shown, told = call("spec", "--program", PROGRAM, path)
-                self.assertEqual((status, without_progress("spec", told)), (0, ""))
-                self.assertEqual(reported(shown), content_of(path[:-5] + ".out"))
+                self.assertEqual((status, without_notes(told)[0], shown), (0, "", content_of(path[:-5] + ".out")))
 
     def test_expected(self):
         """Beside an expected report what differs is told, and what isn't compared."""
@@ -259,7 +261,7 @@ class Reports(unittest.TestCase):
         self.assertIn("2 permutations: 1 as expected, 1 differs, of 1 expected\n", shown)
 
     def test_own_report(self):
-        """A report that was printed here is as expected, whatever it says of itself at its end."""
+        """A report that was printed here is as expected, with lines that begin with # at its end too."""
         text = ("setup { CREATE TABLE t (a int4); }\nsession s1 step i { INSERT INTO t VALUES (1); } step r { SELECT a + 1 FROM t; }\n"
                 "session s2 step l { LOCK t; }\npermutation l i\npermutation i r\n")
         status, shown = self.run_spec(text)
@@ -309,7 +311,7 @@ class Reports(unittest.TestCase):
             "step d1a2: <... completed>", "step d1c: COMMIT;", "step e1l: <... completed>", "step e1c: COMMIT;"]))
 
     def test_unprinted(self):
-        """The last line names the steps whose rows aren't printed, in the spec's order."""
+        """The last line that is said names the steps whose rows aren't printed, in the spec's order."""
         text = ("setup { CREATE TABLE t (a int4); }\nsession s1 step w { INSERT INTO t VALUES (1); } step x { SELECT a FROM t; }\n"
                 "session s2 step s { SELECT a + 1 FROM t; } step r { SELECT a FROM t; }\npermutation %s\n")
         for steps, expected in (("r w", "# not said: rows, and waits for them: step w"), ("r w x r s", "# not printed: rows of x, s and r"),
@@ -433,6 +435,7 @@ class Reports(unittest.TestCase):
     def test_faults(self):
         """A fault is one line on standard error."""
         for words, expected in (([SPECS[0], "--most", "3"], "spec: --most is for --explore; spec --help says more\n"),
+                                ([SPECS[0], "--jobs", "3"], "spec: --jobs is for --explore; spec --help says more\n"),
                                 ([SPECS[0], "/no/out"], "spec: /no/out: reading failed: No such file or directory\n"),
                                 (["/no/such"], "spec: /no/such: reading failed: No such file or directory\n"),
                                 ([SPECS[0], SPECS[0], "--explore"], "spec: --explore doesn't go with OUT; spec --help says more\n"),

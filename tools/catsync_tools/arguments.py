@@ -14,7 +14,7 @@ STOPPED = (130, "after Ctrl-C, SIGTERM or SIGHUP")
 def count_of(text):
     """A count on the command line."""
     if not re.fullmatch("0*[1-9][0-9]{0,8}", text):
-        raise Fault("not a count: %s" % text)
+        raise argparse.ArgumentTypeError("not a count: %s" % text)
     return int(text)
 
 

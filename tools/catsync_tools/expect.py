@@ -12,6 +12,7 @@ from .sources import Source, read_source
 from .trial import BROKEN, EMPTY, MET, UNDECIDED, Result, results_of
 from .vacuous import is_empty, said_of
 
+WORDS = ((BROKEN, "FAILED"), (EMPTY, "says nothing"), (UNDECIDED, "not decided"), (MET, "passed"))     # a script has the first that a line has
 FAILED = 1
 NOT_DECIDED = 3
 INPUT = "standard input"
@@ -34,7 +35,7 @@ def arguments_of(words):
                   help="'expect some' and 'expect never' run all orders of a script where there are at most N, else N random "
                   "schedules (%d)" % MOST_ORDERS)
     parser.option("--jobs", type=count_of, metavar="N", help="use N processors (all)")
-    parser.option("--passed", action="store_true", help="list what is met too, with what came")
+    parser.option("--passed", action="store_true", help="list what is met too, with what came; each line says what became of it")
     parser.option("--program", metavar="FILE", help="run FILE in place of the proved executable")
     return parser.parse(words)
 
@@ -67,20 +68,19 @@ def head_of(name, results):
     """What became of a script: it failed where an expectation isn't met, else it says nothing where one does, else it isn't
     decided where one isn't."""
     verdicts = [result.verdict for result in results.values()]
-    for verdict, word in ((BROKEN, "FAILED"), (EMPTY, "says nothing"), (UNDECIDED, "not decided")):
-        if verdict in verdicts:
-            return verdict, "%s: %s" % (word, name)
-    return MET, "passed: %s" % name
+    return next((verdict, "%s: %s" % (word, name)) for verdict, word in WORDS if verdict in verdicts)
 
 
 def lines_of(head, results, are_met_told, source):
-    """What is printed of a script: each expectation that isn't met, or all; and each of what no answer can have."""
+    """What is printed of a script: each expectation that isn't met, or all, each with what became of it; and each of what no answer
+    can have."""
     lines = [head]
     for one, result in sorted(results.items()):
         said = list(result.lines) if result.verdict != MET or are_met_told else []
         said += said_of(one, source, result.verdict == MET, result.verdict == BROKEN)
         said = said + ["places aren't compared: %s" % ", ".join(places_in(one))] if places_in(one) else said
-        lines += ["  line %d: %s" % (one.line, one.text)] + ["    " + line for line in said] if said else []
+        word = dict(WORDS)[result.verdict] + ": " if are_met_told else ""
+        lines += ["  %sline %d: %s" % (word, one.line, one.text)] + ["    " + line for line in said] if said else []
     return lines
 
 

@@ -10,10 +10,15 @@ NONE = "no answer"                  # what is said of a command that isn't finis
 
 MORE = ".."                         # at the end of a text: its field may go on
 
+CODES = ("0a000", "22023", "25p01", "25p02", "2bp01", "3b001", "42701", "42703", "42704", "42710", "42809", "42p01", "42p07", "53200",
+         "54011", "55000", "55006", "55p03")
+
 _PLACE = re.compile(PLACE.pattern, re.IGNORECASE)
 _PART = re.compile(r"([0-9]{1,9})[ \t]*\.[ \t]*([0-9]{1,9})[ \t]+(\S.*)")
 _AND = re.compile(r"[ \t]+and[ \t]+(?=[0-9]+[ \t]*\.)", re.IGNORECASE)
 _SLIP = re.compile(r"(?:^|[ \t])(?:(and)|(or)[ \t]+[0-9]{1,9}[ \t]*\.[ \t]*[0-9]{1,9}(?:[ \t]+\S.*)?)$", re.IGNORECASE)
+# What an answer begins with, after a word that joins two texts and without its command.
+_NO_COMMAND = re.compile(r"[ \t](and|or)[ \t]+((?:error|ok|rolled back|no answer|%s)(?![^ \t;]))" % "|".join(CODES), re.IGNORECASE)
 _FORM = "'expect B.C TEXT', 'expect some B.C TEXT' or 'expect never B.C TEXT', with 'and B.C TEXT' for more of one run"
 
 
@@ -56,8 +61,14 @@ def check_text(line, text):
     slip = _SLIP.search(text)
     if slip and slip.group(1):
         raise Fault("line %d: nothing follows the last 'and'" % line)
-    if slip:
+    bare = _NO_COMMAND.search(text)
+    if slip or bare and bare.group(1).lower() == "or":
         raise Fault("line %d: texts are joined by 'and' alone; each that may come is an expectation of its own" % line)
+    if bare:
+        raise Fault("line %d: a command (B.C) is missing before '%s': after 'and' comes B.C TEXT" % (line, bare.group(2)))
+    code = text.split()[0]
+    if code.rstrip(";").lower() in CODES:
+        raise Fault("line %d: 'error' is missing before %s" % (line, code))
     if MORE in text.rstrip()[:-len(MORE)]:
         raise Fault("line %d: '..' stands at the end of a text alone" % line)
 

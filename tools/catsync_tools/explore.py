@@ -25,9 +25,9 @@ def part_of(text):
     """A part on the command line: its number, and of how many."""
     found = re.fullmatch("([0-9]{1,6})/([0-9]{1,6})", text)
     if not found or not 1 <= int(found.group(1)) <= int(found.group(2)):
-        raise Fault("not a part, as 3/64: %s" % text)
+        raise argparse.ArgumentTypeError("not a part, as 3/64: %s" % text)
     if int(found.group(2)) > MOST_PARTS:
-        raise Fault("a search has at most %d parts, and not those of %s" % (MOST_PARTS, text))
+        raise argparse.ArgumentTypeError("a search has at most %d parts, and not those of %s" % (MOST_PARTS, text))
     return int(found.group(1)), int(found.group(2))
 
 
@@ -144,7 +144,7 @@ def extent_of(options, exploration):
     """What was run."""
     most = None if options.random else options.most or MOST_ORDERS
     return Extent(exploration.schedules, exploration.is_random, options.seed, most, exploration.is_over, "",
-                  exploration.guess if exploration.is_random and most else None)
+                  exploration.guess if exploration.is_random and most else None, exploration.is_guessed)
 
 
 def part_found(options, exploration, data):

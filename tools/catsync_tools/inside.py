@@ -12,7 +12,7 @@ from .permutation import SET_UP
 from .progress import Progress
 from .refused import Claim, refusals
 from .scripts import steps_line
-from .search import MOST_SERIAL, Exploration, Settings, processors
+from .search import MOST_SERIAL, Exploration, Settings
 from .sentences import counted
 from .sources import read_source
 from .waits import Play, Walker
@@ -115,11 +115,12 @@ class Wholes:
         self.differs: Dict[str, Dict[str, None]] = {}
         self.is_over = True
 
-    def run(self):
+    def run(self, progress):
         """Runs the permutations, so many at most."""
         sessions = [Session("", parts, [], []) for parts in self.plan.parts]
         orders = all_permutations(Spec([], [], sessions, []))
-        for order in itertools.islice(orders, MOST_SERIAL):
+        for number, order in enumerate(itertools.islice(orders, MOST_SERIAL), 1):
+            progress.show(0, 1, counted(number, "permutation") + " of whole statements")
             self.take([placed.step for placed in order])
         self.is_over = next(orders, None) is None
 
@@ -157,27 +158,27 @@ class Wholes:
             left[backend].pop(0)
 
 
-def explored(whole, most):
+def explored(whole, most, jobs):
     """What all orders of the steps inside the statements lead to, beyond what permutations do; and how a server refuses what is done
     here, each with the places."""
     lines, differs = [], {}
     for plan in plans_of(whole):
         wholes = Wholes(plan, whole.walker)
-        lines += explored_plan(plan, wholes, most)
+        lines += explored_plan(plan, wholes, most, jobs)
         for how, places in wholes.differs.items():
             differs.setdefault(how, []).extend(places)
     return "\n".join(lines), differs
 
 
-def explored_plan(plan: Plan, wholes: Wholes, most):
+def explored_plan(plan: Plan, wholes: Wholes, most, jobs):
     """The lines about one plan."""
     source = read_source("\n".join(plan.script + ["end", ""]).encode())
-    exploration = Exploration(Settings(jobs=processors()), source, wholes.walker.program.path, Progress("spec"))
+    exploration = Exploration(Settings(jobs=jobs), source, wholes.walker.program.path, Progress("spec"))
     exploration.run_serial()
     if not exploration.run_orders(most):
         exploration.run_random(most)
+    wholes.run(exploration.progress)
     exploration.progress.clear()
-    wholes.run()
     sets = [(key, found) for key, found in exploration.findings.sorted() if not is_refused(plan, key)]
     new = [(key, found) for key, found in sets if key not in wholes.answers and found.turns]
     ran = counted(exploration.schedules, "random schedule" if exploration.is_random else "order")

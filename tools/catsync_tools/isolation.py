@@ -166,11 +166,18 @@ class Reader:
             self.take("step", "a step of session '%s'" % name)
         return Session(name, steps, setup, self.blocks("teardown"))
 
+    def swallowed(self, name):
+        """Where the SQL of another step seems to have a step, since its own brace isn't there."""
+        for other in self.steps.values():
+            if re.search(r"\bstep\s+\"?%s\"?\s*\{" % re.escape(name), other.sql):
+                return ": the SQL of '%s' has it, up to the next '}'" % other.name
+        return ""
+
     def named(self):
         """The step of the next name."""
         token = self.take("name", "a step's name")
         if token.text not in self.steps:
-            raise Fault("line %d: there is no step '%s'" % (token.line, token.text))
+            raise Fault("line %d: there is no step '%s'%s" % (token.line, token.text, self.swallowed(token.text)))
         return self.steps[token.text]
 
     def permutation(self) -> List[Placed]:

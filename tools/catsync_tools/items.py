@@ -105,7 +105,12 @@ def comma_wanted(words):
     """Where a comma is wanted in an item `B to ..`: before another one in it; None where there is none. What an entry has may
     read so, so it is asked only of an item that can't be one."""
     ends = [at - 1 for at in range(4, len(words)) if words[at] == "to" and _COUNT.fullmatch(words[at - 1])]
-    return "a comma comes after '%s'" % " ".join(words[:ends[0]]) if ends else None
+    if not ends:
+        return None
+    item = words[:ends[0]]
+    if item[-1] == ";":
+        return "a comma comes after '%s', not ';'" % " ".join(item[:-1])
+    return "a comma comes after '%s'" % " ".join(item)
 
 
 def named_item(line, words):

@@ -4,6 +4,9 @@ A task is a function that yields what it has found so far after each schedule (a
 same object each time. With
 one job the tasks are done in this process, else in children of it, which are given one task after the other and send how
 far they are, and at the end what they found. Children can be stopped, and then send what they have.
+
+A task may pause, by a piece whose `is_cut` says so. It goes on in a later run, where it was begun; or, where another process has
+nothing else to do, from its beginning in that.
 """
 import multiprocessing
 import multiprocessing.connection
@@ -23,69 +26,86 @@ class Jobs:
     def __init__(self, tasks: List, jobs, prepare):
         self.tasks, self.count, self.prepare = tasks, min(jobs, len(tasks)), prepare
         self.pieces: Dict[int, object] = {}
-        self.is_done = [False] * len(tasks)
+        self.is_done = [False] * len(tasks)     # or paused
+        self.paused: Dict[int, Iterator] = {}   # of this process
+        self.children: List[tuple] = []
+        self.places: Dict[int, object] = {}     # in which child a task was begun
+        self.is_stopped = None
 
-    def run(self) -> Iterator[Tuple[int, tuple]]:
-        """Does all tasks; yields the number of a task and how far it is, again and again. What it has found is in `pieces`
-        where the task is over, and of the others too once this has ended or is closed."""
-        return self.run_here() if self.count <= 1 else self.run_in_children()
+    def run(self, numbers, may_pause=True) -> Iterator[Tuple[int, tuple]]:
+        """Does these tasks; yields the number of a task and how far it is, again and again. What it has found is in `pieces`
+        where the task is over or pauses, and of the others too once this is closed. A task that may not pause goes on."""
+        for number in numbers:
+            self.is_done[number] = False
+        return self.run_here(numbers, may_pause) if self.count <= 1 else self.run_in_children(numbers, may_pause)
 
-    def run_here(self):
-        """Does all tasks in this process."""
-        for number, task in enumerate(self.tasks):
-            for piece in task():
+    def steps_of(self, number, may_pause):
+        """What a task yields, up to its pause, if it may: then it is kept."""
+        task = self.paused.pop(number, None) or self.tasks[number]()
+        for piece in task:
+            yield piece
+            if may_pause and piece.far.is_cut:
+                self.paused[number] = task
+                return
+
+    def run_here(self, numbers, may_pause):
+        """Does tasks in this process."""
+        for number in numbers:
+            for piece in self.steps_of(number, may_pause):
                 self.pieces[number] = piece
                 yield number, piece.far
             self.is_done[number] = True
 
-    def run_in_children(self):
-        """Does all tasks in children."""
-        context = multiprocessing.get_context("fork")
-        is_stopped = context.Event()
-        children = []
-        try:
-            self.start_children(context, is_stopped, children)
-            yield from self.hand_out([end for _, end in children])
-        finally:
-            is_stopped.set()
-            for process, end in children:
-                self.take_rest(end)
-                process.join()
+    def run_in_children(self, numbers, may_pause):
+        """Does tasks in children."""
+        if not self.children:
+            context = multiprocessing.get_context("fork")
+            self.is_stopped = context.Event()
+            self.start_children(context)
+        yield from self.hand_out(list(numbers), may_pause)
 
-    def start_children(self, context, is_stopped, children):
+    def close(self):
+        """Stops the children, and takes what they still have."""
+        if self.is_stopped is not None:
+            self.is_stopped.set()
+        for process, end in self.children:
+            self.take_rest(end)
+            process.join()
+        self.children = []
+
+    def start_children(self, context):
         """Starts the children. Signals wait meanwhile, so that none comes to a child before it passes over them."""
         with waiting() as held:
             try:
                 for _ in range(self.count):
                     end, other_end = context.Pipe()
-                    not_its_own = [end] + [other for _, other in children]
-                    process = context.Process(target=self.serve, args=(other_end, not_its_own, is_stopped, held), daemon=True)
+                    not_its_own = [end] + [other for _, other in self.children]
+                    process = context.Process(target=self.serve, args=(other_end, not_its_own, held), daemon=True)
                     process.start()
                     other_end.close()
-                    children.append((process, end))
+                    self.children.append((process, end))
             except OSError as error:
                 raise Fault("a process of the search can't be started: %s" % error.strerror)
 
-    def hand_out(self, ends):
-        """Hands out the tasks in order, and takes what comes back."""
-        left = iter(range(len(self.tasks)))
-        busy = set()
-        for end in ends:
-            busy.update(self.hand_next(end, left))
+    def hand_out(self, left, may_pause):
+        """Hands out tasks, and takes what comes back."""
+        busy = {end for _, end in self.children if self.hand_next(end, left, may_pause)}
         while busy:
             for end in multiprocessing.connection.wait(list(busy)):
                 number, far, is_done = self.take(end)
-                if is_done:
+                if is_done and not self.hand_next(end, left, may_pause):
                     busy.discard(end)
-                    busy.update(self.hand_next(end, left))
                 yield number, far
 
-    def hand_next(self, end, left):
-        """Hands out the next task, if there is one: to whom."""
-        for number in left:
-            end.send(number)
-            return [end]
-        return []
+    def hand_next(self, end, left, may_pause):
+        """Hands out the next task that was begun there or nowhere, else the next one; whether there is one."""
+        if not left:
+            return False
+        number = next((one for one in left if self.places.get(one, end) is end), left[0])
+        left.remove(number)
+        self.places[number] = end
+        end.send((number, may_pause))
+        return True
 
     def take(self, end):
         """One message of a child: the task, how far it is, and whether it is over."""
@@ -109,7 +129,7 @@ class Jobs:
         except (EOFError, OSError, Fault):
             end.close()
 
-    def serve(self, end, not_its_own, is_stopped, held):
+    def serve(self, end, not_its_own, held):
         """A child: does the tasks that it is given. Signals, all but those of this mask waiting until now, are its parent's
         to hear. The parent's ends, which it has as well, are closed, so that it ends where its parent does."""
         for number in SIGNALS:
@@ -119,18 +139,18 @@ class Jobs:
             other.close()
         try:
             self.prepare()
-            for number in iter(end.recv, None):
-                self.serve_task(end, number, is_stopped)
+            for number, may_pause in iter(end.recv, None):
+                self.serve_task(end, number, may_pause)
         except (EOFError, OSError):
             pass
         except Fault as fault:
             end.send((0, 0, None, False, str(fault)))
 
-    def serve_task(self, end, number, is_stopped):
+    def serve_task(self, end, number, may_pause):
         """Does a task, and says now and then how far it is."""
         said, piece, is_cut = time.monotonic(), None, False
-        for piece in self.tasks[number]():
-            is_cut = is_stopped.is_set()
+        for piece in self.steps_of(number, may_pause):
+            is_cut = self.is_stopped.is_set()
             if is_cut:
                 break
             if time.monotonic() - said > PAUSE:

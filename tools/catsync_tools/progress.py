@@ -22,13 +22,13 @@ class Progress:
         """What is shown from here on begins."""
         self.begun = time.monotonic()
 
-    def show(self, done, most, text):
-        """Draws the bar anew, or says a line, but not too often."""
+    def show(self, done, most, text, then=""):
+        """Draws the bar anew, or says a line, but not too often; at its end what comes then."""
         now = time.monotonic()
         if now - self.drawn_at < (PAUSE if self.is_shown else LINE_PAUSE):
             return
         self.drawn_at = now
-        text = self.of + text + self.left(now, done, most)
+        text = self.of + text + self.left(now, done, most) + then
         if not self.is_shown:
             say("%s: %s" % (self.tool, text))
             return

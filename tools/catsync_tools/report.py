@@ -26,6 +26,7 @@ class Extent(NamedTuple):
     is_over: bool
     parts: str                      # of which parts, or nothing
     guess: Optional[int] = None     # about how many orders there are, where schedules were drawn
+    is_guessed: bool = False        # whether it is by this alone that there are more orders
 
     @property
     def ran(self):
@@ -39,7 +40,7 @@ class Extent(NamedTuple):
         if self.is_random:
             ran += " from seed %s" % self.seed
             if self.most_orders is not None:
-                ran += ", as there are more than %s" % counted(self.most_orders, "order")
+                ran += ", as there %s more than %s" % ("seem to be" if self.is_guessed else "are", counted(self.most_orders, "order"))
         elif self.is_over:
             ran = "all " + ran
         ran += self.parts

@@ -24,6 +24,7 @@ from .walks import KnownWalks, Walks
 FIRST = 256             # orders, before a search is split
 SHARES = 64             # of a search that is split
 SHARES_OF_PART = 16     # of each part of one
+FAR_OVER = 10           # times as many orders as are to be run: no more than the first are
 CHUNK = 64              # random schedules, of a task
 MOST_SERIAL = 1000      # serial orders of each kind
 
@@ -80,6 +81,7 @@ class Exploration:
         self.found: Optional[Turns] = None      # the schedule that was looked for
         self.far: List[Far] = []                # how far the last tasks came
         self.guess: Optional[int] = None        # about how many orders there are, where these are more than are to be run
+        self.is_guessed = False                 # that they are more
 
     # What is found
 
@@ -163,28 +165,34 @@ class Exploration:
     # All orders
 
     def orders_of(self, share, most=None):
-        """A task: all orders of a share, or the first ones, so many."""
+        """A task: all orders of a share, with a pause after the first ones, so many."""
         def task():
             """What is found, after each order."""
             piece, search = Piece(self.settings.places), Search(self.walks, self.runner.backends, share)
             yield piece
             for answers, history in search.orders():
-                if answers is not None:
-                    piece.is_cut = piece.schedules == most
-                    found = not piece.is_cut and self.add(piece, answers, history.steps)
-                    piece.part = search.done
+                if answers is None:
+                    continue
+                piece.part = search.done
+                if piece.schedules == most:
+                    piece.is_cut = True
                     yield piece
-                    if found or piece.is_cut:
-                        return
+                    piece.is_cut = False
+                found = self.add(piece, answers, history.steps)
+                yield piece
+                if found:
+                    return
         return task
 
     def run_orders(self, most):
         """Runs all orders where there are at most so many; whether that is so. Where it isn't, the guess is that of the first
-        ones, which is the same for any number of processes, but more than were run."""
+        ones, which is the same for any number of processes, but more than were run. Where that is FAR_OVER times as many, no
+        others are run: the corner of the tree that they would be is left to random schedules."""
         if self.do([self.orders_of(WHOLE)], min(most, FIRST), 1, "orders", most):
             return True
         self.guess = guess_of(self.far) or 0
-        if most > FIRST and self.run_shares(self.shares(SHARES), most):
+        self.is_guessed = FIRST < most and self.guess >= FAR_OVER * most
+        if FIRST < most and not self.is_guessed and self.run_shares(self.shares(SHARES), most):
             return True
         self.guess = max(self.guess, most + 1)
         return False
@@ -196,15 +204,7 @@ class Exploration:
         if not self.looks_for:
             return self.do([self.orders_of(share) for share in all_shares], most, self.settings.jobs, "orders")
         part = most // len(all_shares)
-        self.do([self.orders_of(share, part) for share in all_shares], None, self.settings.jobs, "orders", most)
-        self.guess = max(self.guess or 0, guess_of(self.far) or 0)
-        left = [share for share, far in zip(all_shares, self.far) if far.is_cut]
-        if self.is_found or not left:
-            return True
-        whole = sum(far.schedules for far in self.far if not far.is_cut)
-        is_within = self.do([self.orders_of(share) for share in left], most - whole, self.settings.jobs, "orders", to_end=True)
-        self.schedules += whole
-        return is_within
+        return self.do([self.orders_of(share, part) for share in all_shares], most, self.settings.jobs, "orders", in_rounds=True)
 
     def shares(self, count):
         """The shares of the search."""
@@ -242,29 +242,46 @@ class Exploration:
 
     # Tasks
 
-    def do(self, tasks, most, count, kind, shown=None, to_end=False):
-        """Does tasks until one of them finds what is looked for, or where they are done to the end all of them. Whether they came to
-        that before they had more schedules than so many: otherwise nothing is kept of several tasks, since what they had found
-        by then isn't the same each time."""
+    def do(self, tasks, most, count, kind, shown=None, in_rounds=False):
+        """Does tasks until one of them finds what is looked for; in rounds, up to the pause of each, and then all of them to the end.
+        Whether they came to that before they had more schedules than so many: otherwise nothing is kept of several tasks, but for
+        the first round's, since what they had found by then isn't the same each time."""
         jobs = Jobs(tasks, count, self.program.split_off)
-        far = [Far(0, 0.0)] * len(tasks)
+        self.far = [Far(0, 0.0)] * len(tasks)
         self.is_over, is_within = False, True
         self.progress.begin()
         try:
-            with contextlib.closing(jobs.run()) as going:
-                for number, far[number] in going:
-                    self.program.interrupts.check()
-                    self.show(far, shown or most, kind)
-                    if not to_end and self.first_found(jobs) is not None:
-                        break
-                    is_within = most is None or sum(one.schedules for one in far) <= most
-                    if not is_within:
-                        break
+            with contextlib.closing(jobs):
+                is_within = self.watch(jobs, range(len(tasks)), most, (shown or most, kind))
+                if in_rounds:
+                    is_within = self.to_the_end(jobs, most, (shown or most, kind))
         finally:
-            if is_within or len(tasks) == 1 and not to_end:
+            if is_within or len(tasks) == 1:
                 self.keep(jobs)
-        self.is_over, self.far = is_within, far
+        self.is_over = is_within
         return is_within
+
+    def watch(self, jobs, numbers, most, shown, to_end=False):
+        """Does these tasks, until one has found what is looked for, if not to the end; whether they stay within the limit."""
+        for number, far in jobs.run(numbers, may_pause=not to_end):
+            if far.schedules >= self.far[number].schedules:     # where it was begun anew it isn't as far yet
+                self.far[number] = far
+            self.program.interrupts.check()
+            self.show(self.far, *shown)
+            if not to_end and self.first_found(jobs) is not None:
+                return True
+            if most is not None and sum(one.schedules for one in self.far) > most:
+                return False
+        return True
+
+    def to_the_end(self, jobs, most, shown):
+        """The second round: all tasks that have more, if the first one hasn't found what is looked for; whether all is within the limit."""
+        if self.first_found(jobs) is not None:
+            return True
+        self.keep(jobs)
+        self.guess = max(self.guess or 0, guess_of(self.far) or 0)
+        left = [number for number, far in enumerate(self.far) if far.is_cut]
+        return self.watch(jobs, left, most, shown, to_end=True)
 
     def first_found(self, jobs):
         """The first task that has found what is looked for, if all before it have come to their end without it."""
@@ -293,14 +310,16 @@ class Exploration:
 
     def show(self, far, most, kind):
         """Shows how far the search is; of orders also about how many there are, once it is split: the first ones alone have seen
-        too little of the tree, so that the guess would be far too low, and with it the time that is left."""
+        too little of the tree, so that the guess would be far too low, and with it the time that is left. Where there are more than
+        are to be run it shows what comes after these."""
         done, guess = sum(one.schedules for one in far), guess_of(far) if len(far) > 1 else None
         text = "%d of at most %d %s, %s" % (done, most, kind, self.so_far()) if most else "%d %s" % (done, kind)
         if guess is not None and guess >= done:
             text += "; some %s by an estimate" % about(guess) if int(about(guess)) >= done else ""
-            most = min(guess, most or guess)
+        then = ", and then %d random schedules" % most if most and guess is not None and guess > most else ""
+        most = min(guess, most or guess) if guess is not None and guess >= done else most
         is_told = most and (guess is not None or kind != "orders")
-        self.progress.show(done if is_told else 0, most or 1, text)
+        self.progress.show(done if is_told else 0, most or 1, text, then)
 
     def so_far(self):
         """What was found before the tasks at hand."""

@@ -3,12 +3,13 @@ from typing import Dict, List, NamedTuple, Optional, Set
 
 from .arguments import MOST_ORDERS, Arguments, count_of
 from .compared import LeftOut, differences, expected_in
-from .faults import Fault, faults_of, read_file, write_output
+from .faults import Fault, faults_of, read_file, say, write_output
 from .inside import explored
 from .isolation import Placed, Spec, permutations_of, read_spec
 from .permutation import SET_UP, TEARDOWN, UNKNOWN, Permutation, Played, alone
 from .program import Program, own_program
 from .progress import Progress
+from .search import processors
 from .sentences import counted, listed
 from .statements import OF_ROWS, Sayer, is_silent
 from .waits import Walker
@@ -29,12 +30,14 @@ def arguments_of(words):
                   "answers that no permutation of whole statements has")
     parser.option("--most", type=count_of, metavar="N",
                   help="with --explore: all orders are run where there are at most N, else N random schedules (%d)" % MOST_ORDERS)
+    parser.option("--jobs", type=count_of, metavar="N", help="with --explore: use N processors (all)")
     parser.option("--program", metavar="FILE", help="run FILE in place of the proved executable")
     options = parser.parse(words)
     if options.explore and options.out:
         parser.error("--explore doesn't go with OUT")
-    if options.most and not options.explore:
-        parser.error("--most is for --explore")
+    for name in ("most", "jobs"):
+        if getattr(options, name) and not options.explore:
+            parser.error("--%s is for --explore" % name)
     return options
 
 
@@ -70,7 +73,7 @@ def main(words):
     whole = whole_of(options.spec, options.program or own_program())
     with faults_of(options.spec):
         if options.explore:
-            text, differs = explored(whole, options.most or MOST_ORDERS)
+            text, differs = explored(whole, options.most or MOST_ORDERS, options.jobs or processors())
             write_output(text + "".join(note + "\n" for note in notes_of(whole, None) + differing(differs)))
             return 0
         return tell(whole, expected_in(out, whole.spec) if out is not None else None)
@@ -107,7 +110,9 @@ def tell(whole: Whole, expected):
         head = [summary(number, len(expected), differ, len(unclear))]
     notes = notes_of(whole, left_out if expected is not None else None) + rows_unprinted(whole, unprinted)
     notes += differing(differs)
-    write_output("\n".join(head + lines + notes) + "\n")
+    write_output("\n".join(head + lines + (notes if expected is not None else [])) + "\n")
+    for note in notes if expected is None else []:      # a report has no other lines than isolationtester's
+        say(note)
     return DIFFERS if differ or stuck and expected is None else 0
 
 

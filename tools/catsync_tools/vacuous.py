@@ -4,13 +4,11 @@ import itertools
 import re
 from typing import List, NamedTuple, Optional
 
-from .expected import MORE, NEVER, NONE, Part
+from .expected import CODES, MORE, NEVER, NONE, Part
 from .matching import ANSWERED_BY_WORD, MODES, SHOWS_FIELDS, TYPES
 from .spellings import respelled, tokens_of
 
 FIELDS = ("columns", "defaults", "statistics", "fillfactor", "constraints", "referenced", "indexes", "triggers", "of", "valid")
-CODES = ("0a000", "22023", "25p01", "25p02", "2bp01", "3b001", "42701", "42703", "42704", "42710", "42809", "42p01", "42p07", "53200",
-         "54011", "55000", "55006", "55p03")
 CODES_OF_SHOW = ("25p02", "42809", "42p01", "53200", "55p03")
 TYPE_NAMES = ("bool", "int2", "int4", "int8", "text", "bytea", "date", "timestamptz")
 # The words of answers (docs/HISTORY.md) beside names.
