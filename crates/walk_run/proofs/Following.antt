@@ -1,16 +1,16 @@
 -- A walk that is refused memory has followed the schedule so far.
-use Rattle.std.proofs.Common.{◌≡◌, ◌≤◌, ◌<◌, ◌+◌, ◌-◌, ◌∙◌, ◌++◌, ◌∷◌, ℕ, true, false, not, Some, List, [], refl, sym, ap, subst, length, take, drop, replicate, slice_get, get_or, Result, Ok, Err, OnErr, append_assoc, append-nil, arith}
+use Rattle.std.proofs.Common.{◌≡◌, ◌<◌, ◌+◌, ◌-◌, ◌∙◌, ◌++◌, ◌∷◌, ℕ, false, List, [], refl, sym, ap, subst, length, take, drop, replicate, slice_get, get_or, Result, Ok, Err, OnErr, append_assoc, append-nil, arith}
 use Rattle.std.specs.List.{flat_map}
 use Rattle.std.proofs.lemmas.Grind.{flat_map-append}
 use Rattle.std.proofs.lemmas.List.{take-append-drop, replicate_more, replicate-append-replicate}
 use Rattle.base_types.specs.Scenario.{Scenario, IsBackend, schedule_of}
 use Rattle.event_kinds.specs.declared.entry.Entry.{Entry}
 use Rattle.history_model.proofs.ListSteps.{flat_map_next}
-use Rattle.cacheless.specs.Schedule.{FollowsSchedule, has_stopped, pass_stopped, turns_left}
+use Rattle.cacheless.specs.Schedule.{FollowsSchedule, has_stopped, pass_stopped}
 use Rattle.backend_core.specs.declared.backend.Backend.{Backend}
 use Rattle.backend_core.specs.Words.{has_left}
-use Rattle.walk_run.specs.Walks.{AllStand, HasSchedule, IsDue, Goes, InTurn, GoesOn, IsRunning, FollowsTurn, FollowsSteps, FollowsStops}
-use Rattle.walk_run.proofs.ScheduleSteps.{found_at, stands_there, stopped_at, turns_by-schedule}
+use Rattle.walk_run.specs.Walks.{AllStand, HasSchedule, IsDue, Goes, GoesOn, FollowsTurn, FollowsSteps, FollowsStops}
+use Rattle.walk_run.proofs.ScheduleSteps.{stands_there, stopped_at, turns_by-schedule}
 use Rattle.walk_run.proofs.OneAfterAnother.{first_turn, goes_on_then}
 
 -- a backend that is read as running hasn't stopped

@@ -13,7 +13,7 @@ use Rattle.backend_core.specs.Places.{WantsPlaces, PromisesOnly, Wanted}
 use Rattle.backend_core.specs.Steps.{MakesEntry, Steps, IsRefused, Before, After}
 use Rattle.backend_core.specs.Walked.{IsNotedWalk}
 use Rattle.backend_core.proofs.PlacesWanted.{kept_only, wanted_here, only_then}
-use Rattle.walk_run.specs.Walks.{AllStand, IsWalkedToLast, LeavesWell, FollowsTurn}
+use Rattle.walk_run.specs.Walks.{AllStand, LeavesWell, FollowsTurn}
 use Rattle.walk_run.proofs.NotedWalks.{walked_whole, walked_none}
 
 -- no entry more, or one of this backend that might be made

@@ -1,5 +1,5 @@
 -- Walks whose steps are noted: they begin with new backends, go on by steps, and are one.
-use Rattle.std.proofs.Common.{◌≡◌, ◌≢◌, ◌∙◌, ◌+◌, ◌-◌, ◌==◌, ◌++◌, ◌∷◌, ◌⊎◌, inl, inr, ℕ, zero, suc, Bool, true, false, Option, Some, None, IfSome, List, [], refl, sym, ap, subst, slice_get, slice_set, append_assoc, arith}
+use Rattle.std.proofs.Common.{◌≡◌, ◌≢◌, ◌∙◌, ◌+◌, ◌-◌, ◌==◌, ◌++◌, ◌∷◌, ◌⊎◌, inl, inr, ℕ, zero, suc, true, false, Option, Some, None, IfSome, List, [], refl, sym, ap, subst, slice_get, slice_set, append_assoc, arith}
 use Rattle.std.proofs.lemmas.Bool.{both_ways, eq-eqb, ne_eqb}
 use Rattle.std.proofs.lemmas.Bool.Decides.{eqb_tells}
 use Rattle.std.proofs.lemmas.List.{append-nil}
