@@ -1,4 +1,4 @@
-use Rattle.std.proofs.Common.{Ok, refl, sym, subst}
+use Rattle.std.proofs.Common.{Ok, refl, sym, ap, subst}
 use Rattle.base_types.specs.declared.memory.NoMemory.{NoMemory}
 use Rattle.event_kinds.specs.declared.entry.Event.TheVariants as events
 use Rattle.history_lines.specs.Takes.{MayTake, MayWrite, enters_in_memory}
