@@ -469,14 +469,15 @@ class HowFar(unittest.TestCase):
 
     def test_estimate_while_a_search_goes_on(self):
         """None by the first orders alone, which have seen too little of the tree, and no time that is reckoned by it; and what comes
-        after the orders where there are too many."""
+        after the orders where there are too many. The count of orders only grows, though the first ones are made again."""
         said, then = "%d of at most 5000 %s, 0 sets of answers", ", and then 5000 random schedules"
         for far, kind, shown in (
                 ([Far(30, 0.4)], "orders", (0, 5000, said % (30, "orders"), "")),
                 ([Far(300, 0.5), Far(0, 0.0)], "orders", (300, 1200, said % (300, "orders") + "; some 1200 by an estimate", "")),
                 ([Far(300, 0.1), Far(0, 0.0)], "orders", (300, 5000, said % (300, "orders") + "; some 6000 by an estimate", then)),
-                ([Far(30, 0.0)], "random schedules", (30, 5000, said % (30, "random schedules"), ""))):
-            search = unittest.mock.Mock(so_far=lambda: "0 sets of answers")
+                ([Far(5, 0.01), Far(0, 0.0)], "orders", (5, 1000, said % (20, "orders") + "; some 1000 by an estimate", "")),
+                ([Far(8, 0.0)], "random schedules", (8, 5000, said % (8, "random schedules"), ""))):
+            search = unittest.mock.Mock(so_far=lambda: "0 sets of answers", orders_shown=20)
             Exploration.show(search, far, 5000, kind)
             self.assertEqual(search.progress.show.call_args[0], shown)
 
@@ -758,7 +759,7 @@ class Explorer(unittest.TestCase):
     def test_signal_as_processes_start(self):
         """A signal that comes just before the processes are there, or to one of them as it starts, ends the search as any
         other does."""
-        before = ("old = Jobs.run_in_children\ndef new(self):\n    os.kill(os.getpid(), %d)\n    return old(self)\n"
+        before = ("old = Jobs.run_in_children\ndef new(self, *words):\n    os.kill(os.getpid(), %d)\n    return old(self, *words)\n"
                   "Jobs.run_in_children = new")
         inside = ("old = Jobs.serve\ndef new(self, *words):\n    os.kill(os.getpid(), %d)\n    os.kill(os.getppid(), %d)\n"
                   "    return old(self, *words)\nJobs.serve = new")

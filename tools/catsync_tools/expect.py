@@ -12,7 +12,8 @@ from .sources import Source, read_source
 from .trial import BROKEN, EMPTY, MET, UNDECIDED, Result, results_of
 from .vacuous import is_empty, said_of
 
-WORDS = ((BROKEN, "FAILED"), (EMPTY, "says nothing"), (UNDECIDED, "not decided"), (MET, "passed"))     # a script has the first that a line has
+# What became of a line; a script has the first of these that one of its lines has.
+WORDS = ((BROKEN, "FAILED"), (EMPTY, "says nothing"), (UNDECIDED, "not decided"), (MET, "passed"))
 FAILED = 1
 NOT_DECIDED = 3
 INPUT = "standard input"

@@ -82,6 +82,7 @@ class Exploration:
         self.far: List[Far] = []                # how far the last tasks came
         self.guess: Optional[int] = None        # about how many orders there are, where these are more than are to be run
         self.is_guessed = False                 # that they are more
+        self.orders_shown = 0                   # how many were made, as was shown last
 
     # What is found
 
@@ -313,9 +314,12 @@ class Exploration:
         too little of the tree, so that the guess would be far too low, and with it the time that is left. Where there are more than
         are to be run it shows what comes after these."""
         done, guess = sum(one.schedules for one in far), guess_of(far) if len(far) > 1 else None
-        text = "%d of at most %d %s, %s" % (done, most, kind, self.so_far()) if most else "%d %s" % (done, kind)
+        count = done
+        if kind == "orders":        # the first ones are made again in shares
+            count = self.orders_shown = max(done, self.orders_shown)
+        text = "%d of at most %d %s, %s" % (count, most, kind, self.so_far()) if most else "%d %s" % (count, kind)
         if guess is not None and guess >= done:
-            text += "; some %s by an estimate" % about(guess) if int(about(guess)) >= done else ""
+            text += "; some %s by an estimate" % about(guess) if int(about(guess)) >= count else ""
         then = ", and then %d random schedules" % most if most and guess is not None and guess > most else ""
         most = min(guess, most or guess) if guess is not None and guess >= done else most
         is_told = most and (guess is not None or kind != "orders")
