@@ -1,20 +1,15 @@
 -- What the gates of a run were asked, by how the call ended.
-use Rattle.std.proofs.Common.{◌≡◌, ◌≤◌, ◌,◌, ℕ, Option, Result, Ok, Err, List, [], ◌∷◌, absurd, length, tt}
-use Rattle.std.specs.List.{range_with_len}
-use Rattle.std.specs.Io.KnownBytes.{Consumes, IsAtEnd}
+use Rattle.std.proofs.Common.{ℕ, Result, Ok, Err, List, [], ◌∷◌, absurd, length}
 use Rattle.base_types.specs.Scenario.{Scenario}
 use Rattle.ddl_effect.specs.Commands.{commands_of}
 use Rattle.edge_io.specs.declared.gates.Asked.{Asked}
 use Rattle.thread_run.specs.Asks.{AsksBy, AskedEach}
-use Rattle.catsync_top.specs.declared.status.Status.{Status}
-use Rattle.catsync_top.specs.declared.status.Status.TheVariants as statuses
-use Rattle.catsync_top.specs.Gates.{run_end, HasAsked, AsRun}
 
 -- what each was asked rests on whether the work ended well, and not on what it gave
 each_asked : {T E U F : Type 0} (one : Result T E) (two : Result U F) → ((b n : ℕ) (old new : List Asked) → AsksBy one b n old new → AsksBy two b n old new)
     → (script : Scenario) (ns : List ℕ) (xs ys : List (List Asked)) → AskedEach one script ns xs ys → AskedEach two script ns xs ys
 each_asked one two more script [] xs ys same = same
-each_asked one two more script (n ∷ ns) (x ∷ xs) (y ∷ ys) asks = more n (length (commands_of script n)) x y asks.0 , each_asked one two more script ns xs ys asks.1
+each_asked one two more script (n ∷ ns) (x ∷ xs) (y ∷ ys) asks = (more n (length (commands_of script n)) x y asks.0, each_asked one two more script ns xs ys asks.1)
 each_asked one two more script (n ∷ ns) [] ys asks = absurd asks
 each_asked one two more script (n ∷ ns) (x ∷ xs) [] asks = absurd asks
 

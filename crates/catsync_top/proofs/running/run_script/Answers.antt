@@ -1,5 +1,5 @@
 use Rattle.std.proofs.Common.{◌∙◌, refl, subst, arith}
-use Rattle.std.specs.List.{All, range_with_len}
+use Rattle.std.specs.List.{All}
 use Rattle.edge_io.specs.Taken.{Grows, GrowsByFront}
 use Rattle.out_text.specs.Typed.{IsTyped, IsLine}
 use Rattle.cacheless.specs.declared.check_kind.CheckKind.TheVariants as kinds
