@@ -31,19 +31,19 @@ returns-in-Err-Stopped-clause-stopped_read g c =
 pub returns-in-Ok-put_output-clause-asked : goal.returns-in-Ok-put_output-clause-asked
 returns-in-Ok-put_output-clause-asked g c =
     AsRun (has_read (words.Output kinds.Run) _ _ c.in-Ok.input.items c.deref.result.now (record { script = c.in-Ok-read_script.read.script; rest_at = c.in-Ok-read_script.read.rest_at }) c.in-Ok.ensures.bytes (grind arith) c.deref.ensures.value c.in-Ok-read_script.ensures)
-    (asked_well c.in-Ok-run.ran tt c.in-Ok-read_script.read.script _ _ _ c.in-Ok-run.ensures.asked)
+    (asked_well c.in-Ok-run.ran c.in-Ok-read_script.read.script _ _ _ c.in-Ok-run.ensures.asked)
 
 pub returns-clause-asked : goal.returns-clause-asked
 returns-clause-asked g c =
     AsRun (has_read (words.Output kinds.Run) _ _ c.in-Ok.input.items c.deref.result.now (record { script = c.in-Ok-read_script.read.script; rest_at = c.in-Ok-read_script.read.rest_at }) c.in-Ok.ensures.bytes (grind arith) c.deref.ensures.value c.in-Ok-read_script.ensures)
-    (asked_well c.in-Ok-run.ran tt c.in-Ok-read_script.read.script _ _ _ c.in-Ok-run.ensures.asked)
+    (asked_well c.in-Ok-run.ran c.in-Ok-read_script.read.script _ _ _ c.in-Ok-run.ensures.asked)
 
 pub returns-in-Err-Stopped-clause-asked : goal.returns-in-Err-Stopped-clause-asked
 returns-in-Err-Stopped-clause-asked g c =
     AsRun (has_read (words.Output kinds.Run) _ _ c.in-Ok.input.items c.deref.result.now (record { script = c.in-Ok-read_script.read.script; rest_at = c.in-Ok-read_script.read.rest_at }) c.in-Ok.ensures.bytes (grind arith) c.deref.ensures.value c.in-Ok-read_script.ensures)
-    (asked_some _ tt c.in-Ok-read_script.read.script _ _ _ c.run.ensures.asked)
+    (asked_some _ c.in-Ok-read_script.read.script _ _ _ c.run.ensures.asked)
 
 pub returns-in-Err-NoMemory-clause-asked : goal.returns-in-Err-NoMemory-clause-asked
 returns-in-Err-NoMemory-clause-asked g c =
     AsRun (has_read (words.Output kinds.Run) _ _ c.in-Ok.input.items c.deref.result.now (record { script = c.in-Ok-read_script.read.script; rest_at = c.in-Ok-read_script.read.rest_at }) c.in-Ok.ensures.bytes (grind arith) c.deref.ensures.value c.in-Ok-read_script.ensures)
-    (asked_some _ tt c.in-Ok-read_script.read.script _ _ _ c.run.ensures.asked)
+    (asked_some _ c.in-Ok-read_script.read.script _ _ _ c.run.ensures.asked)
