@@ -46,6 +46,9 @@ write_made xid items (Some refusal) = refusal
 
 -- the entry that comes of what comes next, in a history with a queue of this size, by what is left of the backend's plan
 abbrev pub event_made : ℕ → List Entry → ℕ → Plan → Next → Event
+event_made size before b left nexts.Look = events.Look (is_waiting before b)
+event_made size before b left (nexts.LookBeforeScan rebuilds) = events.Look (is_waiting before b)
+event_made size before b left nexts.LookBeforeAbsent = events.Look (is_waiting before b)
 event_made size before b left (nexts.Scan scan rebuilds) = events.Scan scan (length (answer_of before b scan))
 event_made size before b left (nexts.Lock rel mode) = lock_made rel mode (first_conflict (held_of before) b rel mode)
 event_made size before b left (nexts.Unlock rel mode) = events.Unlock rel mode
@@ -56,7 +59,6 @@ event_made size before b left nexts.Publish = events.Publish (min 64 (length (un
 event_made size before b left (nexts.TakeBack from) = events.Gone from
 event_made size before b left (nexts.Release from) = events.Release from
 event_made size before b left nexts.Leave = events.Stop
-event_made size before b left next = events.Look (is_waiting before b)
 
 -- a backend's step with this entry, and what it notes
 pub record MakesStep (scenario : Scenario) (before : List Entry) (was : Backend) (e : Entry) (now : Backend) : Type 0 where
