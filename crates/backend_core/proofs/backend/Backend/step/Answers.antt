@@ -23,7 +23,7 @@ pub returns-clause-refused : goal.returns-clause-refused
 returns-clause-refused g c = made_refused _ _ _ _ _ _ c.settle.result (remains _ _ _ _ _ c.args.self.now _ c.in_ok-enter_in_turn.ensures.makes (sym c.is_stopped.ensures ∙ c.if-is_stopped.false)).makes
 
 pub returns-in_err-enter_in_turn-clause-stays : goal.returns-in_err-enter_in_turn-clause-stays
-returns-in_err-enter_in_turn-clause-stays g c = ap has_left c.in_err-enter_in_turn.ensures.life ∙ c.requires.alive
+returns-in_err-enter_in_turn-clause-stays g c = if_refused c.from_residual.result (ap has_left c.in_err-enter_in_turn.ensures.life ∙ c.requires.alive)
 
 pub returns-clause-stays : goal.returns-clause-stays
 returns-clause-stays g c = if_refused c.settle.result (ap has_left c.settle.ensures.life ∙ sym c.is_stopped.ensures ∙ c.if-is_stopped.false)

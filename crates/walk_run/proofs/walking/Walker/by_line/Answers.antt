@@ -1,5 +1,6 @@
 use Rattle.std.proofs.Common.{◌∙◌, refl, replicate}
 use Rattle.base_types.specs.declared.command.Turns.{Turns}
+use Rattle.backend_core.proofs.Entries.Inside.{if_refused}
 use Rattle.walk_run.proofs.Leaving.{leaves_same, leaves_then}
 use Rattle.walk_run.proofs.Following.{items_follow}
 use Rattle.walk_run.proofs.ScheduleSteps.{goes_nowhere, items_go_on}
@@ -26,5 +27,5 @@ returns-in_err-by_turns-clause-leaves g c = leaves_then (g.L.Seg.script c.args.s
     c.loop-turns.invariant.script c.loop-turns.invariant.leaves c.in_err-by_turns.ensures.leaves
 
 pub returns-in_err-by_turns-clause-follows : goal.returns-in_err-by_turns-clause-follows
-returns-in_err-by_turns-clause-follows g c = items_follow (λ (t : Turns). replicate t.count t.backend) (g.L.Seg.script c.args.seg.now) (g.L.Seg.script c.loop-turns.seg) (g.L.Seg.history c.args.seg.now) (g.L.Seg.history c.loop-turns.seg) (g.L.Seg.history c.by_turns.new.seg) c.loop-turns.self.backends.items c.args.line.now c.loop-turns.turns-index _
-    c.loop-turns-test.true c.turns-item.is c.loop-turns.invariant.script c.loop-turns.invariant.goes c.in_err-by_turns.ensures.follows
+returns-in_err-by_turns-clause-follows g c = if_refused c.from_residual.result (items_follow (λ (t : Turns). replicate t.count t.backend) (g.L.Seg.script c.args.seg.now) (g.L.Seg.script c.loop-turns.seg) (g.L.Seg.history c.args.seg.now) (g.L.Seg.history c.loop-turns.seg) (g.L.Seg.history c.by_turns.new.seg) c.loop-turns.self.backends.items c.args.line.now c.loop-turns.turns-index _
+    c.loop-turns-test.true c.turns-item.is c.loop-turns.invariant.script c.loop-turns.invariant.goes c.in_err-by_turns.ensures.follows)

@@ -1,5 +1,6 @@
 use Rattle.std.proofs.Common.{◌∙◌, subst, sym}
 use Rattle.base_types.specs.Scenario.{turns_of}
+use Rattle.backend_core.proofs.Entries.Inside.{if_refused}
 use Rattle.walk_run.specs.Walks.{FollowsSteps}
 use Rattle.walk_run.proofs.Leaving.{leaves_same, leaves_then}
 use Rattle.walk_run.proofs.Following.{items_follow}
@@ -27,5 +28,5 @@ returns-in_err-by_line-clause-leaves g c = leaves_then c.args.script.now (g.L.Se
     c.loop-line.invariant.script c.loop-line.invariant.leaves c.in_err-by_line.ensures.leaves
 
 pub returns-in_err-by_line-clause-follows : goal.returns-in_err-by_line-clause-follows
-returns-in_err-by_line-clause-follows g c = items_follow turns_of c.args.script.now (g.L.Seg.script c.loop-line.seg) (g.L.Seg.history c.args.seg.now) (g.L.Seg.history c.loop-line.seg) (g.L.Seg.history c.by_line.new.seg) c.loop-line.self.backends.items _ c.loop-line.line-index _
-    c.loop-line-test.true c.line-item.is c.loop-line.invariant.script c.loop-line.invariant.goes c.in_err-by_line.ensures.follows
+returns-in_err-by_line-clause-follows g c = if_refused c.from_residual.result (items_follow turns_of c.args.script.now (g.L.Seg.script c.loop-line.seg) (g.L.Seg.history c.args.seg.now) (g.L.Seg.history c.loop-line.seg) (g.L.Seg.history c.by_line.new.seg) c.loop-line.self.backends.items _ c.loop-line.line-index _
+    c.loop-line-test.true c.line-item.is c.loop-line.invariant.script c.loop-line.invariant.goes c.in_err-by_line.ensures.follows)

@@ -1,4 +1,5 @@
 use Rattle.std.proofs.Common.{◌∙◌, refl}
+use Rattle.backend_core.proofs.Entries.Inside.{if_refused}
 use Rattle.walk_run.proofs.Leaving.{leaves_same, leaves_then}
 use Rattle.walk_run.proofs.Following.{turns_follow}
 use Rattle.walk_run.proofs.ScheduleSteps.{goes_nowhere, turns_go_on}
@@ -25,5 +26,5 @@ returns-in_err-step-clause-leaves g c = leaves_then (g.L.Seg.script c.args.seg.n
     c.steps.invariant.script c.steps.invariant.leaves c.in_err-step.ensures.leaves
 
 pub returns-in_err-step-clause-follows : goal.returns-in_err-step-clause-follows
-returns-in_err-step-clause-follows g c = turns_follow (g.L.Seg.script c.args.seg.now) (g.L.Seg.script c.steps.seg) (g.L.Seg.history c.args.seg.now) (g.L.Seg.history c.steps.seg) (g.L.Seg.history c.step.new.seg) c.steps.self.backends.items c.steps._step c.args.turns.count c.args.turns.backend
-    c.steps-test.true c.steps.invariant.script c.steps.invariant.goes c.in_err-step.ensures.follows
+returns-in_err-step-clause-follows g c = if_refused c.from_residual.result (turns_follow (g.L.Seg.script c.args.seg.now) (g.L.Seg.script c.steps.seg) (g.L.Seg.history c.args.seg.now) (g.L.Seg.history c.steps.seg) (g.L.Seg.history c.step.new.seg) c.steps.self.backends.items c.steps._step c.args.turns.count c.args.turns.backend
+    c.steps-test.true c.steps.invariant.script c.steps.invariant.goes c.in_err-step.ensures.follows)

@@ -6,6 +6,7 @@ use Rattle.backend_core.specs.Agrees.{AreSpelled}
 use Rattle.backend_core.specs.Places.{WantsPlaces}
 use Rattle.backend_core.proofs.Played.{entered_played}
 use Rattle.backend_core.proofs.PlacesWanted.{kept_only, has_wanted}
+use Rattle.backend_core.proofs.Entries.Inside.{if_refused}
 use Rattle.walk_run.proofs.Leaving.{NoEntry, step_one, one_follows, refused_follows, leaves_of, step_others, step_most}
 use Rattle.walk_run.proofs.ScheduleSteps.{found_at, stands_there, right_there, same_there, step_makes}
 use Rattle.walk_run.proofs.walking.Walker.make_step.Goals as goal
@@ -46,7 +47,7 @@ returns-in_err-promise-clause-leaves g c = leaves_of (g.L.Seg.script c.args.seg.
     c.requires.backend c.requires.stand (NoEntry c.promise.ensures.promises.entries) c.promise.ensures.promises.others (kept_only c.in_err-promise.ensures.promises.err)
 
 pub returns-in_err-promise-clause-follows : goal.returns-in_err-promise-clause-follows
-returns-in_err-promise-clause-follows g c = one_follows (g.L.Seg.script c.args.seg.now) (g.L.Seg.history c.args.seg.now) (g.L.Seg.history c.promise.new.self) c.args.b (NoEntry c.promise.ensures.promises.entries)
+returns-in_err-promise-clause-follows g c = if_refused c.from_residual.result (one_follows (g.L.Seg.script c.args.seg.now) (g.L.Seg.history c.args.seg.now) (g.L.Seg.history c.promise.new.self) c.args.b (NoEntry c.promise.ensures.promises.entries))
 
 pub returns-clause-follows : goal.returns-clause-follows
 returns-clause-follows g c = refused_follows (g.L.Seg.script c.args.seg.now) (g.L.Seg.history c.args.seg.now) (g.L.Seg.history c.step.new.seg) c.args.b c.step.result

@@ -1,4 +1,5 @@
 use Rattle.std.proofs.Common.{◌∙◌, ◌-◌, refl, sym}
+use Rattle.backend_core.proofs.Entries.Inside.{if_refused}
 use Rattle.walk_run.proofs.Leaving.{leaves_same, leaves_then}
 use Rattle.walk_run.proofs.Following.{stops_follow}
 use Rattle.walk_run.proofs.ScheduleSteps.{read_running}
@@ -34,5 +35,5 @@ returns-in_err-make_step-clause-leaves g c = leaves_then (g.L.Seg.script c.args.
     c.running.invariant.script c.running.invariant.leaves c.in_err-make_step.ensures.leaves
 
 pub returns-in_err-make_step-clause-follows : goal.returns-in_err-make_step-clause-follows
-returns-in_err-make_step-clause-follows g c = stops_follow (g.L.Seg.script c.args.seg.now) (g.L.Seg.script c.running.seg) (g.L.Seg.history c.args.seg.now) (g.L.Seg.history c.running.seg) (g.L.Seg.history c.make_step.new.seg) c.running.self.backends.items c.args.b c.index.result.now
-    c.running.invariant.script c.requires.backend c.running.invariant.goes c.index.ensures (sym c.running-test.ensures) c.in_err-make_step.ensures.follows
+returns-in_err-make_step-clause-follows g c = if_refused c.from_residual.result (stops_follow (g.L.Seg.script c.args.seg.now) (g.L.Seg.script c.running.seg) (g.L.Seg.history c.args.seg.now) (g.L.Seg.history c.running.seg) (g.L.Seg.history c.make_step.new.seg) c.running.self.backends.items c.args.b c.index.result.now
+    c.running.invariant.script c.requires.backend c.running.invariant.goes c.index.ensures (sym c.running-test.ensures) c.in_err-make_step.ensures.follows)
