@@ -52,7 +52,7 @@ asks_one b first upto n c last old now new asks same number more one = record {
 
 -- one step after another
 asks_then_list : (b first n m : ℕ) → asks_after b first (n + m) ≡ asks_after b first n ++ asks_after b (first + n) m
-asks_then_list b first n zero = ap (asks_after b first) (omega arith) ∙ sym (append-nil (asks_after b first n))
+asks_then_list b first n zero = let none : n + zero ≡ n = omega arith in ap (asks_after b first) none ∙ sym (append-nil (asks_after b first n))
 asks_then_list b first n (suc m) =
     let more : n + suc m ≡ suc (n + m) = omega arith in let there : first + suc (n + m) ≡ first + n + suc m = omega arith in
     ap (asks_after b first) more ∙ ap (λ l. l ++ ask_of b (first + suc (n + m)) ∷ []) (asks_then_list b first n m) ∙ ap (λ k. (asks_after b first n ++ asks_after b (first + n) m) ++ ask_of b k ∷ []) there
@@ -168,12 +168,12 @@ joined_far s joined = ap (λ t. cond t (s.progress.finished + 1) 0) joined
 
 -- the same after a look that is held back
 look_far : (was now : Worker) (over : Bool) (look : LookFor) → Wants was.backend (wants.Look look) → HasLooked was now false → ok_of Bool NoMemory over ≡ Ok false → asked_before over now.backend ≡ asked_so_far was.backend
-look_far was now true look wants looked no = absurd (cc no)
-look_far was now false look wants looked no = let same = looked.stays.0 in ap (λ n. n + 1) same ∙ sym (joined_far was.backend (ap has_joined wants.0))
+look_far was now true look wants looked other = absurd (cc other)
+look_far was now false look wants looked other = let same = looked.stays.0 in ap (λ n. n + 1) same ∙ sym (joined_far was.backend (ap has_joined wants.0))
 
 -- after a look or a turn the gate was asked for as much as before it
 pub does_far : (was now : Worker) (over : Bool) → DoesNext was now (Ok over) → has_left now.backend.life ≡ false → asked_before over now.backend ≡ asked_so_far was.backend
-does_far was now over (Looks look wants (HoldsBack looked no)) alive = look_far was now over look wants looked no
+does_far was now over (Looks look wants (HoldsBack looked back)) alive = look_far was now over look wants looked back
 does_far was now over (Looks look wants (HandsOver looked has takes goes)) alive =
     goes.number has.joined ∙ ap (λ n. n + 1) has.stays.0 ∙ sym (joined_far was.backend (ap has_joined wants.0))
 does_far was now over (Turns needs takes goes) alive = turned_far was.pass.number over was.backend now.backend was.backend.life refl goes
@@ -190,7 +190,7 @@ left_far s false stays left = joined_far s (left_joined s.life left)
     left_joined lives.Stopped left = refl
 
 pub gone_far : (was now : Worker) (over : Bool) → DoesNext was now (Ok over) → has_left now.backend.life ≡ true → asked_so_far now.backend ≡ asked_so_far was.backend
-gone_far was now over (Looks look wants (HoldsBack looked no)) left = joined_far now.backend looked.joined ∙ ap (λ n. n + 1) looked.stays.0 ∙ sym (joined_far was.backend (ap has_joined wants.0))
+gone_far was now over (Looks look wants (HoldsBack looked back)) left = joined_far now.backend looked.joined ∙ ap (λ n. n + 1) looked.stays.0 ∙ sym (joined_far was.backend (ap has_joined wants.0))
 gone_far was now over (Looks look wants (HandsOver looked has takes goes)) left =
     left_far now.backend over goes.stays left ∙ goes.number has.joined ∙ ap (λ n. n + 1) has.stays.0 ∙ sym (joined_far was.backend (ap has_joined wants.0))
 gone_far was now over (Turns needs takes goes) left = left_far now.backend over goes.stays left ∙ turned_far was.pass.number over was.backend now.backend was.backend.life refl goes
@@ -265,16 +265,16 @@ each_map result other script so (n ∷ ns) [] ys each = absurd each
 each_map result other script so (n ∷ ns) (x ∷ xs) [] each = absurd each
 each_map result other script so (n ∷ ns) (x ∷ xs) (y ∷ ys) each = (so n (length (commands_of script n)) x y each.0, each_map result other script so ns xs ys each.1)
 
-pub each_some : {T E S F : Type 0} (result : Result T E) (refusal : F) (script : Scenario) (ns : List ℕ) (xs ys : List (List Asked)) → AskedEach result script ns xs ys → AskedEach (err_of S F refusal) script ns xs ys
-each_some {T} {E} {S} {F} result refusal script ns xs ys each = each_map result (err_of S F refusal) script (by_some result) ns xs ys each
+pub each_some : {T E F : Type 0} (S : Type 0) (result : Result T E) (refusal : F) (script : Scenario) (ns : List ℕ) (xs ys : List (List Asked)) → AskedEach result script ns xs ys → AskedEach (err_of S F refusal) script ns xs ys
+each_some {T} {E} {F} S result refusal script ns xs ys each = each_map result (err_of S F refusal) script (by_some result) ns xs ys each
 
-pub each_done : {T E S F : Type 0} (done : T) (value : S) (script : Scenario) (ns : List ℕ) (xs ys : List (List Asked)) → AskedEach (ok_of T E done) script ns xs ys → AskedEach (ok_of S F value) script ns xs ys
-each_done {T} {E} {S} {F} done value script ns xs ys each = each_map (ok_of T E done) (ok_of S F value) script (λ b commands old new asks. asks) ns xs ys each
+pub each_done : {T S : Type 0} (E F : Type 0) (done : T) (value : S) (script : Scenario) (ns : List ℕ) (xs ys : List (List Asked)) → AskedEach (ok_of T E done) script ns xs ys → AskedEach (ok_of S F value) script ns xs ys
+each_done {T} {S} E F done value script ns xs ys each = each_map (ok_of T E done) (ok_of S F value) script (λ b commands old new asks. asks) ns xs ys each
 
 -- a refusal that is handed on
 pub refused_each : {T E S F : Type 0} (inner : Result S F) (result : Result T E) (script : Scenario) (ns : List ℕ) (xs ys : List (List Asked)) → IsErr result → AskedEach inner script ns xs ys → AskedEach result script ns xs ys
-refused_each inner (Ok x) script ns xs ys e each = absurd (cc e)
-refused_each inner (Err refusal) script ns xs ys e each = each_some inner refusal script ns xs ys each
+refused_each {T} {E} {S} {F} inner (Ok x) script ns xs ys e each = absurd (cc e)
+refused_each {T} {E} {S} {F} inner (Err refusal) script ns xs ys e each = each_some T inner refusal script ns xs ys each
 
 -- of all commands of the script, as they are numbered
 pub run_asked : {T E : Type 0} (result : Result T E) (whole script : Scenario) (numbers ns : List ℕ) (xs ys : List (List Asked)) → whole ≡ script → numbers ≡ ns → AskedEach result whole numbers xs ys → AskedEach result script ns xs ys
@@ -297,10 +297,10 @@ each_beside r script (m ∷ ns) (x ∷ xs) [] others len each = absurd each
 each_beside r script (m ∷ ns) (x ∷ xs) (y ∷ ys) others len each = (each.0, each_beside r script ns xs ys others (omega (arith, len)) each.1)
 
 -- nothing was asked
-pub each_none : {T E : Type 0} (refusal : E) (script : Scenario) (ns : List ℕ) (xs : List (List Asked)) → length ns ≤ length xs → AskedEach (err_of T E refusal) script ns xs xs
-each_none {T} {E} refusal script [] xs few = refl
-each_none {T} {E} refusal script (m ∷ ns) [] few = absurd (omega (arith, few))
-each_none {T} {E} refusal script (m ∷ ns) (x ∷ xs) few = (record { upto = 0; asks = asks_none m 0 0 x refl }, each_none {T} {E} refusal script ns xs (omega (arith, few)))
+pub each_none : {E : Type 0} (T : Type 0) (refusal : E) (script : Scenario) (ns : List ℕ) (xs : List (List Asked)) → length ns ≤ length xs → AskedEach (err_of T E refusal) script ns xs xs
+each_none T refusal script [] xs few = refl
+each_none T refusal script (m ∷ ns) [] few = absurd (omega (arith, few))
+each_none T refusal script (m ∷ ns) (x ∷ xs) few = (record { upto = 0; asks = asks_none m 0 0 x refl }, each_none T refusal script ns xs (omega (arith, few)))
 
 -- as the seats say, from the last on
 pub each_together : {G : Type 0} (script : Scenario) (asked : G → List Asked) (xs ys : List (Seat G)) → AskedTogether script asked xs ys → AskedEach (end_of ys) script (from_last number_of xs) (from_last (λ s. asked s.gate) xs) (from_last (λ s. asked s.gate) ys)

@@ -1,5 +1,5 @@
 -- What was run, by the script that ends for a backend where it was halted.
-use Rattle.std.proofs.Common.{◌≡◌, ◌≢◌, ◌≤◌, ◌+◌, ◌==◌, ◌⊎◌, inl, inr, ℕ, true, false, List, ◌++◌, max, sym, subst, arith}
+use Rattle.std.proofs.Common.{◌≡◌, ◌≢◌, ◌≤◌, ◌<◌, ◌+◌, ◌∙◌, ◌==◌, ◌⊎◌, inl, inr, ℕ, true, false, List, ◌++◌, max, sym, ap, subst, arith}
 use Rattle.std.proofs.lemmas.Bool.Decides.{eqb_tells}
 use Rattle.base_types.specs.Scenario.{Scenario, IsBackend}
 use Rattle.event_kinds.specs.declared.entry.Entry.{Entry}
@@ -27,14 +27,18 @@ run_halted b n scenario part history now held s run halting is later = subst (λ
 pub stands_halted : (b n : ℕ) (scenario part : Scenario) (history now : List Entry) (held : List HeldLook) (s : Backend) → IsHalting scenario b n history held s → part ≡ cut b n scenario → now ≡ history ++ entries_of b held → Stands part now s
 stands_halted b n scenario part history now held s halting is later = subst (λ x. Stands x now s) (sym is) (subst (λ (h : List Entry). Stands (cut b n scenario) h s) (sym later) (halting.after (cut b n scenario) (cut_is b n scenario)).1)
 
--- places are promised to the backends up to this number
-abbrev pub HavePlaces : ℕ → (ℕ → ℕ) → Type 0
-HavePlaces n promised = (b : ℕ) → IsBackend n b → 48 ≤ promised b
+-- the places of the backends up to this number are promised, and none of those after it
+pub record HavePlaces (n : ℕ) (promised : ℕ → ℕ) : Type 0 where
+  pub have : (b : ℕ) → IsBackend n b → promised b ≡ 48
+  pub none : (b : ℕ) → n < b → promised b ≡ 0
 
--- and to the next one
+-- and those of the next one
 pub places_more : (n b : ℕ) (had has : ℕ → ℕ) → HavePlaces n had → b ≡ n + 1 → has b ≡ max (had b) 48 → ((a : ℕ) → a ≢ b → has a ≡ had a) → HavePlaces (n + 1) has
-places_more n b had has before next own others k is = by_number (eqb_tells k b)
+places_more n b had has before next own others = record {
+  have = λ k is. by_number k is (eqb_tells k b);
+  none = λ k past. others k (λ same. omega (arith, same, next, past)) ∙ before.none k (omega (arith, past));
+}
   where
-    by_number : (((k == b) ≡ true) × (k ≡ b)) ⊎ (((k == b) ≡ false) × (k ≢ b)) → 48 ≤ has k
-    by_number (inl same) = subst (λ m. 48 ≤ has m) (sym same.1) (omega (arith, own))
-    by_number (inr apart) = omega (arith, others k apart.1, before k (is.0, omega (arith, is.1, next, apart.1)))
+    by_number : (k : ℕ) → IsBackend (n + 1) k → (((k == b) ≡ true) × (k ≡ b)) ⊎ (((k == b) ≡ false) × (k ≢ b)) → has k ≡ 48
+    by_number k is (inl same) = let none = before.none b (omega (arith, next)) in ap has same.1 ∙ omega (arith, own, none)
+    by_number k is (inr apart) = others k apart.1 ∙ before.have k (is.0, omega (arith, is.1, next, apart.1))

@@ -1,5 +1,6 @@
 -- A worker from step to step.
-use Rattle.std.proofs.Common.{◌≡◌, ◌≤◌, ◌∙◌, ℕ, Bool, true, false, List, [], ◌++◌, refl, sym, ap, subst, append_assoc, append-nil, length, Result, Ok, Err, IfOk, OnOk, OnErr, arith}
+use Rattle.std.proofs.Common.{◌≡◌, ◌≤◌, ◌∙◌, ℕ, Bool, true, false, List, [], ◌++◌, refl, sym, ap, subst, append_assoc, append-nil, length, Result, Ok, Err, IfOk, OnOk, OnErr, is_err, arith}
+use Rattle.std.proofs.lemmas.Bool.{both_ways}
 use Rattle.base_types.specs.Scenario.{Scenario, IsBackend}
 use Rattle.ddl_effect.specs.Commands.{commands_of}
 use Rattle.event_kinds.specs.declared.entry.Entry.{Entry}
@@ -192,6 +193,11 @@ module _ {E : Type 0} (whole : Scenario) (b : ℕ) (seen : List Entry) (held : L
   -- where a gate stops it at a command, it may be halted
   pub stopped_may : (at : Backend) → stopped ≡ false → IsAtCommand over s at → (now : Backend) → HaltsWherever at now → MayHalt whole b (length at.lines) seen held now
   stopped_may at stays is now halts = underway.halts (sym told ∙ stays) at now is halts
+
+-- what is said of a call that ended well, by the word that it did
+pub well_so : {T E : Type 0} (P : Type 0) (result : Result T E) (refused : Bool) → refused ≡ is_err result → OnOk result P → refused ≡ false → P
+well_so P (Ok x) refused is so well = so
+well_so P (Err e) refused is so well = absurd (both_ways refused well is)
 
 pub any_ok : {T E : Type 0} {P : Type 0} (result : Result T E) → P → OnOk result P
 any_ok (Ok x) here = here

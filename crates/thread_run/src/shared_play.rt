@@ -84,6 +84,7 @@ impl SharedPlay {
     ghost use Rattle.shared_seg.specs.Kept.{places_in};
     ghost use Rattle.backend_core.specs.Agrees.{AreSpelled, IsPlayed, Stands};
     ghost use Rattle.backend_core.specs.Apart.{IsHolding};
+    ghost use Rattle.backend_core.specs.Cuts.{cut};
     ghost use Rattle.backend_core.specs.Words.{has_left, has_joined};
     ghost use Rattle.turn_table.specs.Histories.{Grew};
     ghost use Rattle.backend_core.specs.Places.{PromisesOnly};
@@ -97,7 +98,7 @@ impl SharedPlay {
         requires spelled { AreSpelled script.now }
         ensures history { IfOk result (λ play. play.shared.history ≡ []) }
         ensures script { IfOk result (λ play. (play.whole ≡ script.now) × (play.shared.script ≡ script.now)) }
-        ensures places { IfOk result (λ play. (b : ℕ) → IsBackend script.now.backends b → 48 ≤ places_in play.shared b) }
+        ensures places { IfOk result (λ play. (b : ℕ) → IsBackend script.now.backends b → places_in play.shared b ≡ 48) }
     {
         let mut shared = Shared::new(alloc, script)?;
         promise_all(&mut shared, script.backends())?;
@@ -162,6 +163,7 @@ impl SharedPlay {
         ensures left { OnOk result (has_left backend.new.life ≡ true) }
         ensures stands { OnOk result (Stands self.new.shared.script self.new.shared.history backend.new) }
         ensures finished { OnOk result (backend.new.progress.finished ≤ at.now.commands) }
+        ensures script { OnOk result (self.new.shared.script ≡ cut at.now.backend at.now.commands self.old.shared.script) }
     {
         hand_over(&mut self.shared, at.backend, backend, looks)?;
         self.shared.retell(at);
@@ -182,9 +184,10 @@ impl SharedPlay {
 // Promises places to each backend.
 fn promise_all<L: Seg>(seg: &mut L, backends: u32) -> Result<(), NoMemory>
     requires backends { (L.script seg.old).backends ≡ backends }
+    requires none { (b : ℕ) → L.promised seg.old b ≡ 0 }
     ensures script { L.script seg.new ≡ L.script seg.old }
     ensures history { L.history seg.new ≡ L.history seg.old }
-    ensures places { OnOk result ((b : ℕ) → IsBackend backends b → 48 ≤ L.promised seg.new b) }
+    ensures places { OnOk result ((b : ℕ) → IsBackend backends b → L.promised seg.new b ≡ 48) }
 {
     'promising: for number in 0..backends {
         seg.promise(number + 1, PLACES)?;

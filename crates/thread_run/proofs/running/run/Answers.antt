@@ -89,7 +89,7 @@ returns-clause-coherent g c =
 
 pub returns-in_default-clause-asked : goal.returns-in_default-clause-asked
 returns-in_default-clause-asked g c = let gates = c.requires.gates in
-    each_none refusals.NoMemory c.args.script.now (range_with_len 1 c.args.script.now.backends) (map g.G.Gate.asked c.args.gates.now.items) (omega (arith, gates, length-range_with_len 1 c.args.script.now.backends, length-map c.args.gates.now.items g.G.Gate.asked))
+    each_none _ refusals.NoMemory c.args.script.now (range_with_len 1 c.args.script.now.backends) (map g.G.Gate.asked c.args.gates.now.items) (omega (arith, gates, length-range_with_len 1 c.args.script.now.backends, length-map c.args.gates.now.items g.G.Gate.asked))
 
 pub returns-in_err-run_backends-clause-asked : goal.returns-in_err-run_backends-clause-asked
 returns-in_err-run_backends-clause-asked g c = let asked = g.G.Gate.asked in
@@ -98,10 +98,10 @@ returns-in_err-run_backends-clause-asked g c = let asked = g.G.Gate.asked in
 
 pub returns-in_default-all_lines-clause-asked : goal.returns-in_default-all_lines-clause-asked
 returns-in_default-all_lines-clause-asked g c = let asked = g.G.Gate.asked in
-    each_some c.run_backends.result refusals.NoMemory c.args.script.now (range_with_len 1 c.args.script.now.backends) (map asked c.args.gates.now.items) (map asked c.run_backends.new.gates.items)
+    each_some _ c.run_backends.result refusals.NoMemory c.args.script.now (range_with_len 1 c.args.script.now.backends) (map asked c.args.gates.now.items) (map asked c.run_backends.new.gates.items)
     (run_asked c.run_backends.result (start_of c.in-Ok.table).whole c.args.script.now (map (λ p. p.number) c.in-Ok.passes.items) (range_with_len 1 c.args.script.now.backends) (map asked c.args.gates.now.items) (map asked c.run_backends.new.gates.items) c.in-Ok.ensures.script c.in-Ok.ensures.numbers c.run_backends.ensures.asked)
 
 pub returns-clause-asked : goal.returns-clause-asked
 returns-clause-asked g c = let asked = g.G.Gate.asked in
-    each_done tt _ c.args.script.now (range_with_len 1 c.args.script.now.backends) (map asked c.args.gates.now.items) (map asked c.run_backends.new.gates.items)
+    each_done _ _ tt _ c.args.script.now (range_with_len 1 c.args.script.now.backends) (map asked c.args.gates.now.items) (map asked c.run_backends.new.gates.items)
     (run_asked (Ok tt) (start_of c.in-Ok.table).whole c.args.script.now (map (λ p. p.number) c.in-Ok.passes.items) (range_with_len 1 c.args.script.now.backends) (map asked c.args.gates.now.items) (map asked c.run_backends.new.gates.items) c.in-Ok.ensures.script c.in-Ok.ensures.numbers c.in_ok-run_backends.ensures.asked)

@@ -62,6 +62,3 @@ returns-then-branch-clause-full g c = λ over. absurd (cc over)
 
 pub returns-then-branch-2-clause-full : goal.returns-then-branch-2-clause-full
 returns-then-branch-2-clause-full g c = λ over. absurd (cc over)
-
-pub returns-clause-full : goal.returns-clause-full
-returns-clause-full g c = λ over stays. c.entering.invariant.full

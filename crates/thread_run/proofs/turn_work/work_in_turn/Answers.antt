@@ -43,7 +43,7 @@ returns-then-not-enters-clause-number g c = λ joined. none_over c.args.backend.
 pub returns-then-not-enters-clause-first : goal.returns-then-not-enters-clause-first
 returns-then-not-enters-clause-first g c =
     let right = subst (λ e. right_before e (g.L.Seg.script c.args.seg.now) (g.L.Seg.history c.args.seg.now ++ entries_of c.args.b c.args.looks.now) c.args.backend.now) c.if-not-enters.true c.requires.holds.right in
-    λ starts. absurd (both_ways _ (ap has_joined right.keeps.alive) starts)
+    λ starts. absurd (both_ways _ starts (ap has_joined right.keeps.alive))
 
 pub enter_all-requires : goal.enter_all-requires
 enter_all-requires g c =

@@ -1,11 +1,13 @@
 use Rattle.std.proofs.Common.{◌∙◌, ap}
 use Rattle.shared_seg.specs.Places.{promised_in}
 use Rattle.backend_core.specs.Cuts.{cut}
+use Rattle.thread_run.specs.Scripts.{Play}
 use Rattle.thread_run.proofs.Counted.{stopped_few}
 use Rattle.thread_run.proofs.CutRuns.{run_halted, stands_halted}
 use Rattle.thread_run.proofs.Played.{grew_looked, grew_then}
 use Rattle.thread_run.proofs.Scripts.{left_less}
 use Rattle.thread_run.proofs.SharedPlays.{backend_inside, backend_cut, halts_inside, grew_outside, promises_outside, most_outside, stop_only, others_keep}
+use Rattle.thread_run.proofs.Workers.{any_ok}
 use Rattle.thread_run.proofs.shared_play.SharedPlay.stop.Goals as goal
 
 pub hand_over-requires-clause-backend : goal.hand_over-requires-clause-backend
@@ -67,3 +69,7 @@ pub returns-clause-finished : goal.returns-clause-finished
 returns-clause-finished g c = let at = c.args.at.now in
     stopped_few at.backend at.commands c.self.inside.shared.script c.stop_in_turn.new.seg.script c.stop_in_turn.new.seg.history c.stop_in_turn.new.backend c.stop_in_turn.result
     (c.stop_in_turn.ensures.script ∙ c.retell.ensures.script ∙ ap (cut at.backend at.commands) c.in_ok-hand_over.ensures.script) c.stop_in_turn.ensures.id c.stop_in_turn.ensures.left c.stop_in_turn.ensures.stands
+
+pub returns-clause-script : goal.returns-clause-script
+returns-clause-script g c = let at = c.args.at.now in
+    any_ok c.stop_in_turn.result (c.stop_in_turn.ensures.script ∙ c.retell.ensures.script ∙ ap (cut at.backend at.commands) c.in_ok-hand_over.ensures.script ∙ ap (λ (x : Play). cut at.backend at.commands x.shared.script) c.self.view_is)

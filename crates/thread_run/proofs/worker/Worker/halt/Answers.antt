@@ -1,11 +1,12 @@
-use Rattle.std.proofs.Common.{◌∙◌, sym, ap, subst, length}
+use Rattle.std.proofs.Common.{◌≡◌, ◌≤◌, ◌∙◌, true, sym, ap, subst, length}
 use Rattle.std.specs.declared.snapshot.Snapshot.{Snapshot}
 use Rattle.base_types.specs.Scenario.{IsBackend}
 use Rattle.history_model.specs.Log.{is_waiting}
+use Rattle.backend_core.specs.Words.{has_left}
 use Rattle.turn_table.specs.Passes.{start_of, seen_by, room_of, words_of}
 use Rattle.turn_table.specs.Words.{TellExactly}
 use Rattle.thread_run.specs.Scripts.{Play}
-use Rattle.thread_run.proofs.Workers.{turn_backend, turn_halts, extends_turn, rooms_kept, whole_kept}
+use Rattle.thread_run.proofs.Workers.{turn_backend, turn_halts, extends_turn, rooms_kept, whole_kept, well_so}
 use Rattle.thread_run.proofs.worker.Worker.halt.Goals as goal
 
 pub stop-done-requires-clause-backend : goal.stop-done-requires-clause-backend
@@ -34,3 +35,10 @@ returns-clause-goes g c = let number = c.close-pass.ensures.seat ∙ c.tell.ensu
   seen = extends_turn c.args.self.pass.number (seen_by c.args.self.pass) c.open-last.result.opened.value.shared.history c.value.result.now.shared.history c.stop-done.new.self.shared.history (seen_by c.close-pass.result)
       c.open-last.ensures.seen (ap (λ (v : Play). v.shared.history) (c.value.ensures.value ∙ c.open-last.ensures.value)) c.stop-done.ensures.grew (c.close-pass.ensures.seen ∙ ap (λ (v : Play). v.shared.history) c.tell.ensures.kept.0);
 }
+
+pub returns-clause-left : goal.returns-clause-left
+returns-clause-left g c = well_so (has_left c.stop-done.new.backend.life ≡ true) c.stop-done.result c.is_err.result c.is_err.ensures.value c.stop-done.ensures.left
+
+pub returns-clause-most : goal.returns-clause-most
+returns-clause-most g c = let finished = c.stop-done.new.backend.progress.finished in
+    λ well. subst (λ n. finished ≤ n) (ap length c.transcript.ensures) (well_so (finished ≤ length c.transcript.result.now) c.stop-done.result c.is_err.result c.is_err.ensures.value c.stop-done.ensures.finished well)
