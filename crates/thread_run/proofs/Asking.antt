@@ -14,7 +14,8 @@ use Rattle.backend_core.specs.declared.look_for.LookFor.{LookFor}
 use Rattle.backend_core.specs.declared.want.Want.TheVariants as wants
 use Rattle.backend_core.specs.Looks.{IsOnItsWay, GoesWherever, Wants}
 use Rattle.backend_core.specs.Words.{has_joined, has_left}
-use Rattle.thread_run.specs.Asks.{ask_of, asks_after, AsksTo, asked_before, AsksSome, StopsBefore, GoesAsked, asked_so_far, AsksBy, AskedEach}
+use Rattle.thread_run.specs.Asks.{ask_of, asks_after, AsksTo, AsksSome, StopsBefore, AsksBy, AskedEach}
+use Rattle.thread_run.specs.AskedBefore.{asked_before, GoesAsked, asked_so_far}
 use Rattle.thread_run.specs.declared.seats.Seat.{Seat}
 use Rattle.thread_run.specs.declared.refusal.RunRefusal.{RunRefusal}
 use Rattle.thread_run.specs.declared.worker.Worker.{Worker}

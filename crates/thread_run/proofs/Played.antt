@@ -29,7 +29,7 @@ use Rattle.backend_core.specs.Words.{has_left, has_joined}
 use Rattle.backend_core.proofs.Played.{IsPlayed-more}
 use Rattle.backend_core.proofs.PlacesWanted.{wanted_here, only_then}
 use Rattle.backend_core.proofs.Stepped.{awaits_stands}
-use Rattle.thread_run.specs.Asks.{asked_before}
+use Rattle.thread_run.specs.AskedBefore.{asked_before}
 use Rattle.thread_run.specs.Runs.{IsRunSoFar}
 use Rattle.thread_run.specs.Turns.{backend_of, HasMore, EntersInTurn, MakesAll, HasTakenTurn}
 use Rattle.backend_core.specs.Places.{WantsPlaces, PromisesOnly, Always, Wanted}

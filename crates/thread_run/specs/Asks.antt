@@ -1,10 +1,8 @@
 -- What a gate is asked for its backend: before each of its commands, and after the last one, with the number of that command.
-use Rattle.std.specs.Prelude.{◌≡◌, ◌+◌, ℕ, zero, suc, Bool, true, false, cond, List, [], ◌∷◌, ◌++◌, length, Result, Ok, Err}
+use Rattle.std.specs.Prelude.{◌≡◌, ◌+◌, ℕ, zero, suc, List, [], ◌∷◌, ◌++◌, length, Result, Ok, Err}
 use Rattle.base_types.specs.Scenario.{Scenario}
 use Rattle.ddl_effect.specs.Commands.{commands_of}
 use Rattle.edge_io.specs.declared.gates.Asked.{Asked}
-use Rattle.backend_core.specs.declared.backend.Backend.{Backend}
-use Rattle.backend_core.specs.Words.{has_joined, has_left}
 
 -- whether this backend goes on to its command of this number
 abbrev pub ask_of : ℕ → ℕ → Asked
@@ -26,28 +24,12 @@ pub record AsksSome (b first : ℕ) (old new : List Asked) : Type 0 where
   pub upto : ℕ
   pub asks : AsksTo b first upto old new
 
--- for how many of its commands the gate of a backend was asked: for those that it has finished, and, unless it is at its next command, for that which it is in
-abbrev pub asked_before : Bool → Backend → ℕ
-asked_before true s = s.progress.finished
-asked_before false s = s.progress.finished + 1
-
 -- its gate stopped a backend before its command after so many: it was asked for each command after the first so many, up to that one, and stopped at the last question alone, after which it was asked nothing
 pub record StopsBefore {G : Type 0} (stops : G → ℕ) (asked : G → List Asked) (b first finished : ℕ) (old new : G) : Type 0 where
   pub last : G
   pub asks : AsksTo b first finished (asked old) (asked last)
   pub steady : stops last ≡ stops old
   pub is : asked new ≡ asked last ++ ask_of b (finished + 1) ∷ []
-
--- a turn leaves a backend at the command after that which it was in, for which the gate is to be asked, or in the same one; one that joins is at its first, of which no gate was asked before; one that has left is at none
-pub record GoesAsked (b : ℕ) (over : Bool) (was now : Backend) : Type 0 where
-  pub id : now.progress.id ≡ b
-  pub number : has_joined was.life ≡ true → asked_before over now ≡ was.progress.finished + 1
-  pub first : has_joined was.life ≡ false → asked_before over now ≡ 0
-  pub stays : over ≡ true → has_left now.life ≡ false
-
--- for how many of its commands the gate of a backend was asked between two of its turns: for none before it joins, then for those that it has finished and that which it is in
-abbrev pub asked_so_far : Backend → ℕ
-asked_so_far s = cond (has_joined s.life) (s.progress.finished + 1) 0
 
 -- by how its work ended: a gate was asked for each of so many commands, in order, and after the last one; where the work ended early, up to some of them
 abbrev pub AsksBy : {T E : Type 0} → Result T E → ℕ → ℕ → List Asked → List Asked → Type 0

@@ -8,7 +8,7 @@ use Rattle.backend_core.specs.declared.backend.Backend.{Backend}
 use Rattle.backend_core.specs.Agrees.{Stands}
 use Rattle.backend_core.specs.Places.{WantsPlaces, PromisesOnly}
 use Rattle.backend_core.specs.Words.{has_joined, has_left}
-use Rattle.thread_run.specs.Asks.{asked_before}
+use Rattle.thread_run.specs.AskedBefore.{asked_before}
 use Rattle.thread_run.specs.Runs.{IsRunSoFar}
 use Rattle.thread_run.specs.Turns.{backend_of, HasTakenTurn}
 

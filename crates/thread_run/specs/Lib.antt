@@ -3,6 +3,7 @@ pub mod CutScripts
 pub mod Scripts
 pub mod Stops
 pub mod Asks
+pub mod AskedBefore
 pub mod Turns
 pub mod Entering
 pub mod Workers

@@ -16,7 +16,8 @@ use Rattle.backend_core.specs.Agrees.{Stands}
 use Rattle.backend_core.specs.Looks.{held_look, MakesLook, NeedsTurn, Wants}
 use Rattle.backend_core.specs.Words.{has_joined, has_left}
 use Rattle.thread_run.specs.declared.worker.Worker.{Worker}
-use Rattle.thread_run.specs.Asks.{GoesAsked, StopsBefore}
+use Rattle.thread_run.specs.Asks.{StopsBefore}
+use Rattle.thread_run.specs.AskedBefore.{GoesAsked}
 use Rattle.thread_run.specs.Runs.{IsRunSoFar}
 use Rattle.thread_run.specs.Turns.{backend_of, EntersInTurn}
 

@@ -88,7 +88,7 @@ impl SharedPlay {
     ghost use Rattle.backend_core.specs.Words.{has_left, has_joined};
     ghost use Rattle.turn_table.specs.Histories.{Grew};
     ghost use Rattle.backend_core.specs.Places.{PromisesOnly};
-    ghost use Rattle.thread_run.specs.Asks.{asked_before};
+    ghost use Rattle.thread_run.specs.AskedBefore.{asked_before};
     ghost use Rattle.thread_run.specs.Runs.{IsRunSoFar};
     ghost use Rattle.thread_run.specs.Scripts.{IsLeft, commands_left};
     ghost use Rattle.thread_run.specs.Turns.{backend_of, right_before, EntersInTurn, MakesAll, HasTakenTurn, IsHalting};

@@ -9,7 +9,7 @@ ghost use Rattle.backend_core.specs.Apart.{IsHolding};
 ghost use Rattle.backend_core.specs.Looks.{entries_of, MayCallAll};
 ghost use Rattle.backend_core.specs.Places.{PromisesOnly};
 ghost use Rattle.backend_core.specs.Words.{has_left, has_joined};
-ghost use Rattle.thread_run.specs.Asks.{asked_before};
+ghost use Rattle.thread_run.specs.AskedBefore.{asked_before};
 ghost use Rattle.thread_run.specs.Runs.{IsRunSoFar};
 ghost use Rattle.thread_run.specs.Turns.{backend_of, right_before, HasMore, EntersInTurn, MakesAll, HasTakenTurn};
 ghost use Rattle.thread_run.specs.Entering.{MayEnterNext, PlaysOn, PromisesWanted, ComesTo};

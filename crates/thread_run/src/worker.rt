@@ -2,7 +2,8 @@ ghost use Rattle.std.specs.Prelude.{◌≡◌, ◌≤◌, ◌<◌, ◌+◌, ◌+
 ghost use Rattle.backend_core.specs.Looks.{IsOnItsWay};
 ghost use Rattle.thread_run.specs.Turns.{WaitsWherever, IsAtCommand};
 ghost use Rattle.thread_run.specs.Stops.{StopsBy};
-ghost use Rattle.thread_run.specs.Asks.{ask_of, AsksTo, AsksSome, asked_before, StopsBefore};
+ghost use Rattle.thread_run.specs.Asks.{ask_of, AsksTo, AsksSome, StopsBefore};
+ghost use Rattle.thread_run.specs.AskedBefore.{asked_before};
 
 use crate::RunRefusal;
 use crate::halted_at::HaltedAt;
@@ -51,7 +52,8 @@ impl Worker {
     ghost use Rattle.turn_table.specs.Passes.{start_of, seen_by, was_told};
     ghost use Rattle.thread_run.specs.Workers.{IsAt, IsNewAt, HasAllAt, Goes, HasLooked, TakesTurn, MakesALook, DoesNext, HasStepped, WasStopped};
     ghost use Rattle.ddl_effect.specs.Commands.{commands_of};
-    ghost use Rattle.thread_run.specs.Asks.{GoesAsked, AsksBy, asked_so_far};
+    ghost use Rattle.thread_run.specs.Asks.{AsksBy};
+    ghost use Rattle.thread_run.specs.AskedBefore.{GoesAsked, asked_so_far};
     ghost use Rattle.thread_run.specs.Turns.{MayTakeTurn, MayHalt, IsBetween, IsUnderway, HasEnded};
 
     /// A backend with its pass, before its first turn.

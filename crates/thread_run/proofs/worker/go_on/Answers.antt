@@ -1,5 +1,5 @@
 use Rattle.std.proofs.Common.{◌≡◌, ◌∙◌, ◌+◌, inl, inr, refl, ap, length}
-use Rattle.thread_run.specs.Asks.{asked_before}
+use Rattle.thread_run.specs.AskedBefore.{asked_before}
 use Rattle.thread_run.proofs.Asking.{asked_next, asked_far, stops_at, stops_next}
 use Rattle.thread_run.proofs.Counted.{way_counted, way_few}
 use Rattle.thread_run.proofs.Workers.{on_its_way, goes_over, goes_far, comes_over}

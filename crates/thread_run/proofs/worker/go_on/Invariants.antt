@@ -1,5 +1,6 @@
 use Rattle.std.proofs.Common.{◌≡◌, ◌+◌}
-use Rattle.thread_run.specs.Asks.{AsksTo, asked_before}
+use Rattle.thread_run.specs.Asks.{AsksTo}
+use Rattle.thread_run.specs.AskedBefore.{asked_before}
 use Rattle.thread_run.proofs.Workers.{AgreesWherever}
 use Rattle.thread_run.proofs.worker.go_on.Given as goal
 

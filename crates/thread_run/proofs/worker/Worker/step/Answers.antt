@@ -1,7 +1,7 @@
 use Rattle.std.proofs.Common.{sym, subst, length}
 use Rattle.turn_table.specs.Passes.{start_of, seen_by}
 use Rattle.thread_run.specs.declared.refusal.RunRefusal.TheVariants as refusals
-use Rattle.thread_run.specs.Asks.{asked_so_far}
+use Rattle.thread_run.specs.AskedBefore.{asked_so_far}
 use Rattle.thread_run.specs.Stops.{StopsBy}
 use Rattle.thread_run.specs.Turns.{MayHalt}
 use Rattle.thread_run.specs.Workers.{HasAllAt}

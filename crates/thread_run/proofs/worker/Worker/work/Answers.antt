@@ -1,7 +1,8 @@
 use Rattle.std.proofs.Common.{◌∙◌, refl, sym, subst, length}
 use Rattle.ddl_effect.specs.Commands.{commands_of}
 use Rattle.turn_table.specs.Passes.{start_of, seen_by}
-use Rattle.thread_run.specs.Asks.{AsksTo, asked_so_far}
+use Rattle.thread_run.specs.Asks.{AsksTo}
+use Rattle.thread_run.specs.AskedBefore.{asked_so_far}
 use Rattle.thread_run.specs.Turns.{IsBetween}
 use Rattle.thread_run.specs.Workers.{HasAllAt}
 use Rattle.thread_run.proofs.Asking.{asks_none, asks_then, asks_on, asks_as, some_as, stopped_on, new_far, ended_far, not_well}

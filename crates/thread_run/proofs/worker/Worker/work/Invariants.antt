@@ -1,6 +1,7 @@
 use Rattle.std.proofs.Common.{◌≡◌}
 use Rattle.turn_table.specs.Passes.{start_of, seen_by}
-use Rattle.thread_run.specs.Asks.{AsksTo, asked_so_far}
+use Rattle.thread_run.specs.Asks.{AsksTo}
+use Rattle.thread_run.specs.AskedBefore.{asked_so_far}
 use Rattle.thread_run.specs.Turns.{IsBetween}
 use Rattle.thread_run.specs.Workers.{HasAllAt, Goes}
 use Rattle.thread_run.proofs.worker.Worker.work.Given as goal
