@@ -25,7 +25,7 @@ use Rattle.thread_run.proofs.Counted.{ended_all}
 use Rattle.thread_run.proofs.Lists.{length_from_last}
 use Rattle.thread_run.proofs.Workers.{AgreesWherever, where_ok}
 
-abbrev pub ok_of : (T E : Type 0) → T → Result T E
+abbrev ok_of : (T E : Type 0) → T → Result T E
 ok_of T E x = Ok x
 
 abbrev err_of : (T E : Type 0) → E → Result T E
