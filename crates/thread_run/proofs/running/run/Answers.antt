@@ -1,11 +1,13 @@
 use lib.ListN.{length-map}
-use Rattle.std.proofs.Common.{◌∙◌, map, sym, ap, arith, Ok}
+use Rattle.std.proofs.Common.{◌∙◌, map, sym, ap, arith, Result, Ok}
 use Rattle.std.proofs.lemmas.List.FromFn.{length-range_with_len}
 use Rattle.std.specs.List.{range_with_len}
 use Rattle.std.proofs.lemmas.Result.{IfOk-from_err}
 use Rattle.script_backends.specs.Sessions.{transcripts_of}
 use Rattle.turn_table.specs.Passes.{start_of}
+use Rattle.thread_run.specs.declared.refusal.RunRefusal.{RunRefusal}
 use Rattle.thread_run.specs.declared.refusal.RunRefusal.TheVariants as refusals
+use Rattle.thread_run.specs.declared.running.Ran.{Ran}
 use Rattle.thread_run.proofs.Asking.{each_none, each_some, each_done, refused_each, run_asked}
 use Rattle.thread_run.proofs.Ends.{all_of, all_seats, all_ended, run_is, run_sessions, run_stands, run_coherent}
 use Rattle.thread_run.proofs.Stopping.{none_fell_same, refused_so}
@@ -89,7 +91,7 @@ returns-clause-coherent g c =
 
 pub returns-in_default-clause-asked : goal.returns-in_default-clause-asked
 returns-in_default-clause-asked g c = let gates = c.requires.gates in
-    each_none _ refusals.NoMemory c.args.script.now (range_with_len 1 c.args.script.now.backends) (map g.G.Gate.asked c.args.gates.now.items) (omega (arith, gates, length-range_with_len 1 c.args.script.now.backends, length-map c.args.gates.now.items g.G.Gate.asked))
+    each_none Ran refusals.NoMemory c.args.script.now (range_with_len 1 c.args.script.now.backends) (map g.G.Gate.asked c.args.gates.now.items) (omega (arith, gates, length-range_with_len 1 c.args.script.now.backends, length-map c.args.gates.now.items g.G.Gate.asked))
 
 pub returns-in_err-run_backends-clause-asked : goal.returns-in_err-run_backends-clause-asked
 returns-in_err-run_backends-clause-asked g c = let asked = g.G.Gate.asked in
@@ -98,10 +100,10 @@ returns-in_err-run_backends-clause-asked g c = let asked = g.G.Gate.asked in
 
 pub returns-in_default-all_lines-clause-asked : goal.returns-in_default-all_lines-clause-asked
 returns-in_default-all_lines-clause-asked g c = let asked = g.G.Gate.asked in
-    each_some _ c.run_backends.result refusals.NoMemory c.args.script.now (range_with_len 1 c.args.script.now.backends) (map asked c.args.gates.now.items) (map asked c.run_backends.new.gates.items)
+    each_some Ran c.run_backends.result refusals.NoMemory c.args.script.now (range_with_len 1 c.args.script.now.backends) (map asked c.args.gates.now.items) (map asked c.run_backends.new.gates.items)
     (run_asked c.run_backends.result (start_of c.in-Ok.table).whole c.args.script.now (map (λ p. p.number) c.in-Ok.passes.items) (range_with_len 1 c.args.script.now.backends) (map asked c.args.gates.now.items) (map asked c.run_backends.new.gates.items) c.in-Ok.ensures.script c.in-Ok.ensures.numbers c.run_backends.ensures.asked)
 
 pub returns-clause-asked : goal.returns-clause-asked
-returns-clause-asked g c = let asked = g.G.Gate.asked in
-    each_done _ _ tt _ c.args.script.now (range_with_len 1 c.args.script.now.backends) (map asked c.args.gates.now.items) (map asked c.run_backends.new.gates.items)
-    (run_asked (Ok tt) (start_of c.in-Ok.table).whole c.args.script.now (map (λ p. p.number) c.in-Ok.passes.items) (range_with_len 1 c.args.script.now.backends) (map asked c.args.gates.now.items) (map asked c.run_backends.new.gates.items) c.in-Ok.ensures.script c.in-Ok.ensures.numbers c.in_ok-run_backends.ensures.asked)
+returns-clause-asked g c = let asked = g.G.Gate.asked in let done : Unit {0} = tt in let well : Result (Unit {0}) RunRefusal = Ok done in let ran : Ran = record { entries = c.from_vec.result; lines = c.from_vec-2.result; backends = c.from_vec-3.result } in
+    each_done RunRefusal RunRefusal done ran c.args.script.now (range_with_len 1 c.args.script.now.backends) (map asked c.args.gates.now.items) (map asked c.run_backends.new.gates.items)
+    (run_asked well (start_of c.in-Ok.table).whole c.args.script.now (map (λ p. p.number) c.in-Ok.passes.items) (range_with_len 1 c.args.script.now.backends) (map asked c.args.gates.now.items) (map asked c.run_backends.new.gates.items) c.in-Ok.ensures.script c.in-Ok.ensures.numbers c.in_ok-run_backends.ensures.asked)

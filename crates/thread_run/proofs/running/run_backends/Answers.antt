@@ -48,7 +48,7 @@ returns-clause-stops g c =
 
 pub returns-in_default-clause-asked : goal.returns-in_default-clause-asked
 returns-in_default-clause-asked g c = let held = c.args.gates.now.ok.0 in let passes = c.args.passes.now.ok.0 in let few = c.requires.counts.1 in
-    each_none _ refusals.NoMemory (start_of c.args.table.now).whole (map (λ p. p.number) c.args.passes.now.items) (map g.G.Gate.asked c.args.gates.now.items) (omega (arith, held, passes, few, length-map c.args.passes.now.items (λ p. p.number), length-map c.args.gates.now.items g.G.Gate.asked))
+    each_none (Unit {0}) refusals.NoMemory (start_of c.args.table.now).whole (map (λ p. p.number) c.args.passes.now.items) (map g.G.Gate.asked c.args.gates.now.items) (omega (arith, held, passes, few, length-map c.args.passes.now.items (λ p. p.number), length-map c.args.gates.now.items g.G.Gate.asked))
 
 pub returns-clause-asked : goal.returns-clause-asked
 returns-clause-asked g c =
