@@ -57,6 +57,11 @@ impl Watched {
         Ok(())
     }
 
+    // Whether both are of one scan of one backend.
+    pub(crate) fn is_same(&self, other: &Watched) -> bool {
+        self.backend == other.backend && same_scan(&self.purpose, &other.purpose)
+    }
+
     fn scan(&mut self, purpose: &Purpose, number: usize) {
         if same_scan(purpose, &self.purpose) {
             self.read = number;
