@@ -50,7 +50,7 @@ pub(crate) fn reason(
     )
 }
 
-// What the scan reads that comes, or that is all that may come but for looks where a walk makes another entry before.
+// What the scan reads that comes; or the first one that may come, where a walk makes another entry before and only scans and looks may.
 fn scan_due(alloc: Global, case: &Case) -> Result<Option<Watched>, NoMemory> {
     let after = case.coming.after(case.before.len());
     if !after.is_empty() {
@@ -61,7 +61,11 @@ fn scan_due(alloc: Global, case: &Case) -> Result<Option<Watched>, NoMemory> {
         let leading = leading_entries(alloc, line.as_slice())?;
         match leading.entries.as_slice().first() {
             Some(e) if is_look(e) => {}
-            Some(e) if matches!(e.event, Event::Scan { .. }) => due = watched(Some(e)),
+            Some(e) if matches!(e.event, Event::Scan { .. }) => {
+                if due.is_none() {
+                    due = watched(Some(e));
+                }
+            }
             _ => return Ok(None),
         }
     }
@@ -146,7 +150,7 @@ fn of_rule(
     let is_look_due = !is_look(e) && look_due(alloc, case)?;
     let said = left_out(text, e, own, next, is_look_due)?;
     if matches!(said, Said::Nothing) {
-        other(alloc, text, case.before, e)?;
+        other(alloc, text, case, e)?;
     }
     Ok(matches!(said, Said::Stale))
 }
@@ -194,14 +198,30 @@ fn left_out(
         text.push_str("a look is due first")?;
         return Ok(Said::Due);
     }
+    if next.is_some() && !is_look(e) && !is_this {
+        text.push_str("a scan is due first")?;
+        return Ok(Said::Due);
+    }
     Ok(Said::Nothing)
 }
 
-// The same, where none is left out: that it stands there already, or that the command does something else.
-fn other(alloc: Global, text: &mut String, before: &[Entry], e: &Entry) -> Result<(), NoMemory> {
+// The same, where none is left out: that it stands there already, that the command before isn't done, or that the command
+// does something else.
+fn other(alloc: Global, text: &mut String, case: &Case, e: &Entry) -> Result<(), NoMemory> {
+    let before = case.before;
     if let Some(last) = before.last() {
         if !is_look(e) && entry_line(alloc, last)?.as_slice() == entry_line(alloc, e)?.as_slice() {
             write!(text, "it is entry {} once more", before.len())?;
+            return Ok(());
+        }
+    }
+    if let Some(next) = case.coming.after(before.len()).first() {
+        if next.backend == e.backend && next.command < e.command {
+            write!(
+                text,
+                "command {} of backend {} isn't done",
+                next.command, next.backend
+            )?;
             return Ok(());
         }
     }

@@ -43,6 +43,15 @@ pub(crate) fn first_hint(alloc: Global, line: &[u8]) -> Result<Option<String>, N
     Ok(None)
 }
 
+// What is said of a line after the last one, where it is a comment of another language.
+pub(crate) fn after_end_hint(alloc: Global, line: &[u8]) -> Result<Option<String>, NoMemory> {
+    let spans = tokens_of(alloc, line)?;
+    if is_comment(token_of(line, &spans, 0)) {
+        return said(alloc, "AfterEnd: a comment is a line that begins with --");
+    }
+    Ok(None)
+}
+
 // The same of a line that begins with no backend of the script, which the text of the script tells.
 pub(crate) fn backend_hint(
     alloc: Global,
