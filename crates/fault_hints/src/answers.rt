@@ -1,7 +1,7 @@
 use crate::apart::{places_apart, push_apart};
 use crate::differing::{first_line, push_line};
 use crate::holding::held;
-use crate::watched::Watched;
+use crate::watched::{Watched, is_of_both};
 use base_types::{LineBuffer, NoMemory};
 use check_tool::after_line;
 use event_kinds::{Entry, Event, Line, push_line_head};
@@ -78,7 +78,7 @@ fn push_expected(
     Ok(())
 }
 
-// Says of an answer that is as of an earlier entry than it should be since when what that read is stale.
+// Says of an answer that is as of an earlier scan than it should be since when what that read is stale.
 fn push_stale(
     alloc: Global,
     text: &mut String,
@@ -90,18 +90,13 @@ fn push_stale(
     let Some((due, place)) = places_apart(expected, found) else {
         return Ok(());
     };
-    let before = number_before(due);
-    let (mut own, mut next) = (read_at(entries, number_before(place)), None);
-    if own.is_none() || place >= due {
+    let before = entries.get(..number_before(due)).unwrap_or(entries);
+    let (mut own, mut next) = (read_at(before, number_before(place)), None);
+    let again = read_at(entries, number_before(due));
+    if !is_of_both(own, again) {
         return Ok(());
     }
-    held(
-        alloc,
-        size,
-        entries.get(..before).unwrap_or(entries),
-        &mut own,
-        &mut next,
-    )?;
+    held(alloc, size, before, &mut own, &mut next)?;
     if let Some(own) = own {
         if number_before(place).saturating_add(1) == own.read && own.stale > 0 {
             write!(

@@ -1,7 +1,7 @@
 use crate::coming::{Coming, entry_line, scan_coming};
 use crate::holding::held;
 use crate::nexts::push_next;
-use crate::watched::Watched;
+use crate::watched::{Watched, is_of_both};
 use base_types::NoMemory;
 use check_tool::{CheckKind, leading_entries};
 use event_kinds::{Entry, Event};
@@ -31,7 +31,8 @@ pub(crate) fn reason(
     case: &Case,
     e: &Entry,
 ) -> Result<(), NoMemory> {
-    let (mut own, mut next) = (watched(Some(e)), scan_due(alloc, case)?);
+    let mut own = watched(Some(e));
+    let mut next = scan_due(alloc, case)?;
     let Some(ledger) = held(alloc, case.size, case.before, &mut own, &mut next)? else {
         return Ok(text.push_str("it may not come here")?);
     };
@@ -231,14 +232,6 @@ fn other(alloc: Global, text: &mut String, case: &Case, e: &Entry) -> Result<(),
         e.command, e.backend
     )?;
     Ok(())
-}
-
-// Whether both are of one scan.
-fn is_of_both(own: Option<Watched>, next: Option<Watched>) -> bool {
-    match (own, next) {
-        (Some(own), Some(next)) => own.is_same(&next),
-        _ => false,
-    }
 }
 
 // What was read, where that is stale.

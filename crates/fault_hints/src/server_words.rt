@@ -140,11 +140,12 @@ fn of_first(found: &[u8]) -> Option<&'static str> {
 
 // A word of a kind of thing, of constraint or of column that isn't modelled.
 fn of_part(found: &[u8], last: &[u8], wanted: &[Symbol]) -> Option<&'static str> {
-    if is(last, "create") && is(found, "unique") {
+    let is_first = is(last, "create") || is(last, "alter") || is(last, "drop");
+    let is_kind = is_first && is_wanted(wanted, Symbol::Word("index"));
+    if is_kind && is(found, "unique") {
         return Some(" (a unique index isn't modelled: leave \"unique\" out)");
     }
-    let is_kind = is(last, "create") || is(last, "alter") || is(last, "drop");
-    if is_kind && is_wanted(wanted, Symbol::Word("index")) && is_among(found, &OF_KINDS) {
+    if is_kind && is_among(found, &OF_KINDS) {
         return Some(
             " (not modelled: docs/SCRIPT.md lists the commands, docs/PROFILE.md what isn't modelled)",
         );

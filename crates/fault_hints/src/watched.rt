@@ -57,8 +57,7 @@ impl Watched {
         Ok(())
     }
 
-    // Whether both are of one scan of one backend.
-    pub(crate) fn is_same(&self, other: &Watched) -> bool {
+    fn is_same(&self, other: &Watched) -> bool {
         self.backend == other.backend && same_scan(&self.purpose, &other.purpose)
     }
 
@@ -79,6 +78,14 @@ impl Watched {
         messages
             .iter()
             .any(|message| covers(&self.purpose, message))
+    }
+}
+
+// Whether both are of one scan of one backend.
+pub(crate) fn is_of_both(own: Option<Watched>, next: Option<Watched>) -> bool {
+    match (own, next) {
+        (Some(own), Some(next)) => own.is_same(&next),
+        _ => false,
     }
 }
 
