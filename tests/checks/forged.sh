@@ -24,6 +24,6 @@ cut_off() {
         refuses_at "$whole" < <(cat "$1.script" && head -n "$((line - 1))" "$1.output") || return 1
         refuses_at "$whole" < <(cat "$1.script" && head -n "$line" "$1.output" | head -c -1) || return 1
     done
-    ends 7 "catsync: after $entries entries line $lines differs: it should be 'end' and is 'end (without a line's end)'" \
+    ends 7 "catsync: after $entries entries line $lines differs: no line feed follows 'end'" \
         check walk < <(cat "$1.script" && head -c -1 "$1.output")
 }

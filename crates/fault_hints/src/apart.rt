@@ -1,4 +1,6 @@
-use crate::differing::{MOST_SHOWN, first_line, push_line, push_shown};
+use crate::differing::{MOST_SHOWN, first_line, push_shown};
+use crate::numbers::number_of;
+use crate::tokens::is;
 use base_types::NoMemory;
 use std::fmt::Write;
 
@@ -16,10 +18,8 @@ pub(crate) fn push_apart(text: &mut String, expected: &[u8], found: &[u8]) -> Re
     let (line, other) = (first_line(expected), first_line(found));
     let apart = where_apart(line, other);
     if line == other {
-        text.push_str(": it should be '")?;
-        push_line(text, expected)?;
-        text.push_str("' and is '")?;
-        push_line(text, found)?;
+        text.push_str(": no line feed follows '")?;
+        push_shown(text, line)?;
         text.push('\'')?;
     } else if apart.number == 1 {
         text.push(':')?;
@@ -28,6 +28,27 @@ pub(crate) fn push_apart(text: &mut String, expected: &[u8], found: &[u8]) -> Re
         push_field(text, &apart)?;
     }
     Ok(())
+}
+
+// Which entries the first field that differs is as of, where both have one.
+pub(crate) fn places_apart(expected: &[u8], found: &[u8]) -> Option<(u64, u64)> {
+    let apart = where_apart(first_line(expected), first_line(found));
+    Some((place_of(apart.expected)?, place_of(apart.found)?))
+}
+
+// Which entry a field is as of, where it ends so.
+fn place_of(field: &[u8]) -> Option<u64> {
+    let mut before: &[u8] = &[];
+    let mut place = None;
+    for word in field.split(|byte| *byte == b' ') {
+        place = if is(before, "of") {
+            number_of(word, 9)
+        } else {
+            None
+        };
+        before = word;
+    }
+    place
 }
 
 // The first field in which two lines differ.

@@ -3,7 +3,7 @@ use crate::lines::{command_of, push_ascii, push_quoted, token_of};
 use crate::near::is_near;
 use crate::server_words::{of_column_alone, of_server};
 use crate::symbols::{FIELDS, INDEX_FIELDS, Symbol, TABLE_FIELDS, TYPES, is_wanted};
-use crate::tokens::{Span, is, text_at, tokens_of};
+use crate::tokens::{Span, begins_comment, is, text_at, tokens_of};
 use base_types::{Name, NameFault, NoMemory};
 use std::alloc::Global;
 
@@ -118,12 +118,10 @@ fn push_help(
     if let Some(why) = of_column_alone(last, next, wanted) {
         text.push_str(why)?;
     } else if let Some(word) = near_word(found, wanted) {
-        text.push_str(" (near \"")?;
-        text.push_str(word)?;
-        text.push_str("\")")?;
+        push_near(text, word, wanted)?;
     } else if found.starts_with(b"--") {
         text.push_str(" (a comment has a line of its own)")?;
-    } else if is(found, "/") && is(next, "*") {
+    } else if begins_comment(found) {
         text.push_str(" (a comment has a line of its own, which begins with --)")?;
     } else if let Some(why) = of_server(found, last, next, wanted) {
         text.push_str(why)?;
@@ -131,12 +129,31 @@ fn push_help(
         push_words(text, " (types:", &TYPES)?;
         text.push_str(")")?;
     } else if is_wanted(wanted, Symbol::Field) && !found.is_empty() && !is_mark(found) {
-        push_words(text, " (fields of a table:", &TABLE_FIELDS)?;
-        push_words(text, "; of an index:", &INDEX_FIELDS)?;
-        text.push_str(")")?;
+        push_fields(text, " (")?;
     } else if let Some(why) = why_not(found, wanted) {
         text.push_str(why)?;
     }
+    Ok(())
+}
+
+// The word that is near; of a field all of them.
+fn push_near(text: &mut String, word: &str, wanted: &[Symbol]) -> Result<(), NoMemory> {
+    text.push_str(" (near \"")?;
+    text.push_str(word)?;
+    text.push_str("\"")?;
+    if is_wanted(wanted, Symbol::Field) {
+        return push_fields(text, "; ");
+    }
+    text.push_str(")")?;
+    Ok(())
+}
+
+// The fields of tables and indexes, up to the closing parenthesis.
+fn push_fields(text: &mut String, head: &str) -> Result<(), NoMemory> {
+    text.push_str(head)?;
+    push_words(text, "fields of a table:", &TABLE_FIELDS)?;
+    push_words(text, "; of an index:", &INDEX_FIELDS)?;
+    text.push_str(")")?;
     Ok(())
 }
 

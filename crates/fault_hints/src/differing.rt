@@ -65,7 +65,10 @@ fn of_output(alloc: Global, checked: &Checked) -> Result<String, NoMemory> {
             Ok(text)
         }
         (None, Some(b)) => missing_entry(alloc, checked, before, b, rest),
-        (None, None) => wrong_line(alloc, entries.len(), reached.lines.as_slice(), rest),
+        (None, None) => {
+            let size = checked.script.size();
+            wrong_line(alloc, size, entries, reached.lines.as_slice(), rest)
+        },
     }
 }
 
@@ -105,7 +108,7 @@ fn wrong_entry(
     if turn != e.backend {
         write!(text, "it is backend {turn}'s turn")?;
         push_needless_too(alloc, text, size, before, e)?;
-        return push_next(alloc, text, &next, before.len(), None, None);
+        return push_next(alloc, text, &next, before.len(), None, None, false);
     }
     let case = Case {
         kind: checked.kind,
@@ -166,7 +169,7 @@ fn missing_entry(
         push_line(&mut text, rest)?;
     }
     let next = next_of(alloc, checked, before, b)?;
-    push_next(alloc, &mut text, &next, before.len(), None, None)?;
+    push_next(alloc, &mut text, &next, before.len(), None, None, false)?;
     Ok(text)
 }
 

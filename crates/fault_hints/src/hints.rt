@@ -3,7 +3,7 @@ use crate::commands::command_hint;
 use crate::counts::count_hint;
 use crate::lines::line_at;
 use crate::rings::ring_hint;
-use crate::tool_lines::{backend_hint, first_hint, steps_hint};
+use crate::tool_lines::{after_end_hint, backend_hint, first_hint, steps_hint};
 use base_types::NoMemory;
 use script_text::ScriptCause;
 use std::alloc::Global;
@@ -15,7 +15,7 @@ use std::alloc::Global;
 ///   stands there; with the word that is near, or the reason, where one is known.
 /// - `BadByte`: the byte, and its column from 1.
 /// - `BadRing`: whether its place, its size, its first number or its form is wrong.
-/// - `NoBackends`: that a comment isn't one here, where it is one of those.
+/// - `NoBackends`, `AfterEnd`: that a comment isn't one here, where it is one of another language.
 /// - `BadCount`, `BadSteps`: what comes where the line goes wrong, with its limits, and what was found.
 /// - `UnknownBackend`: how many backends there are, and what was found; or what the line is in place of a command's.
 /// - `BadSteps`, and that too: which tool reads a line of this form, where one does.
@@ -35,6 +35,7 @@ pub fn hint(
         ScriptCause::BadSteps => steps_hint(alloc, text, line_at(text, line)),
         ScriptCause::UnknownBackend => backend_hint(alloc, text, line_at(text, line)),
         ScriptCause::BadRing => ring_hint(alloc, text, line, line_at(text, line)),
+        ScriptCause::AfterEnd => after_end_hint(alloc, line_at(text, line)),
         _ => Ok(None),
     }
 }

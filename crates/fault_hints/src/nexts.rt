@@ -10,7 +10,8 @@ use std::fmt::Write;
 const MOST_SAID: usize = 4;
 
 // Says what comes after so many entries in the place of one that may not: of a write for another one, where they differ. Where a
-// walk makes another entry before, it is that one, and then what may come.
+// walk makes another entry before, it is that one, and then what may come. `read` is what the scan that comes reads, of which
+// `is_said` tells that the text says already since when it is stale.
 pub(crate) fn push_next(
     alloc: Global,
     text: &mut String,
@@ -18,15 +19,17 @@ pub(crate) fn push_next(
     before: usize,
     e: Option<&Entry>,
     read: Option<Watched>,
+    is_said: bool,
 ) -> Result<(), NoMemory> {
     let Some(next) = coming.entries.first() else {
-        return push_few(text, coming.few.as_slice());
+        return push_few(text, coming.few.as_slice(), &[]);
     };
     let after = coming.after(before);
     if after.is_empty() {
+        let line = entry_line(alloc, next)?;
         write!(text, "; a walk makes entry {} otherwise: ", coming.number)?;
-        push_line(text, &entry_line(alloc, next)?)?;
-        return push_few(text, coming.few.as_slice());
+        push_line(text, &line)?;
+        return push_few(text, coming.few.as_slice(), &line);
     }
     if let Some(e) = e {
         if is_write(next) && is_write(e) {
@@ -35,11 +38,11 @@ pub(crate) fn push_next(
     }
     text.push_str("; next comes ")?;
     push_line(text, &entry_line(alloc, next)?)?;
-    push_scan(alloc, text, after, read)
+    push_scan(alloc, text, after, e, read, is_said)
 }
 
-// Some entries of which one may come.
-fn push_few(text: &mut String, few: &[Vec<u8>]) -> Result<(), NoMemory> {
+// Some entries of which one may come; in place of the line that was said last, that it is that one.
+fn push_few(text: &mut String, few: &[Vec<u8>], last: &[u8]) -> Result<(), NoMemory> {
     match few.len() {
         0 => return Ok(()),
         1 => text.push_str("; here may come ")?,
@@ -49,7 +52,11 @@ fn push_few(text: &mut String, few: &[Vec<u8>]) -> Result<(), NoMemory> {
         if i > 0 {
             text.push_str(", ")?;
         }
-        push_line(text, line)?;
+        if line.as_slice() == last {
+            text.push_str("that one")?;
+        } else {
+            push_line(text, line)?;
+        }
     }
     if few.len() > MOST_SAID {
         write!(text, ", or {} more", few.len().saturating_sub(MOST_SAID))?;
@@ -62,7 +69,9 @@ fn push_scan(
     alloc: Global,
     text: &mut String,
     coming: &[Entry],
+    e: Option<&Entry>,
     read: Option<Watched>,
+    is_said: bool,
 ) -> Result<(), NoMemory> {
     let (Some(scan), Some(read)) = (scan_coming(coming), read) else {
         return Ok(());
@@ -72,14 +81,32 @@ fn push_scan(
     }
     if !matches!(coming.first(), Some(first) if matches!(first.event, Event::Scan { .. })) {
         text.push_str(", and then ")?;
-        push_line(text, &entry_line(alloc, scan)?)?;
+        push_then(alloc, text, scan, e)?;
     }
-    write!(
-        text,
-        ", since what entry {} read is stale by entry {}",
-        read.read, read.stale
-    )?;
+    if !is_said {
+        write!(
+            text,
+            ", since what entry {} read is stale by entry {}",
+            read.read, read.stale
+        )?;
+    }
     Ok(())
+}
+
+// Puts a scan to the end, in a text of an entry that may be the same.
+fn push_then(
+    alloc: Global,
+    text: &mut String,
+    scan: &Entry,
+    e: Option<&Entry>,
+) -> Result<(), NoMemory> {
+    let line = entry_line(alloc, scan)?;
+    if let Some(e) = e {
+        if entry_line(alloc, e)?.as_slice() == line.as_slice() {
+            return Ok(text.push_str("this scan")?);
+        }
+    }
+    push_line(text, &line)
 }
 
 fn is_write(e: &Entry) -> bool {

@@ -1,4 +1,5 @@
 use crate::lines::{push_ascii, push_quoted};
+use crate::tokens::begins_comment;
 use base_types::NoMemory;
 
 // How much of a token is shown.
@@ -34,7 +35,11 @@ pub(crate) fn push_found(text: &mut String, token: &[u8]) -> Result<(), NoMemory
     if token.is_empty() {
         return push_ascii(text, b"the end of the line");
     }
-    push_quoted(text, token.get(..MOST_SHOWN).unwrap_or(token))
+    push_quoted(text, token.get(..MOST_SHOWN).unwrap_or(token))?;
+    if begins_comment(token) {
+        text.push_str(" (a comment has a line of its own, which begins with --)")?;
+    }
+    Ok(())
 }
 
 // The same, where a number of at most nine digits is wanted.

@@ -1,9 +1,9 @@
-use crate::coming::{Coming, scan_coming};
+use crate::coming::{Coming, entry_line, scan_coming};
 use crate::holding::held;
 use crate::nexts::push_next;
-use crate::watched::Watched;
+use crate::watched::{Watched, is_of_both};
 use base_types::NoMemory;
-use check_tool::CheckKind;
+use check_tool::{CheckKind, leading_entries};
 use event_kinds::{Entry, Event};
 use history_ledger::Ledger;
 use std::alloc::Global;
@@ -31,15 +31,65 @@ pub(crate) fn reason(
     case: &Case,
     e: &Entry,
 ) -> Result<(), NoMemory> {
-    let after = case.coming.after(case.before.len());
-    let (mut own, mut next) = (watched(Some(e)), watched(scan_coming(after)));
+    let mut own = watched(Some(e));
+    let mut next = scan_due(alloc, case)?;
     let Some(ledger) = held(alloc, case.size, case.before, &mut own, &mut next)? else {
         return Ok(text.push_str("it may not come here")?);
     };
+    let mut is_said = false;
     if !of_event(text, &ledger, case.kind, case.size, e)? {
-        of_rule(text, &ledger, case, e, own)?;
+        is_said = of_rule(alloc, text, &ledger, case, e, own, next)?;
     }
-    push_next(alloc, text, case.coming, case.before.len(), Some(e), next)
+    push_next(
+        alloc,
+        text,
+        case.coming,
+        case.before.len(),
+        Some(e),
+        next,
+        is_said,
+    )
+}
+
+// What the scan reads that comes; or the first one that may come, where a walk makes another entry before and only scans and looks may.
+fn scan_due(alloc: Global, case: &Case) -> Result<Option<Watched>, NoMemory> {
+    let after = case.coming.after(case.before.len());
+    if !after.is_empty() {
+        return Ok(watched(scan_coming(after)));
+    }
+    let mut due = None;
+    for line in case.coming.few.as_slice() {
+        let leading = leading_entries(alloc, line.as_slice())?;
+        match leading.entries.as_slice().first() {
+            Some(e) if is_look(e) => {}
+            Some(e) if matches!(e.event, Event::Scan { .. }) => {
+                if due.is_none() {
+                    due = watched(Some(e));
+                }
+            }
+            _ => return Ok(None),
+        }
+    }
+    Ok(due)
+}
+
+// Whether a look comes, or nothing else may come where a walk makes another entry before.
+fn look_due(alloc: Global, case: &Case) -> Result<bool, NoMemory> {
+    if let Some(first) = case.coming.after(case.before.len()).first() {
+        return Ok(is_look(first));
+    }
+    for line in case.coming.few.as_slice() {
+        let leading = leading_entries(alloc, line.as_slice())?;
+        match leading.entries.as_slice().first() {
+            Some(e) if is_look(e) => {}
+            _ => return Ok(false),
+        }
+    }
+    Ok(!case.coming.few.is_empty())
+}
+
+fn is_look(e: &Entry) -> bool {
+    matches!(e.event, Event::Look { .. })
 }
 
 // Says of an entry out of turn that it is a needless scan too, where it is one.
@@ -75,33 +125,121 @@ fn watched(e: Option<&Entry>) -> Option<Watched> {
     }
 }
 
-// Why an entry may not come whose numbers are right.
+// Why an entry may not come whose numbers are right. Answers whether this says since when what the scan that is due reads is stale.
 fn of_rule(
+    alloc: Global,
     text: &mut String,
     ledger: &Ledger,
     case: &Case,
     e: &Entry,
     own: Option<Watched>,
-) -> Result<(), NoMemory> {
-    if ledger.may_follow(e, case.size)? {
-        return other(text, e, own);
+    next: Option<Watched>,
+) -> Result<bool, NoMemory> {
+    if !ledger.may_follow(e, case.size)? {
+        let why = standing(case.before, e).unwrap_or(rule(&e.event));
+        text.push_str(why)?;
+        return Ok(false);
     }
-    let why = standing(case.before, e).unwrap_or(rule(&e.event));
-    text.push_str(why)?;
+    if let Some(read) = needless(own) {
+        push_needless(text, read)?;
+        return Ok(false);
+    }
+    if is_fetch_due(case) {
+        text.push_str("a fetch is due, as the last look said yes")?;
+        return Ok(false);
+    }
+    let is_look_due = !is_look(e) && look_due(alloc, case)?;
+    let said = left_out(text, e, own, next, is_look_due)?;
+    if matches!(said, Said::Nothing) {
+        other(alloc, text, case, e)?;
+    }
+    Ok(matches!(said, Said::Stale))
+}
+
+// What is said of what is left out before an entry.
+#[derive(Clone, Copy)]
+enum Said {
+    Nothing,
+    Stale,
+    Due,
+}
+
+// Whether the fetch comes that a look is followed by.
+fn is_fetch_due(case: &Case) -> bool {
+    match case.coming.after(case.before.len()).first() {
+        Some(first) => matches!(first.event, Event::Fetch { .. } | Event::FetchReset),
+        None => false,
+    }
+}
+
+// Of an entry that the history allows, and the command doesn't make: the scan or the look that is left out before it.
+fn left_out(
+    text: &mut String,
+    e: &Entry,
+    own: Option<Watched>,
+    next: Option<Watched>,
+    is_look_due: bool,
+) -> Result<Said, NoMemory> {
+    let is_this = is_of_both(own, next);
+    if is_look_due && is_this {
+        text.push_str("a look is due before this scan")?;
+        return Ok(Said::Due);
+    }
+    if let Some(read) = left_stale(next) {
+        if !is_look(e) && !is_this {
+            write!(
+                text,
+                "a stale serve, as what entry {} read is stale by entry {}, and isn't read again first",
+                read.read, read.stale
+            )?;
+            return Ok(Said::Stale);
+        }
+    }
+    if is_look_due {
+        text.push_str("a look is due first")?;
+        return Ok(Said::Due);
+    }
+    if next.is_some() && !is_look(e) && !is_this {
+        text.push_str("a scan is due first")?;
+        return Ok(Said::Due);
+    }
+    Ok(Said::Nothing)
+}
+
+// The same, where none is left out: that it stands there already, that the command before isn't done, or that the command
+// does something else.
+fn other(alloc: Global, text: &mut String, case: &Case, e: &Entry) -> Result<(), NoMemory> {
+    let before = case.before;
+    if let Some(last) = before.last() {
+        if !is_look(e) && entry_line(alloc, last)?.as_slice() == entry_line(alloc, e)?.as_slice() {
+            write!(text, "it is entry {} once more", before.len())?;
+            return Ok(());
+        }
+    }
+    if let Some(next) = case.coming.after(before.len()).first() {
+        if next.backend == e.backend && next.command < e.command {
+            write!(
+                text,
+                "command {} of backend {} isn't done",
+                next.command, next.backend
+            )?;
+            return Ok(());
+        }
+    }
+    write!(
+        text,
+        "command {} of backend {} does something else next",
+        e.command, e.backend
+    )?;
     Ok(())
 }
 
-// An entry that the history allows, and the command doesn't make.
-fn other(text: &mut String, e: &Entry, own: Option<Watched>) -> Result<(), NoMemory> {
-    match needless(own) {
-        Some(read) => push_needless(text, read)?,
-        None => write!(
-            text,
-            "command {} of backend {} does something else next",
-            e.command, e.backend
-        )?,
+// What was read, where that is stale.
+fn left_stale(next: Option<Watched>) -> Option<Watched> {
+    match next {
+        Some(read) if read.read > 0 && read.stale > 0 => Some(read),
+        _ => None,
     }
-    Ok(())
 }
 
 // The entry that read what a scan would read again, where that serves still.

@@ -18,6 +18,14 @@ pub(crate) fn is(token: &[u8], word: &str) -> bool {
     token == word.as_bytes()
 }
 
+// Whether a comment begins with this token, in a script or in another language.
+pub(crate) fn begins_comment(token: &[u8]) -> bool {
+    token.starts_with(b"--")
+        || token.starts_with(b"#")
+        || token.starts_with(b"//")
+        || is(token, "/")
+}
+
 // The tokens of a line: words, and each of `( ) , = : * ;` by itself.
 pub(crate) fn tokens_of(alloc: Global, line: &[u8]) -> Result<Vec<Span>, NoMemory> {
     let mut spans = Vec::new(alloc);

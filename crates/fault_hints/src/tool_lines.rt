@@ -1,7 +1,7 @@
 use crate::counts::items_hint;
 use crate::lines::{bare, push_ascii, push_quoted, token_of};
 use crate::numbers::number_of;
-use crate::tokens::{Span, is, text_at, tokens_of};
+use crate::tokens::{Span, begins_comment, is, text_at, tokens_of};
 use base_types::NoMemory;
 use std::alloc::Global;
 
@@ -36,6 +36,18 @@ pub(crate) fn first_hint(alloc: Global, line: &[u8]) -> Result<Option<String>, N
             alloc,
             "NoBackends: a comment is a line that begins with --; the tools alone read /* .. */: tools/schedule < SCRIPT | ./catsync walk",
         );
+    }
+    if is_comment(token_of(line, &spans, 0)) {
+        return said(alloc, "NoBackends: a comment is a line that begins with --");
+    }
+    Ok(None)
+}
+
+// What is said of a line after the last one, where it is a comment of another language.
+pub(crate) fn after_end_hint(alloc: Global, line: &[u8]) -> Result<Option<String>, NoMemory> {
+    let spans = tokens_of(alloc, line)?;
+    if is_comment(token_of(line, &spans, 0)) {
+        return said(alloc, "AfterEnd: a comment is a line that begins with --");
     }
     Ok(None)
 }
@@ -85,12 +97,12 @@ fn of_words(first: &[u8], second: &[u8]) -> Option<&'static str> {
             "UnknownBackend: a comment is a line that begins with --; the tools alone read /* .. */: tools/schedule < SCRIPT | ./catsync walk",
         );
     }
-    let is_comment = first.starts_with(b"#")
-        || first.starts_with(b"//")
-        || is(first, "/")
-        || is(first, "*")
-        || is(first, ";");
-    is_comment.then_some("UnknownBackend: a comment is a line that begins with --")
+    is_comment(first).then_some("UnknownBackend: a comment is a line that begins with --")
+}
+
+// Whether a line that begins so is a comment of another language.
+fn is_comment(first: &[u8]) -> bool {
+    begins_comment(first) || is(first, "*") || is(first, ";")
 }
 
 // What a command's line begins with, and what this one does.

@@ -57,6 +57,10 @@ impl Watched {
         Ok(())
     }
 
+    fn is_same(&self, other: &Watched) -> bool {
+        self.backend == other.backend && same_scan(&self.purpose, &other.purpose)
+    }
+
     fn scan(&mut self, purpose: &Purpose, number: usize) {
         if same_scan(purpose, &self.purpose) {
             self.read = number;
@@ -74,6 +78,14 @@ impl Watched {
         messages
             .iter()
             .any(|message| covers(&self.purpose, message))
+    }
+}
+
+// Whether both are of one scan of one backend.
+pub(crate) fn is_of_both(own: Option<Watched>, next: Option<Watched>) -> bool {
+    match (own, next) {
+        (Some(own), Some(next)) => own.is_same(&next),
+        _ => false,
     }
 }
 
