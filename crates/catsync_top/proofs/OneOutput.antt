@@ -34,5 +34,5 @@ one_output left rest taken now before after given kept Writes Wrote sessions oth
 pub made_output : (script : Scenario) (left rest taken now given kept : Option (List ℕ)) (Writes Wrote : Option (List ℕ) → Option (List ℕ) → List ℕ → Type 0) (sessions : List Backend)
     → (makes : HasMadeByWalk script given kept Wrote) (one : RanCoherently kinds.Walk left rest taken now Writes sessions) → one.ran.reading.script ≡ script → makes.made.output ≡ one.ran.output
 made_output script left rest taken now given kept Writes Wrote sessions makes one same =
-    subst (λ s. (is : IsOutput kinds.Walk s one.ran.output) → IsNotedWalk s is.history → makes.made.output ≡ one.ran.output) same
+    subst (λ s. (is : IsOutput kinds.Walk s one.ran.output) → IsNotedWalk s is.history → makes.made.output ≡ one.ran.output) (sym same)
     (λ is also. one_text script makes.made.output one.ran.output makes.made.is is makes.noted also) one.ran.is one.noted

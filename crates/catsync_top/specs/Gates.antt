@@ -1,5 +1,5 @@
 -- What `run` asks the gates that it is lent.
-use Rattle.std.specs.Prelude.{◌≡◌, ℕ, Bool, true, false, ⊤, tt, Option, Result, Ok, Err, List}
+use Rattle.std.specs.Prelude.{◌≡◌, ℕ, Bool, true, false, ⊤, Option, Result, Ok, Err, List}
 use Rattle.std.specs.List.{range_with_len}
 use Rattle.edge_io.specs.declared.gates.Asked.{Asked}
 use Rattle.cacheless.specs.declared.check_kind.CheckKind.TheVariants as kinds

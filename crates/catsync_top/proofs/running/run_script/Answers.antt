@@ -41,9 +41,9 @@ returns-clause-asked g c =
 pub returns-in-Err-Stopped-clause-asked : goal.returns-in-Err-Stopped-clause-asked
 returns-in-Err-Stopped-clause-asked g c =
     AsRun (has_read (words.Output kinds.Run) _ _ c.in-Ok.input.items c.deref.result.now (record { script = c.in-Ok-read_script.read.script; rest_at = c.in-Ok-read_script.read.rest_at }) c.in-Ok.ensures.bytes (grind arith) c.deref.ensures.value c.in-Ok-read_script.ensures)
-    (asked_some _ c.in-Ok-read_script.read.script _ _ _ c.run.ensures.asked)
+    (asked_some c.before.before.in-Err-Stopped.field-0 c.in-Ok-read_script.read.script _ _ _ c.in-Err-Stopped.ensures.asked)
 
-pub returns-in-Err-NoMemory-clause-asked : goal.returns-in-Err-NoMemory-clause-asked
-returns-in-Err-NoMemory-clause-asked g c =
+pub returns-in-Err-NoMemory-run-clause-asked : goal.returns-in-Err-NoMemory-run-clause-asked
+returns-in-Err-NoMemory-run-clause-asked g c =
     AsRun (has_read (words.Output kinds.Run) _ _ c.in-Ok.input.items c.deref.result.now (record { script = c.in-Ok-read_script.read.script; rest_at = c.in-Ok-read_script.read.rest_at }) c.in-Ok.ensures.bytes (grind arith) c.deref.ensures.value c.in-Ok-read_script.ensures)
-    (asked_some _ c.in-Ok-read_script.read.script _ _ _ c.run.ensures.asked)
+    (asked_some c.before.before.in-Err-NoMemory-run.field-0 c.in-Ok-read_script.read.script _ _ _ c.in-Err-NoMemory-run.ensures.asked)
